@@ -119,12 +119,14 @@ def value_faults(call, name, value):
             return [(f"--reload `{value}` has no file", "write --reload N=FILE")]
         if not re.fullmatch(r"0|[1-9][0-9]*", digits) or int(digits) > most:
             return [(f"--reload `{digits}` is no API server of this call", f"they are numbered by --replica, from 0 to {most}")]
-    if name in ("seed", "size") and not re.fullmatch(r"0|[1-9][0-9]*", value):
+    if name in ("seed", "size", "limit", "since") and not re.fullmatch(r"0|[1-9][0-9]*", value):
         return [(f"--{name} `{value}` is no number", "decimal digits, without a sign or a leading zero")]
     if name == "size" and value == "0":
         return [("--size 0 is no load", "at least 1")]
-    if name == "seed" and int(value) > grammar.MOST_SEED:
-        return [(f"--seed `{value}` is too large", f"at most {grammar.MOST_SEED}")]
+    if name == "limit" and value == "0":
+        return [("--limit 0 is no page", "at least 1")]
+    if name in ("seed", "since") and int(value) > grammar.MOST_NUMBER:
+        return [(f"--{name} `{value}` is too large", f"at most {grammar.MOST_NUMBER}")]
     if name == "to" and value == call.one("store"):
         return [("--to is the store itself", "name another file")]
     return []

@@ -22,7 +22,7 @@ CODES = {
     38: ("two providers of an entry have one kind and one name", "give a key another name, or delete one"),
     40: ("a file that the words name isn't there", "name it from the current folder"),
     41: ("the store's first bytes are those of no store", "is it another file? A store begins KRSTORE1 or KRSTORE2"),
-    42: ("the store ends in the midst of a row: a program was killed while it wrote, or the file was cut", "copy the file, then cut it there: truncate -s PLACE FILE"),
+    42: ("the store ends in the midst of a row: a program was killed while it wrote, or the file was cut", "copy the file, then cut it there: truncate -s PLACE FILE; a store that came out of etcd is imported anew"),
     43: ("the store has a row that breaks its format", "restore it from a copy; all rows before that byte are whole"),
     44: ("a configuration names a KMS plugin to which no program was given", "add --plugin NAME=PROGRAM"),
     45: ("a plugin says that it isn't well: its version isn't v2, its healthz isn't ok, or its key_id is empty or too long", "look at the plugin and its key service"),
@@ -56,8 +56,8 @@ REFUSALS = {
 FAULTS = {
     "input": ("standard input can't be read", "is it open, and no folder?"),
     "output": ("standard output can't be written", "is the disk full, or the reader of the pipe gone?"),
-    "store": ("the store can't be read or written", "is the disk full? what a write left behind is told as 42 at the next call"),
-    "target": ("the file of --to can't be written", "is the disk full? remove it and begin again"),
+    "store": ("the store can't be read, written or synced", "is the disk full? what was being written may be lost: copy the store to a new file (cp, sync) and go on with the copy; one that came out of etcd is imported anew"),
+    "target": ("the file of --to can't be written or synced", "is the disk full? remove it and begin again"),
     "dice": ("the system gives no random bytes", "look at /dev/urandom"),
 }
 
@@ -66,6 +66,7 @@ LIMITS = {
     "value": "a stored value has at most 2,162,688 bytes; is the input one value alone?",
     "replicas": "at most 16 API servers",
     "size": "a load has at most 10,000 objects a worker",
+    "page": "a page has at most 10,000 objects",
     "config": "a configuration file has at most 1,048,576 bytes; is it another file?",
     "entries": "a configuration has at most 64 entries",
     "patterns": "a configuration has at most 256 resources over all entries",

@@ -1,9 +1,9 @@
 #!/usr/bin/env python3
-"""Writes the stored run of kmsplug, crates/kmsplug/stdin, stdout and status; with the word `check` it compares them instead.
+"""Writes the stored run of kmsplug, crates/kmsplug/stdin and stdout, whose status is 0; with the word `check` it compares them instead.
 
 What is wrapped comes from Python's `cryptography`, and the lines from Python's `json`: the program itself is
 never asked. With `check` the built program is run too, for what a stored run can't show: that an answer is out before
-the next request is sent, that a last line without LF is answered, and the statuses 0, 4 and 5.
+the next request is sent, that a last line without LF is answered, and the statuses 4, 5 and 6.
 """
 
 import base64
@@ -94,13 +94,11 @@ def make():
         ask(encrypt(bytes(size), uid), error("length"))
     # other members don't count
     ask('{"call":"status","more":[1,2]}', STATUS)
-    # the longest line is answered; one that is a byte longer ends the program, and is not
+    # the longest line is answered
     ask(padded(LINE_LIMIT), STATUS)
-    requests.append(padded(LINE_LIMIT + 1))
     return {
         "stdin": "".join(request + "\n" for request in requests),
         "stdout": "".join(reply + "\n" for reply in replies),
-        "status": "6\n",
     }
 
 
@@ -136,6 +134,13 @@ def talk():
         rest, _ = plugin.communicate(b"[]", timeout=SECONDS)
     expect("the answer to a last line without LF", compact(error("request")) + "\n", rest.decode())
     expect("the status at the end of input", 0, plugin.returncode)
+
+
+def overrun():
+    """A line that is a byte too long ends the program, and neither it nor what stands behind it is answered."""
+    lines = "".join(line + "\n" for line in ("[]", padded(LINE_LIMIT + 1), "[]"))
+    ran = subprocess.run([program()], input=lines.encode(), capture_output=True, timeout=SECONDS, check=False)
+    expect("the status after a line that is too long", (6, compact(error("request")) + "\n"), (ran.returncode, ran.stdout.decode()))
 
 
 def fail():
@@ -179,6 +184,7 @@ def main():
             sys.exit(f"not so: {CRATE / name} isn't what is made here")
     if sys.argv[1:] == ["check"]:
         talk()
+        overrun()
         fail()
         starve()
     print(f"{len(requests)} lines", file=sys.stderr)

@@ -562,7 +562,10 @@ def faults():
 
 
 def turns():
-    yield "# a thousand reloads while another seat holds the first generation"
+    yield "# a thousand reloads while another seat holds the first generation, which can't be dropped; then it can, as line 1,004"
+    yield from (FRESH, "start 1004 0,1002 both", "do 0 adopt 0", "turns 1000 1 0 new both", "live", "do 1 reload 0 last -")
+    yield from ("do 0 letgo", "turns 1 1 0 last last", "live", "do 0 leave 0", "close")
+    yield "# the same where the seat that holds it finds it as it was"
     yield from (FRESH, "start 1004 1000,0 both", "do 1 adopt 0", "do 0 fetch /s", "turns 1000 0 0 new both", "live")
     yield from ("do 0 reload 0 new -", "do 1 fetch /s", "do 1 letgo", "do 0 adopt 0", "live", "do 0 letgo", "close")
 

@@ -29,8 +29,7 @@ fn main(rt: HostRuntime) -> ExitCode {
             };
         }
     };
-    let files = SystemFiles::new(&rt);
-    let mut world = RealWorld::new(alloc, &files);
+    let mut world = RealWorld::new(alloc, SystemFiles::new(&rt));
     let mut input = StdSource::new(rt.stdin());
     let mut output = StdSink::new(rt.stdout());
     ExitCode::from(run(

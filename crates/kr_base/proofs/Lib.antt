@@ -6,3 +6,4 @@ pub mod Places
 pub mod RuleTests
 pub mod SortedPairs
 pub mod Transferring
+pub mod Walks

@@ -11,18 +11,18 @@ pub record Spoke (before now : Option (List ℕ)) (pieces : List (Bor (List ℕ)
   pub written : List ℕ
   pub appended : Appends before now written
   pub split : whole_text pieces ≡ written ++ whole_text (drop done pieces)
-  pub later : faults ≤ count
+  pub same : count ≡ faults
 
 text-drop : (pieces : List (Bor (List ℕ))) (i : ℕ) (d : Bor (List ℕ)) → i < length pieces → whole_text (drop i pieces) ≡ (get_or pieces i d).now ++ whole_text (drop (suc i) pieces)
 text-drop pieces i d h = ap whole_text (drop-cons pieces i d h)
 
 pub spoke-more : {a b : Option (List ℕ)} {pieces : List (Bor (List ℕ))} {i faults count : ℕ} (c : Option (List ℕ)) (d : Bor (List ℕ)) (piece : List ℕ) (after : ℕ) → Spoke a b pieces i faults count → i < length pieces
-    → piece ≡ (get_or pieces i d).now → Appends b c piece → count ≤ after → Spoke a c pieces (i + 1) faults after
+    → piece ≡ (get_or pieces i d).now → Appends b c piece → after ≡ count → Spoke a c pieces (i + 1) faults after
 spoke-more {a} {b} {pieces} {i} c d piece after s h e p later = record {
   written = s.written ++ piece;
   appended = Appends-trans a b c _ _ s.appended p;
   split = rw add-one (s.split ∙ ap (λ l. s.written ++ l) (text-drop pieces i d h ∙ ap (λ l. l ++ whole_text (drop (suc i) pieces)) (sym e)) ∙ sym (append_assoc s.written _ _));
-  later = omega (arith, s.later);
+  same = later ∙ s.same;
 }
 
 -- a fault leaves a prefix of what comes next

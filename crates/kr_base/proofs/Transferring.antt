@@ -10,14 +10,14 @@ use Rattle.kr_base.specs.Streams.{TakesCount, TakesAtMost, AppendsFront}
 pub record Wrote (before now : Option (List ℕ)) (bytes : List ℕ) (written faults count : ℕ) : Type 0 where
   pub within : written ≤ length bytes
   pub appended : Appends before now (take written bytes)
-  pub later : faults ≤ count
+  pub same : count ≡ faults
 
 -- a source has given the bytes, at least one a turn
 pub record Took (before now : Option (List ℕ)) (taken : List ℕ) (turns limit faults count : ℕ) : Type 0 where
   pub consumed : Consumes before now taken
   pub turned : turns ≤ length taken
   pub within : length taken ≤ limit
-  pub later : faults ≤ count
+  pub same : count ≡ faults
 
 -- the first m bytes and the next n are the first m + n
 take-next : (bytes : List ℕ) (m n : ℕ) → m ≤ length bytes → n ≤ length (take (length bytes - m) (drop m bytes)) → take m bytes ++ take n (take (length bytes - m) (drop m bytes)) ≡ take (m + n) bytes
@@ -26,13 +26,13 @@ take-next bytes m n h k =
     ap (λ l. take m bytes ++ take n l) whole ∙ sym (take-add m n bytes)
 
 pub wrote-more : {a b c : Option (List ℕ)} {bytes : List ℕ} {m faults count : ℕ} (n after : ℕ) → Wrote a b bytes m faults count → n ≤ length (take (length bytes - m) (drop m bytes))
-    → Appends b c (take n (take (length bytes - m) (drop m bytes))) → count ≤ after → Wrote a c bytes (m + n) faults after
+    → Appends b c (take n (take (length bytes - m) (drop m bytes))) → after ≡ count → Wrote a c bytes (m + n) faults after
 wrote-more {a} {b} {c} {bytes} {m} {faults} {count} n after w k p h = record {
   within =
       let whole : take (length bytes - m) (drop m bytes) ≡ drop m bytes = take_all (length bytes - m) (drop m bytes) (omega (arith, length-drop m bytes)) in
       omega (arith, w.within, length-drop m bytes, ap length whole);
   appended = subst (Appends a c) (take-next bytes m n w.within k) (Appends-trans a b c _ _ w.appended p);
-  later = omega (arith, w.later);
+  same = h ∙ w.same;
 }
 
 pub wrote-front : {a b : Option (List ℕ)} {bytes : List ℕ} {m faults count : ℕ} (c : Option (List ℕ)) → Wrote a b bytes m faults count → Keeps b c → AppendsFront a c bytes
@@ -42,7 +42,7 @@ pub wrote-all : {a b : Option (List ℕ)} {bytes : List ℕ} {m faults count : �
 wrote-all {a} {b} {bytes} {m} w h = subst (Appends a b) (take_all m bytes h) w.appended
 
 pub took-more : {a b c : Option (List ℕ)} {taken : List ℕ} {turns limit faults count : ℕ} (into others now : List ℕ) (n after : ℕ) → Took a b taken turns limit faults count
-    → Consumes b c (take n into) → n ≤ length into → 0 < n → n ≤ limit - length taken → now ≡ taken ++ take n (into ++ others) → count ≤ after → Took a c now (turns + 1) limit faults after
+    → Consumes b c (take n into) → n ≤ length into → 0 < n → n ≤ limit - length taken → now ≡ taken ++ take n (into ++ others) → after ≡ count → Took a c now (turns + 1) limit faults after
 took-more {a} {b} {c} {taken} {turns} {limit} into others now n after t p k pos rest e h =
     let same : now ≡ taken ++ take n into = e ∙ ap (λ l. taken ++ l) (take-append-le n into others k) in
     let long : length now ≡ length taken + n = ap length same ∙ length-append taken (take n into) ∙ ap (λ m. length taken + m) (length-take-le n into k) in
@@ -50,7 +50,7 @@ took-more {a} {b} {c} {taken} {turns} {limit} into others now n after t p k pos 
       consumed = subst (Consumes a c) (sym same) (Consumes-trans a b c _ _ t.consumed p);
       turned = omega (arith, t.turned);
       within = omega (arith, t.within);
-      later = omega (arith, t.later);
+      same = h ∙ t.same;
     }
 
 pub took-count : {a b : Option (List ℕ)} {taken : List ℕ} {turns limit faults count : ℕ} (c : Option (List ℕ)) (into : List ℕ) (n : ℕ) → Took a b taken turns limit faults count

@@ -1,6 +1,7 @@
 -- The definitions that contracts name.
-pub mod Faults
 pub mod Numbering
+pub mod Faults
+pub mod Walks
 pub mod Told
 pub mod Streams
 pub mod Tapes

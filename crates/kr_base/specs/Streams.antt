@@ -2,6 +2,7 @@
 use Rattle.std.specs.Prelude.{◌≡◌, ℕ, ◌+◌, ◌≤◌, List, [], ◌∷◌, ◌++◌, length, take, Option, Result, Ok, Err}
 use Rattle.std.specs.Borrow.{Bor}
 use Rattle.std.specs.Io.KnownBytes.{Appends, Consumes, IsAtEnd}
+use Rattle.kr_base.specs.Numbering.{next_number}
 use Rattle.kr_base.specs.declared.errors.ReadNo.{ReadNo}
 use Rattle.kr_base.specs.declared.errors.ReadNo.TheVariants.{Failed, TooLong, NoMemory}
 
@@ -24,6 +25,13 @@ ReadsWhole old new limit (Ok bytes) = Consumes old new bytes × IsAtEnd new × (
 ReadsWhole old new limit (Err TooLong) = TakesCount old new (limit + 1)
 ReadsWhole old new limit (Err Failed) = TakesAtMost old new limit
 ReadsWhole old new limit (Err NoMemory) = TakesAtMost old new limit
+
+-- a source's count behind a reading to its end: one higher where that failed, and else as before
+abbrev pub counted_read : ℕ → Result (List ℕ) ReadNo → ℕ
+counted_read before (Ok bytes) = before
+counted_read before (Err TooLong) = before
+counted_read before (Err Failed) = next_number before
+counted_read before (Err NoMemory) = before
 
 -- pieces of a text, one behind another
 abbrev pub whole_text : List (Bor (List ℕ)) → List ℕ

@@ -1,5 +1,5 @@
 //! A tape in memory.
-ghost use Rattle.std.specs.Prelude.{◌≡◌, ◌++◌, ◌+◌, ◌-◌, ◌<◌, ◌≤◌, ◌/◌, min, nat_lt, length, take, drop, Some, IfOk, IfSome, MatchResult};
+ghost use Rattle.std.specs.Prelude.{◌≡◌, ◌++◌, ◌+◌, ◌-◌, ◌<◌, ◌≤◌, ◌/◌, min, nat_lt, length, take, drop, true, Some, IsOk, OnOk, IfOk, IfSome, MatchResult};
 ghost use Rattle.std.specs.Io.{ReadsAtMost};
 ghost use Rattle.kr_base.specs.Faults.{IsCounted};
 ghost use Rattle.kr_base.specs.InMemory.{Makes, faults_of, left_by_fault};
@@ -101,6 +101,8 @@ impl Tape for MemTape {
 
     ghost told = { λ tape. Some tape.bytes };
 
+    ghost settled = { λ tape. true };
+
     ghost count = { faults_of };
 
     fn len(&mut self) -> Result<u64, Failed>
@@ -188,6 +190,19 @@ impl Tape for MemTape {
             return Err(Failed);
         }
         self.bytes.truncate(len as usize);
+        Ok(())
+    }
+
+    // What is in memory stands there: it never fails, and isn't numbered among the calls that do.
+    fn settle(&mut self) -> Result<(), Failed>
+        ensures ok { IsOk result }
+        ensures kept { self.new ≡ self.old }
+
+        // As the trait says.
+        ensures settled { OnOk result (true ≡ true) }
+        ensures same { Some self.new.bytes ≡ Some self.old.bytes }
+        ensures cause { IsCounted (faults_of self.old) (faults_of self.new) result }
+    {
         Ok(())
     }
 

@@ -1,6 +1,6 @@
 //! The outside as the crates above see it: what is told of its content, and how often it failed.
-//! A count of faults never falls, and a call answers `Failed` only where it rose.
-ghost use Rattle.std.specs.Prelude.{◌≡◌, ℕ, ◌≤◌, List, length, Option, IfOk, IfSome, MatchResult};
+//! A count of faults rises by one where a call answers `Failed`, and never else.
+ghost use Rattle.std.specs.Prelude.{◌≡◌, ℕ, ◌≤◌, List, length, Option, Bool, true, IfOk, OnOk, IfSome, MatchResult};
 ghost use Rattle.std.specs.Io.{ReadsAtMost, WritesAtMost};
 ghost use Rattle.std.specs.Io.KnownBytes.{ReadConsumes, WriteAppends, Consumes, Keeps};
 ghost use Rattle.kr_base.specs.Faults.{IsCounted};
@@ -72,6 +72,9 @@ pub trait Tape {
     // The bytes that it holds, where the type tells them.
     ghost told: { Self → Option (List ℕ) };
 
+    // Whether all that it holds stands on the device, so that a loss of power takes none of it.
+    ghost settled: { Self → Bool };
+
     ghost count: { Self → ℕ };
 
     /// How many bytes it holds.
@@ -100,6 +103,13 @@ pub trait Tape {
     fn cut(&mut self, len: u64) -> Result<(), Failed>
         requires { IfSome (told self.old) (λ bytes. len ≤ length bytes) }
         ensures bytes { Cuts (told self.old) (told self.new) len result }
+        ensures cause { IsCounted (count self.old) (count self.new) result };
+
+    /// Lets what was put, and where the tape was cut, stand on the device: once this answers, a loss
+    /// of power takes none of it. After a fault nothing is known of what stands there.
+    fn settle(&mut self) -> Result<(), Failed>
+        ensures settled { OnOk result (settled self.new ≡ true) }
+        ensures same { told self.new ≡ told self.old }
         ensures cause { IsCounted (count self.old) (count self.new) result };
 
     /// How often it failed so far, up to the greatest number.

@@ -2,7 +2,7 @@
 ghost use Rattle.std.specs.Prelude.{◌≡◌, ◌≤◌, ◌+◌, min, [], IsErrOf, MatchResult, OnOk, OnErr};
 ghost use Rattle.std.specs.Io.KnownBytes.{Appends};
 ghost use Rattle.kr_base.specs.Faults.{Rose, IsCounted};
-ghost use Rattle.kr_base.specs.Streams.{ReadsWhole, AppendsFront, whole_text};
+ghost use Rattle.kr_base.specs.Streams.{ReadsWhole, AppendsFront, counted_read, whole_text};
 
 use crate::bytes::Bytes;
 use crate::errors::{Failed, ReadNo};
@@ -47,6 +47,7 @@ pub fn read_all<S: Source>(alloc: Global, source: &mut S, limit: u64) -> Result<
     ensures whole { ReadsWhole (S.left source.old) (S.left source.new) limit result }
     ensures later { S.count source.old ≤ S.count source.new }
     ensures failed { IsErrOf result ReadNo.Failed → Rose (S.count source.old) (S.count source.new) }
+    ensures once { S.count source.new ≡ counted_read (S.count source.old) result }
 {
     let mut taken = room_for(alloc, limit)?;
     let mut piece = [0u8; PIECE];

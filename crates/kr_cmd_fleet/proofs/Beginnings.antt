@@ -5,6 +5,7 @@ use Rattle.kr_opening.specs.Starts.{IsNoStart, MayStart}
 use Rattle.kr_opening.specs.declared.opening_board.StartNo.{StartNo}
 use Rattle.kr_opening.specs.declared.opening_board.StartNo.TheVariants as no
 use Rattle.kr_store.specs.Stores.{Kept}
+use Rattle.kr_watch.specs.declared.item.Item.{Item}
 use Rattle.kr_cmd_steps.specs.Around.{Around}
 use Rattle.kr_cmd_fleet.specs.Fleets.{Replicas, starting}
 use Rattle.kr_cmd_fleet.specs.declared.fleet_file.Plan.{Plan}
@@ -18,17 +19,18 @@ use Rattle.kr_cmd_steps.proofs.Goes.{home_refl, reach}
 
 -- ---- the core
 
-module _ (plan : Plan) (budgets : List ℕ) (store : Kept) (replicas : Replicas) (a : Around) where
+module _ (plan : Plan) (budgets : List ℕ) (store : Kept) (replicas : Replicas) (a : Around)
+    (items : List Item) where
   pub started : MayStart store.rows (settings_of replicas)
-      → Does (starting (plan_of plan) (stored_of store) budgets replicas) a a
-      (Ok (begun_with plan budgets store replicas))
+      → Does (starting (plan_of plan) (stored_of store) budgets replicas items) a a
+      (Ok (begun_with plan budgets store replicas items))
   started may = record {
     home = home_refl a;
     ends = λ left s. reach left (inr (Ok tt, may, inr (tt, tt, (refl, refl)))) s;
   }
 
   pub not_started : (why : StartNo) → IsNoStart store.rows (settings_of replicas) why
-      → Does (starting (plan_of plan) (stored_of store) budgets replicas) a a
+      → Does (starting (plan_of plan) (stored_of store) budgets replicas items) a a
       (Err (start_stop why))
   not_started (no.Stray path) is = record {
     home = home_refl a;

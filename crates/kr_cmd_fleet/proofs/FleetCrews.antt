@@ -31,11 +31,12 @@ use Rattle.kr_workers.specs.Histories.{IsOneHistory}
 use Rattle.kr_workers.specs.declared.worker.Worker.{Worker}
 use Rattle.kr_cmd_steps.specs.Around.{Around, IsHome, with_lent}
 use Rattle.kr_cmd_fleet.specs.FleetFiles.{all_rows}
-use Rattle.kr_cmd_fleet.specs.Fleets.{AreEquipped, Begun, HasRows, IsEquipped, LeavesRest, Replicas, RunsFleet, opening_of, launching, parts_of, publishing, starting}
+use Rattle.kr_cmd_fleet.specs.Fleets.{AreEquipped, Begun, HasRows, IsEquipped, LeavesRest, Replicas, RunsFleet, opening_of, launching, parts_of}
 use Rattle.kr_cmd_steps.specs.Steps.{Steps}
 use Rattle.kr_cmd_fleet.specs.declared.fleet.Record.{Record}
 use Rattle.kr_cmd_fleet.specs.declared.fleet_file.Plan.{Plan}
 use Rattle.kr_cmd_fleet.specs.declared.outfit.Outfit.{Outfit}
+use Rattle.kr_cmd_fleet.specs.declared.watch_start.WatchStart.{WatchStart}
 use Rattle.kr_cmd_steps.specs.declared.programs.Program.{Program}
 use Rattle.kr_cmd_messages.specs.declared.refusal.Stop.{Stop}
 use Rattle.kr_cmd_messages.specs.declared.refusal.Stop.TheVariants.{NoMemory}
@@ -44,6 +45,7 @@ use Rattle.kr_cmd_fleet.specs.inner.Crews.{IsReadyCore, outfit_of, outfits_of}
 use Rattle.kr_cmd_fleet.specs.inner.CrewRuns.{KeepsStore, RunsCrew, WorkersRan}
 use Rattle.kr_cmd_fleet.specs.inner.Plans.{IsWholePlan, named, plan_of}
 use Rattle.kr_cmd_fleet.specs.inner.FleetOutcomes.{ArePublished, LacksWorkers}
+use Rattle.kr_cmd_fleet.specs.inner.Readings.{KnowsItems}
 use Rattle.kr_cmd_steps.specs.inner.Lent.{Tapes, lent_links, with_lent_tape}
 use Rattle.kr_cmd_fleet.specs.inner.Outfits.{AreLater, AreNamed, with_outfits}
 use Rattle.kr_cmd_steps.specs.inner.ProgramNames.{names_in}
@@ -220,37 +222,37 @@ module _ {L D : Type 0} (link : L → Link) (left : D → Option (List ℕ)) (co
 -- what the workers had comes back as it was, or later
 pub ran_back : {T L D : Type 0} (truth : Truth) (link : L → Link) (left : D → Option (List ℕ))
     (count : D → ℕ) (plan : Plan) (budgets : List ℕ) (olds outs : List (Outfit L D))
-    → AreLater link count olds outs → (o : Opening) (workers : List (Worker T L D))
-    → outfits_of workers ≡ outs → (kept : Kept) (back : List (Outfit L D))
-    (result : Result Record Stop)
-    → RunsCrew truth link left count plan budgets o workers result kept back
+    → AreLater link count olds outs → (o : Opening) (start : WatchStart)
+    (workers : List (Worker T L D)) → outfits_of workers ≡ outs → (kept : Kept)
+    (back : List (Outfit L D)) (result : Result Record Stop)
+    → RunsCrew truth link left count plan budgets o start workers result kept back
     → AreLater link count olds back
-ran_back truth link left count plan budgets olds outs later o workers are kept back (Ok made) r =
+ran_back truth link left count plan budgets olds outs later o start workers are kept back
+    (Ok made) r =
     later_trans link left count olds outs back later
     (subst (λ os. AreLater link count os back) are r.later)
-ran_back truth link left count plan budgets olds outs later o workers are kept back (Err stop) r =
+ran_back truth link left count plan budgets olds outs later o start workers are kept back
+    (Err stop) r =
     subst (λ os. AreLater link count olds os) (sym (r.outfits_are ∙ are)) later
 
 -- ---- up to the workers, and with them
 
 module _ {L D : Type 0} (truth : Truth) (link : L → Link) (left : D → Option (List ℕ))
-    (count : D → ℕ) (plan : Plan) (whole : IsWholePlan (plan_of plan)) (budgets : List ℕ)
-    (name : List ℕ) (a : Around) (store : Kept) where
+    (count : D → ℕ) (watched : Bool) (plan : Plan) (whole : IsWholePlan (plan_of plan))
+    (budgets : List ℕ) (name : List ℕ) (a : Around) (store : Kept) where
   -- these outfits and the store's tape stand as if they were at home
   abbrev pub With : List (Outfit L D) → Kept → Around
   With outfits kept = with_outfits link left count 0 outfits
       (with_lent_tape name kept.told kept.count a)
 
   abbrev pub Next : Steps Begun
-  Next = launching (plan_of plan) (stored_of store) budgets
+  Next = launching watched (plan_of plan) (stored_of store) budgets
 
-  abbrev pub Publishes : Steps Replicas
-  Publishes = publishing (named plan.files.0) [] plan.script.replicas.0
-
-  module _ (olds outs : List (Outfit L D)) (replicas : Replicas)
-      (does : Does Publishes (With olds store) (With outs store) (Ok replicas))
-      (starts : Does (starting (plan_of plan) (stored_of store) budgets replicas)
-      (With outs store) (With outs store) (Ok (begun_with plan budgets store replicas)))
+  module _ (olds outs : List (Outfit L D)) (replicas : Replicas) (start : WatchStart)
+      (all_does : Does Next (With olds store) (With outs store)
+      (Ok (begun_with plan budgets store replicas start.items.0)))
+      (knows : KnowsItems watched truth store.rows replicas start.items.0)
+      (revision : start.revision ≡ length store.rows)
       (are_named : AreNamed link (names_in plan.programs) olds)
       (seats : length olds ≡ length plan.script.workers.0) (later : AreLater link count olds outs)
       (published : ArePublished truth (named plan.files.0) plan.script.replicas.0 replicas)
@@ -258,17 +260,13 @@ module _ {L D : Type 0} (truth : Truth) (link : L → Link) (left : D → Option
       (known : reloads ≡ all_reloads plan.script.workers.0) (o : Opening)
       (opens : o ≡ opening_by store replicas (names_in plan.programs) reloads) where
     abbrev begun : Begun
-    begun = begun_with plan budgets store replicas
+    begun = begun_with plan budgets store replicas start.items.0
 
     abbrev Mid : Around
     Mid = With outs store
 
     abbrev Over_now : Kept → Around
     Over_now kept = with_lent_tape name kept.told kept.count a
-
-    all_does : Does Next (With olds store) Mid (Ok begun)
-    all_does = goes_on Publishes (starting (plan_of plan) (stored_of store) budgets) replicas does
-        starts
 
     count_is : store.count ≡ Mid.world.tapes.faults name
     count_is = sym (ap (λ (t : Tapes). t.faults name)
@@ -393,12 +391,12 @@ module _ {L D : Type 0} (truth : Truth) (link : L → Link) (left : D → Option
         (many : length workers ≡ length plan.script.workers.0) (kept : Kept)
         (back : List (Outfit L D)) where
       further_on : (made : Record)
-          → WorkersRan truth link left count plan budgets o workers made kept back
+          → WorkersRan truth link left count plan budgets o start workers made kept back
           → AreLater link count outs back
       further_on made r = subst (λ os. AreLater link count os back) are r.later
 
       runs : (made : Record)
-          → (r : WorkersRan truth link left count plan budgets o workers made kept back)
+          → (r : WorkersRan truth link left count plan budgets o start workers made kept back)
           → RunsFleet truth link left count name begun Mid (With back kept) r.history r.ended
       runs made r =
           let names = names_in plan.programs in
@@ -438,8 +436,8 @@ module _ {L D : Type 0} (truth : Truth) (link : L → Link) (left : D → Option
           }
 
       pub ran_with : (result : Result Record Stop)
-          → RunsCrew truth link left count plan budgets o workers result kept back
-          → RunsWith link left count T truth Next name (plan_of plan) outs (With olds store)
+          → RunsCrew truth link left count plan budgets o start workers result kept back
+          → RunsWith link left count T truth watched Next name (plan_of plan) outs (With olds store)
           (With back kept) result
       unfolding runs
       ran_with (Ok made) r = record {
@@ -453,6 +451,9 @@ module _ {L D : Type 0} (truth : Truth) (link : L → Link) (left : D → Option
           runs = runs made r;
           lines = r.lines_are;
           replies = r.replies_are;
+          items_are = ap (λ (s : WatchStart). s.items.0) r.start_is;
+          revision_is = ap (λ (s : WatchStart). s.revision) r.start_is ∙ revision;
+          known = knows;
           home = new_home kept back (further_on made r) r.kept.later;
         };
         outfits_are = are;

@@ -1,7 +1,7 @@
 -- How a fleet goes on from its plan, and how a call ends that a fleet was asked of.
 use Rattle.kr_cmd_messages.specs.Message.{line_of, status_of as stop_status}
 use Rattle.std.proofs.Common.{◌≡◌, ℕ, ◌+◌, ◌<◌, ◌≤◌, ◌⊎◌, List, [], ◌∷◌, map, codes, Option, Some, Result, Ok, Err, refl, sym, ◌∙◌, ap, subst, inl, inr, arith}
-use Rattle.std.specs.Prelude.{true, sum, count_by}
+use Rattle.std.specs.Prelude.{Bool, false, true, sum, count_by}
 use Rattle.std.proofs.lemmas.List.Sums.{sum_by-cons}
 use Rattle.kr_kms.specs.Outside.{Outside}
 use Rattle.kr_kms.specs.Calls.{Link}
@@ -24,7 +24,6 @@ use Rattle.kr_workers.specs.declared.ending.Ending.{Ending}
 use Rattle.kr_workers.specs.declared.worker.Worker as fleet_worker
 use Rattle.kr_workers.proofs.Summing.{parts_fit}
 use Rattle.kr_cmd_steps.specs.Around.{Around, left_of, with_world}
-use Rattle.kr_cmd_steps.specs.Commands.{tape_for}
 use Rattle.kr_cmd_messages.specs.FleetAsked.{AskAlone, AsksFleet}
 use Rattle.kr_cmd_fleet.specs.FleetFiles.{FleetPlan, planning}
 use Rattle.kr_cmd_fleet.specs.Fleets.{Begun, DidFleet, RanFleet, WritesFleet, budgeting, over_store, parts_of}
@@ -38,13 +37,11 @@ use Rattle.kr_cmd_messages.specs.declared.refusal.Refusal.TheVariants.{Limit}
 use Rattle.kr_cmd_messages.specs.declared.refusal.Stop.{Stop}
 use Rattle.kr_cmd_messages.specs.declared.refusal.Stop.TheVariants.{Words, Refused, Fault, NoMemory}
 use Rattle.kr_cmd_messages.specs.inner.FleetAnswers.{IsFleetAsked}
-use Rattle.kr_cmd_fleet.specs.inner.FleetOutcomes.{LacksWorkers, LeavesRecord, RunsBy, budget_stop}
+use Rattle.kr_cmd_fleet.specs.inner.FleetOutcomes.{LacksSettling, LacksWorkers, LeavesRecord, RunsBy, budget_stop}
 use Rattle.kr_cmd_steps.specs.inner.Lent.{with_lent_tape}
 use Rattle.kr_cmd_steps.specs.inner.Phases.{Does}
-use Rattle.kr_cmd_steps.specs.inner.Tapes.{LentTape, ReturnedTape}
 use Rattle.kr_cmd_fleet.specs.inner.Workings.{Outfits, RunsWith}
 use Rattle.kr_cmd_steps.proofs.Goes.{goes_on, home_refl, home_trans, reach, stays_refl, stops}
-use Rattle.kr_cmd_steps.proofs.Tapes.{came_back, lent, nothing}
 
 module _ (T : Type 0) {L D : Type 0} (truth : Truth) (link : L → Link)
     (left : D → Option (List ℕ)) (count : D → ℕ) (words : FleetWords) where
@@ -54,7 +51,7 @@ module _ (T : Type 0) {L D : Type 0} (truth : Truth) (link : L → Link)
       → IsIdle output
       → DidFleet T truth link left count words old new output (Err stop)
   unplanned old new file is stop output d idle =
-      let all = stops (planning words.file words.options) (over_store words.store) stop
+      let all = stops (planning words.file words.options) (over_store false words.store) stop
       (subst (λ f. Does (planning f words.options) old new (Err stop)) is d) in
       record {
         home = all.home;
@@ -67,45 +64,64 @@ module _ (T : Type 0) {L D : Type 0} (truth : Truth) (link : L → Link)
     d : Does (planning words.file words.options) old now (Ok plan)
     d = subst (λ f. Does (planning f words.options) old now (Ok plan)) is planned
 
-    -- the steps behind it ended the command, or want of memory did
+    -- the steps behind it ended the command, or want of memory did, or the store couldn't be settled
     pub stopped : (stop : Stop) (output : Receipt)
-        → Does (over_store store plan) now new (Err stop)
-        ⊎ LacksWorkers T truth link left count (over_store store plan) store now new stop
+        → Does (over_store false store plan) now new (Err stop)
+        ⊎ LacksWorkers T truth link left count (over_store false store plan) store now new stop
+        ⊎ LacksSettling T truth link left count (over_store false store plan) store now new stop
         → IsIdle output → DidFleet T truth link left count words old new output (Err stop)
     stopped stop output (inl e) idle =
-        let all = goes_on (planning words.file words.options) (over_store words.store) plan d
-        (subst (λ s. Does (over_store s plan) now new (Err stop)) is_store e) in
+        let all = goes_on (planning words.file words.options) (over_store false words.store) plan d
+        (subst (λ s. Does (over_store false s plan) now new (Err stop)) is_store e) in
         record {
           home = all.home;
           did = inl (inl (all.ends (left_of old) (stays_refl old)), idle);
         }
-    stopped stop output (inr lacking) idle =
-        let l = subst (λ s. LacksWorkers T truth link left count (over_store s plan) s now new
+    stopped stop output (inr (inl lacking)) idle =
+        let l = subst (λ s. LacksWorkers T truth link left count (over_store false s plan) s now new
         stop) is_store lacking in
         let all =
-        goes_on (planning words.file words.options) (over_store words.store) plan d l.does in
+        goes_on (planning words.file words.options) (over_store false words.store) plan d l.does in
         record {
           home = home_trans d.home l.home;
           did = inl (
-            inr (
+            inr (inl (
               l.stops,
               (l.mid, l.begun, all.ends (left_of old) (stays_refl old), l.none, all.home),
-            ),
+            )),
+            idle,
+          );
+        }
+    stopped stop output (inr (inr lacking)) idle =
+        let l = subst (λ s. LacksSettling T truth link left count (over_store false s plan) s now new
+        stop) is_store lacking in
+        let all =
+        goes_on (planning words.file words.options) (over_store false words.store) plan d l.does in
+        record {
+          home = home_trans d.home l.home;
+          did = inl (
+            inr (inr (
+              l.mid,
+              l.begun,
+              all.ends (left_of old) (stays_refl old),
+              l.fails,
+              all.home,
+            )),
             idle,
           );
         }
 
     -- the workers ran
     pub ran : (made : Record) (output : Receipt) (result : Result Ending Stop)
-        → LeavesRecord T truth link left count (over_store store plan) store plan now new made
+        → LeavesRecord T truth link left count true false (over_store false store plan) store plan now new made
         → WritesFleet (fleet_output plan.fleet made.lines.0 made.replies.0)
         (ending_of made.replies.0) output result
         → DidFleet T truth link left count words old new output result
     ran made output result left_so w =
-        let l = subst (λ s. LeavesRecord T truth link left count (over_store s plan) s plan now
+        let l = subst (λ s. LeavesRecord T truth link left count true false (over_store false s plan) s plan now
         new made) is_store left_so in
         let all =
-        goes_on (planning words.file words.options) (over_store words.store) plan d l.does in
+        goes_on (planning words.file words.options) (over_store false words.store) plan d l.does in
         let journal = map (λ (e : Entry). e.line) l.history in
         let told = map (λ (worker : fleet_worker.Worker T L D). worker.told) l.ended in
         let by_lines = subst (λ lines. WritesFleet (fleet_output plan.fleet lines made.replies.0)
@@ -130,9 +146,11 @@ module _ (T : Type 0) {L D : Type 0} (truth : Truth) (link : L → Link)
 -- ---- phases up to the workers
 
 module _ (T : Type 0) {L D : Type 0} (truth : Truth) (link : L → Link)
-    (left : D → Option (List ℕ)) (count : D → ℕ) (store : List ℕ) (plan : FleetPlan) where
+    (left : D → Option (List ℕ)) (count : D → ℕ) (watched : Bool) (store : List ℕ)
+    (plan : FleetPlan) where
   abbrev pub Runs : Steps Begun → (old new : Around) → Result Record Stop → Type 0
-  Runs steps old new result = RunsBy T truth link left count steps store plan old new result
+  Runs steps old new result =
+      RunsBy T truth link left count watched steps store plan old new result
 
   module _ {A : Type 0} (first : Steps A) (others : A → Steps Begun) where
     -- the first steps gave something, and the fleet ran by the others
@@ -149,6 +167,9 @@ module _ (T : Type 0) {L D : Type 0} (truth : Truth) (link : L → Link)
       runs = l.runs;
       lines = l.lines;
       replies = l.replies;
+      items_are = l.items_are;
+      revision_is = l.revision_is;
+      known = l.known;
       home = home_trans d.home l.home;
     }
     before x new d (Err stop) (inl e) = inl (goes_on first others x d e)
@@ -175,27 +196,15 @@ module _ (T : Type 0) {L D : Type 0} (truth : Truth) (link : L → Link)
         subst (λ b. Runs steps old (with_lent_tape store b last a) result) (sym t)
         (subst (λ m. Runs steps old (with_lent_tape store told m a) result) (sym e) r)
 
-    -- the tape is borrowed for it, and comes back
-    pub over_tape : {old out mid new : Outside} {given back : Option (List ℕ)} {first n : ℕ}
-        (result : Result Record Stop) → LentTape store true old out given first
-        → ReturnedTape store mid new back n
-        → Runs steps (with_lent_tape store given first (with_world out a))
-        (with_lent_tape store back n (with_world mid a)) result
-        → Runs (tape_for store true steps) (with_world old a) (with_world new a) result
-    over_tape {out = out} {new = new} {given = given} {first = first} result h returned r =
-        before (tape_for store true nothing) (λ u. steps) tt (with_world new a)
-        (lent store true _ h a) result
-        (subst (λ b. Runs steps (with_lent_tape store given first (with_world out a)) b result)
-        (came_back store returned a) r)
-
 -- what is known of the workers beside, left out
 pub runs_with : (T : Type 0) {L D : Type 0} (truth : Truth) (link : L → Link)
-    (left : D → Option (List ℕ)) (count : D → ℕ) (store : List ℕ) (plan : FleetPlan)
-    (steps : Steps Begun) (outfits : Outfits L D) (old new : Around) (result : Result Record Stop)
-    → RunsWith link left count T truth steps store plan outfits old new result
-    → RunsBy T truth link left count steps store plan old new result
-runs_with T truth link left count store plan steps outfits old new (Ok made) r = r.leaves
-runs_with T truth link left count store plan steps outfits old new (Err stop) r = r
+    (left : D → Option (List ℕ)) (count : D → ℕ) (watched : Bool) (store : List ℕ)
+    (plan : FleetPlan) (steps : Steps Begun) (outfits : Outfits L D) (old new : Around)
+    (result : Result Record Stop)
+    → RunsWith link left count T truth watched steps store plan outfits old new result
+    → RunsBy T truth link left count watched steps store plan old new result
+runs_with T truth link left count watched store plan steps outfits old new (Ok made) r = r.leaves
+runs_with T truth link left count watched store plan steps outfits old new (Err stop) r = r
 
 -- ---- budgets
 
@@ -306,7 +315,7 @@ pub alone_or_memory : (words : List (List ℕ)) (stop : Stop) → IsFleetAsked w
     → (errors : Receipt) (status : ℕ)
     → Tells (line_of (Err stop)) (stop_status (Err stop)) errors status → AskAlone words
     ⊎ Tells (line_of (Err NoMemory)) (stop_status (Err NoMemory)) errors status
-alone_or_memory words (Words why) h errors status t = inl (h.1, h.2)
+alone_or_memory words (Words why) h errors status t = inl (h.1, h.2, h.3)
 alone_or_memory words (Refused why) h errors status t = absurd h
 alone_or_memory words (Fault object count) h errors status t = absurd h
 alone_or_memory words NoMemory h errors status t = inr t

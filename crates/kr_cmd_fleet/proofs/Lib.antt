@@ -2,6 +2,7 @@
 pub mod Beginnings
 pub mod ClosedCores
 pub mod Crews
+pub mod FirstReads
 pub mod FleetCrews
 pub mod FleetLoads
 pub mod FleetOutfits
@@ -12,3 +13,5 @@ pub mod Outfitting
 pub mod Plans
 pub mod Publishings
 pub mod Returning
+pub mod SettledRuns
+pub mod RowReads

@@ -1,6 +1,6 @@
 -- What the status of a call comes from whose steps lead to workers: the same for a fleet and for a
 -- generated load.
-use Rattle.std.specs.Prelude.{◌≡◌, ℕ, ◌⊎◌, Result, Ok, ⊤}
+use Rattle.std.specs.Prelude.{◌≡◌, ℕ, ◌⊎◌, List, Result, Ok, ⊤}
 use Rattle.std.specs.Io.KnownBytes.{Appends}
 use Rattle.kr_base.specs.Faults.{Rose}
 use Rattle.kr_workers.specs.Endings.{status_of}
@@ -57,9 +57,11 @@ module _ (steps : Steps Begun) (HasStarted : Result Ending Stop → Type 0) (old
 
   -- `IsTold`: what these steps go by is told
   pub record Causes (IsTold : Type 0) (status : ℕ) : Type 0 where
-    -- 4 comes only where a call, the output or the line failed, or a reply tells a fault
+    -- 4 comes only where a call, the output or the line failed, or a reply tells a fault, or a tape
+    -- failed, as where it couldn't be settled behind the workers
     pub caused : status ≡ 4
         → ((call : Call) × HasFailed steps old new call)
+        ⊎ ((name : List ℕ) × Rose (old.world.tapes.faults name) (new.world.tapes.faults name))
         ⊎ Rose output.old_faults output.new_faults
         ⊎ Rose errors.old_faults errors.new_faults
         ⊎ HasEnded HasStarted errors ending.Fault

@@ -1,5 +1,5 @@
 -- `fleet`: the steps up to its workers, and what a call did once they were started.
-use Rattle.std.specs.Prelude.{◌≡◌, ◌≢◌, ℕ, suc, zero, ◌+◌, ◌<◌, ◌≤◌, ◌⊎◌, true, false, List, [], ◌∷◌, ◌++◌, length, map, sum, get_or, All, Option, None, Some, Result, Ok, Err, ⊤, if◌then◌else◌}
+use Rattle.std.specs.Prelude.{◌≡◌, ◌≢◌, ℕ, Bool, suc, zero, ◌+◌, ◌<◌, ◌≤◌, ◌⊎◌, true, false, List, [], ◌∷◌, ◌++◌, length, map, sum, get_or, All, Option, None, Some, Result, Ok, Err, ⊤, if◌then◌else◌}
 use Rattle.std.specs.Io.KnownBytes.{Appends}
 use Rattle.std.specs.Str.{bytes_eq}
 use Rattle.kr_base.specs.Faults.{Rose}
@@ -7,12 +7,13 @@ use Rattle.kr_base.specs.Limits.{store_limit, journal_limit}
 use Rattle.kr_base.specs.Streams.{AppendsFront}
 use Rattle.kr_config.specs.Kept.{Row}
 use Rattle.kr_kms.specs.Calls.{Link}
-use Rattle.kr_kms.specs.Outside.{link_at}
+use Rattle.kr_kms.specs.Outside.{link_at, with_call}
+use Rattle.kr_kms.specs.declared.world.WorldCall.TheVariants.{Settled}
 use Rattle.kr_kms.specs.Truth.{Opens, Truth}
 use Rattle.kr_provider.specs.Names.{names_of}
 use Rattle.kr_provider.specs.PluginOrder.{plugin_order}
 use Rattle.kr_provider.specs.Publication.{Publication}
-use Rattle.kr_rollout.specs.Histories.{state_of}
+use Rattle.kr_rollout.specs.Histories.{IsLegal, state_of}
 use Rattle.kr_history.specs.Honesty.{IsHonest}
 use Rattle.kr_opening.specs.Replicas.{settings_of}
 use Rattle.kr_opening.specs.Starts.{IsNoStart, MayStart}
@@ -24,6 +25,7 @@ use Rattle.kr_script.specs.Output.{fleet_output}
 use Rattle.kr_script.specs.declared.script.Part.{Part}
 use Rattle.kr_store.specs.File.{IsFile}
 use Rattle.kr_store.specs.declared.rows.LogRow.{LogRow}
+use Rattle.kr_watch.specs.declared.item.Item.{Item}
 use Rattle.kr_workers.specs.Budgets.{AreBudgets, all_reloads}
 use Rattle.kr_workers.specs.Endings.{ending_of, status_of}
 use Rattle.kr_workers.specs.Histories.{IsOneHistory}
@@ -31,12 +33,14 @@ use Rattle.kr_workers.specs.declared.ending.Ending.{Ending}
 use Rattle.kr_workers.specs.declared.files.SettingsFile.{SettingsFile}
 use Rattle.kr_workers.specs.declared.worker.Worker as fleet_worker
 use Rattle.kr_cmd_steps.specs.Afterwards.{AreLeft}
-use Rattle.kr_cmd_steps.specs.Around.{Around, Ends, IsHome, Reaches, left_of}
+use Rattle.kr_cmd_steps.specs.Around.{Around, Ends, IsHome, Reaches, left_of, with_world}
 use Rattle.kr_cmd_steps.specs.Commands.{by_result, stored_on, tape_for, with_memory}
 use Rattle.kr_cmd_messages.specs.FleetAsked.{AskAlone, AsksFleet}
+use Rattle.kr_cmd_fleet.specs.FirstItems.{watching}
 use Rattle.kr_cmd_fleet.specs.FleetFiles.{FleetPlan, NamedRows, named_rows, no_file, planning, rows_at}
 use Rattle.kr_cmd_steps.specs.Judgements.{start_refusal}
 use Rattle.kr_cmd_messages.specs.LoadAsked.{AsksLoad}
+use Rattle.kr_cmd_messages.specs.WatchAsked.{AsksWatch}
 use Rattle.kr_cmd_steps.specs.Plugins.{borrow_links_of, make_seeds}
 use Rattle.kr_cmd_steps.specs.Ran.{IsIdle, IsUntouched, Ran, Readings}
 use Rattle.kr_cmd_messages.specs.Receipts.{Receipt, Tells}
@@ -45,6 +49,7 @@ use Rattle.kr_cmd_steps.specs.Steps.{Steps, borrow_dice, find, gives, give, and_
 use Rattle.kr_cmd_steps.specs.StoreFiles.{Stored}
 use Rattle.kr_cmd_messages.specs.declared.fleet_words.FleetWords.{FleetWords}
 use Rattle.kr_cmd_messages.specs.declared.load_words.LoadWords.{LoadWords}
+use Rattle.kr_cmd_messages.specs.declared.watch_words.WatchWords.{WatchWords}
 use Rattle.kr_cmd_steps.specs.declared.programs.Program.{Program}
 use Rattle.kr_cmd_messages.specs.declared.refusal.Limit.TheVariants as limit
 use Rattle.kr_cmd_messages.specs.declared.refusal.Object.TheVariants.{Output, Store}
@@ -112,42 +117,61 @@ IsStart rows replicas (Err why) = (cause : StartNo)
 
 -- ---- up to the workers
 
--- what the workers begin with
+-- what the workers begin with, and the objects of the live rows, where they were read
 pub record Begun : Type 0 where
   pub plan : FleetPlan
   pub stored : Stored
   pub budgets : List ℕ
   pub replicas : Replicas
+  pub items : List Item
 
-abbrev pub starting : FleetPlan → Stored → List ℕ → Replicas → Steps Begun
-starting plan stored budgets replicas =
+abbrev pub starting : FleetPlan → Stored → List ℕ → Replicas → List Item → Steps Begun
+starting plan stored budgets replicas items =
     and_then (find (Result (Unit {0}) Refusal) (IsStart stored.rows replicas) by_result)
     (λ done. with_memory (give (record {
       plan = plan;
       stored = stored;
       budgets = budgets;
       replicas = replicas;
+      items = items;
     })))
 
+-- from what the replicas published on; where someone watches, the live rows are read before
+abbrev pub starting_with : (watched : Bool) → FleetPlan → Stored → List ℕ → Replicas
+    → Steps Begun
+starting_with watched plan stored budgets replicas =
+    and_then (watching watched stored.rows replicas) (starting plan stored budgets replicas)
+
 -- once each worker has an outfit, and with one for each
-abbrev pub launching : FleetPlan → Stored → List ℕ → Steps Begun
-launching plan stored budgets =
-    and_then (publishing plan.files [] plan.fleet.replicas) (starting plan stored budgets)
+abbrev pub launching : (watched : Bool) → FleetPlan → Stored → List ℕ → Steps Begun
+launching watched plan stored budgets =
+    and_then (publishing plan.files [] plan.fleet.replicas)
+    (starting_with watched plan stored budgets)
 
-abbrev pub equipping_all : FleetPlan → Stored → List ℕ → Steps Begun
-equipping_all plan stored budgets = equipping plan.programs 0 (length plan.fleet.workers)
-    (launching plan stored budgets)
+abbrev pub equipping_all : (watched : Bool) → FleetPlan → Stored → List ℕ → Steps Begun
+equipping_all watched plan stored budgets =
+    equipping plan.programs 0 (length plan.fleet.workers)
+    (launching watched plan stored budgets)
 
-abbrev pub beginning : FleetPlan → Stored → Steps Begun
-beginning plan stored =
-    and_then (budgeting stored.rows (parts_of plan.fleet)) (equipping_all plan stored)
+abbrev pub beginning : (watched : Bool) → FleetPlan → Stored → Steps Begun
+beginning watched plan stored =
+    and_then (budgeting stored.rows (parts_of plan.fleet)) (equipping_all watched plan stored)
 
 -- a fleet by its plan, over the store of this name
-abbrev pub over_store : (store : List ℕ) → FleetPlan → Steps Begun
-over_store store plan = tape_for store true (and_then (stored_on Store store) (beginning plan))
+abbrev pub over_store : (watched : Bool) → (store : List ℕ) → FleetPlan → Steps Begun
+over_store watched store plan =
+    tape_for store true (and_then (stored_on Store store) (beginning watched plan))
+
+abbrev pub steps_of_fleet : (watched : Bool) → FleetWords → Steps Begun
+steps_of_fleet watched words =
+    and_then (planning words.file words.options) (over_store watched words.store)
 
 abbrev pub fleet_steps : FleetWords → Steps Begun
-fleet_steps words = and_then (planning words.file words.options) (over_store words.store)
+fleet_steps words = steps_of_fleet false words
+
+-- the same where someone watches
+abbrev pub watch_steps : FleetWords → Steps Begun
+watch_steps words = steps_of_fleet true words
 
 -- ---- once the workers were started
 
@@ -246,7 +270,26 @@ pub record StartsNone (store : List ℕ) (begun : Begun) (mid new : Around) : Ty
   pub dice : new.world.dice.told ≡ mid.world.dice.told
   pub rest : LeavesRest store (length begun.plan.fleet.workers) mid new
 
--- the steps up to the workers ended the command, or want of memory did before they started
+-- The workers ran by a legal history, and the store has its rows; then it couldn't be settled, and
+-- its count rose
+pub record FailsToSettle (store : List ℕ) (begun : Begun) (mid new : Around) (stop : Stop)
+    : Type 0 where
+  pub history : List Entry
+  pub legal : IsLegal (opening_of store begun mid) history
+  pub stored : HasRows (new.world.tapes.told store) begun
+      (state_of (opening_of store begun mid) history).rows (mid.world.tapes.faults store)
+      (new.world.tapes.faults store)
+  pub rose : Rose (mid.world.tapes.faults store) (new.world.tapes.faults store)
+  pub stops : stop ≡ Fault Store (new.world.tapes.faults store)
+  pub rest : LeavesRest store (length begun.plan.fleet.workers) mid new
+
+-- the store was settled behind the workers, and the world was told so
+abbrev pub settled_behind : (store : List ℕ) → Around → Around
+settled_behind store mid = with_world
+    (record mid.world { asked = with_call (Settled store) mid.world.asked }) mid
+
+-- nothing was written: the steps up to the workers ended the command, or want of memory did before
+-- they started, or what they stored couldn't be settled
 abbrev pub StopsBefore : Steps Begun → (store : List ℕ) → (old new : Around) → Receipt
     → Result Ending Stop → Type 0
 StopsBefore steps store old new output (Ok ending) = ⊥
@@ -254,7 +297,9 @@ StopsBefore steps store old new output (Err stop) =
     (Ends steps (left_of old) old new (Err stop)
     ⊎ ((stop ≡ NoMemory) × ((mid : Around) × (begun : Begun)
     × Reaches steps (left_of old) mid (gives begun)
-    × StartsNone store begun mid new × IsHome old mid)))
+    × StartsNone store begun mid new × IsHome old mid))
+    ⊎ ((mid : Around) × (begun : Begun) × Reaches steps (left_of old) mid (gives begun)
+    × FailsToSettle store begun mid new stop × IsHome old mid))
     × IsIdle output
 
 -- the journal and the replies
@@ -276,7 +321,7 @@ WritesFleet text ending output (Err why) = ⊥
 
 module _ (T : Type 0) {L D : Type 0} (truth : Truth) (link : L → Link)
     (left : D → Option (List ℕ)) (count : D → ℕ) where
-  -- the workers were started
+  -- the workers were started, and what they stored is settled
   pub record Starts (words : FleetWords) (old new : Around) (output : Receipt)
       (result : Result Ending Stop) : Type 0 where
     pub begun : Begun
@@ -285,7 +330,8 @@ module _ (T : Type 0) {L D : Type 0} (truth : Truth) (link : L → Link)
     pub since : IsHome old mid
     pub history : List Entry
     pub ended : List (fleet_worker.Worker T L D)
-    pub runs : RunsFleet truth link left count words.store begun mid new history ended
+    pub runs : RunsFleet truth link left count words.store begun
+        (settled_behind words.store mid) new history ended
     pub writes : WritesFleet (text_of begun.plan.fleet history ended)
         (ending_of (map (λ (w : fleet_worker.Worker T L D). w.told) ended)) output result
 
@@ -315,8 +361,8 @@ pub record RanFleet (T : Type 0) {L D : Type 0} (truth : Truth) (link : L → Li
   pub written : output.old_faults ≤ output.new_faults
   pub told : errors.old_faults ≤ errors.new_faults
 
--- what a call did where no one may wait: for a fleet and for a load nothing, unless memory lacked
--- to read its words
+-- what a call did where no one may wait: for a fleet, a watch and a load nothing, unless memory
+-- lacked to read its words
 abbrev pub RanAlone : (words : List (List ℕ)) → (old new : Around) → (output errors : Receipt)
     → Option ℕ → Type 0
 RanAlone words old new output errors (Some status) =
@@ -324,5 +370,6 @@ RanAlone words old new output errors (Some status) =
     × AreLeft words old new status × (AskAlone words
     ⊎ Tells (line_of (Err NoMemory)) (stop_status (Err NoMemory)) errors status)
 RanAlone words old new output errors None =
-    (((asked : FleetWords) × AsksFleet words asked) ⊎ ((asked : LoadWords) × AsksLoad words asked))
+    (((asked : FleetWords) × AsksFleet words asked) ⊎ ((asked : LoadWords) × AsksLoad words asked)
+    ⊎ ((asked : WatchWords) × AsksWatch words asked))
     × IsUntouched old new output × IsIdle errors

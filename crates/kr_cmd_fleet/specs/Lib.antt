@@ -1,5 +1,6 @@
 -- The definitions that contracts cite.
 pub mod Causes
+pub mod FirstItems
 pub mod FleetFiles
 pub mod FleetReadings
 pub mod FleetReady

@@ -5,4 +5,5 @@ pub mod Crews
 pub mod FleetOutcomes
 pub mod Outfits
 pub mod Plans
+pub mod Readings
 pub mod Workings

@@ -58,7 +58,7 @@ pub fn hire<T: Tape, L: Kms, D: Dice>(
 }
 
 /// The outfits from the last to the first.
-fn in_turn<L: Kms, D: Dice>(outfits: List<Outfit<L, D>>) -> List<Outfit<L, D>>
+pub(crate) fn in_turn<L: Kms, D: Dice>(outfits: List<Outfit<L, D>>) -> List<Outfit<L, D>>
     ensures { result.0 ≡ reverse outfits.0 }
 {
     let mut outfits = outfits.into_vec();

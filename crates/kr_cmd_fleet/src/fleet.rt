@@ -1,6 +1,6 @@
 //! `fleet`: the fleet file and the configurations that it names, the store, each worker's random
 //! source and links, what each replica publishes, and the workers at one core.
-ghost use Rattle.std.specs.Prelude.{◌≡◌, ◌≤◌, All, IfErr, IfOk, [], false, length, sum};
+ghost use Rattle.std.specs.Prelude.{◌≡◌, ◌≤◌, Bool, All, IfErr, IfOk, [], false, length, sum};
 ghost use Rattle.kr_base.specs.Limits.{store_limit, journal_limit};
 ghost use Rattle.kr_provider.specs.AskedLinks.{AskedOnly};
 ghost use Rattle.kr_provider.specs.Names.{names_of as plugin_names};
@@ -10,6 +10,7 @@ ghost use Rattle.kr_script.specs.Fleets.{fleet_of};
 ghost use Rattle.kr_script.specs.Output.{fleet_output};
 ghost use Rattle.kr_cmd_steps.specs.Around.{Around, with_world};
 ghost use Rattle.kr_cmd_steps.specs.Commands.{stored_on};
+ghost use Rattle.kr_cmd_fleet.specs.FirstItems.{Items};
 ghost use Rattle.kr_cmd_fleet.specs.Fleets.{DidFleet, WritesFleet, beginning, equipping_all, launching};
 ghost use Rattle.kr_cmd_fleet.specs.Fleets.{over_store, publishing, starting};
 ghost use Rattle.kr_cmd_messages.specs.Receipts.{receipt};
@@ -20,7 +21,7 @@ ghost use Rattle.kr_cmd_steps.specs.inner.Starts.{start_stop};
 ghost use Rattle.kr_cmd_fleet.specs.inner.Crews.{IsCrew, IsReadyCore, outfits_of};
 ghost use Rattle.kr_cmd_fleet.specs.inner.CrewRuns.{RunsCrew};
 ghost use Rattle.kr_cmd_fleet.specs.inner.Plans.{IsWholePlan, named, plan_of};
-ghost use Rattle.kr_cmd_fleet.specs.inner.FleetOutcomes.{ArePublished, IsPublishedBy, RunsBy, budget_stop};
+ghost use Rattle.kr_cmd_fleet.specs.inner.FleetOutcomes.{ArePublished, IsPublishedBy, RunsBy, SettlesBy, budget_stop};
 ghost use Rattle.kr_cmd_fleet.specs.inner.FleetOutcomes.{published_in};
 ghost use Rattle.kr_cmd_steps.specs.inner.Lent.{Name, with_lent_tape};
 ghost use Rattle.kr_cmd_fleet.specs.inner.Outfits.{AreLater, AreNamed, with_outfits};
@@ -34,9 +35,10 @@ ghost use Rattle.kr_workers.specs.Endings.{ending_of};
 use crate::crew::{Crew, hire};
 use crate::fleet_file::{NO_FILE, Plan, load_plan};
 use crate::outfit::{Outfit, close_outfits, open_outfits};
+use crate::watch_start::{WatchStart, read_first};
 use kr_base::{Dice, List, NoMemory, Shared, Sink, Tape, Text};
 use kr_cmd_messages::{FleetWords, Limit, Object, Refusal, Stop};
-use kr_cmd_steps::{close_tape, load_store, names_of, open_tape, publish_by, start_stop};
+use kr_cmd_steps::{load_store, names_of, open_tape, publish_by, settle_tape, start_stop};
 use kr_kms::{Kms, World};
 use kr_provider::{Links, Published};
 use kr_rollout::{Core, Line};
@@ -49,13 +51,15 @@ use std::alloc::Global;
 use std::sync::Wait;
 use std::thread::Threads;
 
-/// What a fleet leaves: the journal, and each worker's replies.
+/// What a fleet leaves: the journal, each worker's replies, and what a watch begins with.
 #[derive(Drop)]
 pub struct Record {
     /// The journal.
     pub lines: List<Line>,
     /// Each worker's replies, in the order of the seats.
     pub replies: List<List<Told>>,
+    /// What a watch begins with.
+    pub start: WatchStart,
 }
 
 /// Runs the fleet and writes its journal and its replies.
@@ -77,34 +81,34 @@ pub fn fleet<R: Threads + Wait + Sync, W: World, O: Sink>(
         Ok(plan) => plan,
         Err(stop) => return Err(stop),
     };
-    let record = match fleet_by(rt, alloc, words.store.as_str(), &plan, world) {
+    let record = match fleet_by(rt, alloc, words.store.as_str(), &plan, false, world) {
         Ok(record) => record,
         Err(stop) => return Err(stop),
     };
     write_record(alloc, &plan.script, &record, output)
 }
 
-/// Runs the fleet over the store of this name.
-fn fleet_by<R: Threads + Wait + Sync, W: World>(
+/// Runs the fleet over the store of this name, where someone may watch.
+pub fn fleet_by<R: Threads + Wait + Sync, W: World>(
     rt: &R,
     alloc: Global,
     store: &str,
     plan: &Plan,
+    watched: bool,
     world: &mut W,
 ) -> Result<Record, Stop>
     requires plan { IsWholePlan (plan_of plan.now) }
     ensures { (a : Around) → a.truth ≡ W.Link.truth
-        → RunsBy W.Tap W.Link.truth W.Link.link W.Rand.left W.Rand.count
-        (over_store store.now (plan_of plan.now)) store.now (plan_of plan.now)
+        → SettlesBy W.Tap W.Link.truth W.Link.link W.Rand.left W.Rand.count watched
+        (over_store watched store.now (plan_of plan.now)) store.now (plan_of plan.now)
         (with_world (W.told world.old) a) (with_world (W.told world.new) a) result }
 {
     let tape = match open_tape(alloc, world, store, true) {
         Ok(tape) => tape,
         Err(stop) => return Err(stop),
     };
-    let (made, tape) = fleet_on(rt, alloc, plan, tape, world);
-    close_tape(world, store, tape);
-    made
+    let (made, tape) = fleet_on(rt, alloc, plan, watched, tape, world);
+    settle_tape(world, store, Object::Store, tape, made)
 }
 
 /// Runs the fleet over the store on a tape, which comes back.
@@ -112,13 +116,14 @@ fn fleet_on<R: Threads + Wait + Sync, W: World>(
     rt: &R,
     alloc: Global,
     plan: &Plan,
+    watched: bool,
     tape: W::Tap,
     world: &mut W,
 ) -> (Result<Record, Stop>, W::Tap)
     requires plan { IsWholePlan (plan_of plan.now) }
     ensures made { (name : Name) (a : Around) → a.truth ≡ W.Link.truth
-        → RunsBy W.Tap W.Link.truth W.Link.link W.Rand.left W.Rand.count
-        (and_then (stored_on Object.Store name) (beginning (plan_of plan.now))) name
+        → RunsBy W.Tap W.Link.truth W.Link.link W.Rand.left W.Rand.count watched
+        (and_then (stored_on Object.Store name) (beginning watched (plan_of plan.now))) name
         (plan_of plan.now)
         (with_lent_tape name (W.Tap.told tape) (W.Tap.count tape)
         (with_world (W.told world.old) a))
@@ -134,7 +139,7 @@ fn fleet_on<R: Threads + Wait + Sync, W: World>(
         Ok(budgets) => budgets,
         Err(why) => return (Err(budget_stop(why)), store.close()),
     };
-    let (made, store) = fleet_with(rt, alloc, plan, &budgets, store, world);
+    let (made, store) = fleet_with(rt, alloc, plan, watched, &budgets, store, world);
     (made, store.close())
 }
 
@@ -153,6 +158,7 @@ fn fleet_with<R: Threads + Wait + Sync, W: World>(
     rt: &R,
     alloc: Global,
     plan: &Plan,
+    watched: bool,
     budgets: &Budgets,
     store: Store<W::Tap>,
     world: &mut W,
@@ -164,8 +170,8 @@ fn fleet_with<R: Threads + Wait + Sync, W: World>(
     requires store { (store.limit ≡ store_limit) × (store.torn ≡ false) }
     requires plan { IsWholePlan (plan_of plan.now) }
     ensures made { (name : Name) (a : Around) → a.truth ≡ W.Link.truth
-        → RunsBy W.Tap W.Link.truth W.Link.link W.Rand.left W.Rand.count
-        (equipping_all (plan_of plan.now) (stored_of store) budgets.now.entries.items) name
+        → RunsBy W.Tap W.Link.truth W.Link.link W.Rand.left W.Rand.count watched
+        (equipping_all watched (plan_of plan.now) (stored_of store) budgets.now.entries.items) name
         (plan_of plan.now)
         (with_lent_tape name store.told store.count (with_world (W.told world.old) a))
         (with_lent_tape name result.1.told result.1.count (with_world (W.told world.new) a))
@@ -177,7 +183,7 @@ fn fleet_with<R: Threads + Wait + Sync, W: World>(
     let opened = open_outfits(alloc, world, plan.programs.as_slice(), seats, &mut outfits);
     match opened {
         Ok(()) => {
-            let (made, store, outfits) = begin(rt, alloc, plan, budgets, store, outfits);
+            let (made, store, outfits) = begin(rt, alloc, plan, watched, budgets, store, outfits);
             close_outfits(world, outfits);
             (made, store)
         }
@@ -188,12 +194,13 @@ fn fleet_with<R: Threads + Wait + Sync, W: World>(
     }
 }
 
-/// Publishes for each replica, starts the core, and lets the workers work. The store and the
-/// outfits come back.
+/// Publishes for each replica, reads the live rows where someone watches, starts the core, and lets
+/// the workers work. The store and the outfits come back.
 fn begin<R: Threads + Wait + Sync, T: Tape + Send, L: Kms + Send, D: Dice + Send>(
     rt: &R,
     alloc: Global,
     plan: &Plan,
+    watched: bool,
     budgets: &Budgets,
     store: Store<T>,
     outfits: List<Outfit<L, D>>,
@@ -207,8 +214,8 @@ fn begin<R: Threads + Wait + Sync, T: Tape + Send, L: Kms + Send, D: Dice + Send
     requires seats { length outfits.0 ≡ length plan.now.script.workers.0 }
     requires named { AreNamed L.link (names_in plan.now.programs) outfits.0 }
     ensures made { (name : Name) (a : Around) → a.truth ≡ L.truth
-        → RunsBy T L.truth L.link D.left D.count
-        (launching (plan_of plan.now) (stored_of store) budgets.now.entries.items) name
+        → RunsBy T L.truth L.link D.left D.count watched
+        (launching watched (plan_of plan.now) (stored_of store) budgets.now.entries.items) name
         (plan_of plan.now)
         (with_outfits L.link D.left D.count 0 outfits.0
         (with_lent_tape name store.told store.count a))
@@ -221,7 +228,12 @@ fn begin<R: Threads + Wait + Sync, T: Tape + Send, L: Kms + Send, D: Dice + Send
         Ok(replicas) => replicas,
         Err(stop) => return (Err(stop), store, outfits),
     };
-    work_with(rt, alloc, plan, budgets, store, replicas, outfits)
+    let (read, outfits) = read_first(alloc, watched, &store, replicas.as_slice(), outfits);
+    let start = match read {
+        Ok(start) => start,
+        Err(stop) => return (Err(stop), store, outfits),
+    };
+    work_with(rt, alloc, plan, budgets, store, replicas, start, outfits)
 }
 
 /// Starts the core with what the replicas published, and lets the workers work with these outfits.
@@ -233,6 +245,7 @@ pub fn work_with<R: Threads + Wait + Sync, T: Tape + Send, L: Kms + Send, D: Dic
     budgets: &Budgets,
     store: Store<T>,
     replicas: List<Option<Shared<Published>>>,
+    start: WatchStart,
     outfits: List<Outfit<L, D>>,
 ) -> (Result<Record, Stop>, Store<T>, List<Outfit<L, D>>)
     requires entries { AreBudgets store.rows plan.now.script.workers.0 budgets.now.entries.items }
@@ -245,15 +258,18 @@ pub fn work_with<R: Threads + Wait + Sync, T: Tape + Send, L: Kms + Send, D: Dic
     requires named { AreNamed L.link (names_in plan.now.programs) outfits.0 }
     requires published { ArePublished L.truth (named plan.now.files.0)
         plan.now.script.replicas.0 replicas.0 }
-    ensures made { (name : Name) (a : Around) (olds : Outfits L D) → a.truth ≡ L.truth
-        → IsPublished L.link D.left D.count plan.now name store a olds outfits.0 replicas.0
-        → RunsWith L.link D.left D.count T L.truth
-        (launching (plan_of plan.now) (stored_of store) budgets.now.entries.items) name
+    requires revision { start.revision ≡ length store.rows }
+    ensures made { (name : Name) (a : Around) (olds : Outfits L D) (watched : Bool)
+        → a.truth ≡ L.truth
+        → IsPublished L.link D.left D.count L.truth watched plan.now budgets.now.entries.items name
+        store a olds outfits.0 replicas.0 start.items.0
+        → RunsWith L.link D.left D.count T L.truth watched
+        (launching watched (plan_of plan.now) (stored_of store) budgets.now.entries.items) name
         (plan_of plan.now) outfits.0 (with_crew L.link D.left D.count name store olds a)
         (with_crew L.link D.left D.count name result.1 result.2.0 a) result.0 }
     ensures later { AreLater L.link D.count outfits.0 result.2.0 }
 {
-    let core = match start(alloc, plan, budgets, store, replicas) {
+    let core = match start_core(alloc, plan, budgets, store, replicas) {
         Ok(core) => core,
         Err((stop, store)) => return (Err(stop), store, outfits),
     };
@@ -265,7 +281,7 @@ pub fn work_with<R: Threads + Wait + Sync, T: Tape + Send, L: Kms + Send, D: Dic
             return (Err(Stop::NoMemory), store, outfits);
         }
     };
-    run_crew(rt, alloc, plan, budgets, core, crew)
+    run_crew(rt, alloc, plan, budgets, start, core, crew)
 }
 
 /// Lets the workers work at the core.
@@ -274,6 +290,7 @@ fn run_crew<R: Threads + Wait + Sync, T: Tape + Send, L: Kms + Send, D: Dice + S
     alloc: Global,
     plan: &Plan,
     budgets: &Budgets,
+    start: WatchStart,
     core: Core<T>,
     crew: Crew<T, L, D>,
 ) -> (Result<Record, Stop>, Store<T>, List<Outfit<L, D>>)
@@ -287,7 +304,7 @@ fn run_crew<R: Threads + Wait + Sync, T: Tape + Send, L: Kms + Send, D: Dice + S
     requires named { AreNamed L.link (names_in plan.now.programs)
         (outfits_of crew.workers.items) }
     ensures ran { RunsCrew L.truth L.link D.left D.count plan.now budgets.now.entries.items
-        core.opening crew.workers.items result.0 result.1 result.2.0 }
+        core.opening start crew.workers.items result.0 result.1 result.2.0 }
 {
     let mut crew = crew;
     let ended = run_fleet(
@@ -304,7 +321,12 @@ fn run_crew<R: Threads + Wait + Sync, T: Tape + Send, L: Kms + Send, D: Dice + S
         Ok(core) => {
             let (store, lines) = core.close();
             store.known();
-            (Ok(Record { lines, replies }), store, outfits)
+            let record = Record {
+                lines,
+                replies,
+                start,
+            };
+            (Ok(record), store, outfits)
         }
         Err((NoMemory, core)) => {
             let (store, _lines) = core.close();
@@ -413,7 +435,7 @@ fn publish_at<L: Kms, D: Dice>(
 }
 
 /// The core at its opening. A refusal gives the store back.
-fn start<T: Tape>(
+fn start_core<T: Tape>(
     alloc: Global,
     plan: &Plan,
     budgets: &Budgets,
@@ -428,9 +450,9 @@ fn start<T: Tape>(
     requires reloads { budgets.now.reloads.items ≡ all_reloads plan.now.script.workers.0 }
     requires few { sum budgets.now.entries.items ≤ journal_limit }
     requires fit { sum budgets.now.reloads.items ≤ sum budgets.now.entries.items }
-    ensures does { (a : Around) → Does (starting (plan_of plan.now) (stored_of store)
-        budgets.now.entries.items replicas.0) a a (begun_in
-        (begun_with plan.now budgets.now.entries.items store replicas.0) result) }
+    ensures does { (a : Around) (items : Items) → Does (starting (plan_of plan.now)
+        (stored_of store) budgets.now.entries.items replicas.0 items) a a (begun_in
+        (begun_with plan.now budgets.now.entries.items store replicas.0 items) result) }
     ensures core { IfOk result (λ core. core ≡ first_core plan.now budgets.now.reloads.items
         (sum budgets.now.entries.items) store replicas.0) }
     ensures back { IfErr result (λ refused. refused.1 ≡ store) }

@@ -6,7 +6,9 @@ mod crew;
 pub mod fleet;
 mod fleet_file;
 mod outfit;
+mod watch_start;
 
 pub use crew::{Crew, hire};
 pub use fleet_file::{NO_FILE, Plan, load_plan};
 pub use outfit::{Outfit, close_outfits, open_outfits};
+pub use watch_start::WatchStart;

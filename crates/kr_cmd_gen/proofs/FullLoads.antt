@@ -17,6 +17,7 @@ use Rattle.kr_config.specs.declared.who.Who.TheVariants.{Identity}
 use Rattle.kr_kms.specs.Calls.{Link}
 use Rattle.kr_kms.specs.Outside.{same_seat}
 use Rattle.kr_kms.specs.Truth.{Truth}
+use Rattle.kr_judge.specs.Fits.{ReadsWriter}
 use Rattle.kr_workload.specs.Endings.{ending_of_load}
 use Rattle.kr_workload.specs.FullLoads.{AreFull, IsBlankRun}
 use Rattle.kr_workload.specs.LoadRuns.{IsLoadRun, opening_rows}
@@ -26,7 +27,6 @@ use Rattle.kr_workload.proofs.FullRuns.{loads_are_full}
 use Rattle.kr_workload.proofs.KeptPuts.{puts_are_kept}
 use Rattle.kr_workload.proofs.LoadLines.{budget_few}
 use Rattle.kr_provider.specs.Names.{names_of}
-use Rattle.kr_provider.specs.Readers.{writer_of}
 use Rattle.kr_opening.specs.Replicas.{settings_of}
 use Rattle.kr_opening.specs.Starts.{MayStart}
 use Rattle.kr_opening.specs.declared.opening_board.StartNo.TheVariants as no
@@ -43,14 +43,14 @@ use Rattle.kr_cmd_steps.specs.Around.{Around, faults_at, left_of}
 use Rattle.kr_cmd_fleet.specs.Causes.{NoneRose}
 use Rattle.kr_cmd_steps.specs.Commands.{by_result, with_memory}
 use Rattle.kr_cmd_fleet.specs.FleetFiles.{FleetPlan}
-use Rattle.kr_cmd_fleet.specs.Fleets.{AreWithin, Begun, IsStart, Replicas, StopsBefore, TellsFleet, launching, opening_of, parts_of, rows_of_replica, starting}
+use Rattle.kr_cmd_fleet.specs.Fleets.{AreWithin, Begun, IsStart, Replicas, StopsBefore, TellsFleet, launching, opening_of, parts_of, rows_of_replica, starting_with}
 use Rattle.kr_cmd_gen.specs.FullLoads.{IsBlank, IsFullLoad, KeepsPuts}
 use Rattle.kr_cmd_gen.specs.GeneratedLoads.{RanLoad, StartsLoad, load_beginning, load_plan, load_steps, no_faults, nothing_told, with_streams}
 use Rattle.kr_cmd_steps.specs.Judgements.{start_refusal}
 use Rattle.kr_cmd_messages.specs.Message.{status_of as stop_status}
 use Rattle.kr_cmd_steps.specs.Ran.{IsIdle}
 use Rattle.kr_cmd_messages.specs.Receipts.{Receipt}
-use Rattle.kr_cmd_steps.specs.Steps.{Left, and_then, give, gives, or_empty, refuses, tapes_with, Call, asking, drawing, lending, linking, loading, opening, reading, scanning, writing}
+use Rattle.kr_cmd_steps.specs.Steps.{Left, and_then, give, gives, or_empty, refuses, tapes_with, Call, asking, drawing, lending, linking, loading, opening, reading, scanning, writing, settling}
 use Rattle.kr_cmd_steps.specs.StoreFiles.{IsStored, Stored}
 use Rattle.kr_cmd_messages.specs.declared.load_words.LoadWords.{LoadWords}
 use Rattle.kr_cmd_steps.specs.declared.programs.Program.{Program}
@@ -66,17 +66,16 @@ use Rattle.kr_cmd_steps.proofs.Tapes.{own_name}
 -- ---- the start
 
 first_writer : (test : Pattern → Bool) (seed : ℕ)
-    → Contains (first_list test (opening_rows seed))
-    (writer_of (first_list test (opening_rows seed)))
+    → ReadsWriter (first_list test (opening_rows seed)) (first_list test (opening_rows seed))
 first_writer test seed = by (list_any test (Exact (codes "secrets") ∷ []))
   where
-    by : (b : Bool) → Contains (if b then g1 seed ∷ (Identity ∷ []) else Identity ∷ [])
-        (writer_of (if b then g1 seed ∷ (Identity ∷ []) else Identity ∷ []))
-    by true = (0, omega arith, refl)
-    by false = (0, omega arith, refl)
+    by : (b : Bool) → ReadsWriter (if b then g1 seed ∷ (Identity ∷ []) else Identity ∷ [])
+        (if b then g1 seed ∷ (Identity ∷ []) else Identity ∷ [])
+    by true = λ who is. (0, omega arith, some_same is)
+    by false = λ who is. (0, omega arith, some_same is)
 
-class_writer : (seed : ℕ) (class : Class) → Contains (class_list (opening_rows seed) class)
-    (writer_of (class_list (opening_rows seed) class))
+class_writer : (seed : ℕ) (class : Class) → ReadsWriter (class_list (opening_rows seed) class)
+    (class_list (opening_rows seed) class)
 class_writer seed (classes.Exact text) = first_writer (λ pattern. matches pattern text) seed
 class_writer seed (classes.Group group) =
     first_writer (λ pattern. covers_group pattern group) seed
@@ -97,11 +96,10 @@ may_start seed = record {
   secrets = λ path other. none-some other.0 other.2;
   fit = record {
     writers = λ rows other class here there.
-        subst (λ r. Contains (class_list r class) (writer_of (class_list other class)))
+        subst (λ r. ReadsWriter (class_list other class) (class_list r class))
         (rows_there seed rows here)
-        (subst (λ r. Contains (class_list (opening_rows seed) class)
-        (writer_of (class_list r class))) (rows_there seed other there)
-        (class_writer seed class));
+        (subst (λ r. ReadsWriter (class_list r class) (class_list (opening_rows seed) class))
+        (rows_there seed other there) (class_writer seed class));
     stored = λ rows need here c. absurd (omega (arith, c.1));
   };
 }
@@ -150,7 +148,7 @@ module _ (words : LoadWords) (small : words.size ≤ 10000) (stored : Stored)
   starts_blank : (budgets : List ℕ) (replicas : Replicas) (left : Left)
       → settings_of replicas
       ≡ Some (opening_rows words.seed) ∷ (Some (opening_rows words.seed) ∷ [])
-      → GivesOnly BeginsBlank (starting (load_plan words) stored budgets replicas) left
+      → GivesOnly BeginsBlank (starting_with false (load_plan words) stored budgets replicas) left
   starts_blank budgets replicas left settings = by
     where
       by : (r : Result (Unit {0}) Refusal) → IsStart stored.rows replicas r
@@ -159,13 +157,14 @@ module _ (words : LoadWords) (small : words.size ≤ 10000) (stored : Stored)
             stored = stored;
             budgets = budgets;
             replicas = replicas;
+            items = [];
           })))) left
       by (Ok done) is = λ u t. empty
       by (Err why) is = absurd (no_refusal words.seed replicas why settings
           (subst (λ rows. IsStart rows replicas (Err why)) empty is))
 
   launches_blank : (budgets : List ℕ) (left : Left)
-      → GivesOnly BeginsBlank (launching (load_plan words) stored budgets) left
+      → GivesOnly BeginsBlank (launching false (load_plan words) stored budgets) left
   launches_blank budgets left = λ u t v s x y. starts_blank budgets _ left refl
 
   begins_blank : (left : Left)
@@ -175,7 +174,7 @@ module _ (words : LoadWords) (small : words.size ≤ 10000) (stored : Stored)
       by : (r : Result (List ℕ) Refusal)
           → AreWithin stored.rows (parts_of (load_plan words).fleet) r
           → GivesOnly BeginsBlank
-          (and_then (by_result r) (launching (load_plan words) stored)) left
+          (and_then (by_result r) (launching false (load_plan words) stored)) left
       by (Ok budgets) is = launches_blank budgets left
       by (Err why) (e, (budgets, (count, live, are), many)) =
           let few = within_journal words.seed words.size
@@ -257,6 +256,7 @@ module _ (T : Type 0) {L : Type 0} (truth : Truth) (link : L → Link) (words : 
   calls (opening seat) rose = none.calls (opening seat) rose
   calls (lending name) rose = none.calls (lending name) rose
   calls (scanning object name) rose = none.calls (scanning object name) rose
+  calls (settling object name) rose = none.calls (settling object name) rose
   calls (writing object name) rose = none.calls (writing object name) rose
   calls (drawing seat) rose = none.calls (drawing seat)
       (beside_streams (same_seat 0 seat) (same_seat 1 seat) (same_seat 2 seat)
@@ -333,16 +333,24 @@ module _ (T : Type 0) {L : Type 0} (truth : Truth) (link : L → Link) (words : 
       → StopsBefore (load_steps words) words.store (with_streams old) (with_streams new) output
       (Err stop) ⊎ StartsLoad T truth link words old new output (Err stop) → Ends status
   stopped_so status (Words why) is (inl (inl ends, idle)) = absurd ends
-  stopped_so status (Words why) is (inl (inr (e, lacking), idle)) = absurd cc
+  stopped_so status (Words why) is (inl (inr (inl (e, lacking)), idle)) = absurd cc
+  stopped_so status (Words why) is (inl (inr (inr (mid, begun, reaches, fails, home)), idle)) =
+      absurd (let e : Words why ≡ Fault Store _ = fails.stops in cc)
   stopped_so status (Words why) is (inr s) = absurd s.writes
   stopped_so status (Refused why) is (inl (inl ends, idle)) =
       absurd (allowed BeginsBlank (refuses why) ends.end (load_steps words)
       (left_of (with_streams old)) (walks_blank words small old blank) ends.goes)
-  stopped_so status (Refused why) is (inl (inr (e, lacking), idle)) = absurd cc
+  stopped_so status (Refused why) is (inl (inr (inl (e, lacking)), idle)) = absurd cc
+  stopped_so status (Refused why) is (inl (inr (inr (mid, begun, reaches, fails, home)), idle)) =
+      absurd (let e : Refused why ≡ Fault Store _ = fails.stops in cc)
   stopped_so status (Refused why) is (inr s) = absurd s.writes
   stopped_so status (Fault object n) is (inl (inl (call, reaches, fault), idle)) =
       absurd (calls call fault.1)
-  stopped_so status (Fault object n) is (inl (inr (e, lacking), idle)) = absurd cc
+  stopped_so status (Fault object n) is (inl (inr (inl (e, lacking)), idle)) = absurd cc
+  stopped_so status (Fault object n) is
+      (inl (inr (inr (mid, begun, reaches, fails, home)), idle)) =
+      absurd (calls (settling Store words.store)
+      (Rose-later _ _ _ (home.tapes.later words.store) fails.rose))
   stopped_so status (Fault object n) is (inr s) = absurd (none.written s.writes.2)
   stopped_so status NoMemory is did = inr is
 

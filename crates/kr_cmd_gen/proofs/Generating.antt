@@ -1,41 +1,44 @@
 -- A load over a store: its workers' random sources stand as if they were those of their seats.
 use Rattle.std.proofs.Common.{◌≡◌, ℕ, ◌+◌, ◌<◌, List, [], ◌∷◌, ◌++◌, length, get_or, Option, None, Result, Ok, Err, refl, sym, ◌∙◌, ap, subst, inl, inr, arith}
-use Rattle.std.specs.Prelude.{All, Bool, true, ◌⊎◌}
+use Rattle.std.specs.Prelude.{All, Bool, false, true, ◌⊎◌}
 use Rattle.std.proofs.lemmas.List.{get_or_append_left, length-append, length-map}
 use Rattle.std.proofs.lemmas.List.Elements.{All-append, All-cons, All-head, All-nil, All-tail}
 use Rattle.std.proofs.Math.ListN.{get_or-map}
 use Rattle.std.proofs.Math.Seq.{get_or-append_seam}
 use Rattle.kr_base.specs.declared.seeded_dice.SeededDice.{SeededDice}
 use Rattle.kr_kms.specs.Calls.{Link}
-use Rattle.kr_kms.specs.Outside.{KeepsFiles, KeepsObjects, Outside}
+use Rattle.kr_kms.specs.Outside.{KeepsFiles, KeepsObjects, Outside, with_call}
 use Rattle.kr_kms.specs.Truth.{Truth}
-use Rattle.kr_kms.specs.declared.world.WorldCall.TheVariants.{Tape}
+use Rattle.kr_kms.specs.declared.world.WorldCall.TheVariants.{Settled, Tape}
 use Rattle.kr_workload.specs.Streams.{stream}
 use Rattle.kr_provider.specs.AskedLinks.{AskedOnly}
 use Rattle.kr_provider.specs.Names.{names_of}
 use Rattle.kr_store.specs.Stores.{Kept}
 use Rattle.kr_workers.specs.declared.worker.Worker as fleet_worker
 use Rattle.rand_chacha.specs.ChaCha.{ChaCha}
+use Rattle.kr_cmd_fleet.proofs.SettledRuns.{home_settled, over_settled}
 use Rattle.kr_cmd_steps.specs.Around.{Around, IsHome, with_world}
 use Rattle.kr_cmd_steps.specs.Commands.{tape_for}
 use Rattle.kr_cmd_fleet.specs.FleetFiles.{FleetPlan}
-use Rattle.kr_cmd_fleet.specs.Fleets.{Begun, Replicas, starting}
+use Rattle.kr_cmd_fleet.specs.Fleets.{AreEquipped, Begun, Replicas, settled_behind, starting_with}
 use Rattle.kr_cmd_gen.specs.GeneratedLoads.{LeavesOthers, no_faults, with_streams, seeded_dice, seeded_world, nothing_told}
 use Rattle.kr_cmd_steps.specs.Steps.{Steps, and_then}
+use Rattle.kr_cmd_steps.specs.declared.programs.Program.{Program}
 use Rattle.kr_cmd_steps.specs.StoreFiles.{Stored}
 use Rattle.kr_cmd_fleet.specs.declared.fleet.Record.{Record}
 use Rattle.kr_cmd_fleet.specs.declared.outfit.Outfit.{Outfit}
+use Rattle.kr_cmd_messages.specs.declared.refusal.Object.TheVariants.{Store}
 use Rattle.kr_cmd_messages.specs.declared.refusal.Stop.{Stop}
 use Rattle.kr_cmd_messages.specs.declared.refusal.Stop.TheVariants.{Words, Refused, Fault, NoMemory}
 use Rattle.kr_cmd_fleet.specs.inner.Crews.{outfit_of, outfits_of}
-use Rattle.kr_cmd_gen.specs.inner.LoadOutcomes.{AreGenerated, AreSeeded, RunsLoad}
+use Rattle.kr_cmd_gen.specs.inner.LoadOutcomes.{AreGenerated, AreSeeded, RunsLoad, LeavesLoad, SettlesLoad}
 use Rattle.kr_cmd_steps.specs.inner.Lent.{with_lent_dice, with_lent_links, with_lent_tape}
 use Rattle.kr_cmd_fleet.specs.inner.Outfits.{AreLater, AreNamed, with_outfits}
 use Rattle.kr_cmd_steps.specs.inner.Phases.{AskedUnless, Does}
-use Rattle.kr_cmd_steps.specs.inner.Tapes.{LentTape, NoTape, ReturnedTape}
+use Rattle.kr_cmd_steps.specs.inner.Tapes.{LentTape, NoTape, ReturnedTape, ReturnsSettled, with_settled}
 use Rattle.kr_cmd_fleet.specs.inner.Workings.{Outfits, RunsWith, with_crew}
 use Rattle.kr_cmd_fleet.proofs.FleetRuns.{before, ends_before}
-use Rattle.kr_cmd_steps.proofs.Goes.{home_refl, reach}
+use Rattle.kr_cmd_steps.proofs.Goes.{goes_on, home_refl, home_trans, reach}
 use Rattle.kr_cmd_steps.proofs.Lending.{home_same}
 use Rattle.kr_cmd_fleet.proofs.Outfits.{later_named}
 use Rattle.kr_cmd_steps.proofs.Tapes.{came_back, lent, not_lent, nothing}
@@ -164,7 +167,7 @@ module _ (T : Type 0) {L : Type 0} (truth : Truth) (link : L → Link) (seed : �
   -- the workers, by their outfits
   pub runs_crew : (steps : Steps Begun) (outfits : Outfits L Source) (old new : Around)
       → AreGenerated seed outfits → (result : Result Record Stop)
-      → RunsWith link nothing_told no_faults T truth steps store plan outfits old new result
+      → RunsWith link nothing_told no_faults T truth false steps store plan outfits old new result
       → Runs steps old new result
   runs_crew steps outfits old new generated (Ok made) r = record {
     leaves = r.leaves;
@@ -179,17 +182,17 @@ module _ (T : Type 0) {L : Type 0} (truth : Truth) (link : L → Link) (seed : �
         → Runs (and_then first others) old new result
     unfolding before
     load_before x old mid new d (Ok made) l = record {
-      leaves = before T truth link nothing_told no_faults store plan first others x new d (Ok made)
+      leaves = before T truth link nothing_told no_faults false store plan first others x new d (Ok made)
           l.leaves;
       sources = l.sources;
     }
     load_before x old mid new d (Err stop) l =
-        before T truth link nothing_told no_faults store plan first others x new d (Err stop) l
+        before T truth link nothing_told no_faults false store plan first others x new d (Err stop) l
 
     pub load_ends : (old new : Around) (stop : Stop) → Does first old new (Err stop)
         → Runs (and_then first others) old new (Err stop)
     load_ends old new stop d =
-        ends_before T truth link nothing_told no_faults store plan first others stop d
+        ends_before T truth link nothing_told no_faults false store plan first others stop d
 
   -- the same between two surroundings that are these
   pub runs_same : (steps : Steps Begun) (old old' new new' : Around)
@@ -256,31 +259,105 @@ module _ {old new : Outside} where
         links = objects.links;
       }) a name true stop (no_tape_seeded old new name true stop n) asked
 
+-- workers are equipped as before where the world is told that a tape is settled
+module _ {T L : Type 0} (link : L → Link) (programs : List Program) (store : List ℕ)
+    (around : Around) where
+  equipped : (workers : List (fleet_worker.Worker T L Source))
+      → AreEquipped link nothing_told no_faults programs around workers
+      → AreEquipped link nothing_told no_faults programs (settled_behind store around) workers
+  equipped workers are seat d below = let is = are seat d below in record {
+    names = is.names;
+    links_are = is.links_are;
+    left_is = is.left_is;
+    count_is = is.count_is;
+  }
+
 module _ (T : Type 0) {L : Type 0} (truth : Truth) (link : L → Link) (seed : ℕ)
     (store : List ℕ) (plan : FleetPlan) (steps : Steps Begun) (a : Around) where
-  -- the tape is borrowed for the load, and comes back
-  pub load_over_tape : {old out new : Outside} {given back : Option (List ℕ)} {first n : ℕ}
-      (result : Result Record Stop) → LentTape store true old out given first
-      → ReturnedTape store out new back n
+  abbrev Settles : (old new : Around) → Result Record Stop → Type 0
+  Settles old new result =
+      SettlesLoad T truth link seed (tape_for store true steps) store plan old new result
+
+  -- the tape is borrowed for the load, is settled behind it, and comes back
+  pub load_over_tape : {old out : Outside} {given : Option (List ℕ)} {first : ℕ} (new : Outside)
+      (back : Option (List ℕ)) (n : ℕ) (made result : Result Record Stop)
+      → LentTape store true old out given first
+      → ReturnsSettled store Store out new back n made result
       → Runs T truth link seed store plan steps
       (with_lent_tape store given first (with_streams (with_world out a)))
-      (with_lent_tape store back n (with_streams (with_world out a))) result
-      → Runs T truth link seed store plan (tape_for store true steps)
-      (with_streams (with_world old a)) (with_streams (with_world new a)) result
-  load_over_tape {old} {out} {new} {given} {back} {first} {n} result h returned r =
-      load_before T truth link seed store plan (tape_for store true nothing) (λ u. steps) tt
-      (with_streams (with_world old a))
-      (with_lent_tape store given first (with_streams (with_world out a)))
-      (with_streams (with_world new a)) (lent store true _ (lent_seeded h) a) result
-      (subst (λ b. Runs T truth link seed store plan steps
-      (with_lent_tape store given first (with_streams (with_world out a))) b result)
-      (came_back store (back_seeded returned) a) r)
+      (with_lent_tape store back n (with_streams (with_world out a))) made
+      → Settles (with_streams (with_world old a)) (with_streams (with_world new a)) result
+  load_over_tape {old} {out} {given} {first} new back n (Ok m) (Ok x) h (same, returned) r =
+      subst (λ y. Settles (with_streams (with_world old a)) (with_streams (with_world new a)) (Ok y))
+      (sym same)
+      (subst (λ b. LeavesLoad T truth link seed true (tape_for store true steps) store plan
+      (with_streams (with_world old a)) b m)
+      (came_back store (back_seeded {old = with_settled store out} {new = new} returned) a) (record {
+        leaves = let l = r.leaves in let d = lent store true _ (lent_seeded h) a in record {
+          begun = l.begun;
+          plan_is = l.plan_is;
+          mid = l.mid;
+          does = goes_on (tape_for store true nothing) (λ u. steps) tt d l.does;
+          history = l.history;
+          ended = l.ended;
+          runs = record {
+            published = l.runs.published;
+            parts = l.runs.parts;
+            parts_are = l.runs.parts_are;
+            files = l.runs.files;
+            files_are = l.runs.files_are;
+            workers = l.runs.workers;
+            many = l.runs.many;
+            before = equipped link l.begun.plan.programs store l.mid l.runs.workers l.runs.before;
+            one = l.runs.one;
+            opens = l.runs.opens;
+            bare = l.runs.bare;
+            after = equipped link l.begun.plan.programs store
+                (with_lent_tape store back n (with_streams (with_world out a))) l.ended l.runs.after;
+            stored = l.runs.stored;
+            counted = l.runs.counted;
+            rest = record {
+              truth = l.runs.rest.truth;
+              file = l.runs.rest.file;
+              tapes = l.runs.rest.tapes;
+              dice = l.runs.rest.dice;
+              links = l.runs.rest.links;
+              faults = l.runs.rest.faults;
+              asked = ap (with_call (Settled store)) l.runs.rest.asked;
+              input = l.runs.rest.input;
+              said = l.runs.rest.said;
+            };
+          };
+          lines = l.lines;
+          replies = l.replies;
+          items_are = l.items_are;
+          revision_is = l.revision_is;
+          known = l.known;
+          home = home_trans d.home (home_settled store l.home);
+        };
+        sources = r.sources;
+      }))
+  load_over_tape {old} {out} {given} {first} new back n (Ok m) (Err stop) h (later, rose, same, returned) r =
+      over_settled T truth link nothing_told no_faults false store plan steps a (seeded_world old)
+      (seeded_world out) given first (seeded_world out) (seeded_world new) back n (Ok m) (Err stop) (lent_seeded h)
+      (later, rose, same, back_seeded returned) r.leaves
+  load_over_tape {old} {out} {given} {first} new back n (Err why) result h (same, returned) r =
+      subst (λ y. Settles (with_streams (with_world old a)) (with_streams (with_world new a)) y)
+      (sym same)
+      (over_settled T truth link nothing_told no_faults false store plan steps a (seeded_world old)
+      (seeded_world out) given first (seeded_world out) (seeded_world new) back n (Err why) (Err why) (lent_seeded h)
+      (refl, back_seeded returned) r)
 
 -- of the world nothing but the tape was used
-pub others_stay : {old out new : Outside} {name : List ℕ} {given back : Option (List ℕ)}
-    {first n : ℕ} → LentTape name true old out given first → ReturnedTape name out new back n
-    → LeavesOthers old new
-others_stay h returned =
+pub others_stay : {old out : Outside} {name : List ℕ} {given : Option (List ℕ)} {first : ℕ}
+    (new : Outside) (back : Option (List ℕ)) (n : ℕ) (made result : Result Record Stop)
+    → LentTape name true old out given first
+    → ReturnsSettled name Store out new back n made result → LeavesOthers old new
+others_stay new back n (Ok m) (Ok x) h (same, returned) =
+    record { dice = returned.dice ∙ h.dice; links = returned.links ∙ h.links }
+others_stay new back n (Ok m) (Err stop) h (later, rose, same, returned) =
+    record { dice = returned.dice ∙ h.dice; links = returned.links ∙ h.links }
+others_stay new back n (Err why) result h (same, returned) =
     record { dice = returned.dice ∙ h.dice; links = returned.links ∙ h.links }
 
 -- so all is home that was so as the sources stood among it
@@ -297,7 +374,7 @@ home_unseeded old new others h = record {
 -- ---- memory lacked for the outfits
 
 pub lacks_start : (plan : FleetPlan) (stored : Stored) (budgets : List ℕ) (replicas : Replicas)
-    (a : Around) → Does (starting plan stored budgets replicas) a a (Err NoMemory)
+    (a : Around) → Does (starting_with false plan stored budgets replicas) a a (Err NoMemory)
 lacks_start plan stored budgets replicas a =
     record { home = home_refl a; ends = λ l s. inr (reach l (inl (refl, refl)) s) }
 

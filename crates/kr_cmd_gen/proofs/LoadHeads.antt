@@ -15,7 +15,7 @@ use Rattle.kr_cmd_messages.specs.declared.load_words.LoadWords.{LoadWords}
 use Rattle.kr_cmd_messages.specs.declared.refusal.Stop.{Stop}
 use Rattle.kr_cmd_messages.specs.declared.refusal.Stop.TheVariants.{Words, Refused, Fault, NoMemory}
 use Rattle.kr_cmd_steps.specs.Around.{Around}
-use Rattle.kr_cmd_fleet.specs.Fleets.{StopsBefore, TellsFleet}
+use Rattle.kr_cmd_fleet.specs.Fleets.{StopsBefore, TellsFleet, settled_behind}
 use Rattle.kr_cmd_laws.proofs.RunHeads.{tells_output, workers_headline}
 use Rattle.kr_cmd_gen.specs.GeneratedLoads.{StartsLoad, WritesLoad, load_steps, no_faults, nothing_told, with_streams}
 use Rattle.kr_cmd_gen.specs.Laws.{LoadsHaveHeadlines}
@@ -52,8 +52,8 @@ module _ (T : Type 0) {L : Type 0} (truth : Truth) (link : L → Link) (words : 
     since = s.since;
     history = s.history;
     ended = s.ended;
-    has = workers_headline truth link nothing_told no_faults words.store s.begun s.mid
-        (with_streams new) s.history s.ended s.runs;
+    has = workers_headline truth link nothing_told no_faults words.store s.begun
+        (settled_behind words.store s.mid) (with_streams new) s.history s.ended s.runs;
     prints = prints words s.begun.plan.fleet.workers
         (map (λ (w : fleet_worker.Worker T L (SeededDice ChaCha)). w.told) s.ended) output errors
         status result s.writes tells;

@@ -20,7 +20,7 @@ use Rattle.kr_cmd_messages.specs.declared.load_words.LoadWords.{LoadWords}
 use Rattle.kr_cmd_messages.specs.declared.refusal.Stop.{Stop}
 use Rattle.kr_cmd_messages.specs.declared.refusal.Stop.TheVariants.{Words, Refused, Fault, NoMemory}
 use Rattle.kr_cmd_messages.specs.inner.FleetAnswers.{IsFleetAsked}
-use Rattle.kr_cmd_gen.specs.inner.LoadOutcomes.{RunsLoad}
+use Rattle.kr_cmd_gen.specs.inner.LoadOutcomes.{SettlesLoad}
 use Rattle.kr_cmd_messages.specs.inner.LoadAnswers.{IsLoadAsked}
 use Rattle.kr_cmd_steps.specs.inner.Phases.{Does}
 use Rattle.kr_cmd_gen.proofs.Generating.{home_unseeded}
@@ -40,7 +40,7 @@ pub no_load_or_memory : (words : List (List ℕ)) → AskNoFleet words → (stop
     → IsLoadAsked words (Err stop) → (errors : Receipt) (status : ℕ)
     → Tells (line_of (Err stop)) (stop_status (Err stop)) errors status → AskAlone words
     ⊎ Tells (line_of (Err NoMemory)) (stop_status (Err NoMemory)) errors status
-no_load_or_memory words none (Words why) h errors status t = inl (none, h.1)
+no_load_or_memory words none (Words why) h errors status t = inl (none, h.1, h.2)
 no_load_or_memory words none (Refused why) h errors status t = absurd h
 no_load_or_memory words none (Fault object count) h errors status t = absurd h
 no_load_or_memory words none NoMemory h errors status t = inr t
@@ -90,7 +90,7 @@ module _ (T : Type 0) {L : Type 0} (truth : Truth) (link : L → Link) where
       (old new : Around) where
     -- the steps behind the plan ended the command, or want of memory did
     pub load_stopped : (stop : Stop) (output : Receipt) → LeavesOthers old.world new.world
-        → RunsLoad T truth link asked.seed (load_over asked.store plan) asked.store plan
+        → SettlesLoad T truth link asked.seed (load_over asked.store plan) asked.store plan
         (with_streams old) (with_streams new) (Err stop)
         → IsIdle output → DidLoad T truth link asked old new output (Err stop)
     load_stopped stop output others (inl e) idle =
@@ -104,14 +104,14 @@ module _ (T : Type 0) {L : Type 0} (truth : Truth) (link : L → Link) where
             idle,
           );
         }
-    load_stopped stop output others (inr l) idle =
+    load_stopped stop output others (inr (inl l)) idle =
         let d = subst (λ p. Does (load_over asked.store p) (with_streams old) l.mid (Ok l.begun)) is
         l.does in
         record {
           home = home_unseeded old new others l.home;
           others = others;
           did = inl (
-            inr (
+            inr (inl (
               l.stops,
               (
                 l.mid,
@@ -120,7 +120,24 @@ module _ (T : Type 0) {L : Type 0} (truth : Truth) (link : L → Link) where
                 l.none,
                 d.home,
               ),
-            ),
+            )),
+            idle,
+          );
+        }
+    load_stopped stop output others (inr (inr l)) idle =
+        let d = subst (λ p. Does (load_over asked.store p) (with_streams old) l.mid (Ok l.begun)) is
+        l.does in
+        record {
+          home = home_unseeded old new others l.home;
+          others = others;
+          did = inl (
+            inr (inr (
+              l.mid,
+              l.begun,
+              d.ends (left_of (with_streams old)) (stays_refl (with_streams old)),
+              l.fails,
+              d.home,
+            )),
             idle,
           );
         }
@@ -128,7 +145,7 @@ module _ (T : Type 0) {L : Type 0} (truth : Truth) (link : L → Link) where
     -- the workers ran
     pub load_ran : (made : Record) (output : Receipt) (result : Result Ending Stop)
         → LeavesOthers old.world new.world
-        → RunsLoad T truth link asked.seed (load_over asked.store plan) asked.store plan
+        → SettlesLoad T truth link asked.seed (load_over asked.store plan) asked.store plan
         (with_streams old) (with_streams new) (Ok made)
         → WritesLoad asked plan.fleet.workers made.replies.0 output result
         → DidLoad T truth link asked old new output result

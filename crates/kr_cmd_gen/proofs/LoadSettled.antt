@@ -1,5 +1,5 @@
 -- Over a told tape the steps of a load up to its workers come to one end, whatever they draw.
-use Rattle.std.proofs.Common.{◌≡◌, ℕ, ◌<◌, List, [], Contains, Some, refl, sym, subst, arith}
+use Rattle.std.proofs.Common.{◌≡◌, ℕ, ◌<◌, List, [], Contains, Some, refl, sym, subst, arith, false}
 use Rattle.std.specs.Prelude.{IsSome, if◌then◌else◌}
 use Rattle.kr_config.specs.Kept.{Row, plugins_in}
 use Rattle.kr_workload.specs.Loads.{configurations}
@@ -7,7 +7,7 @@ use Rattle.kr_provider.specs.PluginOrder.{plugin_order}
 use Rattle.kr_provider.proofs.PluginOrder.{order_has}
 use Rattle.kr_cmd_steps.specs.Around.{Around, left_of}
 use Rattle.kr_cmd_fleet.specs.FleetFiles.{rows_at}
-use Rattle.kr_cmd_fleet.specs.Fleets.{launching, parts_of, publishing, starting}
+use Rattle.kr_cmd_fleet.specs.Fleets.{launching, parts_of, publishing, starting_with}
 use Rattle.kr_cmd_gen.specs.GeneratedLoads.{load_beginning, load_plan, load_steps, with_streams}
 use Rattle.kr_cmd_gen.specs.LoadReadings.{TellsTape}
 use Rattle.kr_cmd_steps.specs.Steps.{Left, and_then, or_empty}
@@ -33,16 +33,17 @@ names_none seed name rows is plugin c =
 module _ (words : LoadWords) (old : Around) where
   settled_outfits : (stored : Stored) (budgets : List ℕ) (l r : Left)
       → r.links ≡ l.links
-      → IsSettled (and_then (launching (load_plan words) stored budgets) closing)
-      (and_then (launching (load_plan words) stored budgets) closing) l r
+      → IsSettled (and_then (launching false (load_plan words) stored budgets) closing)
+      (and_then (launching false (load_plan words) stored budgets) closing) l r
   settled_outfits stored budgets l r x =
       let plan = load_plan words in
       let makes = publishing plan.files [] plan.fleet.replicas in
-      subst (λ s. IsSettled s s l r) (sym (regroup makes (starting plan stored budgets) closing))
+      subst (λ s. IsSettled s s l r) (sym (regroup makes
+      (starting_with false plan stored budgets) closing))
       (settled_publishing plan.files l.links
       (λ name rows is plugin c. absurd (names_none words.seed name rows is plugin c))
-      (λ made. and_then (starting plan stored budgets made) closing)
-      (λ a b s t same. settled_start plan stored budgets a b s t same) plan.fleet.replicas [] [] l
+      (λ made. and_then (starting_with false plan stored budgets made) closing)
+      (λ a b s t same. settled_start plan stored budgets [] a b s t same) plan.fleet.replicas [] [] l
       r refl x refl)
 
   pub settled_load : TellsTape words old
@@ -59,7 +60,7 @@ module _ (words : LoadWords) (old : Around) where
       refl,
       λ bytes a b x y. settled_pair _ _ a b (load_beginning (load_plan words)) closing
           (one_stored bytes a b x y) (λ stored. λ c d u v.
-          settled_pair _ _ c d (launching (load_plan words) stored) closing
+          settled_pair _ _ c d (launching false (load_plan words) stored) closing
           (one_within stored.rows (parts_of (load_plan words).fleet) c d u v)
           (λ budgets. settled_outfits stored budgets _ _ refl)),
     ),

@@ -1,5 +1,5 @@
 -- `gen`: the steps up to its workers, and what a call did once they were started.
-use Rattle.std.specs.Prelude.{◌≡◌, ℕ, suc, zero, ◌+◌, ◌≤◌, ◌⊎◌, true, List, [], map, Option, None, Result, Ok, Err}
+use Rattle.std.specs.Prelude.{◌≡◌, ℕ, suc, zero, ◌+◌, ◌≤◌, ◌⊎◌, false, true, List, [], map, Option, None, Result, Ok, Err}
 use Rattle.std.specs.Io.KnownBytes.{Appends, Keeps}
 use Rattle.kr_base.specs.Faults.{Rose}
 use Rattle.kr_base.specs.Streams.{AppendsFront}
@@ -18,7 +18,7 @@ use Rattle.rand_chacha.specs.ChaCha.{ChaCha}
 use Rattle.kr_cmd_steps.specs.Around.{Around, IsHome, Reaches, left_of, with_lent, with_world}
 use Rattle.kr_cmd_steps.specs.Commands.{stored_on, tape_for}
 use Rattle.kr_cmd_fleet.specs.FleetFiles.{FleetPlan}
-use Rattle.kr_cmd_fleet.specs.Fleets.{Begun, RunsFleet, StopsBefore, TellsFleet, budgeting, launching, parts_of}
+use Rattle.kr_cmd_fleet.specs.Fleets.{Begun, RunsFleet, StopsBefore, TellsFleet, budgeting, launching, parts_of, settled_behind}
 use Rattle.kr_cmd_messages.specs.Receipts.{Receipt}
 use Rattle.kr_cmd_steps.specs.Steps.{Steps, and_then, gives}
 use Rattle.kr_cmd_steps.specs.StoreFiles.{Stored}
@@ -39,7 +39,7 @@ load_plan words = record {
 
 abbrev pub load_beginning : FleetPlan → Stored → Steps Begun
 load_beginning plan stored =
-    and_then (budgeting stored.rows (parts_of plan.fleet)) (launching plan stored)
+    and_then (budgeting stored.rows (parts_of plan.fleet)) (launching false plan stored)
 
 abbrev pub load_over : (store : List ℕ) → FleetPlan → Steps Begun
 load_over store plan =
@@ -94,8 +94,8 @@ abbrev pub no_faults : SeededDice ChaCha → ℕ
 no_faults dice = 0
 
 module _ (T : Type 0) {L : Type 0} (truth : Truth) (link : L → Link) where
-  -- the workers were started; from what each of them draws isn't said here, since its source tells
-  -- nothing
+  -- the workers were started, and what they stored is settled; from what each of them draws isn't
+  -- said here, since its source tells nothing
   pub record StartsLoad (words : LoadWords) (old new : Around) (output : Receipt)
       (result : Result Ending Stop) : Type 0 where
     pub begun : Begun
@@ -105,8 +105,8 @@ module _ (T : Type 0) {L : Type 0} (truth : Truth) (link : L → Link) where
     pub since : IsHome (with_streams old) mid
     pub history : List Entry
     pub ended : List (fleet_worker.Worker T L (SeededDice ChaCha))
-    pub runs : RunsFleet truth link nothing_told no_faults words.store begun mid
-        (with_streams new) history ended
+    pub runs : RunsFleet truth link nothing_told no_faults words.store begun
+        (settled_behind words.store mid) (with_streams new) history ended
     pub writes : WritesLoad words begun.plan.fleet.workers
         (map (λ (w : fleet_worker.Worker T L (SeededDice ChaCha)). w.told) ended) output result
 

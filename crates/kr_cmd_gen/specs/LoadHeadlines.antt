@@ -22,7 +22,7 @@ use Rattle.kr_cmd_messages.specs.declared.refusal.Stop.TheVariants.{Fault, NoMem
 use Rattle.kr_cmd_steps.specs.Around.{Around, IsHome, Reaches, left_of}
 use Rattle.kr_cmd_steps.specs.Ran.{IsIdle}
 use Rattle.kr_cmd_steps.specs.Steps.{gives}
-use Rattle.kr_cmd_fleet.specs.Fleets.{Begun}
+use Rattle.kr_cmd_fleet.specs.Fleets.{Begun, settled_behind}
 use Rattle.kr_cmd_laws.specs.RunHeadlines.{StartsNobody, TellsStop, WorkersHeadline}
 use Rattle.kr_cmd_gen.specs.GeneratedLoads.{load_plan, load_steps, no_faults, nothing_told, with_streams}
 
@@ -50,13 +50,13 @@ module _ (T : Type 0) {L : Type 0} (truth : Truth) (link : L → Link) (words : 
     pub since : IsHome (with_streams old) mid
     pub history : List Entry
     pub ended : List (fleet_worker.Worker T L (SeededDice ChaCha))
-    pub has : WorkersHeadline truth link nothing_told no_faults words.store begun mid
-        (with_streams new) history ended
+    pub has : WorkersHeadline truth link nothing_told no_faults words.store begun
+        (settled_behind words.store mid) (with_streams new) history ended
     pub prints : PrintsSummary words begun.plan.fleet.workers
         (map (λ (w : fleet_worker.Worker T L (SeededDice ChaCha)). w.told) ended) output errors
         status
 
-  -- no worker was started, or the run of those that were has the headline
+  -- nothing was printed, or the run of the workers has the headline
   abbrev pub LoadHeadline : Type 0
   LoadHeadline = StartsNobody (load_steps words) words.store (with_streams old)
       (with_streams new) output errors status

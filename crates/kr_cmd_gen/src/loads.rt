@@ -11,7 +11,7 @@ ghost use Rattle.kr_cmd_messages.specs.Receipts.{receipt};
 ghost use Rattle.kr_cmd_steps.specs.Steps.{and_then};
 ghost use Rattle.kr_cmd_fleet.specs.inner.Plans.{named, plan_of};
 ghost use Rattle.kr_cmd_fleet.specs.inner.FleetOutcomes.{ArePublished, published_in};
-ghost use Rattle.kr_cmd_gen.specs.inner.LoadOutcomes.{AreGenerated, IsLoadPlan, RunsLoad};
+ghost use Rattle.kr_cmd_gen.specs.inner.LoadOutcomes.{AreGenerated, IsLoadPlan, RunsLoad, SettlesLoad};
 ghost use Rattle.kr_cmd_steps.specs.inner.Lent.{Name, with_lent_dice, with_lent_tape};
 ghost use Rattle.kr_cmd_steps.specs.inner.Phases.{Does};
 ghost use Rattle.kr_cmd_steps.specs.inner.Tapes.{stored_of};
@@ -19,9 +19,9 @@ ghost use Rattle.kr_workers.specs.Budgets.{AreBudgets, all_reloads};
 
 use kr_base::{List, NoMemory, SeededDice, Shared, Sink, Tape};
 use kr_cmd_fleet::fleet::{Record, budget_stop, publish_each, work_with};
-use kr_cmd_fleet::{Outfit, Plan};
+use kr_cmd_fleet::{Outfit, Plan, WatchStart};
 use kr_cmd_messages::{LoadWords, Object, Stop};
-use kr_cmd_steps::{Programs, close_tape, load_store, open_tape};
+use kr_cmd_steps::{Programs, load_store, open_tape, settle_tape};
 use kr_kms::{Kms, World};
 use kr_provider::{Links, Published};
 use kr_script::WriteNo;
@@ -82,7 +82,7 @@ fn load_by<R: Threads + Wait + Sync, W: World>(
 ) -> Result<Record, Stop>
     requires plan { IsLoadPlan plan.now }
     ensures runs { (a : Around) → a.truth ≡ W.Link.truth
-        → RunsLoad W.Tap W.Link.truth W.Link.link words.now.seed
+        → SettlesLoad W.Tap W.Link.truth W.Link.link words.now.seed
         (load_over words.now.store (plan_of plan.now)) words.now.store (plan_of plan.now)
         (with_streams (with_world (W.told world.old) a))
         (with_streams (with_world (W.told world.new) a)) result }
@@ -94,8 +94,7 @@ fn load_by<R: Threads + Wait + Sync, W: World>(
         Err(stop) => return Err(stop),
     };
     let (made, tape) = load_on::<R, W::Tap, W::Link>(rt, alloc, words.seed, plan, tape);
-    close_tape(world, store, tape);
-    made
+    settle_tape(world, store, Object::Store, tape, made)
 }
 
 /// Runs the load over the store on a tape, which comes back.
@@ -142,7 +141,7 @@ fn load_with<R: Threads + Wait + Sync, T: Tape + Send, L: Kms + Send>(
     requires plan { IsLoadPlan plan.now }
     ensures { (name : Name) (a : Around) → a.truth ≡ L.truth
         → RunsLoad T L.truth L.link seed
-        (launching (plan_of plan.now) (stored_of store) budgets.now.entries.items) name
+        (launching false (plan_of plan.now) (stored_of store) budgets.now.entries.items) name
         (plan_of plan.now) (with_lent_tape name store.told store.count (with_streams a))
         (with_lent_tape name result.1.told result.1.count (with_streams a)) result.0 }
 {
@@ -159,7 +158,10 @@ fn load_with<R: Threads + Wait + Sync, T: Tape + Send, L: Kms + Send>(
             return (Err(Stop::NoMemory), store);
         }
     }
-    let (made, store, outfits) = work_with(rt, alloc, plan, budgets, store, replicas, outfits);
+    let start = WatchStart::unread(alloc, &store);
+    let (made, store, outfits) = work_with(
+        rt, alloc, plan, budgets, store, replicas, start, outfits,
+    );
     end_outfits(outfits);
     (made, store)
 }

@@ -3,6 +3,7 @@ use Rattle.std.proofs.Common.{◌≡◌, ℕ, ◌⊎◌, List, Result, Ok, Err, 
 use Rattle.std.specs.Prelude.{⊤}
 use Rattle.std.specs.Io.KnownBytes.{Appends}
 use Rattle.kr_base.specs.Faults.{Rose}
+use Rattle.kr_base.proofs.Counting.{Rose-later}
 use Rattle.kr_workers.specs.Endings.{status_of}
 use Rattle.kr_workers.specs.declared.ending.Ending.{Ending}
 use Rattle.kr_workers.specs.declared.ending.Ending.TheVariants as ending
@@ -12,6 +13,7 @@ use Rattle.kr_cmd_fleet.specs.Fleets.{Begun, StopsBefore, TellsFleet}
 use Rattle.kr_cmd_messages.specs.Message.{line_of, status_of as stop_status, status_of_refusal}
 use Rattle.kr_cmd_messages.specs.Receipts.{Receipt}
 use Rattle.kr_cmd_steps.specs.Steps.{Call, Point, Steps, amid, and_then, awaits, gives, refuses}
+use Rattle.kr_cmd_messages.specs.declared.refusal.Object.TheVariants.{Store}
 use Rattle.kr_cmd_messages.specs.declared.refusal.Refusal.{Refusal}
 use Rattle.kr_cmd_messages.specs.declared.refusal.Stop.{Stop}
 use Rattle.kr_cmd_messages.specs.declared.refusal.Stop.TheVariants.{Words, Refused, Fault, NoMemory}
@@ -72,13 +74,19 @@ module _ (steps : Steps Begun) (store : List ℕ) (HasStarted : Result Ending St
         (left_of old) settled why begun ends.end would.0 ends.goes would.1)
     refused_so (awaits call) status why would (inl ends, idle) is line = tt
     refused_so amid status why would (inl ends, idle) is line = tt
-    refused_so point status why would (inr (e, lacking), idle) is line = absurd cc
+    refused_so point status why would (inr (inl (e, lacking)), idle) is line = absurd cc
+    refused_so point status why would (inr (inr (mid, begun, reaches, fails, home)), idle) is line =
+        absurd (let e : Refused why ≡ Fault Store _ = fails.stops in cc)
 
     stopped_so : (point : Point Begun) (status : ℕ) (stop : Stop) → WouldBegin steps old point
         → Stopped stop ⊎ HasStarted (Err stop) → status ≡ stop_status (Err stop)
         → Appends errors.old errors.new (line_of (Err stop)) → Decided point status
     stopped_so point status (Words why) would (inl (inl ends, idle)) is line = absurd ends
-    stopped_so point status (Words why) would (inl (inr (e, lacking), idle)) is line = absurd cc
+    stopped_so point status (Words why) would (inl (inr (inl (e, lacking)), idle)) is line =
+        absurd cc
+    stopped_so point status (Words why) would
+        (inl (inr (inr (mid, begun, reaches, fails, home)), idle)) is line =
+        absurd (let e : Words why ≡ Fault Store _ = fails.stops in cc)
     stopped_so point status (Words why) would (inr s) is line = absurd (breaks (Words why) s)
     stopped_so point status (Refused why) would (inl stops) is line =
         refused_so point status why would stops is line
@@ -110,7 +118,7 @@ module _ (steps : Steps Begun) (store : List ℕ) (HasStarted : Result Ending St
     -- the workers ran
     ended : (e : Ending) → Ended e → status ≡ status_of e → AreRead
     ended e s is = record {
-      caused = λ four. inr (inr (inr (faulted e s (sym is ∙ four))));
+      caused = λ four. inr (inr (inr (inr (faulted e s (sym is ∙ four)))));
       refused = λ which. inr (e, s, sym is);
       done = λ none. did e s (sym is ∙ none);
       usage = λ two. absurd (unused e (sym is ∙ two));
@@ -144,6 +152,7 @@ module _ (steps : Steps Begun) (store : List ℕ) (HasStarted : Result Ending St
     -- the call was stopped
     failed : status ≡ 4
         → ((call : Call) × HasFailed steps old new call)
+        ⊎ ((name : List ℕ) × Rose (old.world.tapes.faults name) (new.world.tapes.faults name))
         ⊎ Rose output.old_faults output.new_faults
         ⊎ Rose errors.old_faults errors.new_faults
         ⊎ Ended ending.Fault → AreRead
@@ -178,19 +187,25 @@ module _ (steps : Steps Begun) (store : List ℕ) (HasStarted : Result Ending St
     stopped : (stop : Stop) → IsHome old new → Stopped stop → status ≡ stop_status (Err stop)
         → Appends errors.old errors.new (line_of (Err stop)) → AreRead
     stopped (Words why) home (inl ends, idle) is line = absurd ends
-    stopped (Words why) home (inr (e, lacking), idle) is line = absurd cc
+    stopped (Words why) home (inr (inl (e, lacking)), idle) is line = absurd cc
+    stopped (Words why) home (inr (inr (mid, begun, reaches, fails, since)), idle) is line =
+        absurd (let e : Words why ≡ Fault Store _ = fails.stops in cc)
     stopped (Refused why) home (inl ends, idle) is line = refused_by why (ends, idle, line) is
-    stopped (Refused why) home (inr (e, lacking), idle) is line = absurd cc
+    stopped (Refused why) home (inr (inl (e, lacking)), idle) is line = absurd cc
+    stopped (Refused why) home (inr (inr (mid, begun, reaches, fails, since)), idle) is line =
+        absurd (let e : Refused why ≡ Fault Store _ = fails.stops in cc)
     stopped (Fault object n) home (inl (call, reaches, f), idle) is line =
         failed is (inl (call, (reaches, f.1, object_rose call home f.1)))
-    stopped (Fault object n) home (inr (e, lacking), idle) is line = absurd cc
+    stopped (Fault object n) home (inr (inl (e, lacking)), idle) is line = absurd cc
+    stopped (Fault object n) home (inr (inr (mid, begun, reaches, fails, since)), idle) is line =
+        failed is (inr (inl (store, Rose-later _ _ _ (since.tapes.later store) fails.rose)))
     stopped NoMemory home before is line = lacked is
 
     -- or behind them
     broke : (stop : Stop) → HasStarted (Err stop) → status ≡ stop_status (Err stop) → AreRead
     broke (Words why) s is = absurd (breaks (Words why) s)
     broke (Refused why) s is = absurd (breaks (Refused why) s)
-    broke (Fault object n) s is = failed is (inr (inl (breaks (Fault object n) s)))
+    broke (Fault object n) s is = failed is (inr (inr (inl (breaks (Fault object n) s))))
     broke NoMemory s is = lacked is
 
     by_end : (result : Result Ending Stop) → IsHome old new
@@ -198,7 +213,7 @@ module _ (steps : Steps Begun) (store : List ℕ) (HasStarted : Result Ending St
         → TellsFleet result errors status → AreRead
     by_end (Ok e) home (inl never) tells = absurd never
     by_end (Ok e) home (inr s) tells = ended e (s, tells.1) tells.0
-    by_end (Err stop) home did (inr told) = failed told.0 (inr (inr (inl told.1)))
+    by_end (Err stop) home did (inr told) = failed told.0 (inr (inr (inr (inl told.1))))
     by_end (Err stop) home (inl before) (inl told) = stopped stop home before told.0 told.1
     by_end (Err stop) home (inr s) (inl told) = broke stop s told.0
 

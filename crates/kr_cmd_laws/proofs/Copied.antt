@@ -14,7 +14,7 @@ use Rattle.kr_store.specs.declared.rows.LogRow.{LogRow}
 use Rattle.kr_cmd_steps.specs.Afterwards.{IsUngrown, OthersStay, ToldTape, new_store}
 use Rattle.kr_cmd_steps.specs.Commands.{by_result, copied_into, copying, migrated_line, migrated_row, migrating, migrating_into, silently, target_on}
 use Rattle.kr_cmd_steps.specs.Configuration.{IsConfiguration}
-use Rattle.kr_cmd_steps.specs.Steps.{write_row, give, and_then, or_empty, tapes_with, with_asked, with_tape, with_told, Point, Left, IsAt, Goes}
+use Rattle.kr_cmd_steps.specs.Steps.{Steps, write_row, give, settle, and_then, or_empty, tapes_with, with_asked, with_tape, with_told, Point, awaits, amid, refuses, gives, Left, IsAt, Goes}
 use Rattle.kr_cmd_steps.specs.StoreFiles.{BeginsWith, HoldsRows, IsStored, Stored, begins_new, unless_new, unless_there, with_row}
 use Rattle.kr_cmd_messages.specs.declared.command.Migration.{Migration}
 use Rattle.kr_cmd_messages.specs.declared.refusal.Limit.TheVariants as limit
@@ -23,7 +23,9 @@ use Rattle.kr_cmd_messages.specs.declared.refusal.Outcome.{Outcome}
 use Rattle.kr_cmd_messages.specs.declared.refusal.Refusal.{Refusal}
 use Rattle.kr_cmd_messages.specs.declared.refusal.Refusal.TheVariants.{Limit, NotOld}
 use Rattle.kr_cmd_steps.proofs.EmptyFiles.{empty_file}
-use Rattle.kr_cmd_steps.proofs.Points.{IsShort, IsSilent, IsTorn}
+use Rattle.kr_cmd_steps.proofs.Points.{IsShort, IsThrough, IsTorn}
+use Rattle.kr_cmd_steps.proofs.Goes.{Further}
+use Rattle.kr_cmd_laws.proofs.Behind.{parted}
 use Rattle.kr_cmd_steps.proofs.Tapes.{own_name}
 
 -- ---- rows that are copied
@@ -38,7 +40,7 @@ pub record IsLeft (name : List ℕ) (all : List LogRow) (p : Point Outcome)
   pub parts : copied ++ rest ≡ all
   pub is_told : new name ≡ option_map Some told
   pub holds : (IsTorn Target name p × (rest ≢ []) × BeginsWith (new_store copied) told)
-      ⊎ (IsSilent p × (rest ≡ []) × HoldsRows (new_store copied) told)
+      ⊎ (IsThrough Target name p × (rest ≡ []) × HoldsRows (new_store copied) told)
       ⊎ (IsShort p × (rest ≢ []) × HoldsRows (new_store copied) told)
 
 -- where a tape tells this
@@ -81,7 +83,7 @@ module _ (name : List ℕ) (all : List LogRow) (line : List ℕ) (p : Point Outc
     others = ended at others;
     parts = parts;
     is_told = ap (λ (l : Left). l.tapes name) at.1 ∙ is_told;
-    holds = inr (inl (subst IsSilent (sym at.0) refl, refl, holds));
+    holds = inr (inl (subst (IsThrough Target name) (sym at.0) refl, refl, holds));
   }
   copies_left copied (row ∷ rest) told old left parts others is_told holds (inl at) = record {
     copied = copied;
@@ -258,28 +260,98 @@ module _ (words : Migration) (p : Point Outcome) (end left : Left) where
         at_copy target mid (new_of again target is.0 is.1 is.2) e
         (subst (λ t. Agrees t (Some [])) (ap (λ t. t words.to) e ∙ out_here) agrees) goes
 
-    at_tape : (mid : Left) → mid.tapes ≡ left.tapes
-        → Goes p end (migrating_into words.to rows source) mid → Leaves
-    at_tape mid e (inl at) = same at tt e
-    at_tape mid e (inr (inl at)) = same at tt e
-    at_tape mid e (inr (inr (inl (never, agrees, at)))) =
-        absurd (let t : true ≡ false = never in cc)
-    at_tape mid e (inr (inr (inr (may, goes)))) =
-        at_target (with_tape true words.to (with_asked (Tape words.to true) mid))
-        (ap (tapes_with true words.to) e) goes
+module _ (words : Migration) (p : Point Outcome) (end left : Left) where
+  abbrev settling_it : Outcome → Steps Outcome
+  settling_it made = settle Target words.to (give made)
 
-  pub migrate_leaves : Goes p end (migrating words) left → Leaves
-  migrate_leaves (inl at) = same at tt refl
-  migrate_leaves (inr (inl at)) = same at tt refl
-  migrate_leaves (inr (inr (file, agrees, inl at))) = same at tt refl
-  migrate_leaves (inr (inr (file, agrees, inr (Err why, is, at)))) = same at tt refl
-  migrate_leaves (inr (inr (file, agrees, inr (Ok rows, is, inl at)))) = same at tt refl
-  migrate_leaves (inr (inr (file, agrees, inr (Ok rows, is, inr (inl at))))) = same at tt refl
+  -- since the steps before the settling were left so
+  through : (new : List ℕ → ToldTape) (q : Point Outcome)
+      → (IsThrough Target words.to q → IsThrough Target words.to p) → (IsShort q → IsShort p)
+      → (IsTorn Target words.to q → IsTorn Target words.to p) → Migrates words q left new
+      → Migrates words p left new
+  through new q whole short torn (inl none) = inl (short none.0, none.1, none.2)
+  through new q whole short torn (inr m) = inr (record {
+    file = m.file;
+    rows = m.rows;
+    bytes = m.bytes;
+    source = m.source;
+    configured = m.configured;
+    means = m.means;
+    held = m.held;
+    read = m.read;
+    empty = m.empty;
+    is_left = record {
+      copied = m.is_left.copied;
+      rest = m.is_left.rest;
+      told = m.is_left.told;
+      others = m.is_left.others;
+      parts = m.is_left.parts;
+      is_told = m.is_left.is_told;
+      holds = elim m.is_left.holds [
+        | inl t ↦ inl (torn t.0, t.1, t.2)
+        | inr more ↦ elim more [
+          | inl w ↦ inr (inl (whole w.0, w.1, w.2))
+          | inr s ↦ inr (inr (short s.0, s.1, s.2))
+        ]
+      ];
+    };
+  })
+
+  ended_so : (q : Point Outcome) (mid : Left) → (p ≡ q) × (end ≡ mid)
+      → Migrates words q left mid.tapes → Leaves words p end left
+  ended_so q mid at m = subst (λ (l : Left). Migrates words p left l.tapes) (sym at.1)
+      (subst (λ r. Migrates words r left mid.tapes) (sym at.0) m)
+
+  settled_on : (q : Point Outcome) (mid : Left) → Migrates words q left mid.tapes
+      → Further p end settling_it q mid → Leaves words p end left
+  settled_on (awaits call) mid m at = ended_so (awaits call) mid at m
+  settled_on amid mid m at = ended_so amid mid at m
+  settled_on (refuses why) mid m at = ended_so (refuses why) mid at m
+  settled_on (gives x) mid m (inl at) =
+      subst (λ (l : Left). Migrates words p left l.tapes) (sym at.1)
+      (through mid.tapes (gives x) (λ is. subst (IsThrough Target words.to) (sym at.0) refl)
+      (λ none. absurd none) (λ none. absurd none) m)
+  settled_on (gives x) mid m (inr at) =
+      subst (λ (l : Left). Migrates words p left l.tapes) (sym at.1)
+      (through mid.tapes (gives x) (λ is. subst (IsThrough Target words.to) (sym at.0) is)
+      (λ none. absurd none) (λ none. absurd none) m)
+
+  at_tape : (file : Option (List ℕ)) (rows : List Row) (bytes : List ℕ) (source : Stored)
+      → Agrees (left.file words.config) file → IsConfiguration words.config file (Ok rows)
+      → Agrees (left.tapes words.store) (Some bytes) → IsStored bytes (Ok source) → (mid : Left)
+      → mid.tapes ≡ left.tapes → Goes p end (migrating_into words.to rows source) mid
+      → Leaves words p end left
+  at_tape file rows bytes source configured means held read mid e (inl at) =
+      same words p end left at tt e
+  at_tape file rows bytes source configured means held read mid e (inr (inl at)) =
+      same words p end left at tt e
+  at_tape file rows bytes source configured means held read mid e
+      (inr (inr (inl (never, agrees, at)))) =
+      absurd (let t : true ≡ false = never in cc)
+  at_tape file rows bytes source configured means held read mid e
+      (inr (inr (inr (may, goes)))) =
+      let out : Left = with_tape true words.to (with_asked (Tape words.to true) mid) in
+      let r = parted settling_it p end
+      (and_then (target_on words.to) (copied_into words.to rows source)) out goes in
+      settled_on r.0 r.1 (at_target words r.0 r.1 left file rows bytes source configured means held
+      read out (ap (tapes_with true words.to) e) r.2) r.3
+
+  unchanged : {here : Point Outcome} {last : Left} → IsAt p end here last → IsShort here
+      → last.tapes ≡ left.tapes → Leaves words p end left
+  unchanged at short e = same words p end left at short e
+
+  pub migrate_leaves : Goes p end (migrating words) left → Leaves words p end left
+  migrate_leaves (inl at) = unchanged at tt refl
+  migrate_leaves (inr (inl at)) = unchanged at tt refl
+  migrate_leaves (inr (inr (file, agrees, inl at))) = unchanged at tt refl
+  migrate_leaves (inr (inr (file, agrees, inr (Err why, is, at)))) = unchanged at tt refl
+  migrate_leaves (inr (inr (file, agrees, inr (Ok rows, is, inl at)))) = unchanged at tt refl
+  migrate_leaves (inr (inr (file, agrees, inr (Ok rows, is, inr (inl at))))) = unchanged at tt refl
   migrate_leaves (inr (inr (file, agrees, inr (Ok rows, is, inr (inr (inl (f, none, at))))))) =
-      same at tt refl
+      unchanged at tt refl
   migrate_leaves
       (inr (inr (file, agrees, inr (Ok rows, is, inr (inr (inr (may, inl at))))))) =
-      same at tt refl
+      unchanged at tt refl
   migrate_leaves (inr (inr (
     file,
     agrees,
@@ -290,7 +362,7 @@ module _ (words : Migration) (p : Point Outcome) (end left : Left) where
           (may, inr (bytes, held, inl at)))),
     ),
   ))) =
-      same at tt refl
+      unchanged at tt refl
   migrate_leaves (inr (inr (
     file,
     agrees,
@@ -301,7 +373,7 @@ module _ (words : Migration) (p : Point Outcome) (end left : Left) where
           (may, inr (bytes, held, inr (Err why, read, at))))),
     ),
   ))) =
-      same at tt refl
+      unchanged at tt refl
   migrate_leaves (inr (inr (
     file,
     agrees,

@@ -31,17 +31,18 @@ use Rattle.kr_cmd_steps.specs.Around.{Around, IsHome, left_of}
 use Rattle.kr_cmd_fleet.specs.Causes.{NoneRose}
 use Rattle.kr_cmd_fleet.specs.FleetReadings.{IsCompleted}
 use Rattle.kr_cmd_fleet.specs.FleetReady.{IsReady}
-use Rattle.kr_cmd_fleet.specs.Fleets.{Begun, IsEquipped, RanFleet, RunsFleet, Starts, StopsBefore, TellsFleet, fleet_steps, opening_of}
+use Rattle.kr_cmd_fleet.specs.Fleets.{Begun, IsEquipped, RanFleet, RunsFleet, Starts, StopsBefore, TellsFleet, fleet_steps, opening_of, settled_behind}
 use Rattle.kr_cmd_messages.specs.Message.{status_of as stop_status}
 use Rattle.kr_cmd_steps.specs.Ran.{IsIdle}
 use Rattle.kr_cmd_messages.specs.Receipts.{Receipt}
-use Rattle.kr_cmd_steps.specs.Steps.{Left, asking, drawing, gives, refuses, scanning}
+use Rattle.kr_cmd_steps.specs.Steps.{Left, asking, drawing, gives, refuses, scanning, settling}
 use Rattle.kr_cmd_messages.specs.declared.fleet_words.FleetWords.{FleetWords}
 use Rattle.kr_cmd_steps.specs.declared.programs.Program.{Program}
 use Rattle.kr_cmd_messages.specs.declared.refusal.Object.TheVariants.{Store}
 use Rattle.kr_cmd_messages.specs.declared.refusal.Stop.{Stop}
 use Rattle.kr_cmd_messages.specs.declared.refusal.Stop.TheVariants.{Words, Refused, Fault, NoMemory}
 use Rattle.kr_cmd_steps.specs.inner.ProgramNames.{names_in}
+use Rattle.kr_cmd_fleet.proofs.SettledRuns.{home_settled}
 use Rattle.kr_cmd_steps.proofs.Loading.{rose_on}
 use Rattle.kr_cmd_steps.proofs.RisingCounts.{counted}
 use Rattle.kr_cmd_laws.proofs.FleetWalk.{BeginsWell, is_told, walks}
@@ -233,11 +234,12 @@ module _ (T : Type 0) {L D : Type 0} (truth : Truth) (link : L → Link)
       let passed = passes_limit o (start_of o) s.history s.runs.one.legal.runs r.0 r.1 r.2 r.3 in
       inr (inr (inl (is, (s, idle, (r.0, r.1, r.2, r.3, passed)))))
   ended_so status ending.Memory s idle is = inr (inr (inr is))
-  ended_so status ending.Fault s idle is = absurd (no_fault s.begun s.mid s.since s.reaches.end
+  ended_so status ending.Fault s idle is = absurd (no_fault s.begun
+      (settled_behind words.store s.mid) (home_settled words.store s.since) s.reaches.end
       (begins ending.Fault s idle) (links ending.Fault s idle) s.history s.ended s.runs
       (rests ending.Fault s idle))
-  ended_so status ending.Unhealthy s idle is = absurd (no_illness s.begun s.mid s.since
-      s.reaches.end (begins ending.Unhealthy s idle) (links ending.Unhealthy s idle) s.history
+  ended_so status ending.Unhealthy s idle is = absurd (no_illness s.begun
+      (settled_behind words.store s.mid) (home_settled words.store s.since) s.reaches.end (begins ending.Unhealthy s idle) (links ending.Unhealthy s idle) s.history
       s.ended s.runs (rests ending.Unhealthy s idle))
 
   -- they didn't
@@ -245,16 +247,24 @@ module _ (T : Type 0) {L D : Type 0} (truth : Truth) (link : L → Link)
       → StopsBefore (fleet_steps words) words.store old new output (Err stop)
       ⊎ Starts T truth link left count words old new output (Err stop) → Completed status
   stopped_so status (Words why) is (inl (inl ends, idle)) = absurd ends
-  stopped_so status (Words why) is (inl (inr (e, lacking), idle)) = absurd cc
+  stopped_so status (Words why) is (inl (inr (inl (e, lacking)), idle)) = absurd cc
+  stopped_so status (Words why) is (inl (inr (inr (mid, begun, reaches, fails, home)), idle)) =
+      absurd (let e : Words why ≡ Fault Store _ = fails.stops in cc)
   stopped_so status (Words why) is (inr s) = absurd s.writes
   stopped_so status (Refused why) is (inl (inl ends, idle)) =
       absurd (allowed (BeginsWell words old ready) (refuses why) ends.end (fleet_steps words)
       (left_of old) (walks words old ready) ends.goes)
-  stopped_so status (Refused why) is (inl (inr (e, lacking), idle)) = absurd cc
+  stopped_so status (Refused why) is (inl (inr (inl (e, lacking)), idle)) = absurd cc
+  stopped_so status (Refused why) is (inl (inr (inr (mid, begun, reaches, fails, home)), idle)) =
+      absurd (let e : Refused why ≡ Fault Store _ = fails.stops in cc)
   stopped_so status (Refused why) is (inr s) = absurd s.writes
   stopped_so status (Fault object n) is (inl (inl (call, reaches, fault), idle)) =
       absurd (none.calls call fault.1)
-  stopped_so status (Fault object n) is (inl (inr (e, lacking), idle)) = absurd cc
+  stopped_so status (Fault object n) is (inl (inr (inl (e, lacking)), idle)) = absurd cc
+  stopped_so status (Fault object n) is
+      (inl (inr (inr (mid, begun, reaches, fails, home)), idle)) =
+      absurd (none.calls (settling Store words.store)
+      (Rose-later _ _ _ (home.tapes.later words.store) fails.rose))
   stopped_so status (Fault object n) is (inr s) = absurd (none.written s.writes.2)
   stopped_so status NoMemory is did = inr (inr (inr is))
 

@@ -1,6 +1,6 @@
 -- Over what is told, the steps of a fleet up to its workers come to one end, whatever they draw.
 use Rattle.std.proofs.Common.{◌≡◌, ◌≢◌, ℕ, zero, suc, ◌+◌, List, [], ◌∷◌, ◌++◌, length, Contains, Option, None, Some, Result, Ok, Err, refl, sym, ◌∙◌, ap, subst, inl, inr, arith}
-use Rattle.std.specs.Prelude.{IsSome, if◌then◌else◌, sum}
+use Rattle.std.specs.Prelude.{IsSome, false, if◌then◌else◌, sum}
 use Rattle.std.specs.Option.{option_map}
 use Rattle.std.proofs.lemmas.List.{map-append}
 use Rattle.kr_config.specs.Kept.{Row, plugins_in}
@@ -21,12 +21,13 @@ use Rattle.kr_script.specs.declared.script.Part.{Part}
 use Rattle.kr_script.specs.declared.script.ScriptNo.{ScriptNo}
 use Rattle.kr_script.proofs.OneAnswer.{one_meaning}
 use Rattle.kr_store.specs.declared.rows.LogRow.{LogRow}
+use Rattle.kr_watch.specs.declared.item.Item.{Item}
 use Rattle.kr_words.specs.Arguments.{program_of}
 use Rattle.kr_cmd_steps.specs.Around.{Around, left_of}
 use Rattle.kr_cmd_steps.specs.Commands.{by_result, configuration, with_memory}
 use Rattle.kr_cmd_fleet.specs.FleetFiles.{FleetPlan, IsFleetFile, NamedRows, all_rows, files_in, all_files, programs_in, rows_at, script_refusal, unless_read}
 use Rattle.kr_cmd_fleet.specs.FleetReady.{IsFleetTold}
-use Rattle.kr_cmd_fleet.specs.Fleets.{AreWithin, Begun, IsStart, Replicas, beginning, equipping_all, equipping, fleet_steps, launching, over_store, parts_of, publishes, publishing, rows_of_replica, starting}
+use Rattle.kr_cmd_fleet.specs.Fleets.{AreWithin, Begun, IsStart, Replicas, beginning, equipping_all, equipping, fleet_steps, launching, over_store, parts_of, publishes, publishing, rows_of_replica, starting, starting_with}
 use Rattle.kr_cmd_steps.specs.Judgements.{start_refusal}
 use Rattle.kr_cmd_steps.specs.Plugins.{join_program, make_seeds, programs_of}
 use Rattle.kr_cmd_steps.specs.Ran.{AreTold}
@@ -228,11 +229,11 @@ module _ (files : List NamedRows) (first : ℕ × List ℕ → Option Status)
 
 -- ---- the start
 
-pub settled_start : (plan : FleetPlan) (stored : Stored) (budgets : List ℕ) (x y : Replicas)
-    (l r : Left) → settings_of x ≡ settings_of y
-    → IsSettled (and_then (starting plan stored budgets x) closing)
-    (and_then (starting plan stored budgets y) closing) l r
-settled_start plan stored budgets x y l r e = λ a b h k.
+pub settled_start : (plan : FleetPlan) (stored : Stored) (budgets : List ℕ) (items : List Item)
+    (x y : Replicas) (l r : Left) → settings_of x ≡ settings_of y
+    → IsSettled (and_then (starting plan stored budgets x items) closing)
+    (and_then (starting plan stored budgets y items) closing) l r
+settled_start plan stored budgets items x y l r e = λ a b h k.
     subst (λ s. IsSettled (and_then (and_then (by_result a) (begun x)) closing)
     (and_then (and_then (by_result s) (begun y)) closing) l r) (one_start stored.rows x y a b e h k)
     (by a)
@@ -243,6 +244,7 @@ settled_start plan stored budgets x y l r e = λ a b h k.
       stored = stored;
       budgets = budgets;
       replicas = replicas;
+      items = items;
     }))
 
     by : (s : Result (Unit {0}) Refusal)
@@ -289,19 +291,19 @@ module _ (words : FleetWords) (old : Around) (told : IsFleetTold words old) wher
       → programs_of words.options (plugin_order (all_rows plan.files)) ≡ Ok plan.programs
       → (stored : Stored) (budgets : List ℕ) (l r : Left) → l.links ≡ old.world.links.told
       → r.links ≡ old.world.links.told
-      → IsSettled (and_then (launching plan stored budgets) closing)
-      (and_then (launching plan stored budgets) closing) l r
+      → IsSettled (and_then (launching false plan stored budgets) closing)
+      (and_then (launching false plan stored budgets) closing) l r
   settled_outfits plan e stored budgets l r x y =
       let makes = publishing plan.files [] plan.fleet.replicas in
-      subst (λ s. IsSettled s s l r) (sym (regroup makes (starting plan stored budgets) closing))
+      subst (λ s. IsSettled s s l r) (sym (regroup makes (starting_with false plan stored budgets) closing))
       (settled_publishing plan.files old.world.links.told (statuses plan e)
-      (λ made. and_then (starting plan stored budgets made) closing)
-      (λ a b s t same. settled_start plan stored budgets a b s t same) plan.fleet.replicas [] [] l
+      (λ made. and_then (starting_with false plan stored budgets made) closing)
+      (λ a b s t same. settled_start plan stored budgets [] a b s t same) plan.fleet.replicas [] [] l
       r x y refl)
 
   settled_over : (plan : FleetPlan) (l : Left) → IsAs (left_of old) l
       → programs_of words.options (plugin_order (all_rows plan.files)) ≡ Ok plan.programs
-      → GoOneWay (and_then (over_store words.store plan) closing) l
+      → GoOneWay (and_then (over_store false words.store plan) closing) l
   settled_over plan l stays e = (
     there,
     refl,
@@ -311,10 +313,10 @@ module _ (words : FleetWords) (old : Around) (told : IsFleetTold words old) wher
       subst (λ q. IsSome (if q then or_empty (l.tapes words.store) else l.tapes words.store))
           (sym (own_name words.store)) (told_or_empty (l.tapes words.store) there),
       refl,
-      λ bytes a b x y. settled_pair _ _ a b (beginning plan) closing (one_stored bytes a b x y)
-          (λ stored. λ c d u v. settled_pair _ _ c d (equipping_all plan stored) closing
+      λ bytes a b x y. settled_pair _ _ a b (beginning false plan) closing (one_stored bytes a b x y)
+          (λ stored. λ c d u v. settled_pair _ _ c d (equipping_all false plan stored) closing
           (one_within stored.rows (parts_of plan.fleet) c d u v) (λ budgets.
-          settled_equipping plan.programs (launching plan stored budgets) closing
+          settled_equipping plan.programs (launching false plan stored budgets) closing
           old.world.links.told (λ s t m n. settled_outfits plan e stored budgets s t m n) 0
           (length plan.fleet.workers) _ _ stays.links stays.links)),
     ),
@@ -328,7 +330,7 @@ module _ (words : FleetWords) (old : Around) (told : IsFleetTold words old) wher
       give (record { fleet = fleet; files = files; programs = programs }))
 
   settled_plan : (fleet : Fleet) (files : List NamedRows) (l : Left) → IsAs (left_of old) l
-      → GoOneWay (and_then (and_then (plan_of_files fleet files) (over_store words.store)) closing)
+      → GoOneWay (and_then (and_then (plan_of_files fleet files) (over_store false words.store)) closing)
       l
   settled_plan fleet files l stays = λ u v h k.
       by (programs_of words.options (plugin_order (all_rows files))) refl
@@ -337,7 +339,7 @@ module _ (words : FleetWords) (old : Around) (told : IsFleetTold words old) wher
           → programs_of words.options (plugin_order (all_rows files)) ≡ r
           → GoOneWay (and_then (and_then (and_then (by_result r) (λ programs.
           give (record { fleet = fleet; files = files; programs = programs })))
-          (over_store words.store)) closing) l
+          (over_store false words.store)) closing) l
       by (Ok programs) e =
           settled_over (record { fleet = fleet; files = files; programs = programs }) l stays e
       by (Err why) e = refl
@@ -347,16 +349,16 @@ module _ (words : FleetWords) (old : Around) (told : IsFleetTold words old) wher
 
   settled_read : (fleet : Fleet) (l : Left) → IsAs (left_of old) l
       → AreTold old.world.file (all_files fleet)
-      → GoOneWay (and_then (and_then (fleet_by fleet) (over_store words.store)) closing) l
+      → GoOneWay (and_then (and_then (fleet_by fleet) (over_store false words.store)) closing) l
   settled_read fleet l stays names =
       let reads = files_in [] (all_files fleet) in
       subst (λ s. GoOneWay s l) (sym (ap (λ s. and_then s closing)
-      (regroup reads (plan_of_files fleet) (over_store words.store))
-      ∙ regroup reads (λ files. and_then (plan_of_files fleet files) (over_store words.store))
+      (regroup reads (plan_of_files fleet) (over_store false words.store))
+      ∙ regroup reads (λ files. and_then (plan_of_files fleet files) (over_store false words.store))
       closing))
       (settled_files (all_files fleet) [] (left_of old) l stays
       (subst (λ f. AreTold f (all_files fleet)) (sym stays.file) names)
-      (λ files. and_then (and_then (plan_of_files fleet files) (over_store words.store)) closing)
+      (λ files. and_then (and_then (plan_of_files fleet files) (over_store false words.store)) closing)
       (λ files m at. settled_plan fleet files m at))
 
   pub settled_fleet : GoOneWay (and_then (fleet_steps words) closing) (left_of old)
@@ -364,8 +366,8 @@ module _ (words : FleetWords) (old : Around) (told : IsFleetTold words old) wher
     told.fleet,
     refl,
     λ file agrees a b x y. subst (λ r. IsSettled
-        (and_then (and_then (and_then (by_result a) fleet_by) (over_store words.store)) closing)
-        (and_then (and_then (and_then (by_result r) fleet_by) (over_store words.store)) closing)
+        (and_then (and_then (and_then (by_result a) fleet_by) (over_store false words.store)) closing)
+        (and_then (and_then (and_then (by_result r) fleet_by) (over_store false words.store)) closing)
         now now) (one_fleet words.file file a b x y)
         (by a (λ fleet is. told.files file fleet agrees
         (subst (IsFleetFile words.file file) is x))),
@@ -377,7 +379,7 @@ module _ (words : FleetWords) (old : Around) (told : IsFleetTold words old) wher
       by : (r : Result Fleet Refusal)
           → ((fleet : Fleet) → r ≡ Ok fleet → AreTold old.world.file (all_files fleet))
           → GoOneWay (and_then (and_then (and_then (by_result r) fleet_by)
-          (over_store words.store)) closing) now
+          (over_store false words.store)) closing) now
       by (Ok fleet) names =
           settled_read fleet now (record { file = refl; tapes = refl; links = refl })
           (names fleet refl)

@@ -32,7 +32,7 @@ use Rattle.kr_cmd_steps.specs.Commands.{by_result, configuration, with_memory}
 use Rattle.kr_cmd_steps.specs.Configuration.{IsConfiguration}
 use Rattle.kr_cmd_fleet.specs.FleetFiles.{FleetPlan, IsFleetFile, NamedRows, all_rows, file_in, file_of_replica, files_in, all_files, no_file, planning, programs_in, rows_at, unless_read}
 use Rattle.kr_cmd_fleet.specs.FleetReady.{HasSettings, HaveSettings, IsConfigured, IsHealthy, IsReady, TellsRows}
-use Rattle.kr_cmd_fleet.specs.Fleets.{AreWithin, Begun, IsStart, Replicas, beginning, equipping_all, equipping, fleet_steps, launching, over_store, parts_of, publishes, publishing, rows_of_replica, starting}
+use Rattle.kr_cmd_fleet.specs.Fleets.{AreWithin, Begun, IsStart, Replicas, beginning, equipping_all, equipping, fleet_steps, launching, over_store, parts_of, publishes, publishing, rows_of_replica, starting_with}
 use Rattle.kr_cmd_steps.specs.Judgements.{start_refusal}
 use Rattle.kr_cmd_steps.specs.Plugins.{borrow_links_of, join_program, make_seed, make_seeds, programs_of, unless_breach, wrap_seed}
 use Rattle.kr_cmd_steps.specs.Steps.{Left, Steps, and_then, give, or_empty, tapes_with, with_asked}
@@ -513,6 +513,7 @@ module _ (words : FleetWords) (old : Around) (ready : IsReady words old) where
           stored = ready.stored;
           budgets = budgets;
           replicas = replicas;
+          items = [];
         })))) left
     starts_by budgets replicas left sees may (Ok done) is = λ u t. record {
       fleet_is = p.fleet_is;
@@ -523,11 +524,11 @@ module _ (words : FleetWords) (old : Around) (ready : IsReady words old) where
         absurd (no_refusal ready.stored.rows replicas why may is)
 
     outfits : (budgets : List ℕ) (left : Left) → Sees old left
-        → GivesOnly BeginsWell (launching plan ready.stored budgets) left
+        → GivesOnly BeginsWell (launching false plan ready.stored budgets) left
     outfits budgets left sees =
         let settings = map (rows_of_replica plan.files) plan.fleet.replicas in
         gives_then (Publishes plan.files p.there settings) BeginsWell
-        (starting plan ready.stored budgets)
+        (starting_with false plan ready.stored budgets)
         (λ replicas l made. starts_by budgets replicas l made.1
         (subst (λ s. MayStart ready.stored.rows s) (sym (made.0 ∙ told)) ready.fits))
         (publishing plan.files [] plan.fleet.replicas) left
@@ -542,18 +543,18 @@ module _ (words : FleetWords) (old : Around) (ready : IsReady words old) where
             p.read).0)
 
     begins : (left : Left) → Sees old left
-        → GivesOnly BeginsWell (beginning plan ready.stored) left
-    begins left sees = budgets_pass BeginsWell (equipping_all plan ready.stored) ready.stored.rows
-        (parts_of plan.fleet) left ready.budgets
+        → GivesOnly BeginsWell (beginning false plan ready.stored) left
+    begins left sees = budgets_pass BeginsWell (equipping_all false plan ready.stored)
+        ready.stored.rows (parts_of plan.fleet) left ready.budgets
         (subst (λ (f : Fleet). AreWithin ready.stored.rows (parts_of f) (Ok ready.budgets))
         (sym p.fleet_is) ready.within)
-        (λ budgets. equips BeginsWell plan.programs (launching plan ready.stored budgets)
+        (λ budgets. equips BeginsWell plan.programs (launching false plan ready.stored budgets)
         (λ l s. outfits budgets l s) 0 (length plan.fleet.workers) left sees)
 
   -- ---- all of them
 
   over_told : (plan : FleetPlan) (left : Left) → Planned plan left
-      → GivesOnly BeginsWell (over_store words.store plan) left
+      → GivesOnly BeginsWell (over_store false words.store plan) left
   over_told plan left (p, sees, tapes) = (
     refl,
     λ bytes agrees r is.
@@ -562,12 +563,12 @@ module _ (words : FleetWords) (old : Around) (ready : IsReady words old) where
         (ap {B = Option (Option (List ℕ))} (λ b. if b then or_empty (left.tapes words.store)
         else left.tapes words.store) (own_name words.store)
         ∙ ap (λ t. or_empty (t words.store)) tapes ∙ ready.store.1) agrees) in
-        by_known_then BeginsWell (beginning plan) r ready.stored _
+        by_known_then BeginsWell (beginning false plan) r ready.stored _
         (one_stored bytes (Ok ready.stored) r
         (subst (λ b. IsStored b (Ok ready.stored)) held ready.store.2) is)
         (begins plan p _ (record { file = sees.file; links = sees.links })),
   )
 
   pub walks : GivesOnly BeginsWell (fleet_steps words) (left_of old)
-  walks = gives_then Planned BeginsWell (over_store words.store) over_told
+  walks = gives_then Planned BeginsWell (over_store false words.store) over_told
       (planning words.file words.options) (left_of old) plans_fleet

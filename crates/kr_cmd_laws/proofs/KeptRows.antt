@@ -21,9 +21,9 @@ use Rattle.kr_store.specs.Stores.{IsListing}
 use Rattle.kr_store.specs.declared.rows.LogRow.{LogRow}
 use Rattle.kr_store.specs.declared.rows.Row as stored
 use Rattle.kr_cmd_steps.specs.Afterwards.{ArePutsOf, KeepsRows, ToldTape, with_rows}
-use Rattle.kr_cmd_steps.specs.Commands.{Progress, nothing_done, by_result, configuration, driving, linking_programs, one_fresh, one_left, one_rewritten, replacing, resealing, rewriting, rewriting_by, rewriting_on, row_anew, row_by, row_data, row_steps, starting, tape_for, value_read, value_sealed, within_journal}
+use Rattle.kr_cmd_steps.specs.Commands.{Progress, nothing_done, by_result, configuration, driving, linking_programs, one_fresh, one_left, one_rewritten, replacing, resealing, rewriting, rewriting_by, rewriting_on, row_anew, row_by, row_data, row_steps, settled_for, starting, value_read, value_sealed, within_journal}
 use Rattle.kr_cmd_steps.specs.Plugins.{borrow_links, make_seeds, programs_of}
-use Rattle.kr_cmd_steps.specs.Steps.{Steps, borrow_dice, give, write_row, and_then, Point, Left, IsAt, Goes, with_count, with_said, with_told}
+use Rattle.kr_cmd_steps.specs.Steps.{Steps, borrow_dice, give, settle, write_row, and_then, Point, awaits, amid, refuses, gives, Left, IsAt, Goes, with_count, with_said, with_told}
 use Rattle.kr_cmd_steps.specs.StoreFiles.{Stored, IsStored, with_row, BeginsWith, StillHolds}
 use Rattle.kr_cmd_messages.specs.declared.command.Rewriting.{Rewriting}
 use Rattle.kr_cmd_steps.specs.declared.programs.Program.{Program}
@@ -33,6 +33,8 @@ use Rattle.kr_cmd_messages.specs.declared.refusal.Outcome.{Outcome}
 use Rattle.kr_cmd_messages.specs.declared.refusal.Refusal.{Refusal}
 use Rattle.kr_cmd_messages.specs.declared.refusal.Refusal.TheVariants.{Limit}
 use Rattle.kr_cmd_steps.proofs.Loading.{rose_on, still_holds}
+use Rattle.kr_cmd_steps.proofs.Goes.{Further}
+use Rattle.kr_cmd_laws.proofs.Behind.{parted}
 use Rattle.kr_cmd_laws.proofs.Parts.{IsKept, halves}
 use Rattle.kr_cmd_steps.proofs.Points.{IsShort, IsTorn}
 use Rattle.kr_cmd_laws.proofs.ReadOnly.{configuration_reads, result_reads, sealed_reads, seeds_read, value_reads}
@@ -324,39 +326,89 @@ module _ (words : Rewriting) (point : Point Outcome) (end left : Left) where
     at_room (Ok u) mid same (inr (inl e)) = untouched same tt e
     at_room (Ok u) mid same (inr (inr goes)) = at_links programs _ same goes
 
-  at_tape : (rows : List Row) (programs : List Program) (mid : Left) → IsKept mid left
-      → Goes point end (tape_for words.store false (rewriting_on words.store rows programs)) mid
-      → Kept
-  at_tape rows programs mid same (inl e) = untouched same tt e
-  at_tape rows programs mid same (inr (inl e)) = untouched same tt e
-  at_tape rows programs mid same (inr (inr (inl (never, agrees, e)))) = untouched same tt e
-  at_tape rows programs mid same (inr (inr (inr (may, inl e)))) = untouched same tt e
-  at_tape rows programs mid same (inr (inr (inr (may, inr (bytes, agrees, inl e))))) =
+  on_tape : (rows : List Row) (programs : List Program) (mid : Left) → IsKept mid left
+      → Goes point end (rewriting_on words.store rows programs) mid → Kept
+  on_tape rows programs mid same (inl e) = untouched same tt e
+  on_tape rows programs mid same (inr (bytes, agrees, inl e)) = untouched same tt e
+  on_tape rows programs mid same (inr (bytes, agrees, inr (Err why, is, e))) =
       untouched same tt e
-  at_tape rows programs mid same
-      (inr (inr (inr (may, inr (bytes, agrees, inr (Err why, is, e)))))) =
+  on_tape rows programs mid same (inr (bytes, agrees, inr (Ok base, is, inl e))) =
       untouched same tt e
-  at_tape rows programs mid same
-      (inr (inr (inr (may, inr (bytes, agrees, inr (Ok base, is, inl e)))))) =
-      untouched same tt e
-  at_tape rows programs mid same
-      (inr (inr (inr (may, inr (bytes, agrees, inr (Ok base, is, inr (live, listing, goes))))))) =
+  on_tape rows programs mid same
+      (inr (bytes, agrees, inr (Ok base, is, inr (live, listing, goes)))) =
       at_room rows programs bytes base
       (subst (λ (tapes : List ℕ → ToldTape). Agrees (tapes words.store) (Some bytes)) same.0 agrees)
       is live listing (within_journal live) _ same goes
 
-  pub rows_kept : Goes point end (rewriting words) left → Kept
+module _ (words : Rewriting) (point : Point Outcome) (end left : Left) where
+  abbrev settling_it : Outcome → Steps Outcome
+  settling_it made = settle Store words.store (give made)
+
+  -- the settling leaves it so
+  as_driven : (x : Outcome) (mid : Left) → end.tapes ≡ mid.tapes → end.counts ≡ mid.counts
+      → Kept words (gives x) mid left → Kept words point end left
+  as_driven x mid e f (inl none) = absurd none.0
+  as_driven x mid e f (inr d) = inr (record {
+    bytes = d.bytes;
+    store = d.store;
+    live = d.live;
+    held = d.held;
+    read = d.read;
+    listing = d.listing;
+    grows = record {
+      added = d.grows.added;
+      told = d.grows.told;
+      added_are = d.grows.added_are;
+      is_told = ap (λ t. t words.store) e ∙ d.grows.is_told;
+      holds = elim d.grows.holds [
+        | inl torn ↦ absurd torn.0
+        | inr held ↦ inr (subst (λ (counts : List ℕ → ℕ).
+            StillHolds (with_rows d.grows.added d.store) d.grows.told (left.counts words.store)
+            (counts words.store)) (sym f) held)
+      ];
+    };
+  })
+
+  ended_so : (q : Point Outcome) (mid : Left) → (point ≡ q) × (end ≡ mid) → Kept words q mid left
+      → Kept words point end left
+  ended_so q mid at d = subst (λ l. Kept words point l left) (sym at.1)
+      (subst (λ r. Kept words r mid left) (sym at.0) d)
+
+  settled_on : (q : Point Outcome) (mid : Left) → Kept words q mid left
+      → Further point end settling_it q mid → Kept words point end left
+  settled_on (awaits call) mid d at = ended_so (awaits call) mid at d
+  settled_on amid mid d at = ended_so amid mid at d
+  settled_on (refuses why) mid d at = ended_so (refuses why) mid at d
+  settled_on (gives x) mid d (inl at) =
+      as_driven x mid (ap (λ l. l.tapes) at.1) (ap (λ l. l.counts) at.1) d
+  settled_on (gives x) mid d (inr at) =
+      as_driven x mid (ap (λ l. l.tapes) at.1) (ap (λ l. l.counts) at.1) d
+
+  at_tape : (rows : List Row) (programs : List Program) (mid : Left) → IsKept mid left
+      → Goes point end
+      (settled_for Store words.store false (rewriting_on words.store rows programs)) mid
+      → Kept words point end left
+  at_tape rows programs mid same (inl e) = untouched words point end left same tt e
+  at_tape rows programs mid same (inr (inl e)) = untouched words point end left same tt e
+  at_tape rows programs mid same (inr (inr (inl (never, agrees, e)))) =
+      untouched words point end left same tt e
+  at_tape rows programs mid same (inr (inr (inr (may, goes)))) =
+      let r = parted settling_it point end (rewriting_on words.store rows programs) _ goes in
+      settled_on r.0 r.1 (on_tape words r.0 r.1 left rows programs _ same r.2) r.3
+
+  pub rows_kept : Goes point end (rewriting words) left → Kept words point end left
   rows_kept goes = elim (halves (λ rows. and_then (linking_programs words.options rows)
-      (λ programs. tape_for words.store false (rewriting_on words.store rows programs))) point end
+      (λ programs. settled_for Store words.store false (rewriting_on words.store rows programs)))
+      point end
       (configuration words.config) left (configuration_reads words.config) goes) [
-        | inl e ↦ ended left (refl, refl) e
+        | inl e ↦ ended words point end left left (refl, refl) e
         | inr first ↦ elim (halves (λ programs.
-            tape_for words.store false (rewriting_on words.store first.0 programs)) point end
+            settled_for Store words.store false (rewriting_on words.store first.0 programs)) point end
             (linking_programs words.options first.0) first.1
             (λ u. result_reads (programs_of words.options (plugin_order first.0))) first.3) [
-              | inl e ↦ ended first.1 first.2 e
+              | inl e ↦ ended words point end left first.1 first.2 e
               | inr second ↦ at_tape first.0 second.0 second.1
-                  (and_so first.1 second.1 first.2 second.2) second.3
+                  (and_so words point end left first.1 second.1 first.2 second.2) second.3
             ]
       ]
 

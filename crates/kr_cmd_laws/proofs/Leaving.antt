@@ -15,15 +15,16 @@ use Rattle.kr_store.specs.File.{file_bytes}
 use Rattle.kr_store.specs.Rows.{check_in}
 use Rattle.kr_store.specs.declared.rows.LogRow.{LogRow}
 use Rattle.kr_kms.specs.declared.world.WorldCall.TheVariants.{Tape}
-use Rattle.kr_cmd_steps.specs.Afterwards.{AreLeft, IsUngrown, LeavesTapes, OneMore, OthersStay, StillBegins, ToldTape, new_store}
+use Rattle.kr_cmd_steps.specs.Afterwards.{AreLeft, IsSettledLast, IsUngrown, LeavesTapes, OneMore, OthersStay, Settles, StillBegins, ToldTape, new_store}
 use Rattle.kr_cmd_steps.specs.Around.{Around, with_what_is_said, Ends, MayLack, Reaches, faults_at, left_of}
-use Rattle.kr_cmd_steps.specs.Commands.{adding, bench_steps, by_result, configuration, input_of, linking_programs, migrating, new_row, putting, revision_line, rewriting, silently, steps, stored_into}
+use Rattle.kr_cmd_steps.specs.Commands.{adding, bench_steps, by_result, configuration, copied_into, input_of, linking_programs, migrating, migrating_into, new_row, putting, revision_line, rewriting, rewriting_on, sealed_into, settled_for, silently, source_on, steps, stored_into, stored_on, tape_for, target_on}
 use Rattle.kr_cmd_steps.specs.Plugins.{programs_of}
 use Rattle.kr_cmd_messages.specs.Message.{line_of, status_of, status_of_done}
 use Rattle.kr_cmd_steps.specs.Ran.{Answers, StopsAtOnce, Writes}
 use Rattle.kr_cmd_messages.specs.Receipts.{Receipt, Tells}
-use Rattle.kr_cmd_steps.specs.Steps.{write_row, give, and_then, or_empty, tapes_with, with_asked, with_tape, Call, writing, Point, awaits, amid, refuses, gives, Left, IsAt, Goes}
+use Rattle.kr_cmd_steps.specs.Steps.{write_row, give, and_then, or_empty, tapes_with, with_asked, with_tape, Call, lending, settle, settling, writing, Steps, Point, awaits, amid, refuses, gives, Left, IsAt, Goes}
 use Rattle.kr_cmd_steps.specs.StoreFiles.{BeginsWith, HoldsRows, Stored, IsStored, with_row}
+use Rattle.kr_cmd_messages.specs.declared.command.Command.TheVariants.{Verify}
 use Rattle.kr_cmd_messages.specs.declared.command.Command.{Command}
 use Rattle.kr_cmd_messages.specs.declared.command.Command.TheVariants.{Convert, Check, Inspect, Put, Get, Migrate, Rows, Judge, Plan, Rewrite}
 use Rattle.kr_cmd_messages.specs.declared.command.Conversion.{Conversion}
@@ -34,13 +35,15 @@ use Rattle.kr_cmd_steps.specs.declared.programs.Program.{Program}
 use Rattle.kr_cmd_messages.specs.declared.refusal.Limit.TheVariants as limit
 use Rattle.kr_cmd_messages.specs.declared.refusal.Object.TheVariants.{Store, Target}
 use Rattle.kr_cmd_messages.specs.declared.refusal.Refusal.TheVariants.{Limit}
-use Rattle.kr_cmd_messages.specs.declared.refusal.BadWords.TheVariants.{Usage, Replicas, Size}
+use Rattle.kr_cmd_messages.specs.declared.refusal.BadWords.TheVariants.{Usage, Replicas, Size, Page}
 use Rattle.kr_cmd_messages.specs.declared.refusal.Done.{Done}
 use Rattle.kr_cmd_messages.specs.declared.refusal.Outcome.{Outcome}
 use Rattle.kr_cmd_messages.specs.declared.refusal.Stop.{Stop}
 use Rattle.kr_cmd_messages.specs.declared.refusal.Stop.TheVariants.{Words, Refused, Fault, NoMemory}
+use Rattle.kr_cmd_steps.proofs.Goes.{Further}
+use Rattle.kr_cmd_laws.proofs.Behind.{parted, settled_last, went_on}
 use Rattle.kr_cmd_laws.proofs.Copied.{IsMigrated, Migrates, migrate_leaves}
-use Rattle.kr_cmd_steps.proofs.Points.{IsShort, IsSilent, IsTorn}
+use Rattle.kr_cmd_steps.proofs.Points.{IsShort, IsThrough, IsTorn}
 use Rattle.kr_cmd_laws.proofs.ReadOnly.{IsReader, command_reads, configuration_reads, leaves_tapes, others_stay, result_reads, work_reads}
 use Rattle.kr_cmd_laws.proofs.Readings.{status_in}
 use Rattle.kr_cmd_laws.proofs.KeptRows.{MayDrive, keeps_rows, rows_kept}
@@ -56,7 +59,7 @@ abbrev IsGrown : Conversion → (store : List ℕ) → Point Outcome → (old ne
 IsGrown words store p old new = OthersStay store old new × (
     (IsShort p × IsUngrown (old store) (new store))
     ⊎ (IsTorn Store store p × StillBegins (old store) (new store))
-    ⊎ (IsSilent p × OneMore words (old store) (new store)))
+    ⊎ (IsThrough Store store p × OneMore words (old store) (new store)))
 
 module _ (words : Conversion) (store : List ℕ) (p : Point Outcome) (end left : Left) where
   -- what is left of the tapes, since these were left
@@ -145,7 +148,7 @@ module _ (words : Conversion) (store : List ℕ) (p : Point Outcome) (end left :
             if same_name store other then option_map Some told else t other) e in (
               λ other f. ap (λ t. t other) ends ∙ told_there told other f,
               inr (inr (
-                subst IsSilent (sym at.0) refl,
+                subst (IsThrough Store store) (sym at.0) refl,
                 record {
                   bytes = bytes;
                   store = read;
@@ -161,22 +164,21 @@ module _ (words : Conversion) (store : List ℕ) (p : Point Outcome) (end left :
               )),
             )
 
-  at_tape : (rows : List Row) (programs : List Program) (bytes : List ℕ) (mid : Left)
-      → mid.tapes ≡ left.tapes → Goes p end (stored_into words store rows programs bytes) mid
-      → Grown
-  at_tape rows programs plain mid e (inl at) = same (at_end at tt e)
-  at_tape rows programs plain mid e (inr (inl at)) = same (at_end at tt e)
-  at_tape rows programs plain mid e (inr (inr (inl (never, agrees, at)))) =
-      absurd (let t : true ≡ false = never in cc)
-  at_tape rows programs plain mid e (inr (inr (inr (may, inl at)))) =
+  -- on the tape that is out
+  abbrev putting_on : List Row → List Program → (plain : List ℕ) → Steps Outcome
+  putting_on rows programs plain =
+      and_then (stored_on Store store) (sealed_into words store rows programs plain)
+
+  on_tape : (rows : List Row) (programs : List Program) (plain : List ℕ) (mid : Left)
+      → mid.tapes ≡ left.tapes → Goes p end (putting_on rows programs plain)
+      (with_tape true store (with_asked (Tape store true) mid)) → Grown
+  on_tape rows programs plain mid e (inl at) =
       made (at_end at tt (ap (tapes_with true store) e))
-  at_tape rows programs plain mid e (inr (inr (inr (may, inr (bytes, agrees, inl at))))) =
+  on_tape rows programs plain mid e (inr (bytes, agrees, inl at)) =
       made (at_end at tt (ap (tapes_with true store) e))
-  at_tape rows programs plain mid e
-      (inr (inr (inr (may, inr (bytes, agrees, inr (Err why, is, at)))))) =
+  on_tape rows programs plain mid e (inr (bytes, agrees, inr (Err why, is, at))) =
       made (at_end at tt (ap (tapes_with true store) e))
-  at_tape rows programs plain mid e
-      (inr (inr (inr (may, inr (bytes, agrees, inr (Ok read, is, goes)))))) =
+  on_tape rows programs plain mid e (inr (bytes, agrees, inr (Ok read, is, goes))) =
       elim (parts (λ sealed. and_then
       (adding Store store read (new_row read.format words rows sealed.bytes))
       (λ grown. give (silently (revision_line grown)))) p end
@@ -190,19 +192,79 @@ module _ (words : Conversion) (store : List ℕ) (p : Point Outcome) (end left :
             (more.2 ∙ ap (tapes_with true store) e) more.3
       ]
 
-  pub put_grows : Goes p end (steps (Put words store)) left → Grown
+module _ (words : Conversion) (store : List ℕ) (p : Point Outcome) (end left : Left) where
+  abbrev settling_it : Outcome → Steps Outcome
+  settling_it made = settle Store store (give made)
+
+  -- since the steps before the settling were left so
+  through : (mid : Left) → mid.tapes ≡ end.tapes → (q : Point Outcome)
+      → (IsThrough Store store q → IsThrough Store store p) → (IsShort q → IsShort p)
+      → (IsTorn Store store q → IsTorn Store store p) → Grown words store q mid left
+      → Grown words store p end left
+  through mid e q whole short torn (others, grown) = (
+    λ other f. sym (ap (λ t. t other) e) ∙ others other f,
+    elim grown [
+      | inl none ↦ inl (short none.0, subst (λ t. IsUngrown (left.tapes store) (t store)) e none.1)
+      | inr more ↦ elim more [
+        | inl begins ↦ inr (inl (
+          torn begins.0,
+          subst (λ t. StillBegins (left.tapes store) (t store)) e begins.1,
+        ))
+        | inr one ↦ inr (inr (
+          whole one.0,
+          subst (λ t. OneMore words (left.tapes store) (t store)) e one.1,
+        ))
+      ]
+    ],
+  )
+
+  ended_so : (q : Point Outcome) (mid : Left) → (p ≡ q) × (end ≡ mid)
+      → Grown words store q mid left → Grown words store p end left
+  ended_so q mid at grown = subst (λ l. Grown words store p l left) (sym at.1)
+      (subst (λ r. Grown words store r mid left) (sym at.0) grown)
+
+  settled_on : (q : Point Outcome) (mid : Left) → Grown words store q mid left
+      → Further p end settling_it q mid → Grown words store p end left
+  settled_on (awaits call) mid grown at = ended_so (awaits call) mid at grown
+  settled_on amid mid grown at = ended_so amid mid at grown
+  settled_on (refuses why) mid grown at = ended_so (refuses why) mid at grown
+  settled_on (gives x) mid grown (inl at) = through mid (sym (ap (λ l. l.tapes) at.1)) (gives x)
+      (λ is. subst (IsThrough Store store) (sym at.0) refl) (λ none. absurd none)
+      (λ none. absurd none) grown
+  settled_on (gives x) mid grown (inr at) = through mid (sym (ap (λ l. l.tapes) at.1)) (gives x)
+      (λ is. subst (IsThrough Store store) (sym at.0) is) (λ none. absurd none)
+      (λ none. absurd none) grown
+
+  at_tape : (rows : List Row) (programs : List Program) (bytes : List ℕ) (mid : Left)
+      → mid.tapes ≡ left.tapes → Goes p end (stored_into words store rows programs bytes) mid
+      → Grown words store p end left
+  at_tape rows programs plain mid e (inl at) =
+      same words store p end left (at_end words store p end left at tt e)
+  at_tape rows programs plain mid e (inr (inl at)) =
+      same words store p end left (at_end words store p end left at tt e)
+  at_tape rows programs plain mid e (inr (inr (inl (never, agrees, at)))) =
+      absurd (let t : true ≡ false = never in cc)
+  at_tape rows programs plain mid e (inr (inr (inr (may, goes)))) =
+      let r = parted settling_it p end (putting_on words store p end left rows programs plain) _
+      goes in
+      settled_on r.0 r.1 (on_tape words store r.0 r.1 left rows programs plain mid e r.2) r.3
+
+  unmoved : IsShort p × (end.tapes ≡ left.tapes) → Grown words store p end left
+  unmoved at = same words store p end left at
+
+  pub put_grows : Goes p end (steps (Put words store)) left → Grown words store p end left
   put_grows goes = elim (parts (λ rows. and_then (linking_programs words.options rows)
       (λ programs. and_then (input_of Encrypt) (stored_into words store rows programs))) p end
       (configuration words.config) left (configuration_reads words.config) goes) [
-        | inl at ↦ same at
+        | inl at ↦ unmoved at
         | inr first ↦ elim (parts (λ programs. and_then (input_of Encrypt)
             (stored_into words store first.0 programs)) p end
             (linking_programs words.options first.0) first.1
             (λ u. result_reads (programs_of words.options (plugin_order first.0))) first.3) [
-              | inl at ↦ same (at.0, at.1 ∙ first.2)
+              | inl at ↦ unmoved (at.0, at.1 ∙ first.2)
               | inr second ↦ elim (parts (stored_into words store first.0 second.0) p end
                   (input_of Encrypt) second.1 (λ bytes. tt) second.3) [
-                    | inl at ↦ same (at.0, at.1 ∙ second.2 ∙ first.2)
+                    | inl at ↦ unmoved (at.0, at.1 ∙ second.2 ∙ first.2)
                     | inr third ↦ at_tape first.0 second.0 third.0 third.1
                         (third.2 ∙ second.2 ∙ first.2) third.3
                   ]
@@ -242,11 +304,12 @@ module _ (words : Conversion) (store : List ℕ) (old new : Around) (status : �
   at_call : (call : Call) → Grew (awaits call)
       → (call ≡ writing Store store → (status ≡ 4)
       × Rose (old.world.tapes.faults store) (new.world.tapes.faults store))
-      → status ≢ 0 → Leaves
-  at_call call (others, inl (short, none)) torn some = (others, inl (some, none))
-  at_call call (others, inr (inl (is, begins))) torn some =
+      → (call ≡ settling Store store → status ≡ 4) → status ≢ 0 → Leaves
+  at_call call (others, inl (short, none)) torn unsettled some = (others, inl (some, none))
+  at_call call (others, inr (inl (is, begins))) torn unsettled some =
       let t = torn is in (others, inr (inl (t.0, t.1, begins)))
-  at_call call (others, inr (inr (silent, more))) torn some = absurd silent
+  at_call call (others, inr (inr (is, more))) torn unsettled some =
+      (others, inr (inr (inr (unsettled is), more)))
 
   put_left : (made : Result Outcome Stop) → Ends (putting words store) (left_of old) old new made
       → Fits made status → Leaves
@@ -260,9 +323,9 @@ module _ (words : Conversion) (store : List ℕ) (old new : Around) (status : �
       refused (others, inr (inr (silent, more))) = absurd silent
   put_left (Err (Fault object count)) (call, r, f) s = at_call call (grew r)
       (λ is. (s, subst (λ c. Rose (faults_at c old) (faults_at c new)) is f.1))
-      (λ zero_is. omega (arith, s, zero_is))
+      (λ is. s) (λ zero_is. omega (arith, s, zero_is))
   put_left (Err NoMemory) (inl (call, may, r)) s = at_call call (grew r)
-      (λ is. absurd (subst MayLack is may)) s
+      (λ is. absurd (subst MayLack is may)) (λ is. absurd (subst MayLack is may)) s
   put_left (Err NoMemory) (inr r) s = lacked (grew r)
     where
       lacked : Grew amid → Leaves
@@ -327,7 +390,7 @@ module _ (words : Migration) (old new : Around) (status : ℕ) where
     where
       by_holds : (IsTorn Target words.to (gives x) × (m.is_left.rest ≢ [])
           × BeginsWith (new_store m.is_left.copied) m.is_left.told)
-          ⊎ (IsSilent (gives x) × (m.is_left.rest ≡ [])
+          ⊎ (IsThrough Target words.to (gives x) × (m.is_left.rest ≡ [])
           × HoldsRows (new_store m.is_left.copied) m.is_left.told)
           ⊎ (IsShort (gives x) × (m.is_left.rest ≢ [])
           × HoldsRows (new_store m.is_left.copied) m.is_left.told)
@@ -340,23 +403,24 @@ module _ (words : Migration) (old new : Around) (status : ℕ) where
       by_holds (inr (inr (short, some, holds))) s = absurd short
 
   -- at a point that gives nothing, where a write failed or not
-  short_so : (p : Point Outcome) → Comes p → (IsSilent p → ⊥)
+  short_so : (p : Point Outcome) → Comes p → (IsThrough Target words.to p → status ≡ 4)
       → (IsTorn Target words.to p → (status ≡ 4)
       × Rose (old.world.tapes.faults words.to) (new.world.tapes.faults words.to))
       → status ≢ 0 → After
-  short_so p (inl none) loud torn some = none_copied p some none
-  short_so p (inr m) loud torn some = by_holds m.is_left.holds
+  short_so p (inl none) unsettled torn some = none_copied p some none
+  short_so p (inr m) unsettled torn some = by_holds m.is_left.holds
     where
       by_holds : (IsTorn Target words.to p × (m.is_left.rest ≢ [])
           × BeginsWith (new_store m.is_left.copied) m.is_left.told)
-          ⊎ (IsSilent p × (m.is_left.rest ≡ [])
+          ⊎ (IsThrough Target words.to p × (m.is_left.rest ≡ [])
           × HoldsRows (new_store m.is_left.copied) m.is_left.told)
           ⊎ (IsShort p × (m.is_left.rest ≢ [])
           × HoldsRows (new_store m.is_left.copied) m.is_left.told)
           → After
       by_holds (inl (is, more, begins)) =
           let t = torn is in copied_so m (inl (t.0, t.1, more, begins))
-      by_holds (inr (inl (silent, none, holds))) = absurd (loud silent)
+      by_holds (inr (inl (is, none, holds))) =
+          copied_so m (inr (inl (inr (unsettled is), none, holds)))
       by_holds (inr (inr (short, more, holds))) = copied_so m (inr (inr (some, more, holds)))
 
   migrate_left : (made : Result Outcome Stop)
@@ -364,15 +428,15 @@ module _ (words : Migration) (old new : Around) (status : ℕ) where
   migrate_left (Ok x) r s = given_so x (comes r) s
   migrate_left (Err (Words why)) r s = absurd r
   migrate_left (Err (Refused why)) r s =
-      short_so (refuses why) (comes r) (λ e. e) (λ e. absurd e) s
+      short_so (refuses why) (comes r) (λ e. absurd e) (λ e. absurd e) s
   migrate_left (Err (Fault object count)) (call, r, f) s =
-      short_so (awaits call) (comes r) (λ e. e)
+      short_so (awaits call) (comes r) (λ is. s)
       (λ is. (s, subst (λ c. Rose (faults_at c old) (faults_at c new)) is f.1))
       (λ zero_is. omega (arith, s, zero_is))
-  migrate_left (Err NoMemory) (inl (call, may, r)) s = short_so (awaits call) (comes r) (λ e. e)
-      (λ is. absurd (subst MayLack is may)) s
+  migrate_left (Err NoMemory) (inl (call, may, r)) s = short_so (awaits call) (comes r)
+      (λ is. absurd (subst MayLack is may)) (λ is. absurd (subst MayLack is may)) s
   migrate_left (Err NoMemory) (inr r) s =
-      short_so amid (comes r) (λ e. e) (λ e. absurd e) s
+      short_so amid (comes r) (λ e. absurd e) (λ e. absurd e) s
 
 -- ---- rewrite
 
@@ -455,6 +519,7 @@ ends_left Inspect old new status made r s = reader_left Inspect tt old new made 
 ends_left (Put words store) old new status made r s =
     put_left words store old new status made r s
 ends_left (Get words) old new status made r s = reader_left (Get words) tt old new made r
+ends_left (Verify words) old new status made r s = reader_left (Verify words) tt old new made r
 ends_left (Migrate words) old new status made r s =
     migrate_left words old new status made r s
 ends_left (Rows store) old new status made r s = reader_left (Rows store) tt old new made r
@@ -463,12 +528,91 @@ ends_left (Plan words) old new status made r s = reader_left (Plan words) tt old
 ends_left (Rewrite words) old new status made r s =
     rewrite_left words old new status made r s
 
+-- ---- at status 0 what was written is settled
+
+module _ (new : Around) (x : Outcome) where
+  put_settles : (words : Conversion) (store : List ℕ) (end left : Left)
+      → Goes (gives x) end (putting words store) left → IsSettledLast store end.asked
+  put_settles words store end left goes =
+      let rows = went_on (λ rows. and_then (linking_programs words.options rows) (λ programs.
+      and_then (input_of Encrypt) (stored_into words store rows programs))) x end
+      (configuration words.config) left goes in
+      let programs = went_on (λ programs. and_then (input_of Encrypt)
+      (stored_into words store rows.0 programs)) x end (linking_programs words.options rows.0)
+      rows.1 rows.2 in
+      let bytes = went_on (stored_into words store rows.0 programs.0) x end (input_of Encrypt)
+      programs.1 programs.2 in
+      settled_last Store store true (and_then (stored_on Store store)
+      (sealed_into words store rows.0 programs.0 bytes.0)) x end bytes.1 bytes.2
+
+  migrate_settles : (words : Migration) (end left : Left)
+      → Goes (gives x) end (migrating words) left → IsSettledLast words.to end.asked
+  migrate_settles words end left goes =
+      let rows = went_on (λ rows. tape_for words.store false
+      (and_then (source_on words.store) (migrating_into words.to rows))) x end
+      (configuration words.config) left goes in
+      by_tape rows.0 rows.1 rows.2
+    where
+      by_tape : (rows : List Row) (mid : Left)
+          → Goes (gives x) end (tape_for words.store false
+          (and_then (source_on words.store) (migrating_into words.to rows))) mid
+          → IsSettledLast words.to end.asked
+      by_tape rows mid (inl at) = absurd (let e : gives x ≡ amid = at.0 in cc)
+      by_tape rows mid (inr (inl at)) =
+          absurd (let e : gives x ≡ awaits (lending words.store) = at.0 in cc)
+      by_tape rows mid (inr (inr (inl (may, agrees, at)))) =
+          absurd (let e : gives x ≡ refuses _ = at.0 in cc)
+      by_tape rows mid (inr (inr (inr (may, goes)))) =
+          let source = went_on (migrating_into words.to rows) x end (source_on words.store) _ goes in
+          settled_last Target words.to true (and_then (target_on words.to)
+          (copied_into words.to rows source.0)) x end source.1 source.2
+
+  rewrite_settles : (words : Rewriting) (end left : Left)
+      → Goes (gives x) end (rewriting words) left → IsSettledLast words.store end.asked
+  rewrite_settles words end left goes =
+      let rows = went_on (λ rows. and_then (linking_programs words.options rows)
+      (λ programs. settled_for Store words.store false
+      (rewriting_on words.store rows programs))) x end (configuration words.config) left goes in
+      let programs = went_on (λ programs. settled_for Store words.store false
+      (rewriting_on words.store rows.0 programs)) x end
+      (linking_programs words.options rows.0) rows.1 rows.2 in
+      settled_last Store words.store false (rewriting_on words.store rows.0 programs.0) x end
+      programs.1 programs.2
+
+  value_settles : (command : Command) (left : Left) → Reaches (steps command) left new (gives x)
+      → Settles command new.world
+  value_settles (Put words store) left r = subst (IsSettledLast store) (sym r.stays.asked)
+      (put_settles words store r.end left r.goes)
+  value_settles (Migrate words) left r = subst (IsSettledLast words.to) (sym r.stays.asked)
+      (migrate_settles words r.end left r.goes)
+  value_settles (Rewrite words) left r = subst (IsSettledLast words.store) (sym r.stays.asked)
+      (rewrite_settles words r.end left r.goes)
+  value_settles (Convert words) left r = tt
+  value_settles (Check config resource) left r = tt
+  value_settles Inspect left r = tt
+  value_settles (Get words) left r = tt
+  value_settles (Verify words) left r = tt
+  value_settles (Rows store) left r = tt
+  value_settles (Judge words) left r = tt
+  value_settles (Plan words) left r = tt
+
+settles_so : (command : Command) (old new : Around) (status : ℕ) (made : Result Outcome Stop)
+    → Ends (steps command) (left_of old) old new made → Fits made status → status ≡ 0
+    → Settles command new.world
+settles_so command old new status (Ok x) r s zero_is = value_settles new x command (left_of old) r
+settles_so command old new status (Err (Words why)) r s zero_is = absurd r
+settles_so command old new status (Err (Refused why)) r s zero_is = absurd (s zero_is)
+settles_so command old new status (Err (Fault object count)) r s zero_is =
+    absurd (omega (arith, s, zero_is))
+settles_so command old new status (Err NoMemory) r s zero_is = absurd (s zero_is)
+
 -- ---- statuses
 
 not_zero : (stop : Stop) → status_of (Err stop) ≢ 0
 not_zero (Words Usage) e = omega (arith, e)
 not_zero (Words Replicas) e = omega (arith, e)
 not_zero (Words Size) e = omega (arith, e)
+not_zero (Words Page) e = omega (arith, e)
 not_zero (Refused why) e = omega (arith, status_in why, e)
 not_zero (Fault object count) e = omega (arith, e)
 not_zero NoMemory e = omega (arith, e)
@@ -522,5 +666,7 @@ tapes_left words old new output errors status result (inr (said, made, did, w)) 
   did.command,
   did.asks,
   ends_left did.command old (with_what_is_said said new) status made did.ends
+      (fits_made said output status made result w (is_status errors status result t)),
+  settles_so did.command old (with_what_is_said said new) status made did.ends
       (fits_made said output status made result w (is_status errors status result t)),
 )

@@ -1,4 +1,5 @@
 -- The lemmas that the answers cite.
+pub mod Behind
 pub mod Causes
 pub mod Copied
 pub mod Decided
@@ -7,6 +8,7 @@ pub mod FleetEndings
 pub mod FleetReadings
 pub mod FleetSettled
 pub mod FleetWalk
+pub mod Joints
 pub mod KeptRows
 pub mod Leaving
 pub mod Listed
@@ -22,3 +24,7 @@ pub mod Settled
 pub mod SettledCommands
 pub mod SettledMigrations
 pub mod SettledRewrites
+pub mod SettledVerifications
+pub mod TrueReadings
+pub mod VerifiedGets
+pub mod VerifiedRewrites

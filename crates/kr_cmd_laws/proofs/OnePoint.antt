@@ -4,8 +4,8 @@ use Rattle.std.proofs.Common.{◌≡◌, ℕ, ◌≤◌, List, ◌++◌, length,
 use Rattle.std.specs.Prelude.{Bool, true, false, IsSome}
 use Rattle.std.specs.Io.KnownBytes.{Consumes, IsAtEnd}
 use Rattle.kr_base.specs.Told.{Agrees}
-use Rattle.kr_kms.specs.declared.world.WorldCall.TheVariants.{File, Tape, RandomSource, Link}
-use Rattle.kr_cmd_steps.specs.Steps.{Steps, load, take_input, borrow_dice, borrow_tape, read_tape, write_row, keep_rows, draw, note, find, refuse, give, Point, refuses, gives, Left, with_input, with_dice, with_tape, with_told, with_count, with_asked, with_said, Goes, borrow_link, ask_status, wrap, unwrap}
+use Rattle.kr_kms.specs.declared.world.WorldCall.TheVariants.{File, Tape, RandomSource, Link, Settled}
+use Rattle.kr_cmd_steps.specs.Steps.{Steps, load, take_input, borrow_dice, borrow_tape, read_tape, write_row, keep_rows, settle, draw, note, find, refuse, give, Point, refuses, gives, Left, with_input, with_dice, with_tape, with_told, with_count, with_asked, with_said, Goes, borrow_link, ask_status, wrap, unwrap}
 use Rattle.kr_kms.specs.Limits.{IsWithinLimits}
 use Rattle.kr_kms.specs.declared.plugin.Status.{Status}
 use Rattle.kr_kms.specs.declared.plugin.Wrapped.{Wrapped}
@@ -58,6 +58,8 @@ IsSettled (write_row object name store row next) (write_row thing other held lin
 IsSettled (keep_rows name store next) (keep_rows other held more) left right =
     (a b : Option (List ℕ)) (m n : ℕ) → IsSettled next more
     (with_count name m (with_told name a left)) (with_count other n (with_told other b right))
+IsSettled (settle object name next) (settle thing other more) left right =
+    IsSettled next more (with_asked (Settled name) left) (with_asked (Settled other) right)
 IsSettled (draw seat size next) (draw other count more) left right =
     (a b : List ℕ) (ra rb : Option (List ℕ)) → length a ≡ size → length b ≡ count
     → IsSettled (next a) (more b) (with_dice seat ra left) (with_dice other rb right)
@@ -80,7 +82,7 @@ IsSettled (refuse why) (refuse cause) left right = cause ≡ why
 IsSettled (give made) (give other) left right = other.done ≡ made.done
 IsSettled first second left right = ⊥
 
-one_file : (told : Option (Option (List ℕ))) (a b : Option (List ℕ)) → IsSome told → Agrees told a
+pub one_file : (told : Option (Option (List ℕ))) (a b : Option (List ℕ)) → IsSome told → Agrees told a
     → Agrees told b → b ≡ a
 one_file None a b t x y = absurd cc
 one_file (Some f) a b t x y = sym y ∙ x
@@ -92,7 +94,7 @@ no_tape None make also t x may e f = absurd cc
 no_tape (Some tape) make also t x may e f =
     absurd (let y : true ≡ false = sym (may (ap Some x)) ∙ e ∙ f in cc)
 
-one_tape : (told : Option (Option (List ℕ))) (a b : List ℕ) → IsSome told → Agrees told (Some a)
+pub one_tape : (told : Option (Option (List ℕ))) (a b : List ℕ) → IsSome told → Agrees told (Some a)
     → Agrees told (Some b) → b ≡ a
 one_tape None a b t x y = absurd cc
 one_tape (Some tape) a b t x y = let e : Some b ≡ Some a = sym y ∙ x in cc
@@ -223,6 +225,12 @@ module _ (p q : Point Outcome) (end last : Left) where
   one_point (keep_rows name store next) (keep_rows other held more) left right s
       (a, m, l, x, g) (b, n, r, y, k) =
       one_point next more _ _ (s a b m n) g k
+  one_point (settle object name next) (settle thing other more) left right s (inl e) k =
+      no_first p q _ refl e.0
+  one_point (settle object name next) (settle thing other more) left right s (inr g) (inl f) =
+      no_second p q _ refl f.0
+  one_point (settle object name next) (settle thing other more) left right s (inr g) (inr k) =
+      one_point next more _ _ s g k
   one_point (draw seat size next) (draw other count more) left right s (inl e) k =
       no_first p q _ refl e.0
   one_point (draw seat size next) (draw other count more) left right s (inr g) (inl f) =

@@ -12,12 +12,13 @@ use Rattle.kr_provider.specs.declared.refusal.ValueNo.{ValueNo}
 use Rattle.kr_store.specs.Stores.{IsListing}
 use Rattle.kr_store.specs.declared.rows.LogRow.{LogRow}
 use Rattle.kr_store.specs.declared.rows.Row as stored
-use Rattle.kr_cmd_steps.specs.Commands.{Progress, adding, nothing_done, by_result, configuration, driving, linking_programs, one_rewritten, replacing, resealing, rewriting, rewriting_by, rewriting_live, rewriting_on, row_anew, row_by, row_data, row_steps, starting, tape_for, value_read, value_sealed, within_journal, within_limit}
+use Rattle.kr_cmd_steps.specs.Commands.{Progress, adding, nothing_done, by_result, configuration, driving, linking_programs, one_rewritten, replacing, resealing, rewriting, rewriting_by, rewriting_live, rewriting_on, row_anew, row_by, row_data, row_steps, settled_for, starting, value_read, value_sealed, within_journal, within_limit}
 use Rattle.kr_cmd_steps.specs.Plugins.{borrow_links, make_seeds, programs_of}
-use Rattle.kr_cmd_steps.specs.Steps.{borrow_dice, write_row, find, give, and_then}
+use Rattle.kr_cmd_steps.specs.Steps.{borrow_dice, write_row, find, give, settle, and_then}
 use Rattle.kr_cmd_steps.specs.StoreFiles.{Stored, with_row}
 use Rattle.kr_cmd_messages.specs.declared.command.Rewriting.{Rewriting}
 use Rattle.kr_cmd_messages.specs.declared.refusal.Object.TheVariants.{Store}
+use Rattle.kr_cmd_messages.specs.declared.refusal.Outcome.{Outcome}
 use Rattle.kr_cmd_messages.specs.declared.refusal.Refusal.{Refusal}
 use Rattle.kr_cmd_laws.proofs.ReadOnly.{IsOnTape, configuration_reads, links_write, on_then, read_then, result_reads, sealed_reads, seeds_read, value_reads}
 
@@ -88,19 +89,21 @@ rewriting_by_is_on name rows store live u =
 pub rewriting_is_on : (words : Rewriting) → IsOnTape words.store (rewriting words)
 rewriting_is_on words =
     let name = words.store in
+    let behind = λ (made : Outcome). settle Store name (give made) in
     read_then name (λ rows. and_then (linking_programs words.options rows) (λ programs.
-    tape_for name false (rewriting_on name rows programs)))
-    (λ rows. read_then name (λ programs. tape_for name false (rewriting_on name rows programs))
+    settled_for Store name false (rewriting_on name rows programs)))
+    (λ rows. read_then name
+    (λ programs. settled_for Store name false (rewriting_on name rows programs))
     (λ programs. (
       refl,
-      λ bytes read. read_then name (λ store. find (List stored.Row) (IsListing store.rows)
+      on_then name behind (λ made. tt) (rewriting_on name rows programs) (λ bytes read. read_then name (λ store. find (List stored.Row) (IsListing store.rows)
           (rewriting_live name rows programs store))
           (λ store live. read_then name (λ u.
           borrow_dice 0 (borrow_links programs (rewriting_by name rows store live)))
           (λ u. links_write (λ other. other ≡ name) programs (rewriting_by name rows store live)
           (rewriting_by_is_on name rows store live))
           (by_result (within_journal live)) (result_reads (within_journal live)))
-          (by_result read) (result_reads read),
+          (by_result read) (result_reads read)),
     ))
     (linking_programs words.options rows)
     (λ u. result_reads (programs_of words.options (plugin_order rows))))

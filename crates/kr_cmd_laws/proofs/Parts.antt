@@ -1,6 +1,6 @@
 -- Steps behind others that only read: the first end them, or the others go on over the same tapes.
 use Rattle.std.proofs.Common.{◌≡◌, ◌⊎◌, true, false, refl, sym, ap, subst, inl, inr}
-use Rattle.kr_cmd_steps.specs.Steps.{Steps, load, take_input, borrow_dice, borrow_tape, read_tape, write_row, keep_rows, draw, borrow_link, ask_status, wrap, unwrap, note, find, refuse, give, and_then, Point, Left, IsAt, Goes}
+use Rattle.kr_cmd_steps.specs.Steps.{Steps, load, take_input, borrow_dice, borrow_tape, read_tape, write_row, keep_rows, settle, draw, borrow_link, ask_status, wrap, unwrap, note, find, refuse, give, and_then, Point, Left, IsAt, Goes}
 use Rattle.kr_cmd_steps.proofs.Points.{IsShort}
 use Rattle.kr_cmd_laws.proofs.ReadOnly.{IsReadOnly}
 
@@ -49,6 +49,8 @@ module _ {A B : Type 0} (others : A → Steps B) (p : Point B) (end : Left) wher
       halves (next bytes) left (r bytes) goes
   halves (write_row object name store row next) left r goes = absurd r.0
   halves (keep_rows name store next) left r goes = absurd r.0
+  halves (settle object name next) left r (inl at) = inl (ends_at at tt)
+  halves (settle object name next) left r (inr goes) = halves next _ r goes
   halves (draw seat size next) left r (inl at) = inl (ends_at at tt)
   halves (draw seat size next) left r (inr (bytes, rest, c, fits, goes)) =
       halves (next bytes) _ (r bytes) goes

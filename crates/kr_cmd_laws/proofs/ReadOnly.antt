@@ -16,7 +16,9 @@ use Rattle.kr_kms.specs.declared.seeds.SeedKey.{SeedKey}
 use Rattle.kr_kms.specs.declared.seeds.SeedRow.{SeedRow}
 use Rattle.kr_provider.specs.Envelopes.{seed_key}
 use Rattle.kr_provider.specs.PluginOrder.{plugin_order}
-use Rattle.kr_provider.specs.Publication.{seed_of}
+use Rattle.kr_provider.specs.Publication.{Publication, seed_of}
+use Rattle.kr_store.specs.Stores.{IsListing}
+use Rattle.kr_store.specs.declared.rows.Row as stored
 use Rattle.kr_provider.specs.Reading.{Reading, data_of, refused, unopened, value_reading, is_stale}
 use Rattle.kr_provider.specs.Readers.{reader_in, writer_of}
 use Rattle.kr_provider.specs.Sealing.{draw_size, sealed_by}
@@ -27,15 +29,17 @@ use Rattle.std.specs.Option.{option_map}
 use Rattle.kr_kms.specs.Outside.{same_name}
 use Rattle.kr_cmd_steps.specs.Afterwards.{OthersStay}
 use Rattle.kr_cmd_steps.specs.Check.{listing}
-use Rattle.kr_cmd_steps.specs.Commands.{by_result, configuration, configurations, judgement_on, judging_at, judging_by, telling, bench_steps, draw_some, input_of, linking_programs, opening, published_source, reading_given, data_steps, value_read, value_sealed, value_with, row_found, row_on, show, silently, source_steps, steps, stored_on, tape_for, value_steps, with_memory, working, working_by}
+use Rattle.kr_cmd_steps.specs.Commands.{by_result, configuration, configurations, judgement_on, judging_at, judging_by, telling, bench_steps, draw_some, input_of, linking_programs, opening, published_source, reading_given, data_steps, live_on, row_finding, row_findings, telling_findings, value_read, value_sealed, value_with, verifying_by, verifying_with, row_found, row_on, show, silently, source_steps, steps, stored_on, tape_for, value_steps, with_memory, working, working_by}
 use Rattle.kr_cmd_messages.specs.Command.{replica_names, reload_in, reload_number, reload_file}
 use Rattle.kr_cmd_steps.specs.Inspect.{Inspects}
 use Rattle.kr_cmd_steps.specs.PlanLines.{ShowsPlan}
+use Rattle.kr_cmd_steps.specs.RowFindings.{finding_of}
 use Rattle.kr_cmd_steps.specs.RowLines.{ShowsRows}
 use Rattle.kr_cmd_steps.specs.Plugins.{borrow_links, make_seed, make_seeds, programs_of, unless_breach, wrap_seed}
-use Rattle.kr_cmd_steps.specs.Steps.{Steps, load, take_input, borrow_dice, borrow_tape, read_tape, write_row, keep_rows, draw, borrow_link, ask_status, wrap, unwrap, note, find, refuse, give, and_then, Point, Left, Goes}
+use Rattle.kr_cmd_steps.specs.Steps.{Steps, load, take_input, borrow_dice, borrow_tape, read_tape, write_row, keep_rows, settle, draw, borrow_link, ask_status, wrap, unwrap, note, find, refuse, give, and_then, Point, Left, Goes}
 use Rattle.kr_cmd_steps.specs.StoreFiles.{Stored}
 use Rattle.kr_cmd_messages.specs.declared.refusal.Object.TheVariants.{Store}
+use Rattle.kr_cmd_messages.specs.declared.command.Command.TheVariants.{Verify}
 use Rattle.kr_cmd_messages.specs.declared.command.Command.{Command}
 use Rattle.kr_cmd_messages.specs.declared.command.Command.TheVariants.{Convert, Check, Inspect, Put, Get, Migrate, Rows, Judge, Plan, Rewrite}
 use Rattle.kr_cmd_messages.specs.declared.command.Direction.{Direction}
@@ -53,6 +57,7 @@ Writes May (borrow_tape name make absent next) = (make ≡ false) × Writes May 
 Writes May (read_tape object name next) = (bytes : List ℕ) → Writes May (next bytes)
 Writes May (write_row object name store row next) = May name × Writes May next
 Writes May (keep_rows name store next) = May name × Writes May next
+Writes May (settle object name next) = Writes May next
 Writes May (draw seat size next) = (bytes : List ℕ) → Writes May (next bytes)
 Writes May (borrow_link seat plugin program next) = Writes May next
 Writes May (ask_status seat plugin next) = (status : Status) → Writes May (next status)
@@ -115,6 +120,8 @@ module _ {A : Type 0} (May : List ℕ → Type 0) (p : Point A) (end : Left) (ot
       behind name told left r.0 (stays next _ r.1 goes)
   stays (keep_rows name store next) left r (told, count, later, holds, goes) =
       behind name told left r.0 (stays next _ r.1 goes)
+  stays (settle object name next) left r (inl at) = at_end at
+  stays (settle object name next) left r (inr goes) = stays next _ r goes
   stays (draw seat size next) left r (inl at) = at_end at
   stays (draw seat size next) left r (inr (bytes, rest, c, fits, goes)) =
       stays (next bytes) _ (r bytes) goes
@@ -159,6 +166,7 @@ module _ (May More : List ℕ → Type 0) (wider : (name : List ℕ) → May nam
   both_write (read_tape object name next) r = λ bytes. both_write (next bytes) (r bytes)
   both_write (write_row object name store row next) r = (wider name r.0, both_write next r.1)
   both_write (keep_rows name store next) r = (wider name r.0, both_write next r.1)
+  both_write (settle object name next) r = both_write next r
   both_write (draw seat size next) r = λ bytes. both_write (next bytes) (r bytes)
   both_write (borrow_link seat plugin program next) r = both_write next r
   both_write (ask_status seat plugin next) r = λ status. both_write (next status) (r status)
@@ -281,6 +289,32 @@ work_reads programs direction resource path rows bytes =
     (bench_reads direction resource path rows bytes) (make_seeds (plugin_order rows))
     (seeds_read (plugin_order rows)))
 
+-- ---- the values of a store
+
+rows_read : (p : Publication) (live : List stored.Row) → IsReadOnly (row_findings p live)
+rows_read p [] = tt
+rows_read p (row ∷ live) =
+    let list = list_of p.rows row.resource in
+    let value = value_read p.seeds list row.path row.stored in
+    both_read (λ finding. with_memory (and_then (row_findings p live)
+    (λ findings. give (finding ∷ findings))))
+    (λ finding u. both_read (λ findings. give (finding ∷ findings)) (λ findings. tt)
+    (row_findings p live) (rows_read p live))
+    (row_finding p row)
+    (both_read (λ read. give (finding_of read)) (λ read. tt) value
+    (value_reads p.seeds list row.path row.stored))
+
+findings_read : (programs : List Program) (rows : List Row) (live : List stored.Row)
+    → IsReadOnly (verifying_with programs rows live)
+findings_read programs rows live =
+    links_write (λ name. ⊥) programs (verifying_by rows live)
+    (λ u. both_read (λ seeds. and_then
+    (row_findings (record { rows = rows; seeds = seeds }) live) (telling_findings live))
+    (λ seeds. both_read (telling_findings live) (λ findings u. tt)
+    (row_findings (record { rows = rows; seeds = seeds }) live)
+    (rows_read (record { rows = rows; seeds = seeds }) live))
+    (make_seeds (plugin_order rows)) (seeds_read (plugin_order rows)))
+
 -- ---- commands
 
 -- each command but `put`, `migrate` and `rewrite`
@@ -366,6 +400,19 @@ command_reads (Get words) r = both_read
     (λ row. work_reads programs Decrypt row.resource words.path rows row.stored)
     (tape_for words.store false (row_on words.store words.path))
     (refl, row_reads words.store words.path))
+    (linking_programs words.options rows) (programs_read words.options rows))
+    (configuration words.config) (configuration_reads words.config)
+command_reads (Verify words) r = both_read
+    (λ rows. and_then (linking_programs words.options rows) (λ programs.
+    and_then (tape_for words.store false (live_on words.store)) (verifying_with programs rows)))
+    (λ rows. both_read (λ programs.
+    and_then (tape_for words.store false (live_on words.store)) (verifying_with programs rows))
+    (λ programs. both_read (verifying_with programs rows) (findings_read programs rows)
+    (tape_for words.store false (live_on words.store)) (
+      refl,
+      λ bytes read. both_read (λ held. find (List stored.Row) (IsListing held.rows) give)
+          (λ held live. tt) (by_result read) (result_reads read),
+    ))
     (linking_programs words.options rows) (programs_read words.options rows))
     (configuration words.config) (configuration_reads words.config)
 command_reads (Rows store) r = store_reads store (λ held. show (ShowsRows held.rows))

@@ -10,12 +10,12 @@ use Rattle.kr_cmd_steps.specs.Around.{Around, with_what_is_said, left_of, IsHome
 use Rattle.kr_cmd_messages.specs.Command.{Asks, AskBadly}
 use Rattle.kr_cmd_steps.specs.Commands.{steps}
 use Rattle.kr_cmd_messages.specs.Message.{status_of, status_of_done, status_of_configuration, status_of_refusal, line_of, fault_line}
-use Rattle.kr_cmd_steps.specs.Steps.{Call, loading, reading, opening, lending, scanning, writing, drawing, object_of, Point, awaits, amid, refuses, gives, linking, asking}
+use Rattle.kr_cmd_steps.specs.Steps.{Call, loading, reading, opening, lending, scanning, writing, settling, drawing, object_of, Point, awaits, amid, refuses, gives, linking, asking}
 use Rattle.kr_cmd_steps.specs.Ran.{IsIdle, Reports, IsUntouched, StopsAtOnce, Did, Comes, ComesSaying, ComesReporting, Writes, Answers, FailsAt, FailsToWrite, Readings}
 use Rattle.kr_cmd_messages.specs.Receipts.{Receipt, Tells}
 use Rattle.kr_cmd_messages.specs.declared.command.Command.{Command}
 use Rattle.kr_cmd_messages.specs.declared.refusal.BadWords.{BadWords}
-use Rattle.kr_cmd_messages.specs.declared.refusal.BadWords.TheVariants.{Usage, Replicas, Size}
+use Rattle.kr_cmd_messages.specs.declared.refusal.BadWords.TheVariants.{Usage, Replicas, Size, Page}
 use Rattle.kr_cmd_messages.specs.declared.refusal.Object.{Object}
 use Rattle.kr_cmd_messages.specs.declared.refusal.Object.TheVariants.{Output}
 use Rattle.kr_cmd_messages.specs.declared.refusal.Refusal.{Refusal}
@@ -95,6 +95,7 @@ object_rose (opening seat) h r = file_rose h (inr (inr (inl r)))
 object_rose (lending name) h r = file_rose h (inr (inl r))
 object_rose (scanning object name) h r = r
 object_rose (writing object name) h r = r
+object_rose (settling object name) h r = r
 object_rose (drawing seat) h r = r
 object_rose (linking seat plugin) h r = file_rose h (inr (inr (inr r)))
 object_rose (asking seat plugin) h r = r
@@ -116,6 +117,7 @@ module _ (said : List ℕ) (a : Around) where
   same_faults (lending name) = refl
   same_faults (scanning object name) = refl
   same_faults (writing object name) = refl
+  same_faults (settling object name) = refl
   same_faults (drawing seat) = refl
   same_faults (linking seat plugin) = refl
   same_faults (asking seat plugin) = refl
@@ -127,6 +129,7 @@ module _ (said : List ℕ) (a : Around) where
   same_count (lending name) = refl
   same_count (scanning object name) = refl
   same_count (writing object name) = refl
+  same_count (settling object name) = refl
   same_count (drawing seat) = refl
   same_count (linking seat plugin) = refl
   same_count (asking seat plugin) = refl
@@ -167,10 +170,24 @@ module _ (words : List (List ℕ)) (old new : Around) (output errors : Receipt) 
     written = record { front = inl same.1; usage = λ two. same };
   }
   at_words Size bad same t = record {
-    usage = (λ two. absurd (omega (arith, t.0, two)), λ none. inr (inr (inl (t.0, inr bad))));
+    usage = (
+      λ two. absurd (omega (arith, t.0, two)),
+      λ none. inr (inr (inl (t.0, inr (inl bad)))),
+    );
     caused = λ four. absurd (omega (arith, t.0, four));
-    refused = λ which. inr (inr (t.0, inr bad, same));
+    refused = λ which. inr (inr (t.0, inr (inl bad), same));
     decided = λ command point end asks tells would at. absurd (no_stop Size asks bad);
+    done = λ zero_is. absurd (omega (arith, t.0, zero_is));
+    written = record { front = inl same.1; usage = λ two. same };
+  }
+  at_words Page bad same t = record {
+    usage = (
+      λ two. absurd (omega (arith, t.0, two)),
+      λ none. inr (inr (inl (t.0, inr (inr bad)))),
+    );
+    caused = λ four. absurd (omega (arith, t.0, four));
+    refused = λ which. inr (inr (t.0, inr (inr bad), same));
+    decided = λ command point end asks tells would at. absurd (no_stop Page asks bad);
     done = λ zero_is. absurd (omega (arith, t.0, zero_is));
     written = record { front = inl same.1; usage = λ two. same };
   }

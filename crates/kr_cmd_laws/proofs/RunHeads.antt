@@ -24,7 +24,7 @@ use Rattle.kr_cmd_messages.specs.declared.refusal.Stop.{Stop}
 use Rattle.kr_cmd_messages.specs.declared.refusal.Stop.TheVariants.{Words, Refused, Fault, NoMemory}
 use Rattle.kr_cmd_steps.specs.Around.{Around}
 use Rattle.kr_cmd_steps.specs.declared.programs.Program.{Program}
-use Rattle.kr_cmd_fleet.specs.Fleets.{Begun, RunsFleet, Starts, StopsBefore, TellsFleet, WritesFleet, fleet_steps, opening_of, text_of}
+use Rattle.kr_cmd_fleet.specs.Fleets.{Begun, RunsFleet, Starts, StopsBefore, TellsFleet, WritesFleet, fleet_steps, opening_of, settled_behind, text_of}
 use Rattle.kr_cmd_laws.specs.HeadlineLaws.{RunsHaveHeadlines}
 use Rattle.kr_cmd_laws.specs.RunHeadlines.{LeavesStore, Prints, RunHeadline, StartsWorkers, TellsStop, WorkersHeadline}
 
@@ -109,8 +109,8 @@ module _ (T : Type 0) {L D : Type 0} (truth : Truth) (link : L → Link)
     since = s.since;
     history = s.history;
     ended = s.ended;
-    has = workers_headline truth link left count words.store s.begun s.mid new s.history s.ended
-        s.runs;
+    has = workers_headline truth link left count words.store s.begun
+        (settled_behind words.store s.mid) new s.history s.ended s.runs;
     prints = prints (text_of s.begun.plan.fleet s.history s.ended)
         (ending_of (map (λ (w : fleet_worker.Worker T L D). w.told) s.ended)) output errors status
         result s.writes tells;

@@ -47,7 +47,7 @@ use Rattle.kr_cmd_steps.specs.Configuration.{IsConfiguration}
 use Rattle.kr_cmd_steps.specs.Inspect.{Inspects, ShowsBody, ShowsObject}
 use Rattle.kr_kms.specs.declared.plugin.Status.{Status}
 use Rattle.kr_cmd_steps.specs.Plugins.{borrow_links, borrow_links_of, make_seeds, programs_of, seed_row, unless_breach, wrap_seed}
-use Rattle.kr_cmd_steps.specs.Steps.{Steps, load, take_input, borrow_dice, borrow_tape, read_tape, write_row, keep_rows, draw, borrow_link, ask_status, wrap, unwrap, note, find, refuse, give, and_then, Left, with_asked, with_dice, with_tape, or_empty, tapes_with}
+use Rattle.kr_cmd_steps.specs.Steps.{Steps, load, take_input, borrow_dice, borrow_tape, read_tape, write_row, keep_rows, settle, draw, borrow_link, ask_status, wrap, unwrap, note, find, refuse, give, and_then, Left, with_asked, with_dice, with_tape, or_empty, tapes_with}
 use Rattle.kr_cmd_steps.specs.StoreFiles.{Stored, with_row}
 use Rattle.kr_cmd_messages.specs.Texts.{line, word_and_number}
 use Rattle.kr_cmd_messages.specs.declared.command.Command.TheVariants.{Convert, Put, Get}
@@ -57,6 +57,7 @@ use Rattle.kr_cmd_messages.specs.declared.command.Direction.{Direction}
 use Rattle.kr_cmd_messages.specs.declared.command.Direction.TheVariants.{Encrypt, Decrypt}
 use Rattle.kr_cmd_steps.specs.declared.programs.Program.{Program}
 use Rattle.kr_cmd_messages.specs.declared.refusal.Limit.TheVariants as limit
+use Rattle.kr_cmd_messages.specs.declared.refusal.Object.{Object}
 use Rattle.kr_cmd_messages.specs.declared.refusal.Object.TheVariants.{Store}
 use Rattle.kr_cmd_messages.specs.declared.refusal.Refusal.{Refusal}
 use Rattle.kr_cmd_messages.specs.declared.refusal.Refusal.TheVariants.{Configuration, Limit}
@@ -347,6 +348,56 @@ settled_unsealing left right list path bytes none = λ a b h k. opened_once list
     (λ v w. IsSettled (and_then v data_steps) (and_then w data_steps) left right) none
     (settled_reading left right)
 
+-- ---- a tape that is settled behind them
+
+module _ (what : Object) (name : List ℕ) where
+  abbrev closed : Steps Outcome → Steps Outcome
+  closed next = and_then next (λ made. settle what name (give made))
+
+  pub settled_closing : (first second : Steps Outcome) (left right : Left)
+      → IsSettled first second left right → IsSettled (closed first) (closed second) left right
+  settled_closing (load path next) (load other more) left right s = (
+    s.0,
+    s.1,
+    λ bytes agrees. settled_closing (next bytes) (more bytes) _ _ (s.2 bytes agrees),
+  )
+  settled_closing (take_input limit long next) (take_input most much more) left right s = (
+    s.0,
+    s.1,
+    s.2,
+    s.3,
+    λ bytes rest. settled_closing (next bytes) (more bytes) _ _ (s.4 bytes rest),
+  )
+  settled_closing (borrow_dice seat next) (borrow_dice other more) left right s =
+      settled_closing next more _ _ s
+  settled_closing (borrow_tape path make absent next) (borrow_tape other also cause more) left right
+      s = (s.0, s.1, s.2, s.3, settled_closing next more _ _ s.4)
+  settled_closing (read_tape one path next) (read_tape thing other more) left right s =
+      (s.0, s.1, λ bytes. settled_closing (next bytes) (more bytes) left right (s.2 bytes))
+  settled_closing (write_row one path store row next) (write_row thing other held line more) left
+      right s = λ a b. settled_closing next more _ _ (s a b)
+  settled_closing (keep_rows path store next) (keep_rows other held more) left right s =
+      λ a b m n. settled_closing next more _ _ (s a b m n)
+  settled_closing (settle one path next) (settle thing other more) left right s =
+      settled_closing next more _ _ s
+  settled_closing (draw seat size next) (draw other count more) left right s =
+      λ a b ra rb x y. settled_closing (next a) (more b) _ _ (s a b ra rb x y)
+  settled_closing (borrow_link seat plugin program next) (borrow_link other text file more) left
+      right s = settled_closing next more _ _ s
+  settled_closing (ask_status seat plugin next) (ask_status other text more) left right s =
+      (s.0, s.1, λ status. settled_closing (next status) (more status) left right (s.2 status))
+  settled_closing (wrap seat plugin plain next) (wrap other text bytes more) left right s =
+      λ a b x y. settled_closing (next a) (more b) left right (s a b x y)
+  settled_closing (unwrap seat key next) (unwrap other text more) left right s =
+      λ a b. settled_closing (next a) (more b) left right (s a b)
+  settled_closing (note text next) (note other more) left right s =
+      settled_closing next more _ _ s
+  settled_closing (find B P next) (find C Q more) left right s =
+      λ b c h k. settled_closing (next b) (more c) left right (s b c h k)
+  settled_closing (refuse why) (refuse cause) left right s = s
+  settled_closing (give made) (give other) left right s = s
+  settled_closing first second left right s = absurd s
+
 -- ---- links and seeds
 
 module _ (next : Steps Outcome) (first : ℕ × List ℕ → Option Status)
@@ -378,6 +429,7 @@ regroup (read_tape object name next) f g =
 regroup (write_row object name store row next) f g =
     λ i. write_row object name store row (regroup next f g i)
 regroup (keep_rows name store next) f g = λ i. keep_rows name store (regroup next f g i)
+regroup (settle object name next) f g = λ i. settle object name (regroup next f g i)
 regroup (draw seat size next) f g = λ i. draw seat size (λ bytes. regroup (next bytes) f g i)
 regroup (borrow_link seat plugin program next) f g =
     λ i. borrow_link seat plugin program (regroup next f g i)
@@ -701,7 +753,7 @@ settled_putting old words store (file, tape, input, plugins) = settled_configura
         refl,
         refl,
         refl,
-        (
+        settled_closing Store store (put_into rows programs bytes) (put_into rows programs bytes) _ _ (
           there,
           refl,
           λ held a b x y. settled_by _ _ a b (sealed_into words store rows programs bytes)
@@ -713,6 +765,10 @@ settled_putting old words store (file, tape, input, plugins) = settled_configura
   where
     passed : List Row → List Program → Steps Outcome
     passed rows programs = and_then (input_of Encrypt) (stored_into words store rows programs)
+
+    put_into : List Row → List Program → (bytes : List ℕ) → Steps Outcome
+    put_into rows programs bytes =
+        and_then (stored_on Store store) (sealed_into words store rows programs bytes)
 
     there : IsSome (tapes_with true store old.world.tapes.told store)
     there = subst (λ q. IsSome (if q then or_empty (old.world.tapes.told store)

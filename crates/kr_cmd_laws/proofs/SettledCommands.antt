@@ -4,6 +4,7 @@ use Rattle.kr_cmd_steps.specs.Around.{Around, left_of}
 use Rattle.kr_cmd_steps.specs.Commands.{judging_by, show, steps}
 use Rattle.kr_cmd_steps.specs.RowLines.{ShowsRows}
 use Rattle.kr_cmd_steps.specs.Ran.{IsTelling}
+use Rattle.kr_cmd_messages.specs.declared.command.Command.TheVariants.{Verify}
 use Rattle.kr_cmd_messages.specs.declared.command.Command.{Command}
 use Rattle.kr_cmd_messages.specs.declared.command.Command.TheVariants.{Convert, Check, Inspect, Put, Get, Migrate, Rows, Judge, Plan, Rewrite}
 use Rattle.kr_cmd_laws.proofs.Listed.{one_shown}
@@ -11,6 +12,7 @@ use Rattle.kr_cmd_laws.proofs.OnePoint.{IsSettled}
 use Rattle.kr_cmd_laws.proofs.Planned.{one_plan}
 use Rattle.kr_cmd_laws.proofs.Settled.{one_configuration, one_inspection, settled_by, settled_converting, settled_getting, settled_judging, settled_putting, settled_stored}
 use Rattle.kr_cmd_laws.proofs.SettledMigrations.{settled_migrating}
+use Rattle.kr_cmd_laws.proofs.SettledVerifications.{settled_verifying}
 use Rattle.kr_cmd_laws.proofs.SettledRewrites.{settled_rewriting}
 
 pub settled : (command : Command) (old : Around) → IsTelling command old
@@ -24,6 +26,7 @@ settled (Check config resource) old told = (
 )
 settled (Put words store) old tells = settled_putting old words store tells
 settled (Get words) old tells = settled_getting old words tells
+settled (Verify words) old tells = settled_verifying old words tells
 settled (Migrate words) old tells = settled_migrating old words tells
 settled (Rows store) old told = settled_stored store (λ stored. show (ShowsRows stored.rows))
     (left_of old) told

@@ -7,7 +7,7 @@ use Rattle.kr_kms.specs.declared.world.WorldCall.TheVariants.{File, Tape}
 use Rattle.kr_store.specs.File.{file_bytes}
 use Rattle.kr_store.specs.declared.rows.LogRow.{LogRow}
 use Rattle.kr_cmd_steps.specs.Around.{Around, left_of}
-use Rattle.kr_cmd_steps.specs.Commands.{by_result, copied_into, copying, migrated_line, migrated_row, migrating, migrating_into, silently, source_on, tape_for, target_read}
+use Rattle.kr_cmd_steps.specs.Commands.{by_result, copied_into, copying, migrated_line, migrated_row, migrating, migrating_into, silently, source_on, tape_for, target_on, target_read}
 use Rattle.kr_cmd_steps.specs.Ran.{IsTelling}
 use Rattle.kr_cmd_steps.specs.Steps.{Steps, write_row, give, and_then, or_empty, tapes_with, with_asked, with_tape, with_told, Left}
 use Rattle.kr_cmd_steps.specs.StoreFiles.{IsSource, IsTarget, Stored, none_there, unless_new, unless_there, with_row}
@@ -20,7 +20,7 @@ use Rattle.kr_cmd_messages.specs.declared.refusal.Refusal.{Refusal}
 use Rattle.kr_cmd_messages.specs.declared.refusal.Refusal.TheVariants.{Limit}
 use Rattle.kr_cmd_laws.proofs.Listed.{one_stored}
 use Rattle.kr_cmd_laws.proofs.OnePoint.{IsSettled}
-use Rattle.kr_cmd_laws.proofs.Settled.{settled_by, settled_configuration, settled_pair, told_or_empty}
+use Rattle.kr_cmd_laws.proofs.Settled.{settled_by, settled_closing, settled_configuration, settled_pair, told_or_empty}
 use Rattle.kr_cmd_steps.proofs.Tapes.{own_name}
 
 one_source : (bytes : List ℕ) (a b : Result Stored Refusal) → IsSource bytes a
@@ -91,22 +91,23 @@ settled_migrating old words (file, tape, target) = settled_configuration old wor
     settled_into : (rows : List Row) (source : Stored)
         → IsSettled (migrating_into words.to rows source) (migrating_into words.to rows source)
         source_out source_out
-    settled_into rows source = (
-      target,
-      refl,
-      refl,
-      refl,
-      (
-        there,
-        refl,
-        λ held. settled_pair both_out both_out (none_there held) (none_there held)
-            (λ u. target_read words.to) (copied_into words.to rows source) refl (λ u. (
-              there,
-              refl,
-              λ again c d h k. settled_by both_out both_out c d
-                  (copied_into words.to rows source) (one_target again c d h k)
-                  (λ store. λ s t p q. settled_copying words.to (migrated_line source.rows)
-                  (map (migrated_row rows) source.rows) store both_out both_out),
-            )),
-      ),
-    )
+    settled_into rows source = let into = and_then (target_on words.to)
+        (copied_into words.to rows source) in (
+          target,
+          refl,
+          refl,
+          refl,
+          settled_closing Target words.to into into both_out both_out (
+            there,
+            refl,
+            λ held. settled_pair both_out both_out (none_there held) (none_there held)
+                (λ u. target_read words.to) (copied_into words.to rows source) refl (λ u. (
+                  there,
+                  refl,
+                  λ again c d h k. settled_by both_out both_out c d
+                      (copied_into words.to rows source) (one_target again c d h k)
+                      (λ store. λ s t p q. settled_copying words.to (migrated_line source.rows)
+                      (map (migrated_row rows) source.rows) store both_out both_out),
+                )),
+          ),
+        )

@@ -25,7 +25,7 @@ use Rattle.kr_store.specs.declared.rows.LogRow.{LogRow}
 use Rattle.kr_store.specs.declared.rows.Row as stored
 use Rattle.kr_store.proofs.Listings.{listing_once}
 use Rattle.kr_cmd_steps.specs.Around.{Around, left_of}
-use Rattle.kr_cmd_steps.specs.Commands.{IsStarted, Progress, nothing_done, by_result, driving, linking_programs, one_rewritten, reading_given, replacing, resealing, rewriting, rewriting_by, rewriting_live, rewriting_on, row_anew, row_by, row_data, row_steps, starting, tape_for, within_journal, draw_some}
+use Rattle.kr_cmd_steps.specs.Commands.{IsStarted, Progress, nothing_done, by_result, driving, linking_programs, one_rewritten, reading_given, replacing, resealing, rewriting, rewriting_by, rewriting_live, rewriting_on, row_anew, row_by, row_data, row_steps, settled_for, starting, within_journal, draw_some}
 use Rattle.kr_cmd_steps.specs.Judgements.{start_refusal}
 use Rattle.kr_cmd_steps.specs.Plugins.{borrow_links, make_seeds, programs_of}
 use Rattle.kr_cmd_steps.specs.Ran.{IsTelling}
@@ -43,7 +43,7 @@ use Rattle.kr_cmd_messages.specs.declared.report.Counts.{Counts}
 use Rattle.kr_cmd_laws.proofs.EquallyLong.{AreAsLong, as_long, no_kms_writer, same_row}
 use Rattle.kr_cmd_steps.proofs.OneVerdict.{told_cause}
 use Rattle.kr_cmd_laws.proofs.OnePoint.{IsSettled}
-use Rattle.kr_cmd_laws.proofs.Settled.{opened_once, settled_by, settled_configuration, settled_links, settled_result, settled_stored}
+use Rattle.kr_cmd_laws.proofs.Settled.{opened_once, settled_by, settled_configuration, settled_closing, settled_links, settled_result, settled_stored}
 
 -- ---- stores whose rows are equally long, one by one
 
@@ -255,13 +255,21 @@ settled_rewriting old words (file, tape, plugins) = settled_configuration old wo
     (λ rows. and_then (linking_programs words.options rows) (passed rows)) file
     (λ file rows is agrees. λ u v h k. settled_result configured configured
     (programs_of words.options (plugin_order rows)) (passed rows)
-    (λ programs. settled_stored words.store (listed rows programs) configured tape
+    (λ programs. let held = settled_stored words.store (listed rows programs) configured tape
     (λ store. λ live other c d.
     subst (λ o. IsSettled (rewriting_live words.store rows programs store live)
     (rewriting_live words.store rows programs store o) lent lent)
     (listing_once store.rows live other c d)
     (settled_live words.store rows (plugins file rows is agrees) store live programs lent lent
-    refl))))
+    refl)) in (
+      held.0,
+      held.1,
+      held.2,
+      held.3,
+      settled_closing Store words.store
+          (rewriting_on words.store rows programs) (rewriting_on words.store rows programs) lent lent
+          held.4,
+    )))
   where
     configured : Left
     configured = with_asked (File words.config) (left_of old)
@@ -270,7 +278,8 @@ settled_rewriting old words (file, tape, plugins) = settled_configuration old wo
     lent = with_tape false words.store (with_asked (Tape words.store false) configured)
 
     passed : List Row → List Program → Steps Outcome
-    passed rows programs = tape_for words.store false (rewriting_on words.store rows programs)
+    passed rows programs =
+        settled_for Store words.store false (rewriting_on words.store rows programs)
 
     listed : List Row → List Program → Stored → Steps Outcome
     listed rows programs store =

@@ -3,3 +3,4 @@ pub mod CommandLaws
 pub mod FleetLaws
 pub mod HeadlineLaws
 pub mod RunHeadlines
+pub mod VerifyLaws

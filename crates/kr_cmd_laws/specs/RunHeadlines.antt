@@ -1,7 +1,7 @@
 -- What a call of `run` says of a fleet, for its operator: the headline, over just what was printed.
 -- Begin at `RunHeadline`, the last definition of this page; the sentence itself is `Headline` of
 -- kr_headline.
-use Rattle.std.specs.Prelude.{◌≡◌, ◌⊎◌, ℕ, true, List, [], length, map, Option, None, Err}
+use Rattle.std.specs.Prelude.{◌≡◌, ◌⊎◌, ℕ, true, List, [], fold, length, map, Option, None, Err}
 use Rattle.std.specs.Io.KnownBytes.{Appends}
 use Rattle.std.specs.Option.{option_map}
 use Rattle.kr_base.specs.Faults.{Rose}
@@ -20,7 +20,7 @@ use Rattle.kr_workers.specs.declared.ending.Ending.{Ending}
 use Rattle.kr_workers.specs.declared.files.SettingsFile.{SettingsFile}
 use Rattle.kr_workers.specs.declared.worker.Worker as fleet_worker
 use Rattle.kr_headline.specs.Fleets.{AreKnown, FleetHeadline}
-use Rattle.kr_headline.specs.Headline.{Object, faults_from, object_from, revision_from}
+use Rattle.kr_headline.specs.Headline.{Object, object_after, revision_after}
 use Rattle.kr_cmd_messages.specs.Message.{line_of, status_of}
 use Rattle.kr_cmd_messages.specs.Receipts.{Receipt, Tells}
 use Rattle.kr_cmd_messages.specs.declared.fleet_words.FleetWords.{FleetWords}
@@ -31,18 +31,19 @@ use Rattle.kr_cmd_steps.specs.Around.{Around, IsHome, Reaches, left_of}
 use Rattle.kr_cmd_steps.specs.Ran.{IsIdle}
 use Rattle.kr_cmd_steps.specs.Steps.{Steps, gives}
 use Rattle.kr_cmd_fleet.specs.FleetFiles.{named_rows}
-use Rattle.kr_cmd_fleet.specs.Fleets.{AreEquipped, Begun, HasRows, StopsBefore, fleet_steps, opening_of, text_of}
+use Rattle.kr_cmd_fleet.specs.Fleets.{AreEquipped, Begun, HasRows, StopsBefore, fleet_steps, opening_of, settled_behind, text_of}
 
 -- ---- what is left in the store
 
--- the revision of what stands at a path behind a history over these rows
+-- the revision of what stands at a path after a history over these rows
 abbrev pub revision_behind : List LogRow → List Entry → (path : List ℕ) → Option ℕ
-revision_behind rows history path = option_map (λ (it : Object). it.revision) (object_from path
+revision_behind rows history path = option_map (λ (it : Object). it.revision)
+    (fold (λ (now : Option Object) (e : Entry). object_after e.line.gave e.line.did path now)
     (option_map (λ revision. record { revision = revision; data_put = None })
     (option_map (λ (row : Row). row.revision) (live rows path))) history)
 
 -- The file has the rows of the store with those that the history wrote behind them, sealed values
--- and all. A row lives at a path exactly where something stands there behind the history, and has
+-- and all. A row lives at a path exactly where something stands there after the history, and has
 -- its revision: so the next call begins with what this one ends with. The store's count of faults
 -- is that of the last step
 pub record LeavesStore (store : List ℕ) (begun : Begun) (mid new : Around) (history : List Entry)
@@ -53,9 +54,10 @@ pub record LeavesStore (store : List ℕ) (begun : Begun) (mid new : Around) (hi
       (new.world.tapes.faults store)
   pub live_are : (path : List ℕ) → option_map (λ (row : Row). row.revision) (live rows path)
       ≡ revision_behind begun.stored.rows history path
-  pub latest : length rows ≡ revision_from (length begun.stored.rows) history
-  pub failed : new.world.tapes.faults store
-      ≡ faults_from (mid.world.tapes.faults store) history
+  pub latest : length rows ≡ fold (λ (now : ℕ) (e : Entry). revision_after e.line.gave now)
+      (length begun.stored.rows) history
+  pub failed : new.world.tapes.faults store ≡ fold (λ (now : ℕ) (e : Entry). e.line.faults)
+      (mid.world.tapes.faults store) history
 
 -- ---- what the workers did
 
@@ -96,8 +98,8 @@ Prints text ending output errors status =
     × TellsStop (Fault Output output.new_faults) errors status)
     ⊎ (AppendsFront output.old output.new text × TellsStop NoMemory errors status)
 
--- no worker was started, since the steps up to them or want of memory ended the call: nothing was
--- printed, and the line on standard error tells why
+-- nothing was printed, and the line on standard error tells why: no worker was started, since the
+-- steps up to them or want of memory ended the call, or what they stored couldn't be settled
 pub record StartsNobody (steps : Steps Begun) (store : List ℕ) (old new : Around)
     (output errors : Receipt) (status : ℕ) : Type 0 where
   pub stop : Stop
@@ -107,8 +109,8 @@ pub record StartsNobody (steps : Steps Begun) (store : List ℕ) (old new : Arou
 module _ (T : Type 0) {L D : Type 0} (truth : Truth) (link : L → Link)
     (left : D → Option (List ℕ)) (count : D → ℕ) (words : FleetWords) (old new : Around)
     (output errors : Receipt) (status : ℕ) where
-  -- the workers were started, from what the steps up to them came to; the journal and the replies
-  -- that were printed are theirs
+  -- the workers were started, from what the steps up to them came to, and what they stored is
+  -- settled; the journal and the replies that were printed are theirs
   pub record StartsWorkers : Type 0 where
     pub begun : Begun
     pub mid : Around
@@ -116,11 +118,12 @@ module _ (T : Type 0) {L D : Type 0} (truth : Truth) (link : L → Link)
     pub since : IsHome old mid
     pub history : List Entry
     pub ended : List (fleet_worker.Worker T L D)
-    pub has : WorkersHeadline truth link left count words.store begun mid new history ended
+    pub has : WorkersHeadline truth link left count words.store begun
+        (settled_behind words.store mid) new history ended
     pub prints : Prints (text_of begun.plan.fleet history ended)
         (ending_of (map (λ (w : fleet_worker.Worker T L D). w.told) ended)) output errors status
 
-  -- no worker was started, or the run of those that were has the headline
+  -- nothing was printed, or the run of the workers has the headline
   abbrev pub RunHeadline : Type 0
   RunHeadline = StartsNobody (fleet_steps words) words.store old new output errors status
       ⊎ StartsWorkers

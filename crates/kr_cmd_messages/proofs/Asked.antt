@@ -4,7 +4,7 @@ use Rattle.std.specs.Prelude.{IfOk, IfSome}
 use Rattle.kr_base.specs.declared.errors.NoMemory.{NoMemory}
 use Rattle.kr_base.specs.Limits.{path_limit}
 use Rattle.kr_base.specs.Rules.{IsPath, IsResource}
-use Rattle.kr_words.specs.Grammar.{Means, Reads, HasFewReplicas, IsWithinSize}
+use Rattle.kr_words.specs.Grammar.{Means, Reads, HasFewReplicas, IsWithinPage, IsWithinSize}
 use Rattle.kr_words.specs.Options.{value_of}
 use Rattle.kr_words.specs.Rules.{IsCommand, MayHaveEmptyPath}
 use Rattle.kr_words.specs.declared.command.Verb.{Verb}
@@ -65,21 +65,24 @@ means_nothing {words} why e r verb options means =
 module _ {words : List (List ℕ)} {verb : Verb} {options : List (List ℕ × List ℕ)}
     (command : Option Command) (means : Means words verb options)
     (is : command ≡ command_of verb options) where
-  pub asks_nothing : IsWithinSize options → command ≡ None → AskNothing words
-  asks_nothing small none other o m =
+  pub asks_nothing : IsWithinSize options × IsWithinPage options → command ≡ None
+      → AskNothing words
+  asks_nothing (small, page) none other o m =
       let same = mean_one words verb other options o means m in (
         ap (λ v. command_of v o) (sym same.0) ∙ ap (λ p. command_of verb p) (sym same.1)
             ∙ sym is ∙ none,
         λ large. one_size (value_of o (codes "size")) (subst IsWithinSize same.1 small) large,
+        λ large. one_size (value_of o (codes "limit")) (subst IsWithinPage same.1 page) large,
       )
 
   pub asks : {some : Command} → HasFewReplicas options → IsWithinSize options
-      → command ≡ Some some → Asks words some
-  asks few small found = record {
+      → IsWithinPage options → command ≡ Some some → Asks words some
+  asks few small page found = record {
     verb = verb;
     options = options;
     means = means;
     few = few;
     small = small;
+    page = page;
     is = sym is ∙ found;
   }

@@ -1,6 +1,6 @@
 -- What words that ask for a fleet are, and which ask for none.
 use Rattle.std.proofs.Common.{◌≡◌, ℕ, ◌≤◌, List, codes, Option, None, Some, Ok, Err, sym, ◌∙◌, ap, subst, inl, inr, arith}
-use Rattle.kr_words.specs.Grammar.{IsWithinSize, Means, Reads, HasFewReplicas}
+use Rattle.kr_words.specs.Grammar.{HasFewReplicas, IsWithinPage, IsWithinSize, Means, Reads}
 use Rattle.kr_words.specs.Options.{value_of}
 use Rattle.kr_words.specs.declared.command.Verb.{Verb}
 use Rattle.kr_words.specs.declared.command.Verb.TheVariants as verbs
@@ -8,13 +8,15 @@ use Rattle.kr_words.specs.declared.command.Command.{Command}
 use Rattle.kr_words.specs.declared.command.WordsNo.{WordsNo}
 use Rattle.kr_words.specs.declared.command.WordsNo.TheVariants as no
 use Rattle.kr_words.proofs.Meanings.{mean_one}
-use Rattle.kr_cmd_messages.specs.Command.{AskNothing, AskReplicas, AskSize}
+use Rattle.kr_cmd_messages.specs.Command.{AskNothing, AskPage, AskReplicas, AskSize}
 use Rattle.kr_cmd_messages.specs.FleetAsked.{AskNoFleet}
 use Rattle.kr_cmd_messages.specs.LoadAsked.{AskNoLoad}
+use Rattle.kr_cmd_messages.specs.WatchAsked.{AskNoWatch}
 use Rattle.kr_cmd_messages.specs.declared.fleet_words.FleetWords.{FleetWords}
 use Rattle.kr_cmd_messages.specs.inner.FleetAnswers.{IsFleetAsked, IsFleetOf}
 use Rattle.kr_cmd_messages.proofs.OneCommand.{one_size, not_few_and_many}
-use Rattle.kr_cmd_messages.proofs.LoadAsked.{replicas_no_load, size_no_load}
+use Rattle.kr_cmd_messages.proofs.LoadAsked.{page_no_load, replicas_no_load, size_no_load}
+use Rattle.kr_cmd_messages.proofs.WatchAsked.{page_no_watch, replicas_no_watch, size_no_watch}
 
 module _ {words : List (List ℕ)} {verb : Verb} {options : List (List ℕ × List ℕ)}
     (means : Means words verb options) where
@@ -33,12 +35,14 @@ module _ {words : List (List ℕ)} {verb : Verb} {options : List (List ℕ × Li
       absurd (let e = sym none ∙ ap (λ o. value_of o (codes "store")) same ∙ h.store in cc)
 
 pub usage_asks_none : {words : List (List ℕ)} (why : WordsNo) → why ≡ no.Usage
-    → Reads words (Err why) → AskNothing words × AskNoFleet words × AskNoLoad words
+    → Reads words (Err why)
+    → AskNothing words × AskNoFleet words × AskNoLoad words × AskNoWatch words
 usage_asks_none {words} why e r =
     let reads = subst (λ w. Reads words (Err w)) e r in (
       λ verb options means. absurd (reads verb options means),
       λ asked h. absurd (reads verbs.Fleet asked.options h.means),
       λ asked h. absurd (reads verbs.Gen h.options h.means),
+      λ asked h. absurd (reads verbs.Watch asked.fleet.options h.means),
     )
 
 replicas_no_fleet : {words : List (List ℕ)} → AskReplicas words → AskNoFleet words
@@ -48,10 +52,11 @@ replicas_no_fleet {words} (verb, options, means, many) asked h =
     absurd (not_few_and_many options few many)
 
 pub replicas_ask_none : {words : List (List ℕ)} (why : WordsNo) → why ≡ no.Replicas
-    → Reads words (Err why) → AskReplicas words × AskNoFleet words × AskNoLoad words
+    → Reads words (Err why)
+    → AskReplicas words × AskNoFleet words × AskNoLoad words × AskNoWatch words
 replicas_ask_none {words} why e r =
     let asks = subst (λ w. Reads words (Err w)) e r in
-    (asks, replicas_no_fleet asks, replicas_no_load asks)
+    (asks, replicas_no_fleet asks, replicas_no_load asks, replicas_no_watch asks)
 
 size_no_fleet : {words : List (List ℕ)} → AskSize words → AskNoFleet words
 size_no_fleet {words} (verb, options, means, few, large) asked h =
@@ -59,10 +64,23 @@ size_no_fleet {words} (verb, options, means, few, large) asked h =
     absurd (one_size (value_of options (codes "size")) (subst IsWithinSize same h.small) large)
 
 pub size_asks_none : {words : List (List ℕ)} (why : WordsNo) → why ≡ no.Size
-    → Reads words (Err why) → AskSize words × AskNoFleet words × AskNoLoad words
+    → Reads words (Err why)
+    → AskSize words × AskNoFleet words × AskNoLoad words × AskNoWatch words
 size_asks_none {words} why e r =
     let asks = subst (λ w. Reads words (Err w)) e r in
-    (asks, size_no_fleet asks, size_no_load asks)
+    (asks, size_no_fleet asks, size_no_load asks, size_no_watch asks)
+
+page_no_fleet : {words : List (List ℕ)} → AskPage words → AskNoFleet words
+page_no_fleet {words} (verb, options, means, few, small, large) asked h =
+    let same = (mean_one words verbs.Fleet verb asked.options options h.means means).1 in
+    absurd (one_size (value_of options (codes "limit")) (subst IsWithinPage same h.page) large)
+
+pub page_asks_none : {words : List (List ℕ)} (why : WordsNo) → why ≡ no.Page
+    → Reads words (Err why)
+    → AskPage words × AskNoFleet words × AskNoLoad words × AskNoWatch words
+page_asks_none {words} why e r =
+    let asks = subst (λ w. Reads words (Err w)) e r in
+    (asks, page_no_fleet asks, page_no_load asks, page_no_watch asks)
 
 -- the fleet that was read is the one that is asked for
 pub asked_so : {words : List (List ℕ)} (command : Command) → Reads words (Ok command)
@@ -76,6 +94,7 @@ asked_so {words} command reads (Some asked) (verb, file, store, options) = recor
       (subst (λ v. Means words v command.options.0) verb reads.0);
   few = subst HasFewReplicas (sym options) reads.1;
   small = subst IsWithinSize (sym options) reads.2;
+  page = subst IsWithinPage (sym options) reads.3;
   file = ap (λ o. value_of o (codes "file")) options ∙ file;
   store = ap (λ o. value_of o (codes "store")) options ∙ store;
 }

@@ -5,3 +5,4 @@ pub mod LoadAsked
 pub mod OneCommand
 pub mod Pieces
 pub mod VisibleTexts
+pub mod WatchAsked

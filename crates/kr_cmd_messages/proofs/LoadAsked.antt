@@ -2,7 +2,7 @@
 use Rattle.std.proofs.Common.{◌≡◌, ℕ, ◌≤◌, List, codes, Option, None, Some, Ok, Err, sym, ◌∙◌, ap, subst, inl, inr, arith}
 use Rattle.std.specs.Prelude.{IfSome, IsSomeAnd}
 use Rattle.kr_words.specs.Arguments.{IsNumberAt}
-use Rattle.kr_words.specs.Grammar.{IsWithinSize, Means, Reads, HasFewReplicas}
+use Rattle.kr_words.specs.Grammar.{HasFewReplicas, IsWithinPage, IsWithinSize, Means, Reads}
 use Rattle.kr_words.specs.Numerals.{IsDecimal}
 use Rattle.kr_words.specs.Options.{value_of}
 use Rattle.kr_words.specs.declared.command.Verb.{Verb}
@@ -11,13 +11,15 @@ use Rattle.kr_words.specs.declared.command.Command.{Command}
 use Rattle.kr_words.specs.declared.command.WordsNo.{WordsNo}
 use Rattle.kr_words.specs.declared.command.WordsNo.TheVariants as no
 use Rattle.kr_words.proofs.Meanings.{mean_one}
-use Rattle.kr_cmd_messages.specs.Command.{AskNothing, AskReplicas, AskSize}
+use Rattle.kr_cmd_messages.specs.Command.{AskNothing, AskPage, AskReplicas, AskSize}
 use Rattle.kr_cmd_messages.specs.FleetAsked.{AsksFleet}
 use Rattle.kr_cmd_messages.specs.LoadAsked.{AskNoLoad, AsksLoad}
 use Rattle.kr_cmd_messages.specs.declared.fleet_words.FleetWords.{FleetWords}
 use Rattle.kr_cmd_messages.specs.declared.load_words.LoadWords.{LoadWords}
 use Rattle.kr_cmd_messages.specs.inner.LoadAnswers.{IsLoadAsked, IsLoadOf}
+use Rattle.kr_cmd_messages.specs.WatchAsked.{AskNoWatch}
 use Rattle.kr_cmd_messages.proofs.OneCommand.{one_size, not_few_and_many}
+use Rattle.kr_cmd_messages.proofs.WatchAsked.{page_no_watch, replicas_no_watch, size_no_watch}
 
 module _ {words : List (List ℕ)} {verb : Verb} {options : List (List ℕ × List ℕ)}
     (means : Means words verb options) where
@@ -31,11 +33,12 @@ module _ {words : List (List ℕ)} {verb : Verb} {options : List (List ℕ × Li
       absurd (let e = sym none ∙ ap (λ o. value_of o (codes "store")) same ∙ h.store in cc)
 
 pub usage_no_load : {words : List (List ℕ)} (why : WordsNo) → why ≡ no.Usage
-    → Reads words (Err why) → AskNothing words × AskNoLoad words
+    → Reads words (Err why) → AskNothing words × AskNoLoad words × AskNoWatch words
 usage_no_load {words} why e r =
     let reads = subst (λ w. Reads words (Err w)) e r in (
       λ verb options means. absurd (reads verb options means),
       λ asked h. absurd (reads verbs.Gen h.options h.means),
+      λ asked h. absurd (reads verbs.Watch asked.fleet.options h.means),
     )
 
 pub replicas_no_load : {words : List (List ℕ)} → AskReplicas words → AskNoLoad words
@@ -45,9 +48,10 @@ replicas_no_load {words} (verb, options, means, many) asked h =
     absurd (not_few_and_many options few many)
 
 pub replicas_load_none : {words : List (List ℕ)} (why : WordsNo) → why ≡ no.Replicas
-    → Reads words (Err why) → AskReplicas words × AskNoLoad words
+    → Reads words (Err why) → AskReplicas words × AskNoLoad words × AskNoWatch words
 replicas_load_none {words} why e r =
-    let asks = subst (λ w. Reads words (Err w)) e r in (asks, replicas_no_load asks)
+    let asks = subst (λ w. Reads words (Err w)) e r in
+    (asks, replicas_no_load asks, replicas_no_watch asks)
 
 pub size_no_load : {words : List (List ℕ)} → AskSize words → AskNoLoad words
 size_no_load {words} (verb, options, means, few, large) asked h =
@@ -55,9 +59,21 @@ size_no_load {words} (verb, options, means, few, large) asked h =
     absurd (one_size (value_of options (codes "size")) (subst IsWithinSize same h.small) large)
 
 pub size_load_none : {words : List (List ℕ)} (why : WordsNo) → why ≡ no.Size
-    → Reads words (Err why) → AskSize words × AskNoLoad words
+    → Reads words (Err why) → AskSize words × AskNoLoad words × AskNoWatch words
 size_load_none {words} why e r =
-    let asks = subst (λ w. Reads words (Err w)) e r in (asks, size_no_load asks)
+    let asks = subst (λ w. Reads words (Err w)) e r in
+    (asks, size_no_load asks, size_no_watch asks)
+
+pub page_no_load : {words : List (List ℕ)} → AskPage words → AskNoLoad words
+page_no_load {words} (verb, options, means, few, small, large) asked h =
+    let same = (mean_one words verbs.Gen verb h.options options h.means means).1 in
+    absurd (one_size (value_of options (codes "limit")) (subst IsWithinPage same h.page) large)
+
+pub page_load_none : {words : List (List ℕ)} (why : WordsNo) → why ≡ no.Page
+    → Reads words (Err why) → AskPage words × AskNoLoad words × AskNoWatch words
+page_load_none {words} why e r =
+    let asks = subst (λ w. Reads words (Err w)) e r in
+    (asks, page_no_load asks, page_no_watch asks)
 
 -- the load that was read is the one that is asked for
 pub load_asked_so : {words : List (List ℕ)} (command : Command) → Reads words (Ok command)
@@ -70,6 +86,7 @@ load_asked_so {words} command reads (Some asked) (verb, seed, size, store) = rec
   means = subst (λ v. Means words v command.options.0) verb reads.0;
   few = reads.1;
   small = reads.2;
+  page = reads.3;
   seed = seed;
   size = size;
   store = store;

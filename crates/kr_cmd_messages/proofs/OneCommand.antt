@@ -1,14 +1,14 @@
 -- Words ask for one command.
 use Rattle.std.proofs.Common.{◌≡◌, ℕ, ◌<◌, ◌≤◌, List, Option, None, Some, inl, inr, sym, ◌∙◌, ap, subst, arith}
 use Rattle.std.specs.Prelude.{IfSome, IsSomeAnd, codes}
-use Rattle.kr_words.specs.Grammar.{HasFewReplicas, HasManyReplicas, IsWithinSize}
+use Rattle.kr_words.specs.Grammar.{HasFewReplicas, HasManyReplicas, IsWithinPage, IsWithinSize}
 use Rattle.kr_words.specs.Numerals.{IsDecimal}
 use Rattle.kr_words.specs.Options.{value_of}
 use Rattle.kr_words.proofs.Meanings.{mean_one}
 use Rattle.kr_cmd_messages.specs.Command.{command_of, Asks, AskBadly, AskNothing}
 use Rattle.kr_cmd_messages.specs.declared.command.Command.{Command}
 use Rattle.kr_cmd_messages.specs.declared.refusal.BadWords.{BadWords}
-use Rattle.kr_cmd_messages.specs.declared.refusal.BadWords.TheVariants.{Usage, Replicas, Size}
+use Rattle.kr_cmd_messages.specs.declared.refusal.BadWords.TheVariants.{Usage, Replicas, Size, Page}
 
 -- words that ask for a command ask for something
 pub asks_something : {words : List (List ℕ)} {command : Command} → Asks words command
@@ -22,7 +22,7 @@ one_command {words} {a} {b} h k =
     let is : Some a ≡ Some b = sym h.is ∙ ap (λ v. command_of v h.options) (sym same.0)
     ∙ ap (λ o. command_of k.verb o) (sym same.1) ∙ k.is in cc
 
--- a size isn't both within the limit and above
+-- a number isn't both within the limit and above
 pub one_size : (size : Option (List ℕ)) → IfSome size (λ text. (n : ℕ) × IsDecimal text n × (n ≤ 10000))
     → IsSomeAnd size (λ text. (n : ℕ) × IsDecimal text n × (10000 < n)) → ⊥
 one_size None h k = absurd k
@@ -50,3 +50,6 @@ no_stop {words} Replicas asks (verb, options, means, many) =
 no_stop {words} Size asks (verb, options, means, few, large) =
     let same = (mean_one words asks.verb verb asks.options options asks.means means).1 in
     one_size (value_of options (codes "size")) (subst IsWithinSize same asks.small) large
+no_stop {words} Page asks (verb, options, means, few, small, large) =
+    let same = (mean_one words asks.verb verb asks.options options asks.means means).1 in
+    one_size (value_of options (codes "limit")) (subst IsWithinPage same asks.page) large

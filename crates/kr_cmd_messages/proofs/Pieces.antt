@@ -1,11 +1,11 @@
 -- Lines that were written one text behind another.
-use Rattle.std.proofs.Common.{◌≡◌, ℕ, suc, ◌+◌, ◌<◌, ◌≤◌, List, ◌++◌, length, take, drop, Option, Result, Ok, Err, Bor, sym, ◌∙◌, ap, subst, append_assoc, append-nil, arith, get_or, add-one}
+use Rattle.std.proofs.Common.{◌≡◌, ℕ, suc, ◌+◌, ◌<◌, ◌≤◌, List, ◌++◌, length, take, drop, Option, Result, Ok, Err, true, Bor, sym, ◌∙◌, ap, subst, append_assoc, append-nil, arith, get_or, add-one}
 use Rattle.std.proofs.Math.Seq.{drop-cons, take-append-add}
 use Rattle.std.proofs.lemmas.List.{take-append-le, drop_all, length-append}
 use Rattle.std.specs.Io.KnownBytes.{Appends}
 use Rattle.std.proofs.KnownBytes.{Appends-trans}
 use Rattle.kr_base.specs.Streams.{AppendsFront}
-use Rattle.kr_base.specs.Faults.{Rose}
+use Rattle.kr_base.specs.Faults.{counted}
 use Rattle.kr_base.proofs.Counting.{Rose-later}
 use Rattle.kr_cmd_messages.specs.Receipts.{Receipt, receipt}
 use Rattle.kr_cmd_messages.specs.inner.Sayings.{Says}
@@ -44,19 +44,24 @@ says_cut {sink = sink} text more s = record {
 
 -- the first text was written, and the other so
 pub says_behind : {T E : Type 0} {a b c : Option (List ℕ)} {faults count after : ℕ}
-    (text more : List ℕ) (result : Result T E) → Appends a b text → faults ≤ count
+    (text more : List ℕ) (result : Result T E) → Appends a b text → count ≡ faults
     → Says (receipt b c count after) more result
     → Says (receipt a c faults after) (text ++ more) result
-says_behind {a = a} {b} {c} text more (Ok x) written later s = record {
+says_behind {a = a} {b} {c} text more (Ok x) written same s = record {
   ok = Appends-trans a b c _ _ written s.ok;
   err = tt;
-  cause = record { later = omega (arith, later, s.cause.later); failed = tt };
+  cause = record {
+    later = omega (arith, same, s.cause.later);
+    failed = tt;
+    once = s.cause.once ∙ same;
+  };
 }
-says_behind {a = a} {b} {c} text more (Err x) written later s = record {
+says_behind {a = a} {b} {c} text more (Err x) written same s = record {
   ok = tt;
   err = front_behind a b c text more written s.err;
   cause = record {
-    later = omega (arith, later, s.cause.later);
-    failed = Rose-later _ _ _ later s.cause.failed;
+    later = omega (arith, same, s.cause.later);
+    failed = Rose-later _ _ _ (omega (arith, same)) s.cause.failed;
+    once = s.cause.once ∙ ap (counted true) same;
   };
 }

@@ -2,12 +2,13 @@
 use Rattle.std.specs.Prelude.{◌≡◌, ℕ, List, [], codes, Option, Some, None, if◌then◌else◌}
 use Rattle.std.specs.Str.{bytes_eq}
 use Rattle.kr_words.specs.Grammar.{Means, HasFewReplicas, HasManyReplicas, IsAboveSize}
-use Rattle.kr_words.specs.Grammar.{IsWithinSize}
+use Rattle.kr_words.specs.Grammar.{IsAbovePage, IsWithinPage, IsWithinSize}
 use Rattle.std.specs.Str.Parse.{digits_value}
 use Rattle.kr_words.specs.Options.{value_of, values_of}
 use Rattle.kr_words.specs.Rules.{before_equals, after_equals}
 use Rattle.kr_words.specs.declared.command.Verb.{Verb}
 use Rattle.kr_words.specs.declared.command.Verb.TheVariants as verbs
+use Rattle.kr_cmd_messages.specs.declared.command.Command.TheVariants.{Verify}
 use Rattle.kr_cmd_messages.specs.declared.command.Command.{Command}
 use Rattle.kr_cmd_messages.specs.declared.command.Command.TheVariants.{Convert, Check, Inspect, Put, Get, Migrate, Rows, Judge, Plan, Rewrite}
 use Rattle.kr_cmd_messages.specs.declared.command.Shown.{Shown}
@@ -15,7 +16,7 @@ use Rattle.kr_cmd_messages.specs.declared.command.Shown.TheVariants.{Wide, Turne
 use Rattle.kr_cmd_messages.specs.declared.command.Direction.{Direction}
 use Rattle.kr_cmd_messages.specs.declared.command.Direction.TheVariants.{Encrypt, Decrypt}
 use Rattle.kr_cmd_messages.specs.declared.refusal.BadWords.{BadWords}
-use Rattle.kr_cmd_messages.specs.declared.refusal.BadWords.TheVariants.{Usage, Replicas, Size}
+use Rattle.kr_cmd_messages.specs.declared.refusal.BadWords.TheVariants.{Usage, Replicas, Size, Page}
 
 -- a command of an object wants three of the options; more of them name programs
 abbrev pub conversion_of : Direction → (options : List (List ℕ × List ℕ))
@@ -58,6 +59,13 @@ lookup_of options (Some config) None path = None
 lookup_of options (Some config) (Some store) None = None
 lookup_of options (Some config) (Some store) (Some path) =
     Some (Get (record { config = config; store = store; path = path; options = options }))
+
+abbrev pub verification_of : (options : List (List ℕ × List ℕ))
+    → (config store : Option (List ℕ)) → Option Command
+verification_of options None store = None
+verification_of options (Some config) None = None
+verification_of options (Some config) (Some store) =
+    Some (Verify (record { config = config; store = store; options = options }))
 
 -- a store isn't migrated into itself
 abbrev pub migration_of : (config store to : Option (List ℕ)) → Option Command
@@ -139,6 +147,9 @@ command_of verbs.Put options =
 command_of verbs.Get options =
     lookup_of options (value_of options (codes "config")) (value_of options (codes "store"))
     (value_of options (codes "path"))
+command_of verbs.Verify options =
+    verification_of options (value_of options (codes "config"))
+    (value_of options (codes "store"))
 command_of verbs.Migrate options =
     migration_of (value_of options (codes "config")) (value_of options (codes "store"))
     (value_of options (codes "to"))
@@ -158,13 +169,15 @@ pub record Asks (words : List (List ℕ)) (command : Command) : Type 0 where
   pub means : Means words verb options
   pub few : HasFewReplicas options
   pub small : IsWithinSize options
+  pub page : IsWithinPage options
   pub is : command_of verb options ≡ Some command
 
--- the words mean no command that is done alone: none at all, a fleet or a load, which `FleetAsked`
--- and `LoadAsked` have, or a migration of a store to itself. A size that is too large is a limit
+-- the words mean no command that is done alone: none at all, a fleet, a watch or a load, which
+-- `FleetAsked`, `WatchAsked` and `LoadAsked` have, or a migration of a store to itself. A size that
+-- is too large is a limit, and so are pages of too many items
 abbrev pub AskNothing : List (List ℕ) → Type 0
 AskNothing words = (verb : Verb) (options : List (List ℕ × List ℕ)) → Means words verb options
-    → (command_of verb options ≡ None) × (IsAboveSize options → ⊥)
+    → (command_of verb options ≡ None) × (IsAboveSize options → ⊥) × (IsAbovePage options → ⊥)
 
 -- the words mean a command that has too many replicas
 abbrev pub AskReplicas : List (List ℕ) → Type 0
@@ -176,8 +189,14 @@ abbrev pub AskSize : List (List ℕ) → Type 0
 AskSize words = (verb : Verb) × (options : List (List ℕ × List ℕ)) × Means words verb options
     × HasFewReplicas options × IsAboveSize options
 
+-- the words mean a command whose pages have too many items
+abbrev pub AskPage : List (List ℕ) → Type 0
+AskPage words = (verb : Verb) × (options : List (List ℕ × List ℕ)) × Means words verb options
+    × HasFewReplicas options × IsWithinSize options × IsAbovePage options
+
 -- the words stop so before anything is done
 abbrev pub AskBadly : BadWords → List (List ℕ) → Type 0
 AskBadly Usage words = AskNothing words
 AskBadly Replicas words = AskReplicas words
 AskBadly Size words = AskSize words
+AskBadly Page words = AskPage words

@@ -6,4 +6,5 @@ pub mod Message
 pub mod Receipts
 pub mod Reports
 pub mod Texts
+pub mod WatchAsked
 pub mod inner

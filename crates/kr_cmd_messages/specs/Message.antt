@@ -1,7 +1,7 @@
 -- What a command says at its end: its status, and its line on the errors sink.
 use Rattle.std.specs.Prelude.{ℕ, List, [], ◌++◌, codes, decimal, Result, Ok, Err}
 use Rattle.kr_base.specs.Limits.{config_limit, data_limit, journal_limit, value_limit, store_limit}
-use Rattle.kr_words.specs.Grammar.{replica_limit, size_limit}
+use Rattle.kr_words.specs.Grammar.{page_limit, replica_limit, size_limit}
 use Rattle.kr_config.specs.declared.refusal.ConfigNo.{ConfigNo}
 use Rattle.kr_config.specs.declared.refusal.ConfigNo.TheVariants as config
 use Rattle.kr_config.specs.declared.refusal.Counted.{Counted}
@@ -20,7 +20,7 @@ use Rattle.kr_cmd_messages.specs.declared.refusal.Limit.TheVariants as limit
 use Rattle.kr_cmd_messages.specs.declared.refusal.Breach.{Breach}
 use Rattle.kr_cmd_messages.specs.declared.refusal.Breach.TheVariants as breach
 use Rattle.kr_cmd_messages.specs.declared.refusal.BadWords.{BadWords}
-use Rattle.kr_cmd_messages.specs.declared.refusal.BadWords.TheVariants.{Usage, Replicas, Size}
+use Rattle.kr_cmd_messages.specs.declared.refusal.BadWords.TheVariants.{Usage, Replicas, Size, Page}
 use Rattle.kr_cmd_messages.specs.declared.refusal.Stop.{Stop}
 use Rattle.kr_cmd_messages.specs.declared.refusal.Stop.TheVariants.{Words, Refused, Fault, NoMemory}
 use Rattle.kr_cmd_messages.specs.declared.refusal.Done.{Done}
@@ -30,6 +30,7 @@ abbrev pub status_of_words : BadWords → ℕ
 status_of_words Usage = 2
 status_of_words Replicas = 6
 status_of_words Size = 6
+status_of_words Page = 6
 
 -- a value may be written with a status of its own
 abbrev pub status_of_done : Done → ℕ
@@ -96,6 +97,7 @@ abbrev pub words_line : BadWords → List ℕ
 words_line Usage = codes "kmsrest: usage: kmsrest COMMAND OPTIONS\n"
 words_line Replicas = limit_line (codes "replicas") replica_limit
 words_line Size = limit_line (codes "size") size_limit
+words_line Page = limit_line (codes "page") page_limit
 
 abbrev pub limit_text : limits.Limit → List ℕ
 limit_text limit.Config = codes "config"

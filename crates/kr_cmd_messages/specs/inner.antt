@@ -3,3 +3,4 @@ pub mod Asking
 pub mod FleetAnswers
 pub mod LoadAnswers
 pub mod Sayings
+pub mod WatchAnswers

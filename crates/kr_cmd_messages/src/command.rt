@@ -8,6 +8,7 @@ ghost use Rattle.kr_words.specs.Options.{value_of};
 ghost use Rattle.kr_words.specs.Rules.{IsCommand};
 ghost use Rattle.kr_cmd_messages.specs.Command.{command_of, conversion_of, check_of, lookup_of, migration_of, listing_of, judgement_of, planning_of, put_of, rewriting_of, shown_by, shown_in};
 ghost use Rattle.kr_base.specs.Rules.{IsPath, IsResource};
+ghost use Rattle.kr_cmd_messages.specs.Command.{verification_of};
 ghost use Rattle.kr_cmd_messages.specs.inner.Asking.{IsReadAs, KeepsRules};
 
 use crate::options::Options;
@@ -49,6 +50,17 @@ pub struct Lookup {
     pub store: Text,
     /// The path of the value.
     pub path: Text,
+    /// All options of the words, which give the programs of plugins.
+    pub options: Options,
+}
+
+/// Which store is to be read through.
+#[derive(Debug, Drop)]
+pub struct Verification {
+    /// The name of the configuration file.
+    pub config: Text,
+    /// The name of the store's file.
+    pub store: Text,
     /// All options of the words, which give the programs of plugins.
     pub options: Options,
 }
@@ -129,6 +141,8 @@ pub enum Command {
     },
     /// Reads a value of a store.
     Get(Lookup),
+    /// Tells what each value of a store reads as.
+    Verify(Verification),
     /// Copies a store of the first format into a new one of the second.
     Migrate(Migration),
     /// Lists the rows of a store.
@@ -153,6 +167,7 @@ pub fn read_command(alloc: Global, words: &[String]) -> Result<Command, Stop>
         Err(WordsNo::Usage) => return Err(Stop::Words(BadWords::Usage)),
         Err(WordsNo::Replicas) => return Err(Stop::Words(BadWords::Replicas)),
         Err(WordsNo::Size) => return Err(Stop::Words(BadWords::Size)),
+        Err(WordsNo::Page) => return Err(Stop::Words(BadWords::Page)),
         Err(WordsNo::NoMemory) => return Err(Stop::NoMemory),
     };
     let command = match command_of(alloc, words) {
@@ -179,6 +194,7 @@ fn command_of(alloc: Global, words: kr_words::Command) -> Result<Option<Command>
         Verb::Inspect => Ok(Some(Command::Inspect)),
         Verb::Put => put_of(alloc, words),
         Verb::Get => lookup_of(alloc, words),
+        Verb::Verify => verification_of(alloc, words),
         Verb::Migrate => migration_of(alloc, &words),
         Verb::Rows => listing_of(alloc, &words),
         Verb::Judge => judgement_of(alloc, words),
@@ -352,6 +368,28 @@ fn lookup_at(config: Text, store: Text, path: Option<Text>, options: Options) ->
         })),
         None => None,
     }
+}
+
+/// The words of `verify`.
+fn verification_of(alloc: Global, words: kr_words::Command) -> Result<Option<Command>, NoMemory>
+    ensures command { IfOk result (λ command. command ≡ verification_of words.options.0
+        (value_of words.options.0 (codes "config"))
+        (value_of words.options.0 (codes "store"))) }
+    ensures path { IfOk result KeepsRules }
+{
+    let config = value_of(alloc, &words, "config")?;
+    let store = value_of(alloc, &words, "store")?;
+    let Some(config) = config else {
+        return Ok(None);
+    };
+    let Some(store) = store else {
+        return Ok(None);
+    };
+    Ok(Some(Command::Verify(Verification {
+        config,
+        store,
+        options: Options::new(words),
+    })))
 }
 
 /// The words of `migrate`.

@@ -35,6 +35,7 @@ pub fn read_fleet(alloc: Global, words: &[String]) -> Result<Option<FleetWords>,
         Err(WordsNo::Usage) => return Err(Stop::Words(BadWords::Usage)),
         Err(WordsNo::Replicas) => return Err(Stop::Words(BadWords::Replicas)),
         Err(WordsNo::Size) => return Err(Stop::Words(BadWords::Size)),
+        Err(WordsNo::Page) => return Err(Stop::Words(BadWords::Page)),
         Err(WordsNo::NoMemory) => return Err(Stop::NoMemory),
     };
     match fleet_of(alloc, words) {

@@ -37,6 +37,7 @@ pub fn read_load(alloc: Global, words: &[String]) -> Result<Option<LoadWords>, S
         Err(WordsNo::Usage) => return Err(Stop::Words(BadWords::Usage)),
         Err(WordsNo::Replicas) => return Err(Stop::Words(BadWords::Replicas)),
         Err(WordsNo::Size) => return Err(Stop::Words(BadWords::Size)),
+        Err(WordsNo::Page) => return Err(Stop::Words(BadWords::Page)),
         Err(WordsNo::NoMemory) => return Err(Stop::NoMemory),
     };
     match load_asked(alloc, &words) {

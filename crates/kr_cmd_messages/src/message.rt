@@ -24,6 +24,7 @@ fn status_of_words(why: BadWords) -> u8
         BadWords::Usage => 2,
         BadWords::Replicas => 6,
         BadWords::Size => 6,
+        BadWords::Page => 6,
     }
 }
 
@@ -132,6 +133,7 @@ fn write_words<E: Sink>(errors: &mut E, why: BadWords) -> Result<(), Failed>
         BadWords::Usage => write_text(errors, "kmsrest: usage: kmsrest COMMAND OPTIONS\n"),
         BadWords::Replicas => write_limit(errors, "replicas", 16),
         BadWords::Size => write_limit(errors, "size", 10_000),
+        BadWords::Page => write_limit(errors, "page", 10_000),
     }
 }
 

@@ -35,6 +35,8 @@ pub enum BadWords {
     Replicas,
     /// They mean a command whose size is above 10,000.
     Size,
+    /// They mean a command whose pages have more than 10,000 items.
+    Page,
 }
 
 /// A limit, of bytes where nothing else is said.
@@ -131,7 +133,7 @@ pub enum Done {
     Fresh,
     /// The value is of another provider than the writer.
     Stale,
-    /// The verdict isn't `pass`, or rows were left as they are.
+    /// The verdict isn't `pass`, rows were left as they are, or values of a store aren't read.
     Blocked,
 }
 

@@ -28,14 +28,15 @@ pub fn report_text(alloc: Global, counts: Counts) -> Result<Bytes, NoMemory>
     ensures { IfOk result (λ text. text ≡ report_text counts) }
 {
     let mut text = Vec::new(alloc);
-    add_line(&mut text, "rewritten", counts.rewritten)?;
-    add_line(&mut text, "fresh", counts.fresh)?;
-    add_line(&mut text, "changed", counts.changed)?;
-    add_line(&mut text, "left", counts.left)?;
+    add_count(&mut text, "rewritten", counts.rewritten)?;
+    add_count(&mut text, "fresh", counts.fresh)?;
+    add_count(&mut text, "changed", counts.changed)?;
+    add_count(&mut text, "left", counts.left)?;
     Ok(Bytes::from_vec(text))
 }
 
-fn add_line(text: &mut Vec<u8>, word: &str, count: u64) -> Result<(), NoMemory>
+/// Adds a line of a word and a count.
+pub fn add_count(text: &mut Vec<u8>, word: &str, count: u64) -> Result<(), NoMemory>
     ensures { IfOk result (λ done. text.new.items ≡ text.old.items ++ count_line word.now count) }
 {
     let mut buffer = Buffer::new();

@@ -25,8 +25,8 @@ use kr_cmd_messages::{
     Counts, Done, Ended, Limit, Object, Outcome, Refusal, Rewriting, Stop, report_text,
 };
 use kr_cmd_steps::{
-    Program, close_dice, close_link, close_tape, configure, first_of, load_store, names_of,
-    open_dice, open_link, open_tape, programs_of, publish_by, start_stop, take_last,
+    Program, close_dice, close_link, configure, first_of, load_store, names_of, open_dice,
+    open_link, open_tape, programs_of, publish_by, settle_tape, start_stop, take_last,
 };
 use kr_config::Settings;
 use kr_history::{Acts, CallNo, Solo};
@@ -62,8 +62,11 @@ pub fn rewrite<W: World>(alloc: Global, words: &Rewriting, world: &mut W) -> End
         Err(stop) => return stopped(stop),
     };
     let (ended, tape) = rewrite_on(alloc, settings, programs.as_slice(), world, tape);
-    close_tape(world, name, tape);
-    ended
+    let Ended { made, said } = ended;
+    Ended {
+        made: settle_tape(world, name, Object::Store, tape, made),
+        said,
+    }
 }
 
 /// Rewrites the store on a tape, which comes back.

@@ -4,8 +4,8 @@ use Rattle.std.specs.Prelude.{true}
 use Rattle.kr_base.specs.Told.{Agrees}
 use Rattle.kr_kms.specs.declared.plugin.Status.{Status}
 use Rattle.kr_kms.specs.declared.plugin.Wrapped.{Wrapped}
-use Rattle.kr_kms.specs.declared.world.WorldCall.TheVariants.{File, Link, RandomSource, Tape}
-use Rattle.kr_cmd_steps.specs.Steps.{Steps, load, take_input, borrow_dice, borrow_tape, read_tape, write_row, keep_rows, draw, borrow_link, ask_status, wrap, unwrap, note, find, refuse, give, and_then, Point, awaits, amid, refuses, gives, Left, Goes, loading, opening, lending, scanning, writing, drawing, linking, asking, with_asked, with_count, with_dice, with_said, with_tape, with_told}
+use Rattle.kr_kms.specs.declared.world.WorldCall.TheVariants.{File, Link, RandomSource, Settled, Tape}
+use Rattle.kr_cmd_steps.specs.Steps.{Steps, load, take_input, borrow_dice, borrow_tape, read_tape, write_row, keep_rows, settle, draw, borrow_link, ask_status, wrap, unwrap, note, find, refuse, give, and_then, Point, awaits, amid, refuses, gives, Left, Goes, loading, opening, lending, scanning, writing, settling, drawing, linking, asking, with_asked, with_count, with_dice, with_said, with_tape, with_told}
 
 -- from what is left on, whatever they draw and find, they refuse nothing, and give this; such steps
 -- take no input
@@ -22,6 +22,7 @@ GivesOnly Q (write_row object name store row next) left =
     (told : Option (List ℕ)) → GivesOnly Q next (with_told name told left)
 GivesOnly Q (keep_rows name store next) left = (told : Option (List ℕ)) (count : ℕ)
     → GivesOnly Q next (with_count name count (with_told name told left))
+GivesOnly Q (settle object name next) left = GivesOnly Q next (with_asked (Settled name) left)
 GivesOnly Q (draw seat size next) left = (bytes : List ℕ) (rest : Option (List ℕ))
     → GivesOnly Q (next bytes) (with_dice seat rest left)
 GivesOnly Q (borrow_link seat plugin program next) left =
@@ -78,6 +79,9 @@ module _ {A : Type 0} (Q : A → Left → Type 0) where
         allowed next _ (g told) goes
     allowed (keep_rows name store next) left g (told, count, later, holds, goes) =
         allowed next _ (g told count) goes
+    allowed (settle object name next) left g (inl e) =
+        at (awaits (settling object name)) _ tt e
+    allowed (settle object name next) left g (inr goes) = allowed next _ g goes
     allowed (draw seat size next) left g (inl e) = at (awaits (drawing seat)) _ tt e
     allowed (draw seat size next) left g (inr (bytes, rest, c, fits, goes)) =
         allowed (next bytes) _ (g bytes rest) goes
@@ -118,6 +122,7 @@ module _ {A B : Type 0} (R : A → Left → Type 0) (Q : B → Left → Type 0) 
   gives_then (write_row object name store row next) left g = λ told. gives_then next _ (g told)
   gives_then (keep_rows name store next) left g =
       λ told count. gives_then next _ (g told count)
+  gives_then (settle object name next) left g = gives_then next _ g
   gives_then (draw seat size next) left g = λ bytes rest. gives_then (next bytes) _ (g bytes rest)
   gives_then (borrow_link seat plugin program next) left g = gives_then next _ g
   gives_then (ask_status seat plugin next) left g =

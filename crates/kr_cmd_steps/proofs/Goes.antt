@@ -15,7 +15,7 @@ use Rattle.kr_config.specs.declared.settings.Settings.{Settings}
 use Rattle.kr_cmd_steps.specs.Around.{Around, with_world, with_lent, left_of, faults_at, Stays, Reaches, AreHome, IsHome, Ends, MayLack, count_at}
 use Rattle.kr_cmd_steps.specs.Commands.{by_result, configuration, show, input_of, limit_of, long_input}
 use Rattle.kr_cmd_steps.specs.Configuration.{Entries}
-use Rattle.kr_cmd_steps.specs.Steps.{Steps, load, take_input, borrow_dice, borrow_tape, read_tape, write_row, keep_rows, draw, note, find, refuse, give, and_then, Call, loading, reading, opening, lending, scanning, writing, drawing, Point, awaits, amid, refuses, gives, Left, with_input, with_asked, IsAt, Goes, borrow_link, ask_status, wrap, unwrap, linking, asking, object_of}
+use Rattle.kr_cmd_steps.specs.Steps.{Steps, load, take_input, borrow_dice, borrow_tape, read_tape, write_row, keep_rows, settle, draw, note, find, refuse, give, and_then, Call, loading, reading, opening, lending, scanning, writing, settling, drawing, Point, awaits, amid, refuses, gives, Left, with_input, with_asked, IsAt, Goes, borrow_link, ask_status, wrap, unwrap, linking, asking, object_of}
 use Rattle.kr_cmd_steps.specs.inner.Lent.{with_told_input, with_lent_dice}
 use Rattle.kr_cmd_steps.specs.inner.Phases.{Does, AskedUnless, AskedFor, rows_in, IsFileRead, Configures, TakesInput, Yields, shown_as, DiceLoan, DiceReturn, LendsNothing}
 use Rattle.kr_cmd_messages.specs.declared.command.Direction.{Direction}
@@ -96,6 +96,9 @@ module _ {A B : Type 0} (point : Point B) (last : Left) (others : A → Steps B)
       inr (told, holds, further p end f next _ goes)
   further p end f (keep_rows name store next) left (told, count, later, holds, goes) =
       (told, count, later, holds, further p end f next _ goes)
+  further p end f (settle object name next) left (inl at) =
+      inl (land (awaits (settling object name)) at f)
+  further p end f (settle object name next) left (inr goes) = inr (further p end f next _ goes)
   further p end f (draw seat size next) left (inl at) = inl (land (awaits (drawing seat)) at f)
   further p end f (draw seat size next) left (inr (bytes, rest, c, fits, goes)) =
       inr (bytes, rest, c, fits, further p end f (next bytes) _ goes)
@@ -159,6 +162,7 @@ earlier new (opening seat) h r = Rose-later _ _ _ h.files.later.dice r
 earlier new (lending name) h r = Rose-later _ _ _ h.files.later.tapes r
 earlier new (scanning object name) h r = Rose-later _ _ _ (h.tapes.later name) r
 earlier new (writing object name) h r = Rose-later _ _ _ (h.tapes.later name) r
+earlier new (settling object name) h r = Rose-later _ _ _ (h.tapes.later name) r
 earlier new (drawing seat) h r = Rose-later _ _ _ (h.dice.later seat) r
 earlier new (linking seat plugin) h r = Rose-later _ _ _ h.files.later.links r
 earlier new (asking seat plugin) h r = Rose-later _ _ _ (h.links.later (seat, plugin)) r

@@ -18,6 +18,7 @@ pub mod ProgramNames
 pub mod RisingCounts
 pub mod Rooms
 pub mod SeedSteps
+pub mod Settling
 pub mod Tapes
 pub mod Unsealed
 pub mod ValueRead

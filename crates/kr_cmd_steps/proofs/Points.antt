@@ -1,6 +1,6 @@
 -- The points at which steps end a command, or give.
 use Rattle.std.proofs.Common.{◌≡◌, List, ℕ}
-use Rattle.kr_cmd_steps.specs.Steps.{Point, awaits, amid, refuses, gives, writing}
+use Rattle.kr_cmd_steps.specs.Steps.{Point, awaits, amid, refuses, gives, settling, writing}
 use Rattle.kr_cmd_messages.specs.declared.refusal.Done.TheVariants.{Silent}
 use Rattle.kr_cmd_messages.specs.declared.refusal.Object.{Object}
 use Rattle.kr_cmd_messages.specs.declared.refusal.Outcome.{Outcome}
@@ -19,9 +19,9 @@ IsTorn object store amid = ⊥
 IsTorn object store (refuses why) = ⊥
 IsTorn object store (gives x) = ⊥
 
--- a value with nothing beside it
-abbrev pub IsSilent : Point Outcome → Type 0
-IsSilent (awaits call) = ⊥
-IsSilent amid = ⊥
-IsSilent (refuses why) = ⊥
-IsSilent (gives x) = x.done ≡ Silent
+-- a value with nothing beside it, or the settling in front of it
+abbrev pub IsThrough : Object → (store : List ℕ) → Point Outcome → Type 0
+IsThrough object store (awaits call) = call ≡ settling object store
+IsThrough object store amid = ⊥
+IsThrough object store (refuses why) = ⊥
+IsThrough object store (gives x) = x.done ≡ Silent

@@ -4,7 +4,9 @@ use Rattle.std.specs.Option.{option_map}
 use Rattle.kr_base.specs.Faults.{Rose}
 use Rattle.kr_base.specs.Told.{Agrees}
 use Rattle.kr_config.specs.Kept.{Row}
-use Rattle.kr_kms.specs.Outside.{Outside, same_name}
+use Rattle.kr_kms.specs.Outside.{Outside, same_name, with_call}
+use Rattle.kr_kms.specs.declared.world.WorldCall.{WorldCall}
+use Rattle.kr_kms.specs.declared.world.WorldCall.TheVariants.{Settled}
 use Rattle.kr_store.specs.Rows.{put_of}
 use Rattle.kr_store.specs.declared.format.Check as kept
 use Rattle.kr_store.specs.declared.format.Format.TheVariants.{Two}
@@ -54,7 +56,8 @@ pub record StillBegins (was is : ToldTape) : Type 0 where
 
 -- the tape of a store that `put` was asked to change: no row was added, and the status isn't 0; the
 -- write failed, so that the tape's count rose and the status is 4; or the row was added, and the
--- status is 0, or 4 where then the output failed. Want of memory, 5, leaves nothing of a row
+-- status is 0, or 4 where then the tape couldn't be settled or the output failed. Want of memory, 5,
+-- leaves nothing of a row
 abbrev pub MayGrow : Conversion → (status : ℕ) → (was is : ToldTape) → (before count : ℕ) → Type 0
 MayGrow words status was is before count =
     ((status ≢ 0) × IsUngrown was is)
@@ -116,7 +119,7 @@ new_store rows = record { format = Two; rows = rows }
 -- the tape that a migration writes was empty, or was made: the write of a row failed, so that the
 -- tape's count rose and the status is 4, and it begins with the file of the rows before; or it has
 -- the file of the rows that were copied, all of them, and then the status is 0, or 4 where then the
--- output failed; or not all, and then the status isn't 0
+-- tape couldn't be settled or the output failed; or not all, and then the status isn't 0
 pub record IsCopied (words : Migration) (status : ℕ) (old new : Outside) : Type 0 where
   pub copied : List LogRow
   pub rest : List LogRow
@@ -145,9 +148,24 @@ LeavesTapes (Rewrite words) status old new =
     (old.tapes.faults words.store) (new.tapes.faults words.store))
 LeavesTapes command status old new = new.tapes.told ≡ old.tapes.told
 
--- the words stopped the call, or they ask for a command that leaves the tapes so
+-- the last that the world was told is that this tape is back settled: all that it holds is on the
+-- device
+abbrev pub IsSettledLast : (name : List ℕ) → (asked : Option (List WorldCall)) → Type 0
+IsSettledLast name asked =
+    (before : Option (List WorldCall)) × (asked ≡ with_call (Settled name) before)
+
+-- the tape that the command writes is settled
+abbrev pub Settles : Command → (new : Outside) → Type 0
+Settles (Put words store) new = IsSettledLast store new.asked
+Settles (Migrate words) new = IsSettledLast words.to new.asked
+Settles (Rewrite words) new = IsSettledLast words.store new.asked
+Settles command new = ⊤
+
+-- the words stopped the call, or they ask for a command that leaves the tapes so, and at status 0
+-- settled what it wrote
 abbrev pub AreLeft : List (List ℕ) → Around → Around → (status : ℕ) → Type 0
 AreLeft words old new status =
     ((status ≢ 0) × (new.world.tapes.told ≡ old.world.tapes.told))
     ⊎ ((command : Command) × Asks words command
-    × LeavesTapes command status old.world new.world)
+    × LeavesTapes command status old.world new.world
+    × (status ≡ 0 → Settles command new.world))

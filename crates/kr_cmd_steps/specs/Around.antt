@@ -3,7 +3,7 @@ use Rattle.std.specs.Prelude.{◌≡◌, ℕ, ◌-◌, ◌≤◌, ◌⊎◌, Boo
 use Rattle.std.specs.Io.KnownBytes.{Keeps}
 use Rattle.kr_base.specs.Faults.{Rose}
 use Rattle.kr_kms.specs.Outside.{Outside, Objects, KeepsFiles, file_faults, at_key}
-use Rattle.kr_cmd_steps.specs.Steps.{Steps, Call, loading, reading, opening, lending, scanning, writing, drawing, object_of, Point, awaits, amid, refuses, gives, Left, Goes, linking, asking}
+use Rattle.kr_cmd_steps.specs.Steps.{Steps, Call, loading, reading, opening, lending, scanning, writing, settling, drawing, object_of, Point, awaits, amid, refuses, gives, Left, Goes, linking, asking}
 use Rattle.kr_kms.specs.Truth.{Truth}
 use Rattle.kr_cmd_messages.specs.declared.refusal.Object.{Object}
 use Rattle.kr_cmd_messages.specs.declared.refusal.Stop.{Stop}
@@ -50,6 +50,7 @@ faults_at (opening seat) around = around.world.faults.dice
 faults_at (lending name) around = around.world.faults.tapes
 faults_at (scanning object name) around = around.world.tapes.faults name
 faults_at (writing object name) around = around.world.tapes.faults name
+faults_at (settling object name) around = around.world.tapes.faults name
 faults_at (drawing seat) around = around.world.dice.faults seat
 faults_at (linking seat plugin) around = around.world.faults.links
 faults_at (asking seat plugin) around = around.world.links.faults (seat, plugin)
@@ -62,6 +63,7 @@ count_at (opening seat) around = file_faults around.world
 count_at (lending name) around = file_faults around.world
 count_at (scanning object name) around = around.world.tapes.faults name
 count_at (writing object name) around = around.world.tapes.faults name
+count_at (settling object name) around = around.world.tapes.faults name
 count_at (drawing seat) around = around.world.dice.faults seat
 count_at (linking seat plugin) around = file_faults around.world
 count_at (asking seat plugin) around = around.world.links.faults (seat, plugin)
@@ -72,7 +74,8 @@ IsFault call object count old new =
     (object ≡ object_of call) × Rose (faults_at call old) (faults_at call new)
     × (count ≡ count_at call new)
 
--- memory may lack at the call, but not at a write, so that a row is written whole or a fault tells
+-- memory may lack at the call, but not at a write nor where it is settled, so that a row is written
+-- whole or a fault tells
 abbrev pub MayLack : Call → Type 0
 MayLack (loading name) = ⊤
 MayLack reading = ⊤
@@ -80,6 +83,7 @@ MayLack (opening seat) = ⊤
 MayLack (lending name) = ⊤
 MayLack (scanning object name) = ⊤
 MayLack (writing object name) = ⊥
+MayLack (settling object name) = ⊥
 MayLack (drawing seat) = ⊤
 MayLack (linking seat plugin) = ⊤
 MayLack (asking seat plugin) = ⊤

@@ -41,14 +41,18 @@ use Rattle.kr_cmd_steps.specs.Inspect.{Inspects}
 use Rattle.kr_cmd_steps.specs.Judgements.{IsJudged, start_refusal, verdict_outcome}
 use Rattle.kr_cmd_messages.specs.Reports.{report_text, report_outcome}
 use Rattle.kr_cmd_steps.specs.PlanLines.{ShowsPlan}
+use Rattle.kr_cmd_steps.specs.RowFindings.{finding_of, findings_outcome}
 use Rattle.kr_cmd_steps.specs.RowLines.{ShowsRows}
+use Rattle.kr_cmd_steps.specs.declared.finding.Finding.{Finding}
 use Rattle.kr_cmd_steps.specs.StoreFiles.{Stored, IsSource, IsStored, IsTarget, none_there, with_row}
-use Rattle.kr_cmd_steps.specs.Steps.{Steps, load, take_input, borrow_dice, borrow_tape, read_tape, write_row, keep_rows, draw, find, refuse, give, and_then, unwrap, note}
+use Rattle.kr_cmd_steps.specs.Steps.{Steps, load, take_input, borrow_dice, borrow_tape, read_tape, write_row, keep_rows, settle, draw, find, refuse, give, and_then, unwrap, note}
 use Rattle.kr_cmd_steps.specs.Plugins.{borrow_links, make_seeds, programs_of}
+use Rattle.kr_cmd_messages.specs.declared.command.Command.TheVariants.{Verify}
 use Rattle.kr_cmd_messages.specs.declared.command.Command.{Command}
 use Rattle.kr_cmd_messages.specs.declared.command.Command.TheVariants.{Convert, Check, Inspect, Put, Get, Migrate, Rows, Judge, Plan, Rewrite}
 use Rattle.kr_cmd_messages.specs.declared.command.Conversion.{Conversion}
 use Rattle.kr_cmd_messages.specs.declared.command.Lookup.{Lookup}
+use Rattle.kr_cmd_messages.specs.declared.command.Verification.{Verification}
 use Rattle.kr_cmd_messages.specs.declared.command.Judgement.{Judgement}
 use Rattle.kr_cmd_messages.specs.declared.command.Migration.{Migration}
 use Rattle.kr_cmd_messages.specs.declared.command.Planning.{Planning}
@@ -89,6 +93,11 @@ stored_on object name =
 -- the tape of a name, for these steps
 abbrev pub tape_for : {A : Type 0} → List ℕ → (make : Bool) → Steps A → Steps A
 tape_for name make next = borrow_tape name make (Absent (visible name)) next
+
+-- it is settled before it is back, where these steps give something
+abbrev pub settled_for : {A : Type 0} → Object → List ℕ → (make : Bool) → Steps A → Steps A
+settled_for object name make next =
+    tape_for name make (and_then next (λ made. settle object name (give made)))
 
 -- these steps, where there is memory for what they need
 abbrev pub with_memory : {A : Type 0} → Steps A → Steps A
@@ -247,10 +256,10 @@ sealed_into words store rows programs bytes read =
     and_then (adding Store store read (new_row read.format words rows sealed.bytes)) (λ grown.
     give (silently (revision_line grown))))
 
--- the store's tape is out from before the sealing until the row is written
+-- the store's tape is out from before the sealing until the row is written and settled
 abbrev pub stored_into : Conversion → (store : List ℕ) → List Row → List Program → (bytes : List ℕ)
     → Steps Outcome
-stored_into words store rows programs bytes = tape_for store true
+stored_into words store rows programs bytes = settled_for Store store true
     (and_then (stored_on Store store) (sealed_into words store rows programs bytes))
 
 abbrev pub putting : Conversion → (store : List ℕ) → Steps Outcome
@@ -278,6 +287,44 @@ getting words =
     and_then (linking_programs words.options rows) (λ programs.
     and_then (tape_for words.store false (row_on words.store words.path)) (λ row.
     bench_steps programs Decrypt row.resource words.path rows row.stored)))
+
+-- ---- verify
+
+-- the live rows of the store on a tape that is lent, by their paths
+abbrev pub live_on : (store : List ℕ) → Steps (List stored.Row)
+live_on store = and_then (stored_on Store store)
+    (λ read. find (List stored.Row) (IsListing read.rows) give)
+
+-- what the row's value is found to be, read as `get` reads it
+abbrev pub row_finding : Publication → stored.Row → Steps Finding
+row_finding p row =
+    and_then (value_read p.seeds (list_of p.rows row.resource) row.path row.stored)
+    (λ read. give (finding_of read))
+
+-- one row behind another, where there is memory for what was found
+abbrev pub row_findings : Publication → List stored.Row → Steps (List Finding)
+row_findings p [] = give []
+row_findings p (row ∷ rows) = and_then (row_finding p row) (λ finding. with_memory
+    (and_then (row_findings p rows) (λ findings. give (finding ∷ findings))))
+
+-- what is found of all rows is told
+abbrev pub telling_findings : List stored.Row → List Finding → Steps Outcome
+telling_findings live findings = with_memory (give (findings_outcome live findings))
+
+abbrev pub verifying_by : List Row → (live : List stored.Row) → Steps Outcome
+verifying_by rows live = with_memory
+    (and_then (make_seeds (plugin_order rows)) (λ seeds.
+    and_then (row_findings (record { rows = rows; seeds = seeds }) live) (telling_findings live)))
+
+abbrev pub verifying_with : List Program → List Row → (live : List stored.Row) → Steps Outcome
+verifying_with programs rows live = borrow_dice 0 (borrow_links programs (verifying_by rows live))
+
+-- the tape is back before the first value is read
+abbrev pub verifying : Verification → Steps Outcome
+verifying words =
+    and_then (configuration words.config) (λ rows.
+    and_then (linking_programs words.options rows) (λ programs.
+    and_then (tape_for words.store false (live_on words.store)) (verifying_with programs rows)))
 
 -- ---- migrate
 
@@ -327,7 +374,7 @@ copied_into to rows source target =
 -- the target's tape, which is made where it is absent, once the source was read
 abbrev pub migrating_into : (to : List ℕ) → List Row → (source : Stored) → Steps Outcome
 migrating_into to rows source =
-    tape_for to true (and_then (target_on to) (copied_into to rows source))
+    settled_for Target to true (and_then (target_on to) (copied_into to rows source))
 
 -- the source's tape is out until the target's is back
 abbrev pub migrating : Migration → Steps Outcome
@@ -500,7 +547,7 @@ abbrev pub rewriting : Rewriting → Steps Outcome
 rewriting words =
     and_then (configuration words.config) (λ rows.
     and_then (linking_programs words.options rows) (λ programs.
-    tape_for words.store false (rewriting_on words.store rows programs)))
+    settled_for Store words.store false (rewriting_on words.store rows programs)))
 
 -- ---- the commands
 
@@ -510,6 +557,7 @@ steps (Check config resource) =
     and_then (configuration config) (λ rows. show (λ shown. shown ≡ Ok (listing rows resource)))
 steps (Put words store) = putting words store
 steps (Get words) = getting words
+steps (Verify words) = verifying words
 steps (Migrate words) = migrating words
 steps (Rows store) = tape_for store false (listing_on store)
 steps (Judge words) = judging words

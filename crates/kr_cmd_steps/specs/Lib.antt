@@ -9,6 +9,7 @@ pub mod Judgements
 pub mod PlanLines
 pub mod Plugins
 pub mod Ran
+pub mod RowFindings
 pub mod RowLines
 pub mod Steps
 pub mod StoreFiles

@@ -8,11 +8,12 @@ use Rattle.kr_config.specs.Kept.{Row}
 use Rattle.kr_provider.specs.PluginOrder.{plugin_order}
 use Rattle.kr_provider.specs.Publication.{names_plugin}
 use Rattle.kr_cmd_steps.specs.Around.{Around, with_what_is_said, left_of, faults_at, count_at, Reaches, IsHome, Ends}
-use Rattle.kr_cmd_messages.specs.Command.{replica_names, reload_in, reload_file, Asks, AskNothing, AskReplicas, AskSize, AskBadly}
+use Rattle.kr_cmd_messages.specs.Command.{replica_names, reload_in, reload_file, Asks, AskNothing, AskPage, AskReplicas, AskSize, AskBadly}
 use Rattle.kr_cmd_steps.specs.Commands.{steps}
 use Rattle.kr_cmd_steps.specs.Configuration.{IsConfiguration}
 use Rattle.kr_cmd_messages.specs.Message.{status_of, status_of_done, status_of_refusal, line_of, refusal_line, fault_line, done_line}
 use Rattle.kr_cmd_steps.specs.Steps.{Call, object_of, Point, awaits, refuses, gives, Left, Goes}
+use Rattle.kr_cmd_messages.specs.declared.command.Command.TheVariants.{Verify}
 use Rattle.kr_cmd_messages.specs.declared.command.Command.{Command}
 use Rattle.kr_cmd_messages.specs.declared.command.Command.TheVariants.{Convert, Check, Inspect, Put, Get, Migrate, Rows, Judge, Plan, Rewrite}
 use Rattle.kr_cmd_messages.specs.declared.command.Direction.{Direction}
@@ -108,7 +109,7 @@ IsUsage words errors status =
     × (AskNothing words →
     (status ≡ 2)
     ⊎ (status ≡ 5)
-    ⊎ ((status ≡ 6) × (AskReplicas words ⊎ AskSize words))
+    ⊎ ((status ≡ 6) × (AskReplicas words ⊎ AskSize words ⊎ AskPage words))
     ⊎ ((status ≡ 4) × Rose errors.old_faults errors.new_faults))
 
 -- the steps come to a call that failed, so that its count and its object's rose; nothing was
@@ -156,7 +157,8 @@ IsRefused words old new output errors status =
     (status ≡ 1) ⊎ (status ≡ 3) ⊎ (status ≡ 6)
     → RefusesWith words old new output errors status
     ⊎ GivesWith words old new output errors status
-    ⊎ ((status ≡ 6) × (AskReplicas words ⊎ AskSize words) × IsUntouched old new output)
+    ⊎ ((status ≡ 6) × (AskReplicas words ⊎ AskSize words ⊎ AskPage words)
+    × IsUntouched old new output)
 
 -- what a conversion touches of the plugins that these entries name is told: their statuses; as the
 -- key id is told nowhere that a seed is wrapped with, `decrypt` touches none
@@ -182,6 +184,10 @@ IsTelling (Put words store) old = IsSome (old.world.file words.config)
     × ((file : Option (List ℕ)) (rows : List Row) → IsConfiguration words.config file (Ok rows)
     → Agrees (old.world.file words.config) file → names_plugin rows ≡ false)
 IsTelling (Get words) old = IsSome (old.world.file words.config)
+    × IsSome (old.world.tapes.told words.store)
+    × ((file : Option (List ℕ)) (rows : List Row) → IsConfiguration words.config file (Ok rows)
+    → Agrees (old.world.file words.config) file → ArePluginsTold Decrypt old rows)
+IsTelling (Verify words) old = IsSome (old.world.file words.config)
     × IsSome (old.world.tapes.told words.store)
     × ((file : Option (List ℕ)) (rows : List Row) → IsConfiguration words.config file (Ok rows)
     → Agrees (old.world.file words.config) file → ArePluginsTold Decrypt old rows)

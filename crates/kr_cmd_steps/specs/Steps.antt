@@ -11,7 +11,7 @@ use Rattle.kr_kms.specs.declared.plugin.Status.{Status}
 use Rattle.kr_kms.specs.declared.plugin.Wrapped.{Wrapped}
 use Rattle.kr_kms.specs.declared.seeds.SeedKey.{SeedKey}
 use Rattle.kr_kms.specs.declared.world.WorldCall.{WorldCall}
-use Rattle.kr_kms.specs.declared.world.WorldCall.TheVariants.{File, Tape, RandomSource, Link}
+use Rattle.kr_kms.specs.declared.world.WorldCall.TheVariants.{File, Tape, RandomSource, Link, Settled}
 use Rattle.kr_store.specs.declared.rows.LogRow.{LogRow}
 use Rattle.kr_cmd_steps.specs.StoreFiles.{Stored, with_row, HoldsRows, BeginsWith, StillHolds}
 use Rattle.kr_cmd_messages.specs.declared.refusal.Object.{Object}
@@ -35,6 +35,9 @@ pub data Steps (A : Type 0) : Type 1 where
   -- nothing is asked: the tape that is lent begins with the file of these rows, and is no more than
   -- that where its count of faults didn't rise
   keep_rows : (name : List ℕ) → Stored → Steps A → Steps A
+  -- all that the tape holds, which is lent, is on the device, and the world is told so where it
+  -- comes back; a fault's line names the object
+  settle : Object → (name : List ℕ) → Steps A → Steps A
   -- so many bytes of the random source of a seat
   draw : (seat size : ℕ) → (List ℕ → Steps A) → Steps A
   -- the link of a seat to a plugin, which a program is
@@ -65,6 +68,7 @@ and_then (read_tape object name next) others =
 and_then (write_row object name store row next) others =
     write_row object name store row (and_then next others)
 and_then (keep_rows name store next) others = keep_rows name store (and_then next others)
+and_then (settle object name next) others = settle object name (and_then next others)
 and_then (draw seat size next) others = draw seat size (λ bytes. and_then (next bytes) others)
 and_then (borrow_link seat plugin program next) others =
     borrow_link seat plugin program (and_then next others)
@@ -87,6 +91,7 @@ pub data Call : Type 0 where
   lending : (name : List ℕ) → Call
   scanning : Object → (name : List ℕ) → Call
   writing : Object → (name : List ℕ) → Call
+  settling : Object → (name : List ℕ) → Call
   drawing : (seat : ℕ) → Call
   linking : (seat : ℕ) → (plugin : List ℕ) → Call
   asking : (seat : ℕ) → (plugin : List ℕ) → Call
@@ -99,6 +104,7 @@ object_of (opening seat) = Files
 object_of (lending name) = Files
 object_of (scanning object name) = object
 object_of (writing object name) = object
+object_of (settling object name) = object
 object_of (drawing seat) = Dice seat
 object_of (linking seat plugin) = Files
 object_of (asking seat plugin) = Plugin plugin
@@ -213,6 +219,8 @@ module _ {A : Type 0} (point : Point A) (end : Left) where
       (told : Option (List ℕ)) × (count : ℕ) × (left.counts name ≤ count)
       × StillHolds store told (left.counts name) count
       × Goes next (with_count name count (with_told name told left))
+  Goes (settle object name next) left =
+      IsAt (awaits (settling object name)) left ⊎ Goes next (with_asked (Settled name) left)
   Goes (draw seat size next) left =
       IsAt (awaits (drawing seat)) left
       ⊎ ((bytes : List ℕ) × (rest : Option (List ℕ)) × Consumes (left.dice seat) rest bytes

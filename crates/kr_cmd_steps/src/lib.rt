@@ -2,6 +2,7 @@
 #![tactic(auto)]
 
 mod bench;
+mod finding;
 mod phases;
 mod programs;
 mod publication;
@@ -9,6 +10,8 @@ mod starts;
 mod stores;
 mod work;
 
+pub use bench::adopted;
+pub use finding::Finding;
 pub use phases::{
     close_dice, close_link, configure, load_settings, open_dice, open_link, show, take_input,
     write_output,
@@ -16,5 +19,5 @@ pub use phases::{
 pub use programs::{Program, Programs, names_of, programs_of, without_program};
 pub use publication::publish_by;
 pub use starts::start_stop;
-pub use stores::{add_delete, add_put, close_tape, load_store, open_tape};
+pub use stores::{add_delete, add_put, close_tape, load_store, open_tape, settle_tape};
 pub use work::{Task, first_of, make, take_last};

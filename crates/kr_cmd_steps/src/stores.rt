@@ -9,9 +9,9 @@ ghost use Rattle.kr_cmd_steps.specs.Around.{Around};
 ghost use Rattle.kr_cmd_steps.specs.Commands.{adding, stored_on};
 ghost use Rattle.kr_cmd_steps.specs.inner.Lent.{with_lent_tape};
 ghost use Rattle.kr_cmd_steps.specs.inner.Phases.{Does, AskedFor};
-ghost use Rattle.kr_cmd_steps.specs.inner.Tapes.{HasOneMore, IsLoaded, LentTape, ReturnedTape, NoTape, grown_by, load_stop, stored_of};
+ghost use Rattle.kr_cmd_steps.specs.inner.Tapes.{HasOneMore, IsLoaded, LentTape, ReturnedTape, ReturnsSettled, NoTape, grown_by, load_stop, stored_of};
 
-use kr_base::{Bytes, STORE_LIMIT, Tape};
+use kr_base::{Bytes, Failed, STORE_LIMIT, Tape};
 use kr_cmd_messages::{Breach, Limit, Object, Refusal, Stop, visible};
 use kr_kms::{FileNo, World};
 use kr_store::{Check, PutNo, Store, StoreNo};
@@ -53,6 +53,40 @@ pub fn close_tape<W: World>(world: &mut W, name: &str, tape: W::Tap)
         (W.Tap.count tape) }
 {
     world.back_tape(name, tape);
+}
+
+/// Gives the tape of the name back. Where something was made of it, the tape is settled before: a
+/// fault of that stands in place of what was made.
+pub fn settle_tape<W: World, A: Drop>(
+    world: &mut W,
+    name: &str,
+    object: Object,
+    mut tape: W::Tap,
+    made: Result<A, Stop>,
+) -> Result<A, Stop>
+    requires out { 0 < (W.told world.old).tapes.out name.now }
+    ensures { ReturnsSettled name.now object (W.told world.old) (W.told world.new)
+        (W.Tap.told tape) (W.Tap.count tape) made result }
+{
+    let value = match made {
+        Ok(value) => value,
+        Err(stop) => {
+            world.back_tape(name, tape);
+            return Err(stop);
+        }
+    };
+    match tape.settle() {
+        Ok(()) => {
+            world.back_settled(name, tape);
+            Ok(value)
+        }
+        Err(Failed) => {
+            drop(value);
+            let faults = tape.faults();
+            world.back_tape(name, tape);
+            Err(Stop::Fault(object, faults))
+        }
+    }
 }
 
 /// Loads the store of a tape. A tape that is refused comes back.

@@ -1,5 +1,5 @@
 -- A tape that is borrowed, and comes back, while another one is out.
-use Rattle.std.proofs.Common.{◌≡◌, ℕ, ◌+◌, List, Option, None, Some, Result, Err, refl, sym, ◌∙◌, ap, subst, arith}
+use Rattle.std.proofs.Common.{◌≡◌, ℕ, ◌+◌, List, Option, None, Some, Result, Ok, Err, refl, sym, ◌∙◌, ap, subst, arith}
 use Rattle.std.specs.Prelude.{Bool, true, false, ◌-◌, if◌then◌else◌}
 use Rattle.std.specs.Option.{option_map}
 use Rattle.kr_base.specs.Told.{Agrees}
@@ -7,14 +7,16 @@ use Rattle.kr_kms.specs.Outside.{Outside, at_key, same_name, HandsOut, TakesBack
 use Rattle.kr_kms.proofs.Lent.{names_decide}
 use Rattle.kr_kms.specs.declared.world.WorldCall.TheVariants.{Tape}
 use Rattle.kr_cmd_steps.specs.Around.{Around, with_lent, with_world}
-use Rattle.kr_cmd_steps.specs.Commands.{tape_for}
+use Rattle.kr_cmd_steps.specs.Commands.{settled_for, tape_for}
 use Rattle.kr_cmd_steps.specs.Steps.{Steps}
 use Rattle.kr_cmd_steps.specs.inner.Lent.{Tapes, with_lent_tape, with_tapes}
 use Rattle.kr_cmd_steps.specs.inner.Phases.{AskedUnless, Does}
-use Rattle.kr_cmd_steps.specs.inner.Tapes.{LentTape, NoTape, ReturnedTape}
+use Rattle.kr_cmd_steps.specs.inner.Tapes.{LentTape, NoTape, ReturnedTape, ReturnsSettled, with_settled}
+use Rattle.kr_cmd_messages.specs.declared.refusal.Object.{Object}
 use Rattle.kr_cmd_messages.specs.declared.refusal.Stop.{Stop}
 use Rattle.kr_cmd_messages.specs.declared.refusal.Stop.TheVariants.{Words, Refused, Fault, NoMemory}
-use Rattle.kr_cmd_steps.proofs.Tapes.{lends_tape, not_lent}
+use Rattle.kr_cmd_steps.proofs.Settling.{lends_settled}
+use Rattle.kr_cmd_steps.proofs.Tapes.{not_lent}
 
 one_of_two : {B : Type 0} (q : Bool) (x y z : B) → (q ≡ false → y ≡ z)
     → (if q then x else y) ≡ (if q then x else z)
@@ -103,18 +105,31 @@ module _ (name other : List ℕ) (told : Option (List ℕ)) (count : ℕ)
     links = h.links;
   }
 
-  -- it is borrowed for what follows, and comes back
-  pub lends_behind : (make : Bool) {old out mid new : Outside} {given back : Option (List ℕ)}
-      {first last : ℕ} (a : Around) {B : Type 0} {next : Steps B} {result : Result B Stop}
-      → LentTape other make old out given first → ReturnedTape other mid new back last
+  returns_behind : (object : Object) (mid new : Outside) (held : Option (List ℕ)) (last : ℕ)
+      {B : Type 0} (made result : Result B Stop)
+      → ReturnsSettled other object mid new held last made result
+      → ReturnsSettled other object (seen mid) (seen new) held last made result
+  returns_behind object mid new held last (Ok m) (Ok x) (same, h) =
+      (same, back_behind {mid = with_settled other mid} {new = new} h)
+  returns_behind object mid new held last (Ok m) (Err stop) (later, rose, same, h) =
+      (later, rose, same, back_behind h)
+  returns_behind object mid new held last (Err why) result (same, h) = (same, back_behind h)
+
+  -- it is borrowed for what follows, and is settled before it is back
+  pub settles_behind : (object : Object) (make : Bool) {old out : Outside}
+      {given : Option (List ℕ)} {first : ℕ} (mid new : Outside) (back : Option (List ℕ))
+      (last : ℕ) (a : Around) {B : Type 0} (next : Steps B)
+      (made result : Result B Stop) → LentTape other make old out given first
+      → ReturnsSettled other object mid new back last made result
       → Does next (with_lent_tape other given first (with_lent_tape name told count
       (with_world out a)))
-      (with_lent_tape other back last (with_lent_tape name told count (with_world mid a))) result
-      → Does (tape_for other make next) (with_lent_tape name told count (with_world old a))
+      (with_lent_tape other back last (with_lent_tape name told count (with_world mid a))) made
+      → Does (settled_for object other make next) (with_lent_tape name told count (with_world old a))
       (with_lent_tape name told count (with_world new a)) result
-  lends_behind make {old} {out} {mid} {new} a {next = next} {result} lent returned works =
-      lends_tape other make {old = seen old} {out = seen out} {mid = seen mid} {new = seen new} a
-      (lent_behind make lent) (back_behind returned) works
+  settles_behind object make {old} {out} mid new back last a next made result lent returned works =
+      lends_settled object other make {old = seen old} {out = seen out} (seen mid) (seen new) back
+      last a next made result (lent_behind make lent)
+      (returns_behind object mid new back last made result returned) works
 
   -- it isn't lent
   pub not_lent_behind : (make : Bool) {old new : Outside} (a : Around) {B : Type 0}

@@ -24,7 +24,7 @@ pub record IsShown (rows : List LogRow) (path text : List ℕ) : Type 0 where
   pub passes : Passes rows [] passed path
   pub lines : AreLines passed text
 
-passes_more : (rows : List LogRow) (from path : List ℕ) (passed : List Row) (row : Row)
+pub passes_more : (rows : List LogRow) (from path : List ℕ) (passed : List Row) (row : Row)
     → Passes rows from passed path → IsNext rows path (Some row)
     → Passes rows from (passed ++ row ∷ []) row.path
 passes_more rows from path [] row e next =
@@ -32,7 +32,7 @@ passes_more rows from path [] row e next =
 passes_more rows from path (first ∷ passed) row p next =
     (p.0, passes_more rows first.path path passed row p.1 next)
 
-follow : (rows : List LogRow) (from path : List ℕ) (passed : List Row)
+pub follow : (rows : List LogRow) (from path : List ℕ) (passed : List Row)
     → Passes rows from passed path → IsNext rows path None → FollowEachOther rows from passed
 follow rows from path [] e end = subst (λ p. IsNext rows p None) e end
 follow rows from path (first ∷ passed) p end =

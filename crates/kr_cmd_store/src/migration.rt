@@ -21,7 +21,9 @@ use crate::storing::{answer_of, store_check};
 use itoa::Buffer;
 use kr_base::{Bytes, Failed, NoMemory, Tape, Text};
 use kr_cmd_messages::{Migration, Object, Outcome, Refusal, Stop, add};
-use kr_cmd_steps::{add_delete, add_put, close_tape, configure, load_store, open_tape};
+use kr_cmd_steps::{
+    add_delete, add_put, close_tape, configure, load_store, open_tape, settle_tape,
+};
 use kr_config::{Settings, Who};
 use kr_kms::World;
 use kr_provider::reader_of;
@@ -123,8 +125,7 @@ fn migrate_into<W: World>(
         Err(stop) => return Err(stop),
     };
     let (made, tape) = copy_on(alloc, settings, source, tape);
-    close_tape(world, name, tape);
-    made
+    settle_tape(world, name, Object::Target, tape, made)
 }
 
 /// Copies a store onto a tape, which comes back.

@@ -56,14 +56,16 @@ fn add_row(text: &mut Vec<u8>, row: &Row) -> Result<(), NoMemory>
     add(text, "\n")
 }
 
-fn add_revision(text: &mut Vec<u8>, revision: u64) -> Result<(), NoMemory>
+/// Adds the revision.
+pub fn add_revision(text: &mut Vec<u8>, revision: u64) -> Result<(), NoMemory>
     ensures { IfOk result (λ done. text.new.items ≡ text.old.items ++ decimal revision) }
 {
     let mut buffer = Buffer::new();
     add(text, buffer.format(revision))
 }
 
-fn add_word(text: &mut Vec<u8>, word: &str) -> Result<(), NoMemory>
+/// Adds a word behind others.
+pub fn add_word(text: &mut Vec<u8>, word: &str) -> Result<(), NoMemory>
     ensures { IfOk result (λ done. text.new.items ≡ text.old.items ++ next_word word.now) }
 {
     add(text, " ")?;

@@ -21,7 +21,7 @@ use itoa::Buffer;
 use kr_base::{Bytes, NoMemory, Source, Tape, Text};
 use kr_cmd_messages::{Conversion, Direction, Done, Object, Outcome, Stop, add};
 use kr_cmd_steps::{
-    Program, Task, add_put, close_tape, configure, load_store, make, open_tape, programs_of,
+    Program, Task, add_put, configure, load_store, make, open_tape, programs_of, settle_tape,
     take_input,
 };
 use kr_config::{Settings, Who};
@@ -93,8 +93,7 @@ fn put_into<W: World>(
         Err(stop) => return Err(stop),
     };
     let (put, tape) = put_on(alloc, words, settings, programs, world, tape, bytes);
-    close_tape(world, name, tape);
-    put
+    settle_tape(world, name, Object::Store, tape, put)
 }
 
 /// Seals the data into the store on a tape, which comes back.

@@ -2,3 +2,4 @@
 mod Asking
 mod Lines
 mod Loaded
+mod Pieces

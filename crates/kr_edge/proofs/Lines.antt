@@ -86,7 +86,7 @@ next_bytes line into filled k n h m =
     ∙ ap (λ l. take filled line ++ l) (take-append-le n into (post_of filled k line) m)
 
 -- a buffer of which the rest was read into keeps its length
-mid_long : (line into : List ℕ) (filled : ℕ) → filled ≤ length line
+pub mid_long : (line into : List ℕ) (filled : ℕ) → filled ≤ length line
     → length into ≡ length line - filled
     → length (put_mid filled (length line - filled) line into) ≡ length line
 mid_long line into filled h e = same_len_mid filled (length line - filled) line into

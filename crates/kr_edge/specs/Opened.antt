@@ -1,8 +1,8 @@
 -- What opening a file by its name gives, where the files are told.
 use Rattle.std.specs.Prelude.{◌≡◌, List, ℕ, Option, None, Some, Result, Ok, Err, ⊤}
 use Rattle.kr_base.specs.Told.{Agrees}
-use Rattle.kr_edge.specs.declared.files.OpenNo.{OpenNo}
-use Rattle.kr_edge.specs.declared.files.OpenNo.TheVariants.{Absent, Failed}
+use Rattle.kr_edge.specs.declared.system.OpenNo.{OpenNo}
+use Rattle.kr_edge.specs.declared.system.OpenNo.TheVariants.{Absent, Failed}
 
 -- a reader has the bytes of a file that is told
 abbrev pub Holds : Option (Option (List ℕ)) → Option (List ℕ) → Type 0

@@ -3,6 +3,7 @@ use Rattle.std.specs.Prelude.{ℕ, List, slice_index_or, Option, None}
 use Rattle.kr_kms.specs.MemWorld.{ShelfState, objects_by}
 use Rattle.kr_kms.specs.Outside.{Outside, same_name, same_link}
 use Rattle.kr_kms.specs.declared.file_faults.FileFaults.{FileFaults}
+use Rattle.kr_edge.specs.declared.real_world.RealWorld.{RealWorld}
 
 -- the counts of tapes that came back, by their names, and the names of those that are out
 abbrev pub TapeCounts : Type 0
@@ -34,3 +35,8 @@ real_world file faults dice_faults dice_out tapes links = record {
   tapes = objects_by same_name key_of (λ first. None) count_of tapes;
   links = objects_by same_link key_of (λ first. None) count_of links;
 }
+
+-- what such a world tells, whose system tells these files
+abbrev pub seen : {S : Type 0} → (S → List ℕ → Option (Option (List ℕ))) → RealWorld S → Outside
+seen told world = real_world (told world.system) world.faults world.dice_faults world.dice_out
+    world.tapes world.links

@@ -1,13 +1,15 @@
 //! A link to a plugin over its lines, as over the pipes of a child program.
 ghost use Rattle.std.specs.Prelude.{◌≡◌, false, ⊤};
 ghost use Rattle.kr_base.specs.Numbering.{next_number};
-ghost use Rattle.kr_kms.specs.Calls.{Says, Unwraps, Wraps};
+ghost use Rattle.kr_kms.specs.Calls.{Says, Unwraps, Wraps, asked_key};
+ghost use Rattle.kr_kms.specs.Exchanges.{StatusCall, WrapCall, UnwrapCall};
 ghost use Rattle.kr_kms.specs.Limits.{IsWithinLimits};
 ghost use Rattle.kr_kms.specs.Truth.{untold};
 ghost use Rattle.kr_kms_wire.specs.declared.replies.Asked.{Asked};
 ghost use Rattle.kr_kms_wire.specs.declared.replies.Reply.{Reply};
 ghost use Rattle.kr_kms_wire.specs.declared.requests.Request.{Request};
 ghost use Rattle.kr_edge.specs.Lines.{ends_of};
+ghost use Rattle.kr_edge.specs.Links.{LineStep, line_keeps};
 ghost use Rattle.kr_edge.specs.Plugins.{Answers, Counts, line_link};
 ghost use Rattle.kr_edge.specs.Wiped.{IsWiped};
 
@@ -129,6 +131,10 @@ impl<C, W: Write, R: Read> Kms for LineLink<C, W, R> {
 
     ghost link = { λ link. line_link link.name link.lines.faults };
 
+    ghost step = { LineStep W.contents R.remaining };
+
+    ghost keeps = { line_keeps W.contents R.remaining };
+
     fn name(&self) -> &str {
         self.name.as_str()
     }
@@ -149,6 +155,8 @@ impl<C, W: Write, R: Read> Kms for LineLink<C, W, R> {
         // As the trait says.
         ensures says { Says (line_link self.old.name self.old.lines.faults) result
             (line_link self.new.name self.new.lines.faults) }
+        ensures asked { LineStep W.contents R.remaining self.old
+            (StatusCall self.old.name result) self.new }
     {
         self.lines.status(alloc)
     }
@@ -165,6 +173,8 @@ impl<C, W: Write, R: Read> Kms for LineLink<C, W, R> {
         // As the trait says.
         ensures wraps { Wraps untold (line_link self.old.name self.old.lines.faults) plain.now
             result (line_link self.new.name self.new.lines.faults) }
+        ensures asked { LineStep W.contents R.remaining self.old
+            (WrapCall self.old.name plain.now result) self.new }
     {
         self.lines.wrap(alloc, plain)
     }
@@ -189,6 +199,8 @@ impl<C, W: Write, R: Read> Kms for LineLink<C, W, R> {
         ensures unwraps { Unwraps untold (line_link self.old.name self.old.lines.faults)
             key_id.now annotations.now source.now result
             (line_link self.new.name self.new.lines.faults) }
+        ensures asked { LineStep W.contents R.remaining self.old (UnwrapCall (asked_key
+            self.old.name key_id.now annotations.now source.now) result) self.new }
     {
         self.lines.unwrap_source(alloc, key_id, annotations, source)
     }

@@ -5,20 +5,26 @@
 pub use answer_room::AnswerRoom;
 pub use child_link::{ChildLink, LineLink};
 pub use exchange::Exchange;
-pub use files::{NamedFiles, OpenNo, StartNo, SystemFiles};
+pub use opening::{open_store, start};
+pub use placed::{DiskFile, PlacedFile, PlacedNo};
 pub use plugin_lines::PluginLines;
 pub use real_world::{DeviceDice, RealWorld};
 pub use standard::hold_standard_streams;
 pub use streams::{StdSink, StdSource};
+pub use system::{Found, OpenNo, StartNo, System, SystemCall};
+pub use system_files::SystemFiles;
 pub use tape::FileTape;
 
 mod answer_room;
 mod child_link;
 mod exchange;
-mod files;
+mod opening;
+mod placed;
 mod plugin_lines;
 mod real_world;
 mod standard;
 mod streams;
+mod system;
 mod system_error;
+mod system_files;
 mod tape;

@@ -1,23 +1,27 @@
 //! The world of the system: its files, its random device for each seat, and programs as plugins.
 ghost use Rattle.std.specs.Prelude.{◌≡◌, ◌<◌, ◌==◌, ◌&&◌, length, position, codes, None};
-ghost use Rattle.std.specs.Prelude.{OnOk, OnErr, IfOk, IfErr, IfSome, IsErrOf, MatchResult};
+ghost use Rattle.std.specs.Prelude.{OnOk, OnErr, IfOk, IfErr, IfSome, IsErrOf, MatchResult, is_some, true};
 ghost use Rattle.std.specs.Io.KnownBytes.{Consumes, Keeps};
 ghost use Rattle.kr_base.specs.Faults.{Rose, IsCounted};
 ghost use Rattle.std.specs.Str.{bytes_eq};
-ghost use Rattle.kr_kms.specs.Outside.{Notes, KeepsFiles, HandsOut, IsFaultOrMemory, same_seat};
+ghost use Rattle.kr_kms.specs.Outside.{Notes, KeepsFiles, HandsOut, IsFaultOrMemory, IsTape, RefusesTape};
+ghost use Rattle.kr_kms.specs.Outside.{link_at, same_link, same_name, same_seat};
 ghost use Rattle.kr_kms.specs.declared.world.WorldCall.{WorldCall};
 ghost use Rattle.kr_edge.specs.Opened.{Holds};
-ghost use Rattle.kr_edge.specs.RealWorld.{real_world};
+ghost use Rattle.kr_edge.specs.Plugins.{line_link};
+ghost use Rattle.kr_edge.specs.RealWorld.{seen};
+ghost use Rattle.kr_edge.specs.Stores.{LendsLink, LendsStore};
 
 use crate::answer_room::AnswerRoom;
 use crate::child_link::{ChildLink, take_ends};
-use crate::files::{NamedFiles, OpenNo, StartNo};
+use crate::opening::{open_store, start};
+use crate::placed::DiskFile;
 use crate::streams::StdSource;
+use crate::system::{OpenNo, StartNo, System};
 use crate::tape::FileTape;
 use kr_base::{Bytes, Dice, Failed, FaultCount, List, ReadNo, Text, read_all};
 use kr_kms::{FileFaults, FileNo, Kms, Shelf, World, name_place, plugin_place};
 use std::alloc::Global;
-use std::fs::File;
 use std::io::Read;
 
 /// The device that random bytes are drawn from.
@@ -64,8 +68,8 @@ impl<R: Read> Dice for DeviceDice<R> {
 
 /// The files of the system, its random device for each seat, and programs as plugins.
 #[derive(Drop)]
-pub struct RealWorld<'a, F> {
-    files: &'a F,
+pub struct RealWorld<S> {
+    system: S,
     faults: FileFaults,
     dice_faults: [u64; SEATS],
     dice_out: [u64; SEATS],
@@ -73,11 +77,13 @@ pub struct RealWorld<'a, F> {
     links: Shelf<(u32, Text), ((u32, Text), u64)>,
 }
 
-impl<'a, F: NamedFiles> RealWorld<'a, F> {
-    /// The world of these files, with no fault so far and nothing handed out.
-    pub fn new(alloc: Global, files: &'a F) -> RealWorld<'a, F> {
+impl<S: System> RealWorld<S> {
+    /// The world of this system, with no fault so far and nothing handed out.
+    pub fn new(alloc: Global, system: S) -> RealWorld<S>
+        ensures { result.system ≡ system }
+    {
         RealWorld {
-            files,
+            system,
             faults: FileFaults::new(),
             dice_faults: [0; SEATS],
             dice_out: [0; SEATS],
@@ -87,22 +93,24 @@ impl<'a, F: NamedFiles> RealWorld<'a, F> {
     }
 }
 
-impl<'a, F: NamedFiles> World for RealWorld<'a, F> {
-    type Tap = FileTape<File>;
+impl<S: System> World for RealWorld<S>
+where
+    S::File: Send,
+{
+    type Tap = FileTape<DiskFile>;
 
-    type Rand = DeviceDice<F::File>;
+    type Rand = DeviceDice<S::File>;
 
     type Link = ChildLink;
 
-    ghost told = { λ world. real_world (F.told world.files.now) world.faults world.dice_faults
-        world.dice_out world.tapes world.links };
+    ghost told = { seen S.told };
 
     fn faults(&self) -> u64 {
         self.faults.total()
     }
 
     fn load(&mut self, alloc: Global, name: &str, limit: u64) -> Result<Bytes, FileNo> {
-        let file = match self.files.open(name) {
+        let file = match self.system.read(name) {
             Ok(file) => file,
             Err(OpenNo::Absent) => return Err(FileNo::Absent),
             Err(OpenNo::Failed) => {
@@ -121,7 +129,32 @@ impl<'a, F: NamedFiles> World for RealWorld<'a, F> {
         }
     }
 
-    fn tape(&mut self, alloc: Global, name: &str, make: bool) -> Result<FileTape<File>, FileNo> {
+    fn tape(&mut self, alloc: Global, name: &str, make: bool) -> Result<FileTape<DiskFile>, FileNo>
+        // The store of that name was opened, and nothing else.
+        ensures calls { LendsStore name.now make
+            (is_some (position (λ out. same_name out name.now) self.old.tapes.out) ≡ true)
+            (S.calls self.old.system) (S.calls self.new.system) result }
+
+        // As the trait says.
+        ensures ok { IfOk result (λ tape. HandsOut same_name (seen S.told self.old).tapes
+            (seen S.told self.new).tapes name.now tape.faults) }
+        ensures tape { IfOk result
+            (λ tape. IsTape ((seen S.told self.old).tapes.told name.now) make None) }
+        ensures alone { IfOk result (λ tape. (seen S.told self.old).tapes.out name.now ≡ 0) }
+        ensures err { OnErr result
+            ((seen S.told self.new).tapes ≡ (seen S.told self.old).tapes) }
+        ensures refusals { IfErr result
+            (λ why. RefusesTape ((seen S.told self.old).tapes.told name.now) make why) }
+        ensures failed { IsErrOf result FileNo.Failed
+            → Rose self.old.faults.tapes self.new.faults.tapes }
+        ensures asked { Notes (seen S.told self.old) (seen S.told self.new)
+            (WorldCall.Tape name.now make) result }
+        ensures kind { self.new.faults
+            ≡ record self.old.faults { tapes = self.new.faults.tapes } }
+        ensures files { KeepsFiles (seen S.told self.old) (seen S.told self.new) }
+        ensures dice { (seen S.told self.new).dice ≡ (seen S.told self.old).dice }
+        ensures links { (seen S.told self.new).links ≡ (seen S.told self.old).links }
+    {
         if name_place(self.tapes.out(), name).is_some() {
             self.faults.tapes.rise();
             return Err(FileNo::Failed);
@@ -129,7 +162,7 @@ impl<'a, F: NamedFiles> World for RealWorld<'a, F> {
         let Ok(key) = Text::copy(alloc, name) else {
             return Err(FileNo::NoMemory);
         };
-        let file = match self.files.open_store(name, make) {
+        let file = match open_store(&mut self.system, name, make) {
             Ok(file) => file,
             Err(OpenNo::Absent) => {
                 drop(key);
@@ -162,58 +195,45 @@ impl<'a, F: NamedFiles> World for RealWorld<'a, F> {
         }
     }
 
-    fn dice(&mut self, _alloc: Global, seat: u32) -> Result<DeviceDice<F::File>, FileNo>
+    fn dice(&mut self, _alloc: Global, seat: u32) -> Result<DeviceDice<S::File>, FileNo>
         // The random bytes are those of the system's device.
         ensures device { IfOk result (λ dice.
-            Holds (F.told self.old.files.now (codes "/dev/urandom"))
-            (F.File.remaining dice.device)) }
+            Holds (S.told self.old.system (codes "/dev/urandom"))
+            (S.File.remaining dice.device)) }
 
         // As the trait says.
         ensures ok { IfOk result (λ dice. HandsOut same_seat
-            (real_world (F.told self.old.files.now) self.old.faults self.old.dice_faults
-            self.old.dice_out self.old.tapes self.old.links).dice
-            (real_world (F.told self.new.files.now) self.new.faults self.new.dice_faults
-            self.new.dice_out self.new.tapes self.new.links).dice
+            (seen S.told self.old).dice
+            (seen S.told self.new).dice
             seat dice.faults) }
         ensures left { IfOk result (λ dice. None
-            ≡ (real_world (F.told self.old.files.now) self.old.faults self.old.dice_faults
-            self.old.dice_out self.old.tapes self.old.links).dice.told seat) }
+            ≡ (seen S.told self.old).dice.told seat) }
         ensures err { OnErr result (
-            (real_world (F.told self.new.files.now) self.new.faults self.new.dice_faults
-            self.new.dice_out self.new.tapes self.new.links).dice
-            ≡ (real_world (F.told self.old.files.now) self.old.faults self.old.dice_faults
-            self.old.dice_out self.old.tapes self.old.links).dice) }
+            (seen S.told self.new).dice
+            ≡ (seen S.told self.old).dice) }
         ensures refusals { IfErr result IsFaultOrMemory }
         ensures failed { IsErrOf result FileNo.Failed
             → Rose self.old.faults.dice self.new.faults.dice }
         ensures asked { Notes
-            (real_world (F.told self.old.files.now) self.old.faults self.old.dice_faults
-            self.old.dice_out self.old.tapes self.old.links)
-            (real_world (F.told self.new.files.now) self.new.faults self.new.dice_faults
-            self.new.dice_out self.new.tapes self.new.links)
+            (seen S.told self.old)
+            (seen S.told self.new)
             (WorldCall.RandomSource seat) result }
         ensures kind { self.new.faults
             ≡ record self.old.faults { dice = self.new.faults.dice } }
         ensures files { KeepsFiles
-            (real_world (F.told self.old.files.now) self.old.faults self.old.dice_faults
-            self.old.dice_out self.old.tapes self.old.links)
-            (real_world (F.told self.new.files.now) self.new.faults self.new.dice_faults
-            self.new.dice_out self.new.tapes self.new.links) }
-        ensures tapes { (real_world (F.told self.new.files.now) self.new.faults self.new.dice_faults
-            self.new.dice_out self.new.tapes self.new.links).tapes
-            ≡ (real_world (F.told self.old.files.now) self.old.faults self.old.dice_faults
-            self.old.dice_out self.old.tapes self.old.links).tapes }
-        ensures links { (real_world (F.told self.new.files.now) self.new.faults self.new.dice_faults
-            self.new.dice_out self.new.tapes self.new.links).links
-            ≡ (real_world (F.told self.old.files.now) self.old.faults self.old.dice_faults
-            self.old.dice_out self.old.tapes self.old.links).links }
+            (seen S.told self.old)
+            (seen S.told self.new) }
+        ensures tapes { (seen S.told self.new).tapes
+            ≡ (seen S.told self.old).tapes }
+        ensures links { (seen S.told self.new).links
+            ≡ (seen S.told self.old).links }
     {
         let at = seat as usize;
         if at >= SEATS || self.dice_out[at] == u64::MAX {
             self.faults.dice.rise();
             return Err(FileNo::Failed);
         }
-        match self.files.open(RANDOM_DEVICE) {
+        match self.system.read(RANDOM_DEVICE) {
             Ok(device) => {
                 self.dice_out[at] += 1;
                 Ok(DeviceDice {
@@ -234,7 +254,29 @@ impl<'a, F: NamedFiles> World for RealWorld<'a, F> {
         seat: u32,
         plugin: &str,
         program: &str,
-    ) -> Result<ChildLink, FileNo> {
+    ) -> Result<ChildLink, FileNo>
+        // That program was started, and nothing else.
+        ensures calls { LendsLink program.now
+            (S.calls self.old.system) (S.calls self.new.system) result }
+
+        // As the trait says.
+        ensures ok { IfOk result (λ link. HandsOut same_link (seen S.told self.old).links
+            (seen S.told self.new).links (seat, plugin.now) link.lines.faults) }
+        ensures link { IfOk result (λ link. line_link link.name link.lines.faults
+            ≡ link_at (seen S.told self.old).links seat plugin.now) }
+        ensures err { OnErr result
+            ((seen S.told self.new).links ≡ (seen S.told self.old).links) }
+        ensures refusals { IfErr result IsFaultOrMemory }
+        ensures failed { IsErrOf result FileNo.Failed
+            → Rose self.old.faults.links self.new.faults.links }
+        ensures asked { Notes (seen S.told self.old) (seen S.told self.new)
+            (WorldCall.Link seat plugin.now program.now) result }
+        ensures kind { self.new.faults
+            ≡ record self.old.faults { links = self.new.faults.links } }
+        ensures files { KeepsFiles (seen S.told self.old) (seen S.told self.new) }
+        ensures tapes { (seen S.told self.new).tapes ≡ (seen S.told self.old).tapes }
+        ensures dice { (seen S.told self.new).dice ≡ (seen S.told self.old).dice }
+    {
         let (Ok(name), Ok(key), Ok(room)) = (
             Text::copy(alloc, plugin),
             Text::copy(alloc, plugin),
@@ -242,7 +284,7 @@ impl<'a, F: NamedFiles> World for RealWorld<'a, F> {
         ) else {
             return Err(FileNo::NoMemory);
         };
-        let child = match self.files.start(alloc, program) {
+        let child = match start(&mut self.system, alloc, program) {
             Ok(child) => child,
             Err(StartNo::NoMemory) => return Err(FileNo::NoMemory),
             Err(StartNo::Failed) => {
@@ -277,14 +319,18 @@ impl<'a, F: NamedFiles> World for RealWorld<'a, F> {
         }
     }
 
-    fn back_tape(&mut self, name: &str, tape: FileTape<File>) {
+    fn back_tape(&mut self, name: &str, tape: FileTape<DiskFile>) {
         let Some(at) = name_place(self.tapes.out(), name) else {
             unreachable!();
         };
         self.tapes.put_back_by(at, tape.close());
     }
 
-    fn back_dice(&mut self, seat: u32, dice: DeviceDice<F::File>) {
+    fn back_settled(&mut self, name: &str, tape: FileTape<DiskFile>) {
+        self.back_tape(name, tape);
+    }
+
+    fn back_dice(&mut self, seat: u32, dice: DeviceDice<S::File>) {
         let at = seat as usize;
         if at >= SEATS {
             unreachable!();

@@ -1,24 +1,22 @@
-//! Files that are read and written at any place.
-ghost use Rattle.std.specs.Prelude.{◌≡◌, None};
+//! Files that are read and written at any place, as tapes.
+ghost use Rattle.std.specs.Prelude.{◌≡◌, ◌≤◌, length, IfOk, IfSome};
 ghost use Rattle.std.specs.Io.{ReadsAtMost};
+ghost use Rattle.kr_base.specs.Tapes.{ReadsAt, PutsAt};
 
-use crate::system_error::kind_of;
+use crate::placed::{PlacedFile, PlacedNo};
 use kr_base::{Failed, FaultCount, Tape};
-use std::fs::OpenFile;
-use std::io::ErrorKind;
-use std::os::unix::fs::FileExt;
 
-/// A file that is read and written at any place. It tells nothing of its bytes, since others may
-/// write to it.
+/// A file that is read and written at any place. What the file tells of its bytes is told.
 pub struct FileTape<F> {
     file: F,
     faults: FaultCount,
 }
 
-impl<F: FileExt + OpenFile> FileTape<F> {
+impl<F: PlacedFile> FileTape<F> {
     /// A tape over the file, with no fault so far.
     pub fn first(file: F) -> FileTape<F>
-        ensures { result.faults ≡ 0 }
+        ensures file { result.file ≡ file }
+        ensures faults { result.faults ≡ 0 }
     {
         FileTape {
             file,
@@ -28,7 +26,8 @@ impl<F: FileExt + OpenFile> FileTape<F> {
 
     /// A tape over the file, which failed so often before.
     pub fn new(file: F, faults: u64) -> FileTape<F>
-        ensures { result.faults ≡ faults }
+        ensures file { result.file ≡ file }
+        ensures faults { result.faults ≡ faults }
     {
         FileTape {
             file,
@@ -50,16 +49,17 @@ impl<F: FileExt + OpenFile> FileTape<F> {
     }
 }
 
-impl<F: FileExt + OpenFile> Tape for FileTape<F> {
-    ghost told = { λ tape. None };
+impl<F: PlacedFile> Tape for FileTape<F> {
+    ghost told = { λ tape. F.told tape.file };
 
     ghost count = { λ tape. tape.faults };
 
+    ghost settled = { λ tape. F.synced tape.file };
+
     fn len(&mut self) -> Result<u64, Failed> {
-        match self.file.metadata() {
-            Ok(found) => Ok(found.len()),
-            Err(error) => {
-                drop(error);
+        match self.file.len() {
+            Ok(n) => Ok(n),
+            Err(_) => {
                 self.faults.rise();
                 Err(Failed)
             }
@@ -67,7 +67,7 @@ impl<F: FileExt + OpenFile> Tape for FileTape<F> {
     }
 
     fn read_at(&mut self, at: u64, into: &mut [u8]) -> Result<usize, Failed> {
-        match fill_at(&self.file, at, into) {
+        match fill_at(&mut self.file, at, into) {
             Ok(n) => Ok(n),
             Err(Failed) => {
                 self.faults.rise();
@@ -77,7 +77,7 @@ impl<F: FileExt + OpenFile> Tape for FileTape<F> {
     }
 
     fn put_at(&mut self, at: u64, bytes: &[u8]) -> Result<(), Failed> {
-        match put_or_restore(&self.file, at, bytes) {
+        match put_or_restore(&mut self.file, at, bytes) {
             Ok(()) => Ok(()),
             Err(Failed) => {
                 self.faults.rise();
@@ -89,8 +89,18 @@ impl<F: FileExt + OpenFile> Tape for FileTape<F> {
     fn cut(&mut self, len: u64) -> Result<(), Failed> {
         match self.file.set_len(len) {
             Ok(()) => Ok(()),
-            Err(error) => {
-                drop(error);
+            Err(_) => {
+                self.faults.rise();
+                Err(Failed)
+            }
+        }
+    }
+
+    // The file's length is synced with its bytes.
+    fn settle(&mut self) -> Result<(), Failed> {
+        match self.file.sync_data() {
+            Ok(()) => Ok(()),
+            Err(_) => {
                 self.faults.rise();
                 Err(Failed)
             }
@@ -103,8 +113,11 @@ impl<F: FileExt + OpenFile> Tape for FileTape<F> {
 }
 
 /// Reads until the buffer is full or the file ends.
-fn fill_at<F: FileExt>(file: &F, at: u64, into: &mut [u8]) -> Result<usize, Failed>
-    ensures { ReadsAtMost result into.new }
+fn fill_at<F: PlacedFile>(file: &mut F, at: u64, into: &mut [u8]) -> Result<usize, Failed>
+    requires { IfSome (F.told file.old) (λ bytes. at ≤ length bytes) }
+    ensures bound { ReadsAtMost result into.new }
+    ensures bytes { IfOk result (λ n. ReadsAt (F.told file.old) at n into.new) }
+    ensures same { F.told file.new ≡ F.told file.old }
 {
     let mut filled = 0;
     for _ in 0..u64::MAX {
@@ -114,18 +127,15 @@ fn fill_at<F: FileExt>(file: &F, at: u64, into: &mut [u8]) -> Result<usize, Fail
         let Some(place) = at.checked_add(filled as u64) else {
             return Err(Failed);
         };
-        match file.read_at(&mut into[filled..], place) {
+        match file.read_at(place, &mut into[filled..]) {
             Ok(n) => {
                 if n == 0 {
                     return Ok(filled);
                 }
                 filled += n;
             }
-            Err(error) => {
-                if kind_of(error) != ErrorKind::Interrupted {
-                    return Err(Failed);
-                }
-            }
+            Err(PlacedNo::Interrupted) => {}
+            Err(PlacedNo::Failed) => return Err(Failed),
         }
     }
     Err(Failed)
@@ -133,45 +143,40 @@ fn fill_at<F: FileExt>(file: &F, at: u64, into: &mut [u8]) -> Result<usize, Fail
 
 /// Writes all bytes. Where that fails, one try is made to bring the file back to its old length, so
 /// that a full disk leaves what was there.
-fn put_or_restore<F: FileExt + OpenFile>(file: &F, at: u64, bytes: &[u8]) -> Result<(), Failed> {
-    let found = match file.metadata() {
-        Ok(found) => found,
-        Err(error) => {
-            drop(error);
-            return Err(Failed);
-        }
+fn put_or_restore<F: PlacedFile>(file: &mut F, at: u64, bytes: &[u8]) -> Result<(), Failed>
+    requires { IfSome (F.told file.old) (λ held. at ≤ length held) }
+    ensures { PutsAt (F.told file.old) (F.told file.new) at bytes.now result }
+{
+    let Ok(before) = file.len() else {
+        return Err(Failed);
     };
     match put_all(file, at, bytes) {
         Ok(()) => Ok(()),
         Err(Failed) => {
-            drop(file.set_len(found.len()));
+            let _restored = file.set_len(before);
             Err(Failed)
         }
     }
 }
 
 /// Writes all bytes at the place. A write that takes nothing is a fault.
-fn put_all<F: FileExt>(file: &F, at: u64, bytes: &[u8]) -> Result<(), Failed> {
-    let mut rest = bytes;
-    let mut place = at;
+fn put_all<F: PlacedFile>(file: &mut F, at: u64, bytes: &[u8]) -> Result<(), Failed>
+    requires { IfSome (F.told file.old) (λ held. at ≤ length held) }
+    ensures { PutsAt (F.told file.old) (F.told file.new) at bytes.now result }
+{
+    let mut done = 0;
     for _ in 0..u64::MAX {
-        if rest.is_empty() {
+        if done == bytes.len() {
             return Ok(());
         }
-        match file.write_at(rest, place) {
+        let Some(place) = at.checked_add(done as u64) else {
+            return Err(Failed);
+        };
+        match file.write_at(place, &bytes[done..]) {
             Ok(0) => return Err(Failed),
-            Ok(count) => {
-                rest = &rest[count..];
-                let Some(next) = place.checked_add(count as u64) else {
-                    return Err(Failed);
-                };
-                place = next;
-            }
-            Err(error) => {
-                if kind_of(error) != ErrorKind::Interrupted {
-                    return Err(Failed);
-                }
-            }
+            Ok(n) => done += n,
+            Err(PlacedNo::Interrupted) => {}
+            Err(PlacedNo::Failed) => return Err(Failed),
         }
     }
     Err(Failed)

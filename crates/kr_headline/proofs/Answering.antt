@@ -29,8 +29,9 @@ use Rattle.kr_script.specs.Fleets.{Worker}
 use Rattle.kr_script.specs.declared.told.Told.{Told}
 use Rattle.kr_workers.specs.declared.files.SettingsFile.{SettingsFile}
 use Rattle.kr_headline.specs.Fleets.{Outside, Readings, run_of}
-use Rattle.kr_headline.specs.Headline.{HasExpected, IsAt, MayAnswer, Object, Run, faults_from, has_at, revision_from, stands_at}
+use Rattle.kr_headline.specs.Headline.{IsAt, MayAnswer, Object, Run, has_at, stands_at}
 use Rattle.kr_headline.proofs.Contents.{object_of}
+use Rattle.kr_headline.proofs.Folds.{HasExpected, faults_from, revision_from}
 use Rattle.kr_headline.proofs.Standing.{faults_are, had_is, latest_is, object_revision, published_last, published_stays, row_revision, stands_alike, state_split}
 
 -- ---- options
@@ -176,13 +177,11 @@ module _ (truth : Truth) (o : Opening) (files : List SettingsFile) (workers : Li
           ap (λ (e : Entry). e.row) s.payload
               ∙ replaced_row st.rows [] it.path revision it next_row.1 s.answer.3,
           s.answer.3,
-          (
-            next_row.0,
-            is_at it.path it it.revision next_row.1 refl,
-            λ path some above_it. next_row.2 path
-                (some_lives (stands_at run path front) (live st.rows path) (alike path) some)
-                above_it,
-          ),
+          next_row.0,
+          is_at it.path it it.revision next_row.1 refl,
+          λ path some above_it. next_row.2 path
+              (some_lives (stands_at run path front) (live st.rows path) (alike path) some)
+              above_it,
         )
     answered (did.After above) gave.Absent s fits w = λ path some. s.answer.1 path
         (some_lives (stands_at run path front) (live st.rows path) (alike path) some)
@@ -190,7 +189,8 @@ module _ (truth : Truth) (o : Opening) (files : List SettingsFile) (workers : Li
     answered (did.Put path resource plain) (gave.Written revision) s fits w =
         next revision s.answer.1
     answered (did.Put path resource plain) gave.StoreFailed s fits w = rose s.writes.3
-    answered (did.Put path resource plain) (gave.StoreFull needed) s fits w = s.writes.3
+    answered (did.Put path resource plain) (gave.StoreFull needed) s fits w =
+        (s.writes.3, (s.writes.0, s.writes.1, s.writes.2))
     answered (did.Put path resource plain) gave.Nothing s fits w = tt
     answered (did.Delete path) gave.Absent s fits w = absent path s.answer
     answered (did.Delete path) (gave.Written revision) s fits w = (
@@ -198,7 +198,8 @@ module _ (truth : Truth) (o : Opening) (files : List SettingsFile) (workers : Li
       next revision s.answer.1,
     )
     answered (did.Delete path) gave.StoreFailed s fits w = rose s.writes.3
-    answered (did.Delete path) (gave.StoreFull needed) s fits w = s.writes.3
+    answered (did.Delete path) (gave.StoreFull needed) s fits w =
+        (s.writes.3, (s.writes.0, s.writes.1, s.writes.2))
     answered (did.Delete path) gave.Nothing s fits w = tt
     answered (did.Replace path from) (gave.Written revision) s fits w = (
       is_at path s.answer.1.0 from s.answer.1.1.is s.answer.1.1.revision_is,
@@ -208,7 +209,8 @@ module _ (truth : Truth) (o : Opening) (files : List SettingsFile) (workers : Li
         let r = row_of_revision (live st.rows path) from (sym (alike path) ∙ at) in
         s.answer.1 (r.0, record { is = r.1; revision_is = r.2 })
     answered (did.Replace path from) gave.StoreFailed s fits w = rose s.writes.3
-    answered (did.Replace path from) (gave.StoreFull needed) s fits w = s.writes.3
+    answered (did.Replace path from) (gave.StoreFull needed) s fits w =
+        (s.writes.3, (s.writes.0, s.writes.1, s.writes.2))
     answered (did.Replace path from) gave.Nothing s fits w = tt
     answered did.LetGo gave.Released s fits w = λ none.
         false≢true (subst (λ (h : Option ℕ). IsSome h) none s.answer)

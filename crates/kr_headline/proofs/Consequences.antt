@@ -19,10 +19,11 @@ use Rattle.kr_script.specs.declared.script.ScriptLine.{ScriptLine}
 use Rattle.kr_script.specs.declared.script.ScriptLine.TheVariants as line
 use Rattle.kr_script.specs.declared.told.Told.{Told}
 use Rattle.kr_script.specs.declared.told.Told.TheVariants as told
-use Rattle.kr_workers.specs.Changes.{MayChange, MayWrite}
+use Rattle.kr_workers.specs.Changes.{AllowsChange, MayChange}
 use Rattle.kr_headline.specs.Consequences.{GotIsPut, GotWasPut, RefusedStood, RefusedStoodThere, WasPut}
 use Rattle.kr_headline.specs.Fleets.{run_in}
-use Rattle.kr_headline.specs.Headline.{Headline, IsTold, Object, Run, Step, entries_of, object_after, object_from, reading_of, replica_of}
+use Rattle.kr_headline.specs.Headline.{Headline, IsTold, Object, Run, Step, entries_of, object_after}
+use Rattle.kr_headline.proofs.Folds.{object_from, reading_of}
 
 abbrev bytes_in : Option Reading → List ℕ
 bytes_in None = []
@@ -47,14 +48,15 @@ renewed_same : (revision : ℕ) (now : Option Object)
 renewed_same revision None = refl
 renewed_same revision (Some object) = refl
 
+-- what the step changed is what some line asks and its reply tells
+abbrev pub HasLine : Run → Step → Type 0
+HasLine run step = (asked : ScriptLine) × (reply : Told)
+    × IsTold run step.entry.line.seat step.at asked reply × MayChange run.settings_in
+    (run.replica_of step.entry.line.seat) asked reply step.entry
+
 module _ (run : Run) (path bytes : List ℕ) where
   abbrev Found : Option Object → Type 0
   Found now = (put_there now ≡ Some bytes) ⊎ WasPut run path bytes
-
-  abbrev HasLine : Step → Type 0
-  HasLine step = (asked : ScriptLine) × (reply : Told)
-      × IsTold run step.entry.line.seat step.at asked reply × MayWrite run.settings_in
-      (replica_of run step.entry.line.seat) asked reply step.entry
 
   -- what one step makes
   module _ (seat at own : ℕ) (asked : ScriptLine) (reply : Told)
@@ -94,7 +96,7 @@ module _ (run : Run) (path bytes : List ℕ) where
     replace_found revision false is = inl is
 
     step_found : (given : Gave) (done : Did)
-        → MayChange run.settings_in own asked reply given done held published
+        → AllowsChange run.settings_in own asked reply given done held published
         → put_there (object_after given done path now) ≡ Some bytes → Found now
     step_found (gave.Written revision) (did.Put named resource plain) its is =
         put_found named resource plain revision its (bytes_eq named path) refl is
@@ -104,17 +106,17 @@ module _ (run : Run) (path bytes : List ℕ) where
         replace_found revision (bytes_eq named path) is
     step_found given done its is = inl is
 
-  steps_found : (now : Option Object) (steps : List Step) → All HasLine steps
+  steps_found : (now : Option Object) (steps : List Step) → All (HasLine run) steps
       → put_there (object_from path now (entries_of steps)) ≡ Some bytes → Found now
   steps_found now [] all is = inl is
   steps_found now (step ∷ steps) all is =
       by (steps_found (object_after step.entry.line.gave step.entry.line.did path now) steps
-      (All-tail HasLine step steps all) is)
+      (All-tail (HasLine run) step steps all) is)
     where
       by : Found (object_after step.entry.line.gave step.entry.line.did path now) → Found now
       by (inr put) = inr put
-      by (inl same) = let l = All-head HasLine step steps all in
-          step_found step.entry.line.seat step.at (replica_of run step.entry.line.seat) l.0 l.1 l.2
+      by (inl same) = let l = All-head (HasLine run) step steps all in
+          step_found step.entry.line.seat step.at (run.replica_of step.entry.line.seat) l.0 l.1 l.2
           step.entry.line.held step.entry.published now step.entry.line.gave step.entry.line.did
           l.3 same
 
@@ -144,8 +146,8 @@ pub there_in : (run : Run) (h : Headline run) (front : List Step) (step : Step) 
 there_in run h front step rest is =
     sym h.entries_are ∙ ap entries_of is ∙ entries_split front step rest
 
-got_is_put : (run : Run) → (h : Headline run) → GotIsPut run h
-got_is_put run h worker at revision path bytes r truth supposed =
+got_is_put : (run : Run) → (h : Headline run) → All (HasLine run) h.steps → GotIsPut run h
+got_is_put run h made worker at revision path bytes r truth supposed =
     let f = h.gets worker at path bytes revision r in
     by f.object.data_put refl (f.is truth (supposed f.front f.fetch f.rest f.there f.own f.fetches
     revision f.found))
@@ -153,8 +155,8 @@ got_is_put run h worker at revision path bytes r truth supposed =
       revision = revision;
       data_put = None;
     }) (run.stood_at_start path)) f.front
-    (front_of (HasLine run path plain) f.front (f.fetch ∷ f.rest)
-    (subst (λ (l : List Step). All (HasLine run path plain) l) f.there h.writes))
+    (front_of (HasLine run) f.front (f.fetch ∷ f.rest)
+    (subst (λ (l : List Step). All (HasLine run) l) f.there made))
     (ap put_there f.stands ∙ put))
   where
     by : (those : Option (List ℕ)) → those ≡ those
@@ -192,6 +194,7 @@ module _ (T : Type 0) {L D : Type 0} (link : L → Link) (count : D → ℕ) whe
   pub got_was_put : GotWasPut T link count
   got_was_put old new truth files o parts history h =
       got_is_put (run_in link count old new truth files o parts history h) h.has.headline
+      h.has.made
 
   pub refused_stood_there : RefusedStoodThere T link count
   refused_stood_there old new truth files o parts history h =

@@ -16,7 +16,8 @@ use Rattle.kr_rollout.specs.declared.line.Gave.{Gave}
 use Rattle.kr_rollout.specs.declared.line.Gave.TheVariants as gave
 use Rattle.kr_rollout.specs.declared.opening.Entry.{Entry}
 use Rattle.kr_rollout.specs.declared.opening.Opening.{Opening}
-use Rattle.kr_headline.specs.Headline.{Object, object_after, object_from, reading_of}
+use Rattle.kr_headline.specs.Headline.{Object, object_after}
+use Rattle.kr_headline.proofs.Folds.{object_from, reading_of}
 
 -- ---- data
 

@@ -1,6 +1,6 @@
 -- The headline, from one history.
 use Rattle.std.specs.Prelude.{◌≢◌, All, slice_get, slice_index, IsSome}
-use Rattle.std.proofs.Common.{◌≡◌, ℕ, suc, ◌+◌, ◌<◌, ◌≤◌, ◌==◌, List, [], ◌∷◌, ◌++◌, length, map, get_or, Option, None, Some, ◌⊎◌, inl, inr, refl, ap, sym, subst, ◌∙◌, arith}
+use Rattle.std.proofs.Common.{◌≡◌, ℕ, suc, ◌<◌, ◌≤◌, ◌==◌, List, [], ◌∷◌, ◌++◌, length, map, get_or, Option, None, Some, ◌⊎◌, inl, inr, refl, ap, sym, subst, ◌∙◌, arith}
 use Rattle.std.proofs.lemmas.Bool.{cases_lt}
 use Rattle.std.proofs.lemmas.List.{append_assoc, append_cancel_left, get_or-map, length-map}
 use Rattle.std.proofs.lemmas.List.Elements.{filter-append}
@@ -40,11 +40,13 @@ use Rattle.kr_script.specs.declared.script.ScriptLine.{ScriptLine}
 use Rattle.kr_script.specs.declared.script.ScriptLine.TheVariants as line
 use Rattle.kr_script.specs.declared.told.Told.{Told}
 use Rattle.kr_script.specs.declared.told.Told.TheVariants as told
-use Rattle.kr_workers.specs.Changes.{MayWrite}
+use Rattle.kr_workers.specs.Changes.{MayChange}
+use Rattle.kr_workers.specs.Configurations.{CannotBeSealed, NamesPlugin, ReadBy}
 use Rattle.kr_workers.specs.Files.{rows_at}
 use Rattle.kr_workers.specs.Gets.{FetchesWhere, ReadsContent, TellContents, TellsContent}
 use Rattle.kr_workers.specs.Histories.{IsOneHistory, StandsIn, first_place}
 use Rattle.kr_workers.specs.Runs.{LineDone, entries_in, lines_in, replies_in}
+use Rattle.kr_workers.specs.RewriteParts.{RewritePart}
 use Rattle.kr_workers.specs.Shapes.{PartIs}
 use Rattle.kr_workers.specs.ScriptLines.{Workplace}
 use Rattle.kr_workers.specs.declared.files.SettingsFile.{SettingsFile}
@@ -52,19 +54,21 @@ use Rattle.kr_workers.specs.declared.worker.Worker as fleet_worker
 use Rattle.kr_workers.proofs.Getting.{gets_tell_content}
 use Rattle.kr_workers.proofs.HonestPlugins.{honest_of_plugins}
 use Rattle.kr_workers.proofs.ShapingLines.{parts_have_shape}
-use Rattle.kr_headline.specs.Fleets.{AreBenches, AreKnown, AtLine, FleetHeadline, Outside, Readings, ReadsWith, StaysReadable, Unwraps, outside_of, run_of}
-use Rattle.kr_headline.specs.Headline.{Finds, HasSteps, Headline, MeetsAll, Object, Run, Step, entries_of, own_entries, stands_at}
+use Rattle.kr_headline.specs.Fleets.{AreBenches, AreKnown, AtLine, FleetHeadline, Outside, Readings, ReadsWith, StaysListed, Unwraps, outside_of, run_of}
+use Rattle.kr_headline.specs.Headline.{Finds, Headline, Object, OnlyReseals, Run, Step, entries_of, own_entries, stands_at}
 use Rattle.kr_headline.specs.Laws.{HeadlineHolds}
 use Rattle.kr_headline.proofs.Answering.{alike, may_answer, some_lives}
 use Rattle.kr_headline.proofs.Benches.{DoneThere, benches_of, benches_stay, done_in_run, first_bench, last_bench, many_benches}
 use Rattle.kr_headline.proofs.Contents.{content_holds, content_of, data_in}
+use Rattle.kr_headline.proofs.Folds.{HasSteps, MeetsAll, StoodThere}
 use Rattle.kr_headline.proofs.Marks.{all_marks, entries_stay, mark, marks, marks_in_order, marks_split, place_of}
-use Rattle.kr_headline.proofs.Mono.{part_mono}
+use Rattle.kr_headline.proofs.Mono.{part_mono, rewrite_mono}
 use Rattle.kr_headline.proofs.Own.{own_part}
 use Rattle.kr_headline.proofs.Places as place
 use Rattle.kr_headline.proofs.ReadBack.{at_middle, fetched_row, here, known_trusted, legal_front, legal_one, unwraps_trusted}
 use Rattle.kr_headline.proofs.Seats.{below_of, first_in, past_end, path_in, plus_one, reading_in, revision_in, some_below, split_own}
 use Rattle.kr_headline.proofs.Standing.{faults_are, object_revision, row_revision}
+use Rattle.kr_headline.proofs.Undone.{only_reseals}
 
 module _ {T L D : Type 0} (truth : Truth) (link : L → Link) (left : D → Option (List ℕ))
     (count : D → ℕ) (files : List SettingsFile) (history : List Entry) (o : Opening)
@@ -258,7 +262,7 @@ module _ {T L D : Type 0} (truth : Truth) (link : L → Link) (left : D → Opti
   abbrev HasLine : Step → Type 0
   HasLine step = (asked : ScriptLine) × (reply : Told)
       × Told_at step.entry.line.seat step.at asked reply
-      × MayWrite (rows_at files) (replica_at step.entry.line.seat) asked reply step.entry
+      × MayChange (rows_at files) (replica_at step.entry.line.seat) asked reply step.entry
 
   has_line : (front : List Entry) (e : Entry) (rest : List Entry)
       → history ≡ front ++ e ∷ rest → HasLine (mark runs front e)
@@ -279,12 +283,30 @@ module _ {T L D : Type 0} (truth : Truth) (link : L → Link) (left : D → Opti
         l.done.line,
         l.done.reply,
         r,
-        subst (λ n. MayWrite (rows_at files) n l.done.line l.done.reply e) (sym s.replica_is)
-            (at_middle (MayWrite (rows_at files) s.replica l.done.line l.done.reply) l.front e
+        subst (λ n. MayChange (rows_at files) n l.done.line l.done.reply e) (sym s.replica_is)
+            (at_middle (MayChange (rows_at files) s.replica l.done.line l.done.reply) l.front e
             l.rest
             (subst (λ (p : List Entry).
-            All (MayWrite (rows_at files) s.replica l.done.line l.done.reply) p) l.part_is
+            All (MayChange (rows_at files) s.replica l.done.line l.done.reply) p) l.part_is
             d.is.made)),
+      )
+
+  -- where memory lacked it changed nothing, but for what a rewrite sealed anew
+  abbrev OfLine : Step → Type 0
+  OfLine step = (asked : ScriptLine) × (reply : Told)
+      × Told_at step.entry.line.seat step.at asked reply
+      × ((reply ≡ told.Memory) ⊎ (asked ≡ line.Rewrite)
+      → OnlyReseals asked step.entry.line.gave step.entry.line.did)
+
+  of_line : (front : List Entry) (e : Entry) (rest : List Entry)
+      → history ≡ front ++ e ∷ rest → OfLine (mark runs front e)
+  of_line front e rest is =
+      let l = has_line front e rest is in (
+        l.0,
+        l.1,
+        l.2,
+        only_reseals (rows_at files) (replica_at (seat_of e)) l.0 l.1 e.line.gave e.line.did
+            e.line.held e.published l.3,
       )
 
   -- ---- the line at a place
@@ -517,11 +539,13 @@ module _ {T L D : Type 0} (truth : Truth) (link : L → Link) (left : D → Opti
         row = w.r.row;
         held = w.r.held;
         found = w.r.found;
-        object = w.r.object;
-        seed = w.r.seed;
-        unsourced = w.r.unsourced;
-        reads = subst (λ (q : List ℕ). value_reading w.r.envelope
-            (list_at w.r.p w.r.row.resource) q w.r.row.stored ≡ reading) (sym found.1) w.r.reads;
+        is = record {
+          object = w.r.object;
+          seed = w.r.seed;
+          unsourced = w.r.unsourced;
+          reads = subst (λ (q : List ℕ). value_reading w.r.envelope
+              (list_at w.r.p w.r.row.resource) q w.r.row.stored ≡ reading) (sym found.1) w.r.reads;
+        };
       }) in
       let content : (opens : Opens) → IsContent opens o w.front path
       (content_of (data_in (stands_at run path w.front)) (readings.at_start opens path)) =
@@ -677,11 +701,18 @@ module _ {T L D : Type 0} (truth : Truth) (link : L → Link) (left : D → Opti
       let Keys : Publication → Type 0 = λ p. AreKeysSame link old_place.links p.seeds in
       let Covers : List met_row.Step → Type 0 =
       λ met. CoversLive [] met old_place.caller new_place.caller in
+      let Stood : (path : List ℕ) → Type 0 = StoodThere run steps worker at in
+      let Did_so : Told → Type 0 = RewritePart Plugin Dice Covers worker (replica_at worker)
+      (own_entries steps worker at) in
+      let Shape : ℕ → ℕ → List Entry → ScriptLine → Told → Type 0 = λ seat own part asked reply.
+      PartIs Plugin Dice Breaks Keys NamesPlugin CannotBeSealed ReadBy
+      (RewritePart Plugin Dice Covers seat own part) seat own part (rows_at files) asked reply in
       let shape = parts_have_shape truth link left count files l.s.replica old_place new_place
       l.d.done l.t.is in
       part_mono Plugin (run.PluginFailed worker at) Dice (run.SourceFailed worker at) Breaks
-      (run.BreaksRule worker at) Keys (run.KeysAreSame worker at) Covers
-      (MeetsAll run steps worker at) worker (replica_at worker) (own_entries steps worker at)
+      (run.BreaksRule worker at) Keys (run.KeysAreSame worker at) NamesPlugin CannotBeSealed ReadBy
+      Did_so (run.RewriteDone worker at Stood (own_entries steps worker at)) worker
+      (replica_at worker) (own_entries steps worker at)
       (λ name rose. at_line worker at asked reply l
       (λ before after. FaultRose link name before.0 after.0) rose)
       (λ rose. at_line worker at asked reply l
@@ -690,18 +721,21 @@ module _ {T L D : Type 0} (truth : Truth) (link : L → Link) (left : D → Opti
       HasLinkWith link name (λ it. HasBreach it (Some (field, text))) before.0) breaks)
       (λ p same. at_line worker at asked reply l
       (λ before after. AreKeysSame link before.0 p.seeds) same)
-      (covers worker at asked reply l) (rows_at files) asked reply
-      (subst (λ (part : List Entry). PartIs Plugin Dice Breaks Keys Covers worker
-      (replica_at worker) part (rows_at files) asked reply)
+      (rewrite_mono Plugin (run.PluginFailed worker at) Dice (run.SourceFailed worker at) Covers
+      (MeetsAll run steps worker at) worker (replica_at worker) (own_entries steps worker at)
+      (λ name rose. at_line worker at asked reply l
+      (λ before after. FaultRose link name before.0 after.0) rose)
+      (λ rose. at_line worker at asked reply l
+      (λ before after. Rose (count before.1) (count after.1)) rose)
+      (covers worker at asked reply l)) (rows_at files) asked reply
+      (subst (λ (part : List Entry). Shape worker (replica_at worker) part asked reply)
       (sym (own_is worker at asked reply l))
-      (subst (λ n. PartIs Plugin Dice Breaks Keys Covers worker n l.d.done.part (rows_at files)
-      asked reply) (sym l.s.replica_is)
-      (subst (λ n. PartIs Plugin Dice Breaks Keys Covers n l.s.replica l.d.done.part
-      (rows_at files) asked reply) (l.t.seat_is ∙ l.s.seat_is)
-      (subst (λ (t : Told). PartIs Plugin Dice Breaks Keys Covers old_place.caller.seat l.s.replica
-      l.d.done.part (rows_at files) asked t) l.d.reply_is
-      (subst (λ (a : ScriptLine). PartIs Plugin Dice Breaks Keys Covers old_place.caller.seat
-      l.s.replica l.d.done.part (rows_at files) a l.d.done.reply) l.d.line_is shape)))))
+      (subst (λ n. Shape worker n l.d.done.part asked reply) (sym l.s.replica_is)
+      (subst (λ n. Shape n l.s.replica l.d.done.part asked reply) (l.t.seat_is ∙ l.s.seat_is)
+      (subst (λ (t : Told). Shape old_place.caller.seat l.s.replica l.d.done.part asked t)
+      l.d.reply_is
+      (subst (λ (a : ScriptLine). Shape old_place.caller.seat l.s.replica l.d.done.part a
+      l.d.done.reply) l.d.line_is shape)))))
 
   -- ---- the headline
 
@@ -746,19 +780,20 @@ module _ {T L D : Type 0} (truth : Truth) (link : L → Link) (left : D → Opti
         (judged_by_fit o front e (legal_one o history one.legal front e rest is));
     counts = λ front e rest is. subst (λ n. n ≤ e.line.faults)
         (sym (faults_are (start_of o) front)) (here o history one.legal front e rest is).counted;
-    writes = all_marks runs HasLine [] history (λ front e rest is. has_line front e rest is);
+    of_lines = all_marks runs OfLine [] history (λ front e rest is. of_line front e rest is);
     tells = has_steps;
     gets = got;
     refuses = refused_at;
   }
 
-  stays_readable : StaysReadable truth o files workers replies history
-  stays_readable front rest path row rows is lives live_rows =
+  stays_listed : StaysListed truth o files workers replies history
+  stays_listed front rest path row rows is lives live_rows =
       let l = live_is_readable o front path row rows
       (front_law o front rest (subst (IsLegal o) is one.legal)) lives live_rows in
       (l.0, l.2)
 
   pub the_headline : FleetHeadline link count old new truth files o parts history
+  unfolding headline
   the_headline = record {
     whole = one.whole;
     many = many_new;
@@ -768,9 +803,10 @@ module _ {T L D : Type 0} (truth : Truth) (link : L → Link) (left : D → Opti
         part_is before_is after_is;
     has = record {
       legal = one.legal;
-      readable = stays_readable;
+      listed = stays_listed;
       readings = readings;
       headline = headline;
+      made = all_marks runs HasLine [] history (λ front e rest is. has_line front e rest is);
     };
   }
 

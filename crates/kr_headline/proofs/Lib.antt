@@ -1,4 +1,5 @@
 -- The lemmas of the headline.
+pub mod Folds
 pub mod Standing
 pub mod Contents
 pub mod Answering
@@ -11,5 +12,7 @@ pub mod ReadBack
 pub mod Seats
 pub mod Headlines
 pub mod Consequences
+pub mod Undone
+pub mod WrongRewrites
 pub mod Wrong
 pub mod NoPlugins

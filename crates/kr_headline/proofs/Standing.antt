@@ -1,5 +1,5 @@
 -- What stands behind some entries, by the state that they lead to.
-use Rattle.std.specs.Prelude.{◌≢◌, if◌then◌else◌, slice_set}
+use Rattle.std.specs.Prelude.{if◌then◌else◌, slice_set}
 use Rattle.std.specs.Option.{option_map}
 use Rattle.std.specs.Str.{bytes_eq}
 use Rattle.std.proofs.Common.{◌≡◌, ℕ, zero, suc, ◌+◌, ◌<◌, ◌==◌, Bool, true, false, List, [], ◌∷◌, ◌++◌, length, get_or, Option, None, Some, refl, ap, sym, subst, ◌∙◌, arith, length-append, append-nil, eqb-true}
@@ -27,7 +27,8 @@ use Rattle.kr_opening.specs.declared.generation.Generation.{Generation}
 use Rattle.kr_history.proofs.ContentSteps.{live_deleted, live_elsewhere, live_put, one_path}
 use Rattle.kr_history.proofs.Effects.{entry_with}
 use Rattle.kr_opening.specs.Replicas.{current_from}
-use Rattle.kr_headline.specs.Headline.{Object, faults_from, had_after, had_from, object_after, object_from, revision_after, revision_from}
+use Rattle.kr_headline.specs.Headline.{Object, had_after, object_after, revision_after}
+use Rattle.kr_headline.proofs.Folds.{faults_from, had_from, object_from, revision_from}
 
 -- ---- revisions
 

@@ -1,68 +1,67 @@
 -- What no run with the headline prints.
-use Rattle.std.specs.Prelude.{◌≢◌, All, Contains, cond, count_by}
+use Rattle.std.specs.Prelude.{◌≢◌, All, Contains, map}
 use Rattle.std.specs.Option.{option_map}
-use Rattle.std.proofs.Common.{◌≡◌, ℕ, ◌+◌, ◌≤◌, List, [], ◌∷◌, ◌++◌, length, None, refl, ap, sym, subst, ◌∙◌, arith, append-nil}
+use Rattle.std.proofs.Common.{◌≡◌, ℕ, ◌+◌, ◌≤◌, List, [], ◌∷◌, ◌++◌, length, Option, None, Some, refl, ap, sym, subst, ◌∙◌, arith, append-nil}
 use Rattle.std.proofs.lemmas.List.{append_assoc}
-use Rattle.std.proofs.lemmas.List.Elements.{All-cons, All-head, All-nil, All-tail}
-use Rattle.std.proofs.lemmas.List.Sums.{sum_by-cons}
 use Rattle.std.proofs.lemmas.Option.{none-some, same_Some}
 use Rattle.kr_kms.specs.Calls.{Link}
+use Rattle.kr_provider.specs.Reading.{Reading, data_of, refused, unopened}
 use Rattle.kr_rollout.specs.declared.line.Did.{Did}
 use Rattle.kr_rollout.specs.declared.line.Did.TheVariants as did
 use Rattle.kr_rollout.specs.declared.line.Gave.{Gave}
 use Rattle.kr_rollout.specs.declared.line.Gave.TheVariants as gave
 use Rattle.kr_rollout.specs.declared.opening.Entry.{Entry}
+use Rattle.kr_script.specs.Fleets.{worker_of}
 use Rattle.kr_script.specs.declared.script.ScriptLine.{ScriptLine}
 use Rattle.kr_script.specs.declared.script.ScriptLine.TheVariants as line
 use Rattle.kr_script.specs.declared.told.Told.{Told}
 use Rattle.kr_script.specs.declared.told.Told.TheVariants as told
-use Rattle.kr_workers.specs.Changes.{MayChange, MayWrite}
-use Rattle.kr_rewrite.specs.Drives.{count_of, is_rewritten, path_of}
-use Rattle.kr_rewrite.specs.declared.outcome.Step as met_row
-use Rattle.kr_rewrite.specs.declared.outcome.Step.TheVariants as met
-use Rattle.kr_workers.specs.Shapes.{FindsNone, HoldsOne, HoldsPart, Reseals, Walks}
-use Rattle.kr_headline.specs.Headline.{Headline, IsTold, MayAnswer, Object, Run, Step, own_entries, replica_of, revision_after, revision_from}
-use Rattle.kr_headline.specs.Fleets.{run_in}
+use Rattle.kr_workers.specs.Changes.{AllowsChange}
+use Rattle.kr_workers.specs.Shapes.{HoldsOne}
+use Rattle.kr_workers.specs.declared.worker.Worker as fleet_worker
+use Rattle.kr_headline.specs.Headline.{Headline, IsOwn, IsTold, MayAnswer, Object, Run, Step, entries_of, own_entries, revision_after, stands_at}
+use Rattle.kr_headline.specs.Fleets.{outside_of, run_in}
 use Rattle.kr_headline.specs.WrongPages.{EachIsWrong, Stands, WrongPages}
+use Rattle.kr_headline.proofs.Consequences.{HasLine}
+use Rattle.kr_headline.proofs.Folds.{reading_of, revision_from}
+use Rattle.kr_headline.proofs.WrongRewrites.{wrong_rewrites}
 
--- nothing counts as nothing
-none_by : (m n : ℕ) → m ≡ count_of n → n ≡ 0 → m ≡ 0
-none_by m n is none = grind arith
+abbrev bytes_in : Option Reading → List ℕ
+bytes_in None = []
+bytes_in (Some (data_of bytes)) = bytes
+bytes_in (Some (refused why)) = []
+bytes_in (Some unopened) = []
 
 -- the member of a list of which all hold this
 holds_of : {X : Type 0} (P : X → Type 0) (xs : List X) (x : X) → All P xs → Contains xs x → P x
 holds_of P xs x all there = subst P there.2 (all there.0 x there.1)
 
-module _ (run : Run) (h : Headline run) where
+module _ (run : Run) (h : Headline run) (made : All (HasLine run) h.steps) where
   answered : (front : List Entry) (done : Did) (given : Gave)
       → (s : Stands run front done given) → MayAnswer run front s.entry done given
   answered front done given s = subst (λ d. MayAnswer run front s.entry d given) s.did_is
       (subst (λ g. MayAnswer run front s.entry s.entry.line.did g) s.gave_is
       (h.answers front s.entry s.rest s.there))
 
-  abbrev HasLine : Step → Type 0
-  HasLine step = (asked : ScriptLine) × (reply : Told)
-      × IsTold run step.entry.line.seat step.at asked reply × MayWrite run.settings_in
-      (replica_of run step.entry.line.seat) asked reply step.entry
-
   -- what a step changed, by the line that it was done for
   changed : (step : Step) (done : Did) (given : Gave) (asked : ScriptLine) (reply : Told)
       → Contains h.steps step → step.entry.line.did ≡ done → step.entry.line.gave ≡ given
       → IsTold run step.entry.line.seat step.at asked reply
-      → MayChange run.settings_in (replica_of run step.entry.line.seat) asked reply given done
+      → AllowsChange run.settings_in (run.replica_of step.entry.line.seat) asked reply given done
       step.entry.line.held step.entry.published
   changed step done given asked reply there did_is gave_is told_is =
-      let l = holds_of HasLine h.steps step h.writes there in
+      let l = holds_of (HasLine run) h.steps step made there in
       let settings = run.settings_in in
-      let own = replica_of run step.entry.line.seat in
+      let own = run.replica_of step.entry.line.seat in
       let held = step.entry.line.held in
       let published = step.entry.published in
-      subst (λ d. MayChange settings own asked reply given d held published) did_is
-      (subst (λ g. MayChange settings own asked reply g step.entry.line.did held published) gave_is
-      (subst (λ (t : Told). MayChange settings own asked t step.entry.line.gave
+      subst (λ d. AllowsChange settings own asked reply given d held published) did_is
+      (subst (λ g. AllowsChange settings own asked reply g step.entry.line.did held published)
+      gave_is
+      (subst (λ (t : Told). AllowsChange settings own asked t step.entry.line.gave
       step.entry.line.did held published)
       (same_Some l.1 reply (sym l.2.1 ∙ told_is.1))
-      (subst (λ (a : ScriptLine). MayChange settings own a l.1 step.entry.line.gave
+      (subst (λ (a : ScriptLine). AllowsChange settings own a l.1 step.entry.line.gave
       step.entry.line.did held published)
       (same_Some l.0 asked (sym l.2.0 ∙ told_is.0)) l.3)))
 
@@ -131,67 +130,27 @@ module _ (run : Run) (h : Headline run) where
       ∙ ap (λ g. revision_after g (revision_from run.revision_at_start front)) first in
       omega (arith, more, last, here)
 
-  -- ---- what a rewrite counts
+  -- ---- the sentence
 
-  abbrev Unwritten : Entry → Type 0
-  Unwritten e = (revision : ℕ) → e.line.gave ≢ gave.Written revision
-
-  all_front : (xs ys : List Entry) → All Unwritten (xs ++ ys) → All Unwritten xs
-  all_front [] ys all = All-nil Unwritten
-  all_front (x ∷ xs) ys all = All-cons Unwritten x xs (All-head Unwritten x (xs ++ ys) all)
-      (all_front xs ys (All-tail Unwritten x (xs ++ ys) all))
-
-  all_behind : (xs ys : List Entry) → All Unwritten (xs ++ ys) → All Unwritten ys
-  all_behind [] ys all = all
-  all_behind (x ∷ xs) ys all = all_behind xs ys (All-tail Unwritten x (xs ++ ys) all)
-
-  no_reseal : (own : ℕ) (above path : List ℕ) (to : ℕ) (part : List Entry)
-      → HoldsPart own part (λ p number mids. Reseals above path (gave.Written to) mids)
-      → All Unwritten part → ⊥
-  no_reseal own above path to part o all =
-      let r = o.is in
-      let made = all_front o.mids (o.let_go ∷ []) (All-tail Unwritten o.adopt
-      (o.mids ++ o.let_go ∷ []) (subst (λ (l : List Entry). All Unwritten l) o.part_is all)) in
-      let both = subst (λ (l : List Entry). All Unwritten l) r.mids_are made in
-      All-head Unwritten r.replace [] (All-tail Unwritten r.find (r.replace ∷ []) both) to
-      r.replaces.gave_is
-
-  none_counted : (own : ℕ) (above : List ℕ) (met : List met_row.Step)
-      (Ends : (above : List ℕ) → List Entry → Type 0) (part : List Entry)
-      → Walks own above met Ends part → All Unwritten part → count_by is_rewritten met ≡ 0
-  none_counted own above [] Ends part w all = refl
-  none_counted own above (met.Rewritten path ∷ more) Ends part w all = absurd
-      (no_reseal own above path w.3.is.0 w.0 (record {
-        number = w.3.number;
-        p = w.3.p;
-        adopt = w.3.adopt;
-        mids = w.3.mids;
-        let_go = w.3.let_go;
-        part_is = w.3.part_is;
-        adopts = w.3.adopts;
-        adopted = w.3.adopted;
-        hold = w.3.hold;
-        lets_go = w.3.lets_go;
-        is = w.3.is.1;
-      }) (all_front w.0 w.1 (subst (λ (l : List Entry). All Unwritten l) w.2 all)))
-  none_counted own above (taken ∷ more) Ends part w all =
-      let rest = none_counted own (path_of above taken) more Ends w.1 w.4
-      (all_behind w.0 w.1 (subst (λ (l : List Entry). All Unwritten l) w.2 all)) in
-      omega (arith, rest, sum_by-cons (λ x. cond (is_rewritten x) 1 0) taken more)
-
-  never_counted : (worker at rewritten fresh changed left : ℕ)
-      → IsTold run worker at line.Rewrite (told.Rewritten rewritten fresh changed left)
-      → All Unwritten (own_entries h.steps worker at) → rewritten ≢ 0 → ⊥
-  never_counted worker at rewritten fresh changed left told_is all some =
-      let s = h.tells worker at line.Rewrite (told.Rewritten rewritten fresh changed left)
-      told_is in
-      some (none_by rewritten (count_by is_rewritten s.0) s.3
-      (none_counted (replica_of run worker) [] s.0
-      (λ above rest. HoldsPart (replica_of run worker) rest (λ p number. FindsNone above))
-      (own_entries h.steps worker at) s.1 all))
+  never_other : (worker at revision : ℕ) (path bytes other : List ℕ) (truth : run.Truths)
+      → IsTold run worker at (line.Get path) (told.Got revision bytes)
+      → ((front : List Step) (fetch : Step) (rest : List Step)
+      → h.steps ≡ front ++ fetch ∷ rest → IsOwn worker at fetch
+      → fetch.entry.line.did ≡ did.Fetch path
+      → run.PluginsUnwrapped truth path worker at fetch.entry
+      × (option_map (λ (it : Object). it.data_put) (stands_at run path (entries_of front))
+      ≡ Some (Some other))) → other ≢ bytes → ⊥
+  never_other worker at revision path bytes other truth told_is each differ =
+      let f = h.gets worker at path bytes revision told_is in
+      let here = each f.front f.fetch f.rest f.there f.own f.fetches in
+      let put : f.object.data_put ≡ Some other = same_Some f.object.data_put (Some other)
+      (ap (option_map (λ (it : Object). it.data_put)) (sym f.stands) ∙ here.1) in
+      differ (ap bytes_in (ap (λ those. reading_of those (run.read_at_start truth path)) (sym put)
+      ∙ f.is truth here.0))
 
   pub wrong : WrongPages run h
   wrong = record {
+    got_other = never_other;
     found_nothing = λ front path revision s none. none-some revision
         (ap (option_map (λ (it : Object). it.revision)) (sym none)
         ∙ (answered front (did.Fetch path) (gave.Found revision) s).4);
@@ -200,7 +159,6 @@ module _ (run : Run) (h : Headline run) where
         revision (ap (option_map (λ (it : Object). it.revision)) (sym stands)
         ∙ (answered front (did.Fetch path) (gave.Found revision) s).4));
     written_twice = never_twice;
-    counted_unwritten = never_counted;
     wrote_untold = λ step path resource plain revision reply there did_is gave_is told_is other.
         other (changed step (did.Put path resource plain) (gave.Written revision)
         (line.Put resource path plain) reply there did_is gave_is told_is).1;
@@ -208,7 +166,7 @@ module _ (run : Run) (h : Headline run) where
         other (changed step (did.Leave replica) (gave.Departed number) asked reply there did_is
         gave_is told_is).0;
     put_twice = λ worker at path resource plain revision told_is other. other (three
-        (own_entries h.steps worker at) (replica_of run worker) (did.Put path resource plain)
+        (own_entries h.steps worker at) (run.replica_of worker) (did.Put path resource plain)
         (gave.Written revision)
         (h.tells worker at (line.Put resource path plain) (told.Put revision) told_is));
     gone_in = λ front replica s inside.
@@ -216,8 +174,10 @@ module _ (run : Run) (h : Headline run) where
     other_adopted = λ front replica number s other.
         other (answered front (did.Adopt replica) (gave.Adopted number) s).0;
     full_with_room = λ front path resource plain needed s room.
-        let past = answered front (did.Put path resource plain) (gave.StoreFull needed) s in
+        let past = (answered front (did.Put path resource plain) (gave.StoreFull needed) s).0 in
         omega (arith, room, past);
+    full_for_less = λ front path resource plain needed s less.
+        less (answered front (did.Put path resource plain) (gave.StoreFull needed) s).1;
     no_plugin_failed = λ worker at path name told_is none. none
         (h.tells worker at (line.Get path) (told.FaultPlugin name) told_is).0;
     no_source_failed = λ worker at seat path resource plain told_is none. none
@@ -229,8 +189,10 @@ module _ (run : Run) (h : Headline run) where
     refused_fit = λ front replica p verdict s fits.
         (answered front (did.Reload replica p None) (gave.Refused verdict) s).2
         (subst (run.WouldStayReadable front) (sym s.did_is) fits);
-    rewrite_got = λ worker at revision bytes told_is.
-        h.tells worker at line.Rewrite (told.Got revision bytes) told_is;
+    moved_to_own = λ front replica number p s.
+        (answered front (did.Reload replica p (Some number)) (gave.Moved number) s).1 refl;
+    unchanged_other = λ worker at told_is none.
+        let t = h.tells worker at line.Refresh told.Unchanged told_is in none t.p t.is.1;
     leave_memory = λ worker at replica told_is.
         h.tells worker at (line.Leave replica) told.Memory told_is;
     refresh_refused = λ worker at verdict told_is.
@@ -239,5 +201,9 @@ module _ (run : Run) (h : Headline run) where
 
 pub each_is_wrong : (T : Type 0) → {L D : Type 0} → (link : L → Link) (count : D → ℕ)
     → EachIsWrong T link count
-each_is_wrong T link count old new truth files o parts history h =
-    wrong (run_in link count old new truth files o parts history h) h.has.headline
+each_is_wrong T {L} {D} link count old new truth files o parts history h = (
+  wrong (run_in link count old new truth files o parts history h) h.has.headline h.has.made,
+  wrong_rewrites truth o files (map worker_of parts)
+      (map (λ (worker : fleet_worker.Worker T L D). worker.told.0) new) history
+      (outside_of link count h.benches) h.has.readings h.has.headline,
+)

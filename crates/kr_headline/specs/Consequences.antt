@@ -1,4 +1,4 @@
--- What follows from the page alone.
+-- What follows from the headline.
 use Rattle.std.specs.Prelude.{◌≡◌, ◌⊎◌, ℕ, false, List, ◌∷◌, ◌++◌, All, Some, ⊤}
 use Rattle.std.specs.List.{list_any}
 use Rattle.kr_kms.specs.Calls.{Link}

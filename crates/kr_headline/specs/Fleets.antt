@@ -1,6 +1,6 @@
 -- A fleet's run, as the headline sees it: by the opening that its workers began with, its history,
 -- and what is known of the outside.
-use Rattle.std.specs.Prelude.{◌≡◌, ◌⊎◌, ◌≤◌, ◌+◌, ℕ, true, List, [], ◌∷◌, ◌++◌, length, map, slice_get, All, Option, None, Some, IfSome, ⊤}
+use Rattle.std.specs.Prelude.{◌≡◌, ◌≢◌, ◌⊎◌, ◌≤◌, ◌+◌, ℕ, true, List, [], ◌∷◌, ◌++◌, length, map, get_or, slice_get, All, Contains, Option, None, Some, IfSome, ⊤}
 use Rattle.std.specs.Option.{option_map}
 use Rattle.kr_base.specs.Faults.{Rose}
 use Rattle.kr_config.specs.Kept.{Row as setting}
@@ -12,13 +12,13 @@ use Rattle.kr_kms.specs.Truth.{Opens, Truth}
 use Rattle.kr_kms.specs.declared.health.Field.{Field}
 use Rattle.kr_provider.specs.AskedLinks.{AskedOnly, FaultRose, HasLinkWith}
 use Rattle.kr_provider.specs.BenchState.{BenchState}
-use Rattle.kr_provider.specs.Envelopes.{Envelope, HasObject, IsEnvelopeOf}
+use Rattle.kr_provider.specs.Envelopes.{Envelope, IsEnvelopeOf}
 use Rattle.kr_provider.specs.Names.{names_of}
 use Rattle.kr_provider.specs.Publication.{Publication, list_at}
 use Rattle.kr_provider.specs.Readers.{reader_in}
-use Rattle.kr_provider.specs.Reading.{Reading, value_reading}
-use Rattle.kr_provider.specs.Unsealing.{HasNoSource, TakesSeed}
+use Rattle.kr_provider.specs.Reading.{Reading}
 use Rattle.kr_store.specs.Rows.{live}
+use Rattle.kr_store.specs.declared.rows.LogRow.{LogRow}
 use Rattle.kr_store.specs.declared.rows.Row.{Row}
 use Rattle.kr_rollout.specs.Entries.{published_at}
 use Rattle.kr_rollout.specs.Fits.{IsFit}
@@ -26,6 +26,7 @@ use Rattle.kr_rollout.specs.Histories.{IsLegal, state_of}
 use Rattle.kr_rollout.specs.Judgements.{judged_state}
 use Rattle.kr_rollout.specs.Openings.{first_of, start_of}
 use Rattle.kr_rollout.specs.States.{IsLive, current_of}
+use Rattle.kr_rollout.specs.Writes.{WouldWrite, file_size}
 use Rattle.kr_rollout.specs.declared.line.Did.{Did}
 use Rattle.kr_rollout.specs.declared.line.Did.TheVariants as did
 use Rattle.kr_rollout.specs.declared.line.Gave.{Gave}
@@ -38,25 +39,26 @@ use Rattle.kr_fleet.specs.LoadCalls.{AreKeysSame}
 use Rattle.kr_script.specs.Fleets.{Worker, worker_of}
 use Rattle.kr_script.specs.declared.script.Part.{Part}
 use Rattle.kr_script.specs.declared.told.Told.{Told}
+use Rattle.kr_rewrite.specs.Drives.{path_of}
+use Rattle.kr_script.specs.declared.script.ScriptLine.{ScriptLine}
+use Rattle.kr_workers.specs.Changes.{MayChange}
+use Rattle.kr_workers.specs.Configurations.{CannotBeSealed, NamesPlugin, ReadBy, RowReads}
 use Rattle.kr_workers.specs.Files.{rows_at}
 use Rattle.kr_workers.specs.Plugins.{IsReplaced, Reseals}
+use Rattle.kr_workers.specs.RewriteParts.{RewritePart}
 use Rattle.kr_workers.specs.declared.files.SettingsFile.{SettingsFile}
 use Rattle.kr_workers.specs.declared.worker.Worker as fleet_worker
-use Rattle.kr_headline.specs.Headline.{Headline, Run}
+use Rattle.kr_headline.specs.Headline.{Headline, IsTold, Run, Step}
 
 -- ---- what a get read
 
--- the row that the entry found reads so, by the configuration that was held, with this source: a
--- published seed, where one is the row's own, and none where its object is refused
+-- the row that the entry found reads so, by the configuration that was held, with this source
 pub record ReadsWith (envelope : Envelope) (e : Entry) (reading : Reading) : Type 0 where
   pub p : Publication
   pub row : Row
   pub held : e.published ≡ Some p
   pub found : e.row ≡ Some row
-  pub object : HasObject (reader_in (list_at p row.resource) row.stored) row.stored envelope.object
-  pub seed : TakesSeed p.seeds (reader_in (list_at p row.resource) row.stored) envelope
-  pub unsourced : HasNoSource envelope
-  pub reads : value_reading envelope (list_at p row.resource) row.path row.stored ≡ reading
+  pub is : RowReads envelope p row reading
 
 -- ---- what is supposed of plugins
 
@@ -122,22 +124,42 @@ module _ (truth : Truth) (o : Opening) (files : List SettingsFile) (workers : Li
         (readings.reseals front e (since ++ fetch ∷ rest) path is replaced)
     pub read : UnwrapsRow opens (readings.envelope_of worker at) fetch
 
+  -- the replica of each worker, and its lines
+  abbrev pub replica_at : (worker : ℕ) → ℕ
+  replica_at worker = get_or (map (λ (it : Worker). it.replica) workers) worker 0
+
+  abbrev pub lines_at : (worker : ℕ) → List ScriptLine
+  lines_at worker = get_or (map (λ (it : Worker). it.lines) workers) worker []
+
+  -- what a rewrite did is its part, by the second page; it met each path at which something stood
+  -- before each of its steps
   abbrev pub run_of : Outside → Readings → Run
   run_of outside readings = record {
-    workers = workers;
-    replies = replies;
+    replica_of = replica_at;
+    lines_of = lines_at;
+    replies_of = λ worker. get_or replies worker [];
     history = history;
     stood_at_start = λ path. option_map (λ (row : Row). row.revision) (live o.rows path);
     revision_at_start = length o.rows;
     had_at_start = current_of (start_of o);
     store_faults_at_start = o.count;
     limit = o.limit;
+    NeedsBytes = λ front e bytes. (row : LogRow)
+        × WouldWrite o.format e.line.did (state_of o front).rows e.published row
+        × (bytes ≡ file_size o.format (state_of o front).rows row);
     settings_in = rows_at files;
     published_of = λ generation. published_at (state_of o history).generations (Some generation);
     PluginFailed = outside.PluginFailed;
     SourceFailed = outside.SourceFailed;
     BreaksRule = outside.BreaksRule;
     KeysAreSame = outside.KeysAreSame;
+    NamesPlugin = NamesPlugin;
+    CannotBeSealed = CannotBeSealed;
+    ReadBy = ReadBy;
+    RewriteDone = λ worker at StoodThere. RewritePart (outside.PluginFailed worker at)
+        (outside.SourceFailed worker at)
+        (λ met. (path : List ℕ) → path ≢ [] → StoodThere path
+        → Contains (map (path_of []) met) path) worker (replica_at worker);
     WouldStayReadable = λ front done. IsFit (judged_state done (state_of o front));
     Reads = λ worker at. ReadsWith (readings.envelope_of worker at);
     Truths = Opens;
@@ -146,25 +168,30 @@ module _ (truth : Truth) (o : Opening) (files : List SettingsFile) (workers : Li
         ⊎ Unwraps readings opens path worker at e;
   }
 
-  -- behind each front of the history each live configuration lists a provider for each live row,
-  -- the one whose prefix the row's value begins with
-  abbrev pub StaysReadable : Type 0
-  StaysReadable = (front rest : List Entry) (path : List ℕ) (row : Row) (rows : List setting)
+  -- after each front of the history each live configuration lists a provider for each live row, the
+  -- one whose prefix the row's value begins with; whether that opens the value is not said here
+  abbrev pub StaysListed : Type 0
+  StaysListed = (front rest : List Entry) (path : List ℕ) (row : Row) (rows : List setting)
       → history ≡ front ++ rest → live (state_of o front).rows path ≡ Some row
       → IsLive (state_of o front) rows
       → (who : Who) × (reader_in (list_of rows row.resource) row.stored ≡ Some who)
 
-  -- the history is legal from the opening on, and the run has the headline
+  -- the history is legal from the opening on, and the run has the headline. What changed something
+  -- was done for a line that tells it
   pub record HasHeadline (outside : Outside) : Type 0 where
     pub legal : IsLegal o history
-    pub readable : StaysReadable
+    pub listed : StaysListed
     pub readings : Readings
     pub headline : Headline (run_of outside readings)
+    pub made : All (λ (step : Step). (asked : ScriptLine) × (reply : Told)
+        × IsTold (run_of outside readings) step.entry.line.seat step.at asked reply
+        × MayChange (rows_at files) (replica_at step.entry.line.seat) asked reply step.entry)
+        headline.steps
 
 -- ---- the workers
 
 module _ {L D : Type 0} (link : L → Link) (count : D → ℕ) where
-  -- the links and the random source of a worker: as they were, and behind each of its lines. Each
+  -- the links and the random source of a worker: as they were, and after each of its lines. Each
   -- link stays the same plugin's, and no count of faults falls
   pub record AreBenches (benches : List (List L × D)) (lines : ℕ) (old new : BenchState L D)
       : Type 0 where
@@ -176,7 +203,7 @@ module _ {L D : Type 0} (link : L → Link) (count : D → ℕ) where
         → AskedOnly link (names_of link before.0) before.0 after.0
         × (count before.1 ≤ count after.1)
 
-  -- before and behind the line at this place
+  -- before and after the line at this place
   pub record AtLine (benches : List (List L × D)) (at : ℕ)
       (Has : (before after : List L × D) → Type 0) : Type 0 where
     pub before : List L × D

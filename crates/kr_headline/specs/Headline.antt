@@ -1,8 +1,8 @@
 -- What the replies of a fleet say: a read by any worker gives the bytes that were put last at its
 -- path. Begin at `Headline`, the last definition of this page.
-use Rattle.std.specs.Prelude.{◌≡◌, ◌≢◌, ◌<◌, ◌≤◌, ◌+◌, ◌==◌, ◌&&◌, ℕ, List, [], ◌∷◌, ◌++◌, length, map, get_or, slice_get, All, Contains, if◌then◌else◌, Option, None, Some, ⊤}
+use Rattle.std.specs.Prelude.{◌≡◌, ◌≢◌, ◌⊎◌, ◌<◌, ◌≤◌, ◌+◌, ◌==◌, ◌&&◌, ℕ, List, [], ◌∷◌, ◌++◌, fold, length, map, slice_get, All, if◌then◌else◌, Option, None, Some, ⊤}
 use Rattle.std.specs.List.{filter}
-use Rattle.std.specs.Option.{option_map}
+use Rattle.std.specs.Option.{option_map, option_map_or}
 use Rattle.std.specs.Str.{bytes_eq}
 use Rattle.std.specs.declared.cmp.Ordering.TheVariants.{Less}
 use Rattle.std.specs.Ordering.{nat_cmp}
@@ -19,25 +19,43 @@ use Rattle.kr_rollout.specs.declared.line.Did.TheVariants as did
 use Rattle.kr_rollout.specs.declared.line.Gave.{Gave}
 use Rattle.kr_rollout.specs.declared.line.Gave.TheVariants as gave
 use Rattle.kr_rollout.specs.declared.opening.Entry.{Entry}
-use Rattle.kr_rewrite.specs.Drives.{path_of}
-use Rattle.kr_rewrite.specs.declared.outcome.Step as met_row
-use Rattle.kr_script.specs.Fleets.{Worker}
 use Rattle.kr_script.specs.declared.script.ScriptLine.{ScriptLine}
 use Rattle.kr_script.specs.declared.script.ScriptLine.TheVariants as line
 use Rattle.kr_script.specs.declared.told.Told.{Told}
 use Rattle.kr_script.specs.declared.told.Told.TheVariants as told
-use Rattle.kr_workers.specs.Changes.{MayWrite}
 use Rattle.kr_workers.specs.Shapes.{PartIs}
+
+-- How to read it. A line of a fleet file is a `line`: `get PATH` is `line.Get path`, and so on. A
+-- reply is a `told`: `put R` is `told.Put`, `get R BYTES` is `told.Got`, `delete R` is
+-- `told.Deleted`, `leave G` is `told.Left`, `rewrite A B C D` is `told.Rewritten`, `reload G`,
+-- `join G`, `refresh G` are `told.Reloaded`, `told.Joined`, `told.Refreshed`; `refresh unchanged`
+-- and `refresh moved G` are `told.Unchanged`, `told.Moved`. `refused N NAME`, of a value or of
+-- data, is `told.Value`; `refused VERDICT`, of a configuration, is `told.Refused`. Of faults,
+-- `plugin P`, `dice W`, `store` are `told.FaultPlugin`, `told.FaultDice`, `told.FaultStore`. All
+-- else has its printed word.
+--
+-- An entry `e` of the journal has `e.line.seat`, the worker by its number; `e.line.did`, what it
+-- did; `e.line.gave`, what was answered; `e.line.held`, the number of the configuration that it
+-- held before that; `e.line.faults`, how often the store had failed by then. `e.published` is the
+-- configuration that it held, or has adopted by this entry; `e.row` the row that was found or
+-- written, and `e.replaced` the one that was to be replaced.
+--
+-- So of a line `get /a` that told `get 7 aGk=`, `told.Got 7 hi`: by `tells` its own entries are
+-- three, an Adopt, a Fetch of /a that found revision 7, and a LetGo (`PartIs`, `GetPart`). By
+-- `answers` the Fetch found what stood at /a after all entries before it (`MayAnswer`,
+-- `stands_at`). And by `gets` that object was put as `hi`, where plugins unwrapped what they had
+-- wrapped; or nothing was put there since the start, and it read as `hi` then (`Finds`).
 
 -- ---- what is given
 
 -- A run of a fleet as this page sees it. Workers and replicas are named by their numbers, from 0;
 -- `at` is the place, from 0, of a line among its worker's lines.
 pub record Run : Type 1 where
-  -- the workers, each at a replica and with its lines; what each told, a reply for each line; and
-  -- the journal, one entry for each step of any of them: who did what, and what was answered
-  pub workers : List Worker
-  pub replies : List (List Told)
+  -- each worker's replica, its lines, and what it told, a reply for each line; none where there is
+  -- no such worker. And the journal, one entry for each step of any of them
+  pub replica_of : (worker : ℕ) → ℕ
+  pub lines_of : (worker : ℕ) → List ScriptLine
+  pub replies_of : (worker : ℕ) → List Told
   pub history : List Entry
   -- at the start: the revision of what stood at a path; the latest revision; the number of the
   -- configuration of a replica that is in; and how often the store had failed
@@ -45,9 +63,10 @@ pub record Run : Type 1 where
   pub revision_at_start : ℕ
   pub had_at_start : (replica : ℕ) → Option ℕ
   pub store_faults_at_start : ℕ
-  -- how many bytes the store may have; the settings in a file; and the configuration of a number,
-  -- which is one throughout
+  -- how many bytes the store may have, and how many it would have after these entries with what
+  -- this one writes; the settings in a file; and the configuration of a number, one throughout
   pub limit : ℕ
+  pub NeedsBytes : (front : List Entry) → Entry → (bytes : ℕ) → Type 0
   pub settings_in : (file : List ℕ) → Option (List setting)
   pub published_of : (generation : ℕ) → Option Publication
   -- the plugin failed while the worker did this line, or its random source did: the count of its
@@ -57,21 +76,31 @@ pub record Run : Type 1 where
   pub SourceFailed : (worker at : ℕ) → Type 0
   pub BreaksRule : (worker at : ℕ) → (name : List ℕ) → Field → (text : List ℕ) → Type 0
   pub KeysAreSame : (worker at : ℕ) → Publication → Type 0
-  -- behind these entries, with this done too, each replica could read all that is stored, and what
+  -- settings name a plugin; data can't be sealed by the configuration, for this reason; by it the
+  -- plugin reads the row
+  pub NamesPlugin : List setting → (name : List ℕ) → Type 0
+  pub CannotBeSealed : Publication → (resource plain : List ℕ) → ValueNo → Type 0
+  pub ReadBy : (name : List ℕ) → Publication → Row → Type 0
+  -- the part of a rewrite's entries that is told so, where at these paths something stood before
+  -- each: each row is found, fresh or sealed anew (a page of its own, RewriteParts)
+  pub RewriteDone : (worker at : ℕ) → (StoodThere : (path : List ℕ) → Type 0)
+      → (part : List Entry) → Told → Type 0
+  -- after these entries, with this done too, each replica could read all that is stored, and what
   -- each other one writes
   pub WouldStayReadable : (front : List Entry) → Did → Type 0
   -- the row that the worker's line found reads so, by the configuration that the entry held and
   -- with some source. What a plugin answers, if one was asked, is such a source; that it is the
   -- right one is what is supposed below, and nothing else ties it to the plugin
   pub Reads : (worker at : ℕ) → Entry → Reading → Type 0
-  -- truths: what plugins' wrapped keys may open to. By each, how a path's row read at the start;
-  -- and the one thing that is supposed: plugins unwrapped what they had wrapped, as far as it
-  -- concerns what the worker's line read at this path, by this entry
+  -- truths: what plugins' wrapped keys may open to. There is one, and where no plugin is concerned
+  -- all that is supposed holds by itself, of any (a law, `nothing_supposed`). By each truth, how a
+  -- path's row read at the start; and the one thing that is supposed: plugins unwrapped what they
+  -- had wrapped, as far as it concerns what the worker's line read at this path, by this entry
   pub Truths : Type 0
   pub read_at_start : Truths → (path : List ℕ) → Option Reading
   pub PluginsUnwrapped : Truths → (path : List ℕ) → (worker at : ℕ) → Entry → Type 0
 
--- ---- what stands behind some entries
+-- ---- what stands after some entries
 
 -- what stands at a path: its revision, and the data that were put; none where it stood there at the
 -- start
@@ -82,56 +111,43 @@ pub record Object : Type 0 where
 -- a Put that is written sets it, a Delete takes it away, and a Replace, which seals the same data
 -- anew, gives it another revision. All else changes nothing
 abbrev pub object_after : Gave → Did → (path : List ℕ) → Option Object → Option Object
-object_after (gave.Written revision) (did.Put own resource plain) path now =
-    if bytes_eq own path then Some (record { revision = revision; data_put = Some plain }) else now
-object_after (gave.Written revision) (did.Delete own) path now =
-    if bytes_eq own path then None else now
-object_after (gave.Written revision) (did.Replace own from) path now = if bytes_eq own path
+object_after (gave.Written revision) (did.Put named resource plain) path now = if bytes_eq named
+    path then Some (record { revision = revision; data_put = Some plain }) else now
+object_after (gave.Written revision) (did.Delete named) path now =
+    if bytes_eq named path then None else now
+object_after (gave.Written revision) (did.Replace named from) path now = if bytes_eq named path
     then option_map (λ (it : Object). record it { revision = revision }) now else now
 object_after given done path now = now
 
-abbrev pub object_from : (path : List ℕ) → Option Object → List Entry → Option Object
-object_from path now [] = now
-object_from path now (e ∷ front) =
-    object_from path (object_after e.line.gave e.line.did path now) front
-
 -- the number of a replica's configuration, none where it is out
 abbrev pub had_after : Gave → Did → (replica : ℕ) → Option ℕ → Option ℕ
-had_after (gave.Reloaded generation) (did.Reload own p expect) replica now =
-    if own == replica then Some generation else now
-had_after (gave.Joined generation) (did.Join own p) replica now =
-    if own == replica then Some generation else now
-had_after (gave.Departed generation) (did.Leave own) replica now =
-    if own == replica then None else now
+had_after (gave.Reloaded generation) (did.Reload named p expect) replica now =
+    if named == replica then Some generation else now
+had_after (gave.Joined generation) (did.Join named p) replica now =
+    if named == replica then Some generation else now
+had_after (gave.Departed generation) (did.Leave named) replica now =
+    if named == replica then None else now
 had_after given done replica now = now
-
-abbrev pub had_from : (replica : ℕ) → Option ℕ → List Entry → Option ℕ
-had_from replica now [] = now
-had_from replica now (e ∷ front) =
-    had_from replica (had_after e.line.gave e.line.did replica now) front
 
 -- the latest revision
 abbrev pub revision_after : Gave → ℕ → ℕ
 revision_after (gave.Written revision) now = revision
 revision_after given now = now
 
-abbrev pub revision_from : ℕ → List Entry → ℕ
-revision_from now [] = now
-revision_from now (e ∷ front) = revision_from (revision_after e.line.gave now) front
-
--- how often the store had failed
-abbrev pub faults_from : ℕ → List Entry → ℕ
-faults_from now [] = now
-faults_from now (e ∷ front) = faults_from e.line.faults front
-
--- the data that were put, or what was read there at the start
-abbrev pub reading_of : Option (List ℕ) → (at_start : Option Reading) → Option Reading
-reading_of None at_start = at_start
-reading_of (Some plain) at_start = Some (data_of plain)
+-- it changes nothing, unless it is a rewrite's and seals a row anew
+abbrev pub OnlyReseals : ScriptLine → Gave → Did → Type 0
+OnlyReseals asked (gave.Written revision) (did.Replace path from) = asked ≡ line.Rewrite
+OnlyReseals asked (gave.Written revision) done = ⊥
+OnlyReseals asked (gave.Reloaded generation) done = ⊥
+OnlyReseals asked (gave.Joined generation) done = ⊥
+OnlyReseals asked (gave.Departed generation) done = ⊥
+OnlyReseals asked given done = ⊤
 
 module _ (run : Run) where
+  -- `front` are the entries before, from the start on
   abbrev pub stands_at : (path : List ℕ) → (front : List Entry) → Option Object
-  stands_at path front = object_from path
+  stands_at path front =
+      fold (λ (now : Option Object) (e : Entry). object_after e.line.gave e.line.did path now)
       (option_map (λ revision. record { revision = revision; data_put = None })
       (run.stood_at_start path)) front
 
@@ -140,69 +156,70 @@ module _ (run : Run) where
       option_map (λ (it : Object). it.revision) (stands_at path front) ≡ Some revision
 
   abbrev pub has_at : (replica : ℕ) → (front : List Entry) → Option ℕ
-  has_at replica front = had_from replica (run.had_at_start replica) front
+  has_at replica front =
+      fold (λ (now : Option ℕ) (e : Entry). had_after e.line.gave e.line.did replica now)
+      (run.had_at_start replica) front
 
-  -- where a configuration is expected, by its number, the replica has that
-  abbrev pub HasExpected : (replica : ℕ) → (expect : Option ℕ) → (front : List Entry) → Type 0
-  HasExpected replica expect front =
-      (own : ℕ) → expect ≡ Some own → has_at replica front ≡ Some own
+  abbrev pub store_faults : (front : List Entry) → ℕ
+  store_faults front =
+      fold (λ (now : ℕ) (e : Entry). e.line.faults) run.store_faults_at_start front
 
-  -- ---- what may be answered behind some entries
+  -- ---- what may be answered after some entries
 
   -- a write has the next revision, so it stands once; the store fails where its count rises, and is
-  -- full where the write would pass its limit
-  abbrev pub StoreAnswers : (front : List Entry) → Gave → (faults : ℕ) → Type 0
-  StoreAnswers front (gave.Written revision) faults =
-      revision ≡ revision_from run.revision_at_start front + 1
-  StoreAnswers front gave.StoreFailed faults =
-      Rose (faults_from run.store_faults_at_start front) faults
-  StoreAnswers front (gave.StoreFull needed) faults = run.limit < needed
-  StoreAnswers front gave.Nothing faults = ⊤
-  StoreAnswers front given faults = ⊥
+  -- full where it would pass its limit with what is written
+  abbrev pub StoreAnswers : (front : List Entry) → Entry → Gave → Type 0
+  StoreAnswers front e (gave.Written revision) =
+      revision ≡ fold (λ (now : ℕ) (e : Entry). revision_after e.line.gave now)
+      run.revision_at_start front + 1
+  StoreAnswers front e gave.StoreFailed = Rose (store_faults front) e.line.faults
+  StoreAnswers front e (gave.StoreFull needed) =
+      (run.limit < needed) × run.NeedsBytes front e needed
+  StoreAnswers front e gave.Nothing = ⊤
+  StoreAnswers front e given = ⊥
 
-  -- the least path above this one at which something stands is found
-  abbrev pub IsLeastAbove : (above : List ℕ) → (front : List Entry) → Row → Type 0
-  IsLeastAbove above front row = (slice_cmp nat_cmp above row.path ≡ Less)
-      × IsAt row.path front row.revision × ((path : List ℕ) → stands_at path front ≢ None
-      → slice_cmp nat_cmp above path ≡ Less → slice_cmp nat_cmp path row.path ≢ Less)
-
-  -- what is found stands there; what a replica has is adopted, and where it is gone it is out; it
-  -- is given something else exactly where all stays readable. `Nothing` is want of memory
+  -- what is found stands there, and After finds the least path above its own; what a replica has is
+  -- adopted, and where it is gone it is out. It is given something else exactly where all stays
+  -- readable; where a number is expected, only if it has that. `gave.Nothing` is want of memory
   abbrev pub MayAnswer : (front : List Entry) → Entry → Did → Gave → Type 0
   MayAnswer front e (did.Adopt replica) (gave.Adopted generation) =
       (has_at replica front ≡ Some generation) × (e.published ≡ run.published_of generation)
-  MayAnswer front e (did.Adopt replica) (gave.Gone own) =
-      (own ≡ replica) × (has_at replica front ≡ None)
+  MayAnswer front e (did.Adopt replica) (gave.Gone named) =
+      (named ≡ replica) × (has_at replica front ≡ None)
   MayAnswer front e (did.Adopt replica) gave.Nothing = ⊤
   MayAnswer front e (did.Fetch path) (gave.Found revision) = (row : Row) × (e.row ≡ Some row)
       × (row.path ≡ path) × (row.revision ≡ revision) × IsAt path front revision
   MayAnswer front e (did.Fetch path) gave.Absent = stands_at path front ≡ None
   MayAnswer front e (did.Fetch path) gave.Nothing = ⊤
   MayAnswer front e (did.After above) (gave.Found revision) = (row : Row) × (e.row ≡ Some row)
-      × (row.revision ≡ revision) × IsLeastAbove above front row
+      × (row.revision ≡ revision) × (slice_cmp nat_cmp above row.path ≡ Less)
+      × IsAt row.path front row.revision × ((path : List ℕ) → stands_at path front ≢ None
+      → slice_cmp nat_cmp above path ≡ Less → slice_cmp nat_cmp path row.path ≢ Less)
   MayAnswer front e (did.After above) gave.Absent = (path : List ℕ)
       → stands_at path front ≢ None → slice_cmp nat_cmp above path ≢ Less
   MayAnswer front e (did.After above) gave.Nothing = ⊤
-  MayAnswer front e (did.Put path resource plain) given = StoreAnswers front given e.line.faults
+  MayAnswer front e (did.Put path resource plain) given = StoreAnswers front e given
   MayAnswer front e (did.Delete path) gave.Absent = stands_at path front ≡ None
   MayAnswer front e (did.Delete path) (gave.Written revision) =
-      (stands_at path front ≢ None) × StoreAnswers front (gave.Written revision) e.line.faults
-  MayAnswer front e (did.Delete path) given = StoreAnswers front given e.line.faults
+      (stands_at path front ≢ None) × StoreAnswers front e (gave.Written revision)
+  MayAnswer front e (did.Delete path) given = StoreAnswers front e given
   MayAnswer front e (did.Replace path from) (gave.Written revision) =
-      IsAt path front from × StoreAnswers front (gave.Written revision) e.line.faults
+      IsAt path front from × StoreAnswers front e (gave.Written revision)
   MayAnswer front e (did.Replace path from) (gave.Changed last) = IsAt path front from → ⊥
-  MayAnswer front e (did.Replace path from) given = StoreAnswers front given e.line.faults
+  MayAnswer front e (did.Replace path from) given = StoreAnswers front e given
   MayAnswer front e did.LetGo gave.Released = e.line.held ≢ None
   MayAnswer front e (did.Reload replica p expect) (gave.Reloaded generation) =
-      (has_at replica front ≢ None) × HasExpected replica expect front
+      (has_at replica front ≢ None)
+      × ((number : ℕ) → expect ≡ Some number → has_at replica front ≡ Some number)
       × (run.published_of generation ≡ Some p) × run.WouldStayReadable front e.line.did
   MayAnswer front e (did.Reload replica p expect) (gave.Refused verdict) =
-      (has_at replica front ≢ None) × HasExpected replica expect front
+      (has_at replica front ≢ None)
+      × ((number : ℕ) → expect ≡ Some number → has_at replica front ≡ Some number)
       × (run.WouldStayReadable front e.line.did → ⊥)
   MayAnswer front e (did.Reload replica p expect) (gave.Moved generation) =
       (has_at replica front ≡ Some generation) × (expect ≢ Some generation) × (expect ≢ None)
-  MayAnswer front e (did.Reload replica p expect) (gave.Gone own) =
-      (own ≡ replica) × (has_at replica front ≡ None)
+  MayAnswer front e (did.Reload replica p expect) (gave.Gone named) =
+      (named ≡ replica) × (has_at replica front ≡ None)
   MayAnswer front e (did.Reload replica p expect) gave.Nothing = ⊤
   MayAnswer front e (did.Join replica p) (gave.Joined generation) =
       (has_at replica front ≡ None) × (run.published_of generation ≡ Some p)
@@ -214,8 +231,8 @@ module _ (run : Run) where
   MayAnswer front e (did.Join replica p) gave.Nothing = ⊤
   MayAnswer front e (did.Leave replica) (gave.Departed generation) =
       has_at replica front ≡ Some generation
-  MayAnswer front e (did.Leave replica) (gave.Gone own) =
-      (own ≡ replica) × (has_at replica front ≡ None)
+  MayAnswer front e (did.Leave replica) (gave.Gone named) =
+      (named ≡ replica) × (has_at replica front ≡ None)
   MayAnswer front e done given = ⊥
 
 -- ---- the steps of a line
@@ -246,34 +263,15 @@ own_entries steps worker at = entries_of (filter
 -- ---- the headline
 
 module _ (run : Run) where
-  abbrev pub lines_of : (worker : ℕ) → List ScriptLine
-  lines_of worker = get_or (map (λ (it : Worker). it.lines) run.workers) worker []
-
-  abbrev pub replica_of : (worker : ℕ) → ℕ
-  replica_of worker = get_or (map (λ (it : Worker). it.replica) run.workers) worker 0
-
   -- the line at a place, and what was told of it
   abbrev pub IsTold : (worker at : ℕ) → ScriptLine → Told → Type 0
-  IsTold worker at asked reply = (slice_get (lines_of worker) at ≡ Some asked)
-      × (slice_get (get_or run.replies worker []) at ≡ Some reply)
+  IsTold worker at asked reply = (slice_get (run.lines_of worker) at ≡ Some asked)
+      × (slice_get (run.replies_of worker) at ≡ Some reply)
 
   module _ (steps : List Step) (worker at : ℕ) where
-    -- a rewrite met each path at which something stood before each of its steps
-    abbrev pub MeetsAll : List met_row.Step → Type 0
-    MeetsAll met = (path : List ℕ) → path ≢ []
-        → ((front : List Step) (step : Step) (rest : List Step)
-        → steps ≡ front ++ step ∷ rest → IsOwn worker at step
-        → stands_at run path (entries_of front) ≢ None)
-        → Contains (map (path_of []) met) path
-
-    -- the line's own steps are those that its reply tells
-    abbrev pub HasSteps : ScriptLine → Told → Type 0
-    HasSteps asked reply = PartIs (run.PluginFailed worker at) (run.SourceFailed worker at)
-        (run.BreaksRule worker at) (run.KeysAreSame worker at) MeetsAll worker (replica_of worker)
-        (own_entries steps worker at) run.settings_in asked reply
-
-    -- what a `get` found is what stands there behind the steps before: the data that were put last,
-    -- wherever plugins unwrapped what they had wrapped; and the row reads so whatever they did
+    -- what a `get` found is what stands there after the steps before: the data that were put last,
+    -- or else how it read at the start, wherever plugins unwrapped what they had wrapped; and the
+    -- row reads so whatever they did
     pub record Finds (path : List ℕ) (revision : ℕ) (reading : Reading) : Type 0 where
       pub front : List Step
       pub fetch : Step
@@ -287,28 +285,36 @@ module _ (run : Run) where
       pub stands : stands_at run path (entries_of front) ≡ Some object
       pub revision_is : object.revision ≡ revision
       pub is : (truth : run.Truths) → run.PluginsUnwrapped truth path worker at fetch.entry
-          → reading_of object.data_put (run.read_at_start truth path) ≡ Some reading
+          → option_map_or (λ plain. Some (data_of plain)) object.data_put
+          (run.read_at_start truth path) ≡ Some reading
 
   -- Each line has one reply. The history is made of steps, each of which was done for a line of
-  -- its worker, in the order of these, and was answered as it may be by what stands behind those
-  -- before. What changed something was done for a line that tells it. And a reply tells its line's
-  -- own steps; one to a `get` what stands there, or why that is refused.
+  -- its worker, in the order of these, and was answered as it may be by what stands after those
+  -- before. A reply tells its line's own steps, so what changed something was done for a line that
+  -- tells it; where memory lacked the line changed nothing, but for rows that a rewrite sealed
+  -- anew, and no rewrite changes more. And a reply to a `get` tells what stands there, or why that
+  -- is refused.
   pub record Headline : Type 0 where
-    pub all_told : (worker : ℕ)
-        → length (get_or run.replies worker []) ≡ length (lines_of worker)
+    pub all_told : (worker : ℕ) → length (run.replies_of worker) ≡ length (run.lines_of worker)
     pub steps : List Step
     pub entries_are : entries_of steps ≡ run.history
     pub in_order : AreInOrder steps
     pub answers : (front : List Entry) (e : Entry) (rest : List Entry)
         → run.history ≡ front ++ e ∷ rest → MayAnswer run front e e.line.did e.line.gave
     pub counts : (front : List Entry) (e : Entry) (rest : List Entry)
-        → run.history ≡ front ++ e ∷ rest
-        → faults_from run.store_faults_at_start front ≤ e.line.faults
-    pub writes : All (λ (step : Step). (asked : ScriptLine) × (reply : Told)
-        × IsTold step.entry.line.seat step.at asked reply × MayWrite run.settings_in
-        (replica_of step.entry.line.seat) asked reply step.entry) steps
-    pub tells : (worker at : ℕ) (asked : ScriptLine) (reply : Told)
-        → IsTold worker at asked reply → HasSteps steps worker at asked reply
+        → run.history ≡ front ++ e ∷ rest → store_faults run front ≤ e.line.faults
+    pub of_lines : All (λ (step : Step). (asked : ScriptLine) × (reply : Told)
+        × IsTold step.entry.line.seat step.at asked reply
+        × ((reply ≡ told.Memory) ⊎ (asked ≡ line.Rewrite)
+        → OnlyReseals asked step.entry.line.gave step.entry.line.did)) steps
+    pub tells : (worker at : ℕ) (asked : ScriptLine) (reply : Told) → IsTold worker at asked reply
+        → PartIs (run.PluginFailed worker at) (run.SourceFailed worker at)
+        (run.BreaksRule worker at) (run.KeysAreSame worker at) run.NamesPlugin run.CannotBeSealed
+        run.ReadBy (run.RewriteDone worker at
+        (λ path. (front : List Step) (step : Step) (rest : List Step)
+        → steps ≡ front ++ step ∷ rest → IsOwn worker at step
+        → stands_at run path (entries_of front) ≢ None) (own_entries steps worker at)) worker
+        (run.replica_of worker) (own_entries steps worker at) run.settings_in asked reply
     pub gets : (worker at : ℕ) (path bytes : List ℕ) (revision : ℕ)
         → IsTold worker at (line.Get path) (told.Got revision bytes)
         → Finds steps worker at path revision (data_of bytes)

@@ -1,9 +1,11 @@
 -- What no run with the headline prints: each of these would contradict it.
 use Rattle.std.specs.Prelude.{◌≡◌, ◌≢◌, ◌≤◌, ℕ, List, ◌∷◌, ◌++◌, length, All, Contains, None, Some}
+use Rattle.std.specs.Option.{option_map}
 use Rattle.kr_kms.specs.Calls.{Link}
 use Rattle.kr_kms.specs.Truth.{Truth}
 use Rattle.kr_kms.specs.declared.health.Field.{Field}
 use Rattle.kr_provider.specs.Publication.{Publication}
+use Rattle.kr_store.specs.declared.rows.Row.{Row}
 use Rattle.kr_judge.specs.declared.verdict.Verdict.{Verdict}
 use Rattle.kr_rollout.specs.declared.line.Did.{Did}
 use Rattle.kr_rollout.specs.declared.line.Did.TheVariants as did
@@ -16,12 +18,13 @@ use Rattle.kr_script.specs.declared.told.Told.{Told}
 use Rattle.kr_script.specs.declared.told.Told.TheVariants as told
 use Rattle.kr_rollout.specs.declared.opening.Opening.{Opening}
 use Rattle.kr_script.specs.declared.script.Part.{Part}
+use Rattle.kr_workers.specs.Configurations.{IsFresh}
 use Rattle.kr_workers.specs.declared.files.SettingsFile.{SettingsFile}
 use Rattle.kr_workers.specs.declared.worker.Worker.{Worker}
 use Rattle.kr_headline.specs.Fleets.{FleetHeadline, run_in}
-use Rattle.kr_headline.specs.Headline.{Headline, IsTold, Object, Run, Step, has_at, own_entries, stands_at}
+use Rattle.kr_headline.specs.Headline.{Headline, IsOwn, IsTold, Object, Run, Step, entries_of, has_at, own_entries, stands_at}
 
--- an entry that did this and was answered so, behind this front
+-- an entry that did this and was answered so, after this front
 pub record Stands (run : Run) (front : List Entry) (done : Did) (given : Gave) : Type 0 where
   pub entry : Entry
   pub rest : List Entry
@@ -31,6 +34,16 @@ pub record Stands (run : Run) (front : List Entry) (done : Did) (given : Gave) :
 
 module _ (run : Run) (h : Headline run) where
   pub record WrongPages : Type 0 where
+    -- the sentence itself: a `get` tells other bytes than stand there as they were put last, though
+    -- plugins unwrapped what they had wrapped
+    pub got_other : (worker at revision : ℕ) (path bytes other : List ℕ) (truth : run.Truths)
+        → IsTold run worker at (line.Get path) (told.Got revision bytes)
+        → ((front : List Step) (fetch : Step) (rest : List Step)
+        → h.steps ≡ front ++ fetch ∷ rest → IsOwn worker at fetch
+        → fetch.entry.line.did ≡ did.Fetch path
+        → run.PluginsUnwrapped truth path worker at fetch.entry
+        × (option_map (λ (it : Object). it.data_put) (stands_at run path (entries_of front))
+        ≡ Some (Some other))) → other ≢ bytes → ⊥
     -- a path at which nothing stands is found, or one at which something stands isn't: so a delete
     -- takes its object away, and a put sets it
     pub found_nothing : (front : List Entry) (path : List ℕ) (revision : ℕ)
@@ -73,6 +86,10 @@ module _ (run : Run) (h : Headline run) where
     pub full_with_room : (front : List Entry) (path resource plain : List ℕ) (needed : ℕ)
         → Stands run front (did.Put path resource plain) (gave.StoreFull needed)
         → needed ≤ run.limit → ⊥
+    -- or for fewer bytes than it says
+    pub full_for_less : (front : List Entry) (path resource plain : List ℕ) (needed : ℕ)
+        → (s : Stands run front (did.Put path resource plain) (gave.StoreFull needed))
+        → (run.NeedsBytes front s.entry needed → ⊥) → ⊥
     -- a fault is told that no count bears out while the line was done, or a healthy plugin is
     -- unhealthy
     pub no_plugin_failed : (worker at : ℕ) (path name : List ℕ)
@@ -91,18 +108,33 @@ module _ (run : Run) (h : Headline run) where
     pub refused_fit : (front : List Entry) (replica : ℕ) (p : Publication) (verdict : Verdict)
         → Stands run front (did.Reload replica p None) (gave.Refused verdict)
         → run.WouldStayReadable front (did.Reload replica p None) → ⊥
-    -- a rewrite counts what it didn't write
-    pub counted_unwritten : (worker at rewritten fresh changed left : ℕ)
-        → IsTold run worker at line.Rewrite (told.Rewritten rewritten fresh changed left)
-        → All (λ e. (revision : ℕ) → e.line.gave ≢ gave.Written revision)
-        (own_entries h.steps worker at) → rewritten ≢ 0 → ⊥
-    -- a rewrite tells a `get`'s reply, a `leave` want of memory, a `refresh` a refusal
-    pub rewrite_got : (worker at revision : ℕ) (bytes : List ℕ)
-        → IsTold run worker at line.Rewrite (told.Got revision bytes) → ⊥
+    -- a refresh finds that its replica moved to the number that it holds, or tells that nothing has
+    -- changed though each configuration has a plugin with another key
+    pub moved_to_own : (front : List Entry) (replica number : ℕ) (p : Publication)
+        → Stands run front (did.Reload replica p (Some number)) (gave.Moved number) → ⊥
+    pub unchanged_other : (worker at : ℕ) → IsTold run worker at line.Refresh told.Unchanged
+        → ((p : Publication) → run.KeysAreSame worker at p → ⊥) → ⊥
+    -- a `leave` tells want of memory, a `refresh` a refusal
     pub leave_memory : (worker at replica : ℕ)
         → IsTold run worker at (line.Leave replica) told.Memory → ⊥
     pub refresh_refused : (worker at : ℕ) (verdict : Verdict)
         → IsTold run worker at line.Refresh (told.Refused verdict) → ⊥
+
+  -- of a rewrite, by the second page
+  pub record WrongRewrites : Type 0 where
+    -- it counts what it didn't write
+    pub counted_unwritten : (worker at rewritten fresh changed left : ℕ)
+        → IsTold run worker at line.Rewrite (told.Rewritten rewritten fresh changed left)
+        → All (λ e. (revision : ℕ) → e.line.gave ≢ gave.Written revision)
+        (own_entries h.steps worker at) → rewritten ≢ 0 → ⊥
+    -- it counts stale rows as fresh
+    pub counted_stale : (worker at rewritten fresh changed left : ℕ)
+        → IsTold run worker at line.Rewrite (told.Rewritten rewritten fresh changed left)
+        → All (λ e. (p : Publication) (row : Row) → e.published ≡ Some p → e.row ≡ Some row
+        → IsFresh p row → ⊥) (own_entries h.steps worker at) → fresh ≢ 0 → ⊥
+    -- it tells a `get`'s reply
+    pub rewrite_got : (worker at revision : ℕ) (bytes : List ℕ)
+        → IsTold run worker at line.Rewrite (told.Got revision bytes) → ⊥
 
 -- so it is with each run of workers
 abbrev pub EachIsWrong : (T : Type 0) → {L D : Type 0} → (L → Link) → (D → ℕ) → Type 0
@@ -110,3 +142,4 @@ EachIsWrong T {L} {D} link count = (old new : List (Worker T L D)) (truth : Trut
     (files : List SettingsFile) (o : Opening) (parts : List Part) (history : List Entry)
     → (h : FleetHeadline link count old new truth files o parts history)
     → WrongPages (run_in link count old new truth files o parts history h) h.has.headline
+    × WrongRewrites (run_in link count old new truth files o parts history h) h.has.headline

@@ -30,8 +30,8 @@ pub fn each_is_wrong<T: Tape, L: Kms, D: Dice>()
 {}
 
 /// Of a path that needs no plugin nothing has to be supposed, whatever plugins do elsewhere: two
-/// replicas with `secrets: aesgcm` and `configmaps: kms` tell what was put at secrets even where the
-/// plugin lies.
+/// replicas with `secrets: aesgcm` and `configmaps: kms` tell what was put at secrets even where
+/// the plugin lies.
 pub fn nothing_supposed<T: Tape, L: Kms, D: Dice>()
     ensures { NothingSupposed T L.link D.count }
 {}

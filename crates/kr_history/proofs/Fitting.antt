@@ -1,5 +1,5 @@
 -- In a legal history the state is sound, and so fits.
-use Rattle.std.proofs.Common.{◌≡◌, ℕ, zero, suc, ◌<◌, ◌≤◌, ◌+◌, ◌⊎◌, Bool, true, false, List, [], ◌∷◌, ◌++◌, length, replicate, Contains, Option, None, Some, IfSome, refl, sym, ap, subst, ◌∙◌, arith, inl, inr, length-append}
+use Rattle.std.proofs.Common.{◌≡◌, ℕ, zero, suc, ◌<◌, ◌≤◌, ◌+◌, ◌⊎◌, Bool, true, false, List, [], ◌∷◌, ◌++◌, length, replicate, Contains, Option, None, Some, IfSome, refl, sym, ap, subst, ◌∙◌, arith, inl, inr, length-append, IsTrue}
 use Rattle.std.specs.Prelude.{slice_set, if◌then◌else◌, All, ◌-◌}
 use Rattle.std.specs.List.{slice_get}
 use Rattle.std.specs.Option.{option_map}
@@ -14,13 +14,17 @@ use Rattle.kr_store.specs.declared.format.Check.{Check}
 use Rattle.kr_store.specs.declared.rows.LogRow.{LogRow}
 use Rattle.kr_store.specs.Rows.{delete_of}
 use Rattle.kr_config.specs.declared.class.Class.TheVariants.{Exact}
-use Rattle.kr_config.specs.Kept.{Row}
+use Rattle.kr_config.specs.declared.who.Who.{Who}
+use Rattle.kr_config.specs.Kept.{Row, keeps}
 use Rattle.kr_config.specs.Nexts.{name_cmp}
 use Rattle.kr_config.specs.Lists.{list_of}
-use Rattle.kr_provider.specs.Publication.{Publication, IsPublished}
+use Rattle.kr_provider.specs.Publication.{Publication, IsPublished, writer_at}
+use Rattle.kr_provider.specs.Readers.{writer_of}
 use Rattle.kr_judge.specs.declared.need.Need.{Need}
 use Rattle.kr_judge.specs.declared.verdict.Verdict.TheVariants.{Pass}
 use Rattle.kr_judge.specs.Boards.{set_need, drop_need}
+use Rattle.kr_judge.specs.Verdicts.{first}
+use Rattle.kr_opening.proofs.Passing.{class_some}
 use Rattle.kr_opening.specs.declared.generation.Generation.{Generation}
 use Rattle.kr_rollout.specs.declared.opening.Entry.{Entry}
 use Rattle.kr_rollout.specs.declared.opening.Opening.{Opening}
@@ -28,13 +32,13 @@ use Rattle.kr_rollout.specs.States.{State, number_at, IsLive, IsLiveNumber, verd
 use Rattle.kr_rollout.specs.Openings.{start_of, IsAdmitted, IsOpening}
 use Rattle.kr_opening.specs.Replicas.{generations_from, current_from}
 use Rattle.kr_rollout.specs.Fits.{IsFit}
-use Rattle.kr_opening.specs.LiveFits.{AreFit}
+use Rattle.kr_judge.specs.LiveFits.{AreFit}
 use Rattle.kr_rollout.specs.Steps.{after}
 use Rattle.kr_rollout.specs.Histories.{state_from, state_of, IsRun, IsLegal}
 use Rattle.kr_rollout.specs.Judgements.{with_configuration}
 use Rattle.kr_history.specs.FitLaws.{LegalFits}
 use Rattle.kr_history.proofs.Effects.{Effect, stays, adopts, lets_go, leaves, gives, puts_value, deletes_row, replaces_value, Holds, need_by, with_value, effect_of}
-use Rattle.kr_history.proofs.Sound.{contains_at, set_there, there_at, IsOwn, IsSound, next_fits, get_new, old_more}
+use Rattle.kr_history.proofs.Sound.{contains_at, set_there, there_at, IsOwn, IsSound, next_fits, get_new, old_more, rows_of_number}
 
 -- ---- what is live
 
@@ -88,10 +92,15 @@ drop_needs (own ∷ needs) path x c = by (bytes_eq own.path path) (drop_needs ne
     by false again (suc k, l, e) =
         let r = again (k, omega arith, e) in (suc r.0, omega (arith, r.1), r.2)
 
+writes_first : (list : List Who) → 1 ≤ length list → first list ≡ Some (writer_of list)
+writes_first [] l = absurd (omega (arith, l))
+writes_first (who ∷ list) l = refl
+
 -- a value that is written needs the writer of a live configuration
-value_fits : (st : State) (p : Publication) (path resource : List ℕ) → IsLive st p.rows → IsFit st
+value_fits : (st : State) (p : Publication) (path resource : List ℕ) → IsTrue (keeps p.rows)
+    → IsLive st p.rows → IsFit st
     → AreFit (IsLive st) (set_need st.needs (need_by p path resource))
-value_fits st p path resource own f = record {
+value_fits st p path resource kept own f = record {
   writers = f.writers;
   stored = λ rows need l there. by rows need l
       (set_needs st.needs (need_by p path resource) need there);
@@ -102,7 +111,8 @@ value_fits st p path resource own f = record {
         → Contains (list_of rows need.resource) need.who
     by rows need l (inl there) = f.stored rows need l there
     by rows need l (inr same) = subst (λ (n : Need). Contains (list_of rows n.resource) n.who) same
-        (f.writers rows p.rows (Exact resource) l own)
+        (f.writers rows p.rows (Exact resource) l own (writer_at p resource)
+        (writes_first (list_of p.rows resource) (class_some p.rows kept (Exact resource))))
 
 -- ---- numbers
 
@@ -238,6 +248,13 @@ module _ (o : Opening) (st : State) (sound : IsSound o st) where
         fit = next_fits o st sound replica p published pass;
       }
 
+  -- a configuration that is held keeps its rules
+  held_keeps : (seat : ℕ) (p : Publication) → Holds st seat p → IsTrue (keeps p.rows)
+  held_keeps seat p h =
+      let g = rows_of_number st.generations h.number p.rows
+      (ap (option_map (λ (q : Publication). q.rows)) h.published) in
+      subst (λ r. IsTrue (keeps r)) g.2 (sound.kept h.number g.0 g.1).kept
+
   sound_value : (seat count : ℕ) (p : Publication) (path resource stored : List ℕ)
       (check : Option Check) → Holds st seat p
       → IsSound o (with_value st p path resource stored check count)
@@ -246,7 +263,7 @@ module _ (o : Opening) (st : State) (sound : IsSound o st) where
     own = sound.own;
     held = sound.held;
     kept = sound.kept;
-    fit = value_fits st p path resource (held_live st seat p h) sound.fit;
+    fit = value_fits st p path resource (held_keeps seat p h) (held_live st seat p h) sound.fit;
   }
 
   sound_deletes : (path : List ℕ) (rows : List LogRow) (count : ℕ)

@@ -6,6 +6,7 @@ pub mod AskedReaders
 pub mod Causes
 pub mod ContentReads
 pub mod ContentSteps
+pub mod Counting
 pub mod Effects
 pub mod Fitting
 pub mod Following
@@ -20,6 +21,8 @@ pub mod HonestSeats
 pub mod Judging
 pub mod KeptByEvents
 pub mod KeptHonest
+pub mod Lacking
+pub mod LineChanges
 pub mod LivePuts
 pub mod NeedsLive
 pub mod Nexts

@@ -27,7 +27,7 @@ use Rattle.kr_rollout.specs.States.{State}
 use Rattle.kr_rollout.specs.Openings.{first_of, start_of, IsOpening}
 use Rattle.kr_opening.specs.Needs.{provider_of, need_of, needs_of}
 use Rattle.kr_rollout.specs.Steps.{after}
-use Rattle.kr_rollout.specs.Histories.{state_from, state_of, IsRun}
+use Rattle.kr_rollout.specs.Histories.{state_from, state_of, IsRun, IsLegal}
 use Rattle.kr_history.specs.FitLaws.{IsNeedOf, NeedsAreLive, LiveIsReadable}
 use Rattle.kr_opening.proofs.Needing as needing
 use Rattle.kr_history.proofs.Effects.{Effect, stays, adopts, lets_go, leaves, gives, puts_value, deletes_row, replaces_value, need_by, with_value, effect_of}
@@ -37,9 +37,9 @@ use Rattle.kr_history.proofs.ContentSteps.{live_elsewhere, live_deleted, live_pu
 use Rattle.kr_history.proofs.ContentReads.{found, same_needs, row_needed, some_who, list_keeps, need_there}
 
 -- needs are in the order of their paths, and each is that of its path's live row
-record AreNeeded (st : State) : Type 0 where
-  sorted : AreByPath st.needs
-  each : (path : List ℕ) → IsNeedOf path (live st.rows path) (need_at st.needs path)
+pub record AreNeeded (st : State) : Type 0 where
+  pub sorted : AreByPath st.needs
+  pub each : (path : List ℕ) → IsNeedOf path (live st.rows path) (need_at st.needs path)
 
 -- ---- the opening
 
@@ -182,11 +182,15 @@ needed_run o st [] n r = n
 needed_run o st (e ∷ history) n r =
     needed_run o (after st e) history (needed_after st n o e (effect_of o st e r.0)) r.1
 
-pub needs_are_live : NeedsAreLive
-needs_are_live o history path l = (needed_run o (start_of o) history (record {
+pub needed_of : (o : Opening) (history : List Entry) → IsLegal o history
+    → AreNeeded (state_of o history)
+needed_of o history l = needed_run o (start_of o) history (record {
   sorted = needing.needs_sorted (first_of o) o.rows;
   each = λ path. opening_need o path l.opens;
-}) l.runs).each path
+}) l.runs
+
+pub needs_are_live : NeedsAreLive
+needs_are_live o history path l = (needed_of o history l).each path
 
 pub live_is_readable : LiveIsReadable
 live_is_readable o history path row rows l is lives =

@@ -1,6 +1,6 @@
 -- What holds of the state of each legal history: numbers are those of generations, which keep their
 -- rules, and the state fits.
-use Rattle.std.proofs.Common.{◌≡◌, ℕ, zero, suc, ◌<◌, ◌+◌, ◌⊎◌, Bool, true, false, cond, List, [], ◌∷◌, ◌++◌, length, get_or, count_by, Contains, Option, None, Some, refl, sym, ap, subst, ◌∙◌, arith, inl, inr, IsTrue}
+use Rattle.std.proofs.Common.{◌≡◌, ℕ, zero, suc, ◌<◌, ◌+◌, ◌⊎◌, Bool, true, false, cond, List, [], ◌∷◌, ◌++◌, length, get_or, count_by, Contains, Option, None, Some, refl, sym, ap, subst, ◌∙◌, arith, inl, inr}
 use Rattle.std.specs.Prelude.{◌&&◌, ◌||◌, ◌==◌, not, nat_lt, slice_set}
 use Rattle.std.specs.List.{filter, slice_get, list_any}
 use Rattle.std.specs.Option.{option_map}
@@ -11,11 +11,9 @@ use Rattle.std.proofs.lemmas.List.Folds.{list_any_at}
 use Rattle.std.proofs.lemmas.List.Sums.{sum_by-cons}
 use Rattle.std.proofs.lemmas.Option.{none-some, same_Some, slice_get_within}
 use Rattle.kr_config.specs.declared.class.Class.{Class}
-use Rattle.kr_config.specs.declared.who.Who.{Who}
-use Rattle.kr_config.specs.Kept.{Row, keeps}
+use Rattle.kr_config.specs.Kept.{Row}
 use Rattle.kr_config.specs.Lists.{list_of, class_list}
 use Rattle.kr_provider.specs.Publication.{Publication, IsPublished}
-use Rattle.kr_provider.specs.Readers.{writer_of}
 use Rattle.kr_judge.specs.declared.need.Need.{Need}
 use Rattle.kr_judge.specs.declared.verdict.Verdict.TheVariants.{Pass}
 use Rattle.kr_judge.specs.Boards.{GenerationState}
@@ -28,7 +26,9 @@ use Rattle.kr_rollout.specs.Entries.{published_at}
 use Rattle.kr_rollout.specs.States.{State, number_at, is_number, judged_generation, judged_generations, board_generations, verdict_on, IsLive}
 use Rattle.kr_rollout.specs.Fits.{IsFit}
 use Rattle.kr_rollout.specs.Judgements.{with_configuration}
-use Rattle.kr_opening.proofs.Passing.{passed, AreReadable, own_writer, class_some}
+use Rattle.kr_history.specs.LackLaws.{IsBeside}
+use Rattle.kr_judge.proofs.Lacking.{reads_own}
+use Rattle.kr_opening.proofs.Passing.{passed, AreReadable}
 
 -- ---- numbers at places
 
@@ -101,7 +101,7 @@ number_is n None e = cc
 number_is n (Some m) e = ap Some (eqb-true m n e)
 
 -- a number is held, or nobody holds it
-held_or_none : (held : List (Option ℕ)) (n : ℕ)
+pub held_or_none : (held : List (Option ℕ)) (n : ℕ)
     → (count_by (is_number n) held ≡ 0) ⊎ Contains held (Some n)
 held_or_none [] n = inl refl
 held_or_none (x ∷ xs) n = by (is_number n x) refl (held_or_none xs n)
@@ -116,7 +116,7 @@ held_or_none (x ∷ xs) n = by (is_number n x) refl (held_or_none xs n)
         let z : cond (is_number n x) 1 0 ≡ 0 = ap {B = ℕ} (λ b. cond b 1 0) e in
         inl (omega (arith, s, z, none))
 
-held_counts : (held : List (Option ℕ)) (n : ℕ) → Contains held (Some n)
+pub held_counts : (held : List (Option ℕ)) (n : ℕ) → Contains held (Some n)
     → 0 < count_by (is_number n) held
 held_counts [] n c = absurd (omega (arith, c.1))
 held_counts (x ∷ xs) n (zero, l, e) =
@@ -128,7 +128,7 @@ held_counts (x ∷ xs) n (suc k, l, e) =
     let s = sum_by-cons (λ y. cond (is_number n y) 1 0) x xs in
     omega (arith, s, held_counts xs n (k, omega arith, e))
 
-current_there : (current : List (Option ℕ)) (n : ℕ) → list_any (is_number n) current ≡ true
+pub current_there : (current : List (Option ℕ)) (n : ℕ) → list_any (is_number n) current ≡ true
     → (place : ℕ) × (number_at current place ≡ Some n)
 current_there [] n e = absurd (cc)
 current_there (x ∷ xs) n e = by (is_number n x) refl e (current_there xs n)
@@ -139,7 +139,7 @@ current_there (x ∷ xs) n e = by (is_number n x) refl e (current_there xs n)
     by true is e again = (zero, number_is n x is)
     by false is e again = let r = again e in (suc r.0, r.1)
 
-current_any : (current : List (Option ℕ)) (place n : ℕ) → number_at current place ≡ Some n
+pub current_any : (current : List (Option ℕ)) (place n : ℕ) → number_at current place ≡ Some n
     → list_any (is_number n) current ≡ true
 current_any current place n e = list_any_at (is_number n) current place None
     (there_at current place n e).0 (ap (is_number n) e ∙ is_itself n)
@@ -166,21 +166,15 @@ tested false true same none e m n = absurd (cc)
 tested false false same none e m n = absurd (cc)
 tested true more true false e m n = absurd (cc)
 
-positive : (n : ℕ) → 0 < n → nat_lt 0 n ≡ true
+pub positive : (n : ℕ) → 0 < n → nat_lt 0 n ≡ true
 positive n l = grind (arith, nat_tests)
 
-none_positive : nat_lt 0 0 ≡ false
+pub none_positive : nat_lt 0 0 ≡ false
 none_positive = grind (arith, nat_tests)
-
--- the number is live beside a new configuration of the replica
-abbrev pub IsOtherNumber : State → ℕ → ℕ → Type 0
-IsOtherNumber st replica n =
-    ((place : ℕ) × (place ≡ replica → ⊥) × (number_at st.current place ≡ Some n))
-    ⊎ Contains st.held (Some n)
 
 module _ (o : Opening) (st : State) (sound : IsSound o st) (replica : ℕ) where
   other_judged : (n : ℕ) (g : Generation) → slice_get st.generations n ≡ Some g
-      → IsOtherNumber st replica n
+      → IsBeside st replica n
       → is_other replica (judged_generation st.current st.held n g) ≡ true
   other_judged n g there (inl (place, apart, e)) =
       let own = sound.own place n e in
@@ -202,7 +196,7 @@ module _ (o : Opening) (st : State) (sound : IsSound o st) (replica : ℕ) where
 
   judged_other : (n : ℕ) (g : Generation) → slice_get st.generations n ≡ Some g
       → is_other replica (judged_generation st.current st.held n g) ≡ true
-      → IsOtherNumber st replica n
+      → IsBeside st replica n
   judged_other n g there e = elim (held_or_none st.held n) [
     | inr held ↦ inr held
     | inl none ↦
@@ -270,7 +264,7 @@ pub record AreOther (st : State) (replica : ℕ) (rows : List Row) : Type 0 wher
   pub number : ℕ
   pub generation : Generation
   pub there : slice_get st.generations number ≡ Some generation
-  pub live : IsOtherNumber st replica number
+  pub live : IsBeside st replica number
   pub rows_are : generation.published.rows ≡ rows
 
 pub rows_of_number : (generations : List Generation) (n : ℕ) (rows : List Row)
@@ -285,7 +279,7 @@ rows_of_number generations n rows e = by (slice_get generations n) refl e
     by None is e = absurd (none-some rows e)
     by (Some g) is e = (g, is, same_Some g.published.rows rows e)
 
-number_rows : (generations : List Generation) (n : ℕ) (g : Generation)
+pub number_rows : (generations : List Generation) (n : ℕ) (g : Generation)
     → slice_get generations n ≡ Some g
     → option_map (λ (p : Publication). p.rows) (published_at generations (Some n))
     ≡ Some g.published.rows
@@ -332,7 +326,7 @@ module _ (o : Opening) (st : State) (sound : IsSound o st) (replica : ℕ) (p : 
         (get_new st.generations (record { replica = replica; published = p })),
   )
 
-  other_within : (n : ℕ) → IsOtherNumber st replica n → n < length st.generations
+  other_within : (n : ℕ) → IsBeside st replica n → n < length st.generations
   other_within n (inl at) = let own = sound.own at.0 n at.2 in
       slice_get_within st.generations n own.generation own.there
   other_within n (inr held) = sound.held n held
@@ -349,7 +343,7 @@ module _ (o : Opening) (st : State) (sound : IsSound o st) (replica : ℕ) (p : 
       ∙ ap (slice_get next.generations) same ∙ r.1))
       ∙ r.2
 
-  other_rows : (n : ℕ) (rows : List Row) → IsOtherNumber st replica n
+  other_rows : (n : ℕ) (rows : List Row) → IsBeside st replica n
       → option_map (λ (q : Publication). q.rows) (published_at next.generations (Some n))
       ≡ Some rows → AreOther st replica rows
   other_rows n rows live e =
@@ -374,7 +368,7 @@ module _ (o : Opening) (st : State) (sound : IsSound o st) (replica : ℕ) (p : 
 
   -- ---- where the verdict passes it fits
 
-  other_state : (rows : List Row) (a : AreOther st replica rows)
+  pub other_state : (rows : List Row) (a : AreOther st replica rows)
       → (t : GenerationState) × Contains (board_generations st) t
       × (is_other replica t ≡ true) × (t.rows ≡ rows)
   other_state rows a =
@@ -387,10 +381,6 @@ module _ (o : Opening) (st : State) (sound : IsSound o st) (replica : ℕ) (p : 
         a.rows_are,
       )
 
-  other_keeps : (rows : List Row) → AreOther st replica rows → IsTrue (keeps rows)
-  other_keeps rows a = subst (λ r. IsTrue (keeps r)) a.rows_are
-      (sound.kept a.number a.generation a.there).kept
-
   module _ (published : IsPublished p) where
     pub next_fits : verdict_on st replica p.rows ≡ Pass → IsFit next
     next_fits pass = record {
@@ -399,28 +389,27 @@ module _ (o : Opening) (st : State) (sound : IsSound o st) (replica : ℕ) (p : 
     }
       where
         r : AreReadable st.needs (board_generations st) replica p.rows
-        r = passed st.needs (board_generations st) replica p.rows published.kept pass
+        r = passed st.needs (board_generations st) replica p.rows pass
 
         by : (a b : List Row) (class : Class) → AreOther st replica a ⊎ (p.rows ≡ a)
             → AreOther st replica b ⊎ (p.rows ≡ b)
-            → Contains (class_list a class) (writer_of (class_list b class))
+            → ReadsWriter (class_list b class) (class_list a class)
         by a b class (inl oa) (inl ob) =
             sound.fit.writers a b class (was_live a oa) (was_live b ob)
         by a b class (inl oa) (inr eb) =
             let t = other_state a oa in
-            subst (λ x. Contains (class_list a class) (writer_of (class_list x class))) eb
-            (subst (λ x. Contains (class_list x class) (writer_of (class_list p.rows class))) t.3
-            (r.is_read t.0 t.1 t.2 class))
+            subst (λ (x : List Row). ReadsWriter (class_list x class) (class_list a class)) eb
+            (subst (λ (x : List Row). ReadsWriter (class_list p.rows class) (class_list x class))
+            t.3 (r.is_read t.0 t.1 t.2 class))
         by a b class (inr ea) (inl ob) =
             let t = other_state b ob in
-            subst (λ x. Contains (class_list x class) (writer_of (class_list b class))) ea
-            (subst (λ x. Contains (class_list p.rows class) (writer_of (class_list x class))) t.3
-            (r.reads t.0 t.1 t.2 (subst (λ x. IsTrue (keeps x)) (sym t.3) (other_keeps b ob))
-            class))
+            subst (λ (x : List Row). ReadsWriter (class_list b class) (class_list x class)) ea
+            (subst (λ (x : List Row). ReadsWriter (class_list x class) (class_list p.rows class))
+            t.3 (r.reads t.0 t.1 t.2 class))
         by a b class (inr ea) (inr eb) =
-            subst (λ x. Contains (class_list x class) (writer_of (class_list b class))) ea
-            (subst (λ x. Contains (class_list p.rows class) (writer_of (class_list x class))) eb
-            (own_writer (class_list p.rows class) (class_some p.rows published.kept class)))
+            subst (λ (x : List Row). ReadsWriter (class_list b class) (class_list x class)) ea
+            (subst (λ (x : List Row). ReadsWriter (class_list x class) (class_list p.rows class))
+            eb (reads_own (class_list p.rows class)))
 
         kept : (a : List Row) (need : Need) → Contains st.needs need
             → AreOther st replica a ⊎ (p.rows ≡ a)
@@ -463,45 +452,40 @@ others_there replica generations n c =
     let f = filtered (λ m. is_other replica m.1) (with_numbers 0 generations) n c in
     (numbered_there 0 generations n f.0, f.1)
 
-read_by : (writers readers : List Who) → Contains readers (writer_of writers)
-    → ReadsWriter writers readers
-read_by [] readers c who e = absurd (none-some who e)
-read_by (first ∷ rest) readers c who e = subst (Contains readers) (same_Some first who e) c
+-- one of the others that are judged is live beside a new configuration
+pub other_at : (o : Opening) (st : State) → IsSound o st → (replica : ℕ)
+    (other : ℕ × GenerationState) → Contains (others replica (board_generations st)) other
+    → AreOther st replica other.1.rows
+other_at o st sound replica other there =
+    let t = others_there replica (board_generations st) other there in
+    let j = judged_at st.current st.held 0 st.generations other.1 t.0 in
+    let zero_more : j.number ≡ 0 + j.number = omega arith in
+    let is = ap (λ n. judged_generation st.current st.held n j.generation) zero_more ∙ j.is in
+    record {
+      number = j.number;
+      generation = j.generation;
+      there = j.there;
+      live = judged_other o st sound replica j.number j.generation j.there
+          (ap (is_other replica) is ∙ t.1);
+      rows_are = ap (λ (x : GenerationState). x.rows) is;
+    }
 
 -- it is enough that the others fit with the new settings
 pub others_pass : (o : Opening) (st : State) → IsSound o st → (replica : ℕ) (rows : List Row)
     → ((need : Need) → Contains st.needs need → Contains (list_of rows need.resource) need.who)
     → ((other : List Row) → AreOther st replica other → (class : Class)
-    → Contains (class_list rows class) (writer_of (class_list other class)))
+    → ReadsWriter (class_list other class) (class_list rows class))
     → ((other : List Row) → AreOther st replica other → (class : Class)
-    → Contains (class_list other class) (writer_of (class_list rows class)))
+    → ReadsWriter (class_list rows class) (class_list other class))
     → verdict_on st replica rows ≡ Pass
 others_pass o st sound replica rows stored writers readers =
     (passes_exactly st.needs (board_generations st) replica rows).1 (record {
       stored = stored;
       writers = λ other class there judged.
-          read_by (class_list other.1.rows class) (class_list rows class)
-          (writers other.1.rows (at other there) class);
+          writers other.1.rows (other_at o st sound replica other there) class;
       readers = λ other class there judged.
-          read_by (class_list rows class) (class_list other.1.rows class)
-          (readers other.1.rows (at other there) class);
+          readers other.1.rows (other_at o st sound replica other there) class;
     })
-  where
-    at : (other : ℕ × GenerationState) → Contains (others replica (board_generations st)) other
-        → AreOther st replica other.1.rows
-    at other there =
-        let t = others_there replica (board_generations st) other there in
-        let j = judged_at st.current st.held 0 st.generations other.1 t.0 in
-        let zero_more : j.number ≡ 0 + j.number = omega arith in
-        let is = ap (λ n. judged_generation st.current st.held n j.generation) zero_more ∙ j.is in
-        record {
-          number = j.number;
-          generation = j.generation;
-          there = j.there;
-          live = judged_other o st sound replica j.number j.generation j.there
-              (ap (is_other replica) is ∙ t.1);
-          rows_are = ap (λ (x : GenerationState). x.rows) is;
-        }
 
 pub next_passes : (o : Opening) (st : State) → IsSound o st → (replica : ℕ) (p : Publication)
     → replica < length o.replicas → IsFit (with_configuration st replica p)

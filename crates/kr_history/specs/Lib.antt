@@ -5,8 +5,11 @@ pub mod CallerLaws
 pub mod Calls
 pub mod ContentLaws
 pub mod Contents
+pub mod CountLaws
 pub mod FitLaws
 pub mod Honesty
+pub mod LackLaws
+pub mod LineLaws
 pub mod PartLaws
 pub mod Parts
 pub mod SizeLaws

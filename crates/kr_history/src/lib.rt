@@ -8,7 +8,10 @@ mod holding;
 mod laws_caller;
 mod laws_calls;
 mod laws_content;
+mod laws_count;
 mod laws_fit;
+mod laws_lack;
+mod laws_line;
 mod laws_parts;
 mod laws_size;
 mod sealing;
@@ -28,11 +31,14 @@ pub use laws_content::{
     no_names_no_plugin, nothing_is_absent, one_content, replaced_is_live, revisions_rise,
     some_content,
 };
+pub use laws_count::board_counts;
 pub use laws_fit::{
     holding_is_live, judged_by_fit, judged_state_follows, legal_fits, live_is_readable,
     needs_are_live, one_cause, opening_fits, refresh_is_not_refused, refusal_is_exact,
     starts_where_it_fits, verdict_is_exact,
 };
+pub use laws_lack::{refused_exactly, verdict_refuses_exactly};
+pub use laws_line::{faults_are_told, line_changes_content, line_changes_live};
 pub use laws_parts::{bounds_follow, parts_add_up, parts_follow};
 pub use laws_size::full_is_exact;
 pub use sealing::{seal, seal_in_place, unseal};

@@ -55,7 +55,7 @@ found_there (e ∷ es) path q h = by (is_at (name_cmp path) e.0) h (found_there 
     by true k rest = (e, here e es, (let s : e.1 ≡ q = cc in s))
     by false k rest = (let r = rest k in (r.0, there e r.0 es r.1, r.2))
 
-key_kept : (xs : List (List ℕ)) (path : List ℕ) → insert_key name_cmp xs path ≡ [] → xs ≡ []
+pub key_kept : (xs : List (List ℕ)) (path : List ℕ) → insert_key name_cmp xs path ≡ [] → xs ≡ []
 key_kept [] path h = refl
 key_kept (x ∷ xs) path h = by (name_cmp path x) h
   where

@@ -5,43 +5,37 @@ use Rattle.std.proofs.Math.Seq.{map-set_same}
 use Rattle.std.proofs.lemmas.List.{length-set, map-set, length-map, get_or-set_same, get_or-set_other}
 use Rattle.std.proofs.lemmas.Bool.Decides.{Decides-eqb}
 use Rattle.kr_config.specs.declared.who.Who.{Who}
-use Rattle.kr_config.specs.declared.who.Who.TheVariants.{Identity}
 use Rattle.kr_judge.specs.declared.pair.Pair.{Pair}
+use Rattle.kr_judge.specs.inner.Places.{label_at, paths_at}
 use Rattle.kr_judge.specs.inner.Indexes.{labels_of, kept_paths, AreAsBefore, IsChangedAt, MovesUnless, IsMoved}
-
-abbrev pub path_lists : List Pair → ℕ → List (List ℕ)
-path_lists pairs place = get_or (kept_paths pairs) place []
-
-abbrev pub label : List Pair → ℕ → List ℕ × Who
-label pairs place = get_or (labels_of pairs) place ([], Identity)
 
 pub as_before : (pairs : List Pair) → AreAsBefore pairs pairs
 as_before pairs = record { paths = λ place. refl; labels = λ place h. refl }
 
-paths_replaced : (pairs : List Pair) (at : ℕ) (new : Pair) → path_lists pairs at ≡ [] → new.paths ≡ [] → (place : ℕ) → path_lists (set pairs at new) place ≡ path_lists pairs place
+paths_replaced : (pairs : List Pair) (at : ℕ) (new : Pair) → paths_at pairs at ≡ [] → new.paths ≡ [] → (place : ℕ) → paths_at (set pairs at new) place ≡ paths_at pairs place
 paths_replaced [] at new h e place = refl
 paths_replaced (p ∷ ps) zero new h e zero = e ∙ sym h
 paths_replaced (p ∷ ps) zero new h e (suc place) = refl
 paths_replaced (p ∷ ps) (suc at) new h e zero = refl
 paths_replaced (p ∷ ps) (suc at) new h e (suc place) = paths_replaced ps at new h e place
 
-labels_replaced : (pairs : List Pair) (at : ℕ) (new : Pair) → path_lists pairs at ≡ [] → (place : ℕ) → (path_lists pairs place ≡ [] → ⊥) → label (set pairs at new) place ≡ label pairs place
+labels_replaced : (pairs : List Pair) (at : ℕ) (new : Pair) → paths_at pairs at ≡ [] → (place : ℕ) → (paths_at pairs place ≡ [] → ⊥) → label_at (set pairs at new) place ≡ label_at pairs place
 labels_replaced [] at new h place some = refl
 labels_replaced (p ∷ ps) zero new h zero some = absurd (some h)
 labels_replaced (p ∷ ps) zero new h (suc place) some = refl
 labels_replaced (p ∷ ps) (suc at) new h zero some = refl
 labels_replaced (p ∷ ps) (suc at) new h (suc place) some = labels_replaced ps at new h place some
 
-pub replaced : (pairs : List Pair) (at : ℕ) (new : Pair) → path_lists pairs at ≡ [] → new.paths ≡ [] → AreAsBefore pairs (set pairs at new)
+pub replaced : (pairs : List Pair) (at : ℕ) (new : Pair) → paths_at pairs at ≡ [] → new.paths ≡ [] → AreAsBefore pairs (set pairs at new)
 replaced pairs at new h e = record { paths = paths_replaced pairs at new h e; labels = labels_replaced pairs at new h }
 
-paths_pushed : (pairs : List Pair) (new : Pair) → new.paths ≡ [] → (place : ℕ) → path_lists (pairs ++ new ∷ []) place ≡ path_lists pairs place
+paths_pushed : (pairs : List Pair) (new : Pair) → new.paths ≡ [] → (place : ℕ) → paths_at (pairs ++ new ∷ []) place ≡ paths_at pairs place
 paths_pushed [] new e zero = e
 paths_pushed [] new e (suc place) = refl
 paths_pushed (p ∷ ps) new e zero = refl
 paths_pushed (p ∷ ps) new e (suc place) = paths_pushed ps new e place
 
-labels_pushed : (pairs : List Pair) (new : Pair) (place : ℕ) → (path_lists pairs place ≡ [] → ⊥) → label (pairs ++ new ∷ []) place ≡ label pairs place
+labels_pushed : (pairs : List Pair) (new : Pair) (place : ℕ) → (paths_at pairs place ≡ [] → ⊥) → label_at (pairs ++ new ∷ []) place ≡ label_at pairs place
 labels_pushed [] new place some = absurd (some refl)
 labels_pushed (p ∷ ps) new zero some = refl
 labels_pushed (p ∷ ps) new (suc place) some = labels_pushed ps new place some
@@ -49,38 +43,41 @@ labels_pushed (p ∷ ps) new (suc place) some = labels_pushed ps new place some
 pub pushed : (pairs : List Pair) (new : Pair) → new.paths ≡ [] → AreAsBefore pairs (pairs ++ new ∷ [])
 pushed pairs new e = record { paths = paths_pushed pairs new e; labels = labels_pushed pairs new }
 
-pub label_set : (pairs : List Pair) (at : ℕ) (new : Pair) → at < length pairs → label (set pairs at new) at ≡ (new.resource, new.who)
+pub label_set : (pairs : List Pair) (at : ℕ) (new : Pair) → at < length pairs → label_at (set pairs at new) at ≡ (new.resource, new.who)
 label_set [] at new h = absurd (omega (arith, h))
 label_set (p ∷ ps) zero new h = refl
 label_set (p ∷ ps) (suc at) new h = label_set ps at new (omega (arith, h))
 
-pub label_last : (pairs : List Pair) (new : Pair) → label (pairs ++ new ∷ []) (length pairs) ≡ (new.resource, new.who)
+pub label_last : (pairs : List Pair) (new : Pair) → label_at (pairs ++ new ∷ []) (length pairs) ≡ (new.resource, new.who)
 label_last [] new = refl
 label_last (p ∷ ps) new = label_last ps new
 
-pub label_here : (pairs : List Pair) (at : ℕ) (own : Pair) → at < length pairs → own ≡ get_or pairs at own → label pairs at ≡ (own.resource, own.who)
+pub label_here : (pairs : List Pair) (at : ℕ) (own : Pair) → at < length pairs → own ≡ get_or pairs at own → label_at pairs at ≡ (own.resource, own.who)
 label_here [] at own h is = absurd (omega (arith, h))
 label_here (p ∷ ps) zero own h is = ap (λ q. (q.resource, q.who)) (sym is)
 label_here (p ∷ ps) (suc at) own h is = label_here ps at own (omega (arith, h)) is
 
-pub paths_here : (pairs : List Pair) (at : ℕ) (own : Pair) → at < length pairs → own ≡ get_or pairs at own → path_lists pairs at ≡ own.paths
+pub paths_here : (pairs : List Pair) (at : ℕ) (own : Pair) → at < length pairs → own ≡ get_or pairs at own → paths_at pairs at ≡ own.paths
 paths_here [] at own h is = absurd (omega (arith, h))
 paths_here (p ∷ ps) zero own h is = ap (λ q. q.paths) (sym is)
 paths_here (p ∷ ps) (suc at) own h is = paths_here ps at own (omega (arith, h)) is
 
 -- one pair's paths change
-labels_same : (pairs : List Pair) (at : ℕ) (own new : Pair) → own ≡ get_or pairs at own → new.resource ≡ own.resource → new.who ≡ own.who → labels_of (set pairs at new) ≡ labels_of pairs
+pub labels_same : (pairs : List Pair) (at : ℕ) (own new : Pair) → own ≡ get_or pairs at own → new.resource ≡ own.resource → new.who ≡ own.who → labels_of (set pairs at new) ≡ labels_of pairs
 labels_same pairs at own new is r w = map-set_same (λ (p : Pair). (p.resource, p.who)) pairs at new own (ap (λ x. (x, new.who)) r ∙ ap (λ x. (own.resource, x)) w ∙ ap (λ (p : Pair). (p.resource, p.who)) is)
 
+pub paths_same : (pairs : List Pair) (at : ℕ) (own new : Pair) → own ≡ get_or pairs at own → new.paths ≡ own.paths → kept_paths (set pairs at new) ≡ kept_paths pairs
+paths_same pairs at own new is e = map-set_same (λ (p : Pair). p.paths) pairs at new own (e ∙ ap (λ (p : Pair). p.paths) is)
+
 paths_changed : (change : List (List ℕ) → List (List ℕ)) (pairs : List Pair) (at : ℕ) (own new : Pair) → own ≡ get_or pairs at own → at < length pairs → new.paths ≡ change own.paths
-    → (other : ℕ) → path_lists (set pairs at new) other ≡ (if at == other then change (path_lists pairs other) else path_lists pairs other)
+    → (other : ℕ) → paths_at (set pairs at new) other ≡ (if at == other then change (paths_at pairs other) else paths_at pairs other)
 paths_changed change pairs at own new is h e other = by (at == other) refl
   where
     whole : kept_paths (set pairs at new) ≡ set (kept_paths pairs) at new.paths
     whole = map-set (λ (p : Pair). p.paths) pairs at new
 
-    by : (v : Bool) → (at == other) ≡ v → path_lists (set pairs at new) other ≡ (if v then change (path_lists pairs other) else path_lists pairs other)
-    by true q = ap (λ l. get_or l other []) whole ∙ subst (λ n. get_or (set (kept_paths pairs) at new.paths) n [] ≡ change (path_lists pairs n)) ((Decides-eqb at other).0 q)
+    by : (v : Bool) → (at == other) ≡ v → paths_at (set pairs at new) other ≡ (if v then change (paths_at pairs other) else paths_at pairs other)
+    by true q = ap (λ l. get_or l other []) whole ∙ subst (λ n. get_or (set (kept_paths pairs) at new.paths) n [] ≡ change (paths_at pairs n)) ((Decides-eqb at other).0 q)
         (get_or-set_same (kept_paths pairs) at new.paths [] (omega (arith, h, length-map pairs (λ (p : Pair). p.paths))) ∙ e ∙ ap change (sym (paths_here pairs at own h is)))
     by false q = ap (λ l. get_or l other []) whole ∙ get_or-set_other (kept_paths pairs) at other new.paths [] (λ k. (let clash : true ≡ false = sym ((Decides-eqb at other).1 (sym k)) ∙ q in cc))
 
@@ -93,7 +90,7 @@ pub put_changed : {T E : Type 0} (result : Result T E) (change : List (List ℕ)
 put_changed (Ok x) change pairs at own new is h r w e = changed change pairs at own new is h r w e
 put_changed (Err x) change pairs at own new is h r w e = tt
 
-pub label_put : (pairs : List Pair) (at : ℕ) (new : Pair) (resource : List ℕ) (who : Who) → at < length pairs → new.resource ≡ resource → new.who ≡ who → label (set pairs at new) at ≡ (resource, who)
+pub label_put : (pairs : List Pair) (at : ℕ) (new : Pair) (resource : List ℕ) (who : Who) → at < length pairs → new.resource ≡ resource → new.who ≡ who → label_at (set pairs at new) at ≡ (resource, who)
 label_put pairs at new resource who h r w = label_set pairs at new h ∙ ap (λ x. (x, new.who)) r ∙ ap (λ x. (resource, x)) w
 
 -- a change at one pair, where it isn't the other

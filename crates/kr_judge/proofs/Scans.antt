@@ -26,7 +26,8 @@ use Rattle.kr_judge.specs.Scans.{is_for, paths_for, paths_with}
 use Rattle.kr_judge.specs.inner.Indexes.{AreSorted, AreApart, is_pair, need_of, needs_of, paths_of, labels_of, with_proposed, without_proposed, IsIndexed, NeedsState, proposed_need, needs_view}
 use Rattle.kr_judge.proofs.Lists.{here, there, cases, one_truth}
 use Rattle.kr_judge.proofs.Members.{is_one, itself, its_own, and_true}
-use Rattle.kr_judge.proofs.Pairs.{label, path_lists, paths_here, label_set, label_last}
+use Rattle.kr_judge.specs.inner.Places.{label_at, paths_at}
+use Rattle.kr_judge.proofs.Pairs.{label_set, label_last}
 use Rattle.kr_judge.proofs.Entries.{Entries, has_path, paths_with as paths_put, paths_without, not_among, taken_and_put, needs_without}
 use Rattle.kr_judge.proofs.Needs.{sorted_drop}
 use Rattle.kr_judge.proofs.Indexed.{beyond, proposed_kept, other_some, number_is, shown_paths, needs_sorted}
@@ -34,28 +35,28 @@ use Rattle.kr_judge.proofs.Indexed.{beyond, proposed_kept, other_some, number_is
 abbrev label_of : Pair → List ℕ × Who
 label_of pair = (pair.resource, pair.who)
 
-labels_fit : (pairs : List Pair) (i : ℕ) → i < length pairs → i < length (labels_of pairs)
+pub labels_fit : (pairs : List Pair) (i : ℕ) → i < length pairs → i < length (labels_of pairs)
 labels_fit pairs i h = omega (arith, h, length-map pairs label_of)
 
 -- a resource and a provider are those of a pair
-is_label : (l : List ℕ × Who) (resource : List ℕ) (who : Who) → (bytes_eq l.0 resource && same_who l.1 who) ≡ true → l ≡ (resource, who)
+pub is_label : (l : List ℕ × Who) (resource : List ℕ) (who : Who) → (bytes_eq l.0 resource && same_who l.1 who) ≡ true → l ≡ (resource, who)
 is_label l resource who e = ap (λ r. (r, l.1)) ((bytes_eq-Decides l.0 resource).0 (first_so _ _ e)) ∙ ap (λ w. (resource, w)) (is_one l.1 who (second_so _ _ e))
 
-label_is : (l : List ℕ × Who) (resource : List ℕ) (who : Who) → l ≡ (resource, who) → (bytes_eq l.0 resource && same_who l.1 who) ≡ true
+pub label_is : (l : List ℕ × Who) (resource : List ℕ) (who : Who) → l ≡ (resource, who) → (bytes_eq l.0 resource && same_who l.1 who) ≡ true
 label_is l resource who e = subst (λ (k : List ℕ × Who). (bytes_eq k.0 resource && same_who k.1 who) ≡ true) (sym e)
     (and_true (bytes_eq resource resource) (same_who who who) (its_own resource) (itself who))
 
-same_pair : (pairs : List Pair) (resource : List ℕ) (who : Who) (i j : ℕ) (path : List ℕ) → AreApart (labels_of pairs) → i < length pairs → j < length pairs → label pairs i ≡ (resource, who)
+same_pair : (pairs : List Pair) (resource : List ℕ) (who : Who) (i j : ℕ) (path : List ℕ) → AreApart (labels_of pairs) → i < length pairs → j < length pairs → label_at pairs i ≡ (resource, who)
     → is_for resource who (need_of (labels_of pairs) (path, j)) ≡ (j == i)
 same_pair pairs resource who i j path apart h k own = one_truth _ _ forth back
   where
-    forth : (bytes_eq (label pairs j).0 resource && same_who (label pairs j).1 who) ≡ true → (j == i) ≡ true
-    forth e = (Decides-eqb j i).1 (apart j i (labels_fit pairs j k) (labels_fit pairs i h) (is_label (label pairs j) resource who e ∙ sym own))
+    forth : (bytes_eq (label_at pairs j).0 resource && same_who (label_at pairs j).1 who) ≡ true → (j == i) ≡ true
+    forth e = (Decides-eqb j i).1 (apart j i (labels_fit pairs j k) (labels_fit pairs i h) (is_label (label_at pairs j) resource who e ∙ sym own))
 
-    back : (j == i) ≡ true → (bytes_eq (label pairs j).0 resource && same_who (label pairs j).1 who) ≡ true
-    back e = label_is (label pairs j) resource who (ap (label pairs) (number_is j i e) ∙ own)
+    back : (j == i) ≡ true → (bytes_eq (label_at pairs j).0 resource && same_who (label_at pairs j).1 who) ≡ true
+    back e = label_is (label_at pairs j) resource who (ap (label_at pairs) (number_is j i e) ∙ own)
 
-scan_pair : (pairs : List Pair) (es : Entries) (resource : List ℕ) (who : Who) (i : ℕ) → AreApart (labels_of pairs) → i < length pairs → label pairs i ≡ (resource, who)
+scan_pair : (pairs : List Pair) (es : Entries) (resource : List ℕ) (who : Who) (i : ℕ) → AreApart (labels_of pairs) → i < length pairs → label_at pairs i ≡ (resource, who)
     → ((e : List ℕ × ℕ) → Contains es e → e.1 < length pairs) → paths_for resource who (needs_of (labels_of pairs) es) ≡ paths_of i es
 scan_pair pairs [] resource who i apart h own within = refl
 scan_pair pairs (e ∷ es) resource who i apart h own within =
@@ -81,13 +82,13 @@ outside false n e = refl
 short : (n m k : ℕ) → nat_lt n m ≡ false → k < m → k < n
 short n m k f lt = grind (arith, nat_tests)
 
-pub found_place : (pairs : List Pair) (resource : List ℕ) (who : Who) (place : ℕ) → position (is_pair resource who) pairs ≡ Some place → (place < length pairs) × (label pairs place ≡ (resource, who))
+pub found_place : (pairs : List Pair) (resource : List ℕ) (who : Who) (place : ℕ) → position (is_pair resource who) pairs ≡ Some place → (place < length pairs) × (label_at pairs place ≡ (resource, who))
 found_place [] resource who place e = cc
 found_place (p ∷ ps) resource who place e =
     let found = position-Some (is_pair resource who) (p ∷ ps) place p e in
     (found.0, get_or-map label_of (p ∷ ps) place p ([], Identity) found.0 ∙ is_label (label_of (get_or (p ∷ ps) place p)) resource who found.1)
 
-no_place : (pairs : List Pair) (resource : List ℕ) (who : Who) (i : ℕ) → position (is_pair resource who) pairs ≡ None → i < length pairs → label pairs i ≡ (resource, who) → ⊥
+pub no_place : (pairs : List Pair) (resource : List ℕ) (who : Who) (i : ℕ) → position (is_pair resource who) pairs ≡ None → i < length pairs → label_at pairs i ≡ (resource, who) → ⊥
 no_place [] resource who i none h own = absurd (omega (arith, h))
 no_place (p ∷ ps) resource who i none h own =
     let it : is_pair resource who (get_or (p ∷ ps) i p) ≡ true = label_is (label_of (get_or (p ∷ ps) i p)) resource who (sym (get_or-map label_of (p ∷ ps) i p ([], Identity) h) ∙ own) in
@@ -104,7 +105,7 @@ scan_none pairs (e ∷ es) resource who none within = by (is_for resource who (n
 
     by : (u : Bool) → is_for resource who (need_of (labels_of pairs) e) ≡ u → paths_for resource who needs ≡ []
         → map (λ need. need.path) (cond u (need_of (labels_of pairs) e ∷ filter (is_for resource who) needs) (filter (is_for resource who) needs)) ≡ []
-    by true k rest = absurd (no_place pairs resource who e.1 none (within e (here e es)) (is_label (label pairs e.1) resource who k))
+    by true k rest = absurd (no_place pairs resource who e.1 none (within e (here e es)) (is_label (label_at pairs e.1) resource who k))
     by false k rest = rest
 
 -- the places of entries are those of pairs
@@ -151,8 +152,8 @@ with_path es p i s there_is = by p.fresh refl (p.place == i) refl
     by true f false k = sym (paths_without es p.path i s ∙ not_among es p.path i s (other_some es p.path p.place i (there_is f) k))
 
 pub kept_pair : (es : Entries) (pairs : List Pair) (p : Option Proposal) (resource : List ℕ) (who : Who) (i : ℕ) → IsIndexed es pairs p → AreApart (labels_of pairs)
-    → i < length pairs → label pairs i ≡ (resource, who)
-    → path_lists pairs i ≡ paths_with (proposed_need (labels_of pairs) p) resource who (needs_of (labels_of pairs) (without_proposed p es))
+    → i < length pairs → label_at pairs i ≡ (resource, who)
+    → paths_at pairs i ≡ paths_with (proposed_need (labels_of pairs) p) resource who (needs_of (labels_of pairs) (without_proposed p es))
 kept_pair es pairs None resource who i ix apart h own = ix.paths i ∙ sym (scan_pair pairs es resource who i apart h own (all_within es pairs None ix))
 kept_pair es pairs (Some p) resource who i ix apart h own = ix.paths i ∙ with_path es p i ix.sorted ix.stands.2
     ∙ ap (with_proposed (Some p) i) (sym scan)
@@ -173,11 +174,11 @@ kept_none es pairs (Some p) resource who ix none = by (is_for resource who (need
     rest = paths_for resource who (needs_of (labels_of pairs) (without_proposed (Some p) es))
 
     by : (v : Bool) → is_for resource who (need_of (labels_of pairs) (p.path, p.place)) ≡ v → (if v then insert_key name_cmp rest p.path else rest) ≡ []
-    by true k = absurd (no_place pairs resource who p.place none ix.stands.0 (is_label (label pairs p.place) resource who k))
+    by true k = absurd (no_place pairs resource who p.place none ix.stands.0 (is_label (label_at pairs p.place) resource who k))
     by false k = scan_none pairs (without_proposed (Some p) es) resource who none (shown_within es pairs (Some p) ix)
 
 -- the pairs stay apart
-label_before : (pairs : List Pair) (new : Pair) (k : ℕ) → k < length pairs → label (pairs ++ new ∷ []) k ≡ label pairs k
+pub label_before : (pairs : List Pair) (new : Pair) (k : ℕ) → k < length pairs → label_at (pairs ++ new ∷ []) k ≡ label_at pairs k
 label_before [] new k h = absurd (omega (arith, h))
 label_before (p ∷ ps) new zero h = refl
 label_before (p ∷ ps) new (suc k) h = label_before ps new k (omega (arith, h))
@@ -197,10 +198,10 @@ apart_set pairs at new resource who apart none r w h i j hi hj e = by (at == i) 
     fj : j < length pairs
     fj = omega (arith, hj, size)
 
-    here_new : (k : ℕ) → (at == k) ≡ true → label (set pairs at new) k ≡ (resource, who)
-    here_new k s = subst (λ n. label (set pairs at new) n ≡ (resource, who)) (number_is at k s) (label_set pairs at new h ∙ ap (λ x. (x, new.who)) r ∙ ap (λ x. (resource, x)) w)
+    here_new : (k : ℕ) → (at == k) ≡ true → label_at (set pairs at new) k ≡ (resource, who)
+    here_new k s = subst (λ n. label_at (set pairs at new) n ≡ (resource, who)) (number_is at k s) (label_set pairs at new h ∙ ap (λ x. (x, new.who)) r ∙ ap (λ x. (resource, x)) w)
 
-    as_old : (k : ℕ) → (at == k) ≡ false → label (set pairs at new) k ≡ label pairs k
+    as_old : (k : ℕ) → (at == k) ≡ false → label_at (set pairs at new) k ≡ label_at pairs k
     as_old k s = ap (λ l. get_or l k ([], Identity)) (map-set label_of pairs at new)
         ∙ get_or-set_other (labels_of pairs) at k (label_of new) ([], Identity) (λ q. (let clash : true ≡ false = sym ((Decides-eqb at k).1 (sym q)) ∙ s in cc))
 
@@ -228,18 +229,18 @@ apart_push pairs new resource who apart none r w i j hi hj e = elim (cases_lt i 
     is_last : (k : ℕ) → length pairs ≤ k → k < length (labels_of (pairs ++ new ∷ [])) → k ≡ length pairs
     is_last k l h = omega (arith, l, h, size)
 
-    last : (k : ℕ) → length pairs ≤ k → k < length (labels_of (pairs ++ new ∷ [])) → label (pairs ++ new ∷ []) k ≡ (resource, who)
-    last k l h = ap (label (pairs ++ new ∷ [])) (is_last k l h) ∙ label_last pairs new ∙ ap (λ x. (x, new.who)) r ∙ ap (λ x. (resource, x)) w
+    last : (k : ℕ) → length pairs ≤ k → k < length (labels_of (pairs ++ new ∷ [])) → label_at (pairs ++ new ∷ []) k ≡ (resource, who)
+    last k l h = ap (label_at (pairs ++ new ∷ [])) (is_last k l h) ∙ label_last pairs new ∙ ap (λ x. (x, new.who)) r ∙ ap (λ x. (resource, x)) w
 
-    before : (k : ℕ) → k < length pairs → label (pairs ++ new ∷ []) k ≡ label pairs k
+    before : (k : ℕ) → k < length pairs → label_at (pairs ++ new ∷ []) k ≡ label_at pairs k
     before k h = label_before pairs new k h
 
 pub apart_same : (old new : List Pair) → AreApart (labels_of old) → labels_of new ≡ labels_of old → AreApart (labels_of new)
 apart_same old new apart same = subst AreApart (sym same) apart
 
 -- what is shown of a pair that is found
-pub kept_there : (es : Entries) (pairs : List Pair) (p : Option Proposal) (s : NeedsState) (resource : List ℕ) (who : Who) (place : ℕ) (own : Pair) → needs_view es pairs p ≡ s → IsIndexed es pairs p → AreApart (labels_of pairs)
-    → Some place ≡ position (is_pair resource who) pairs → own ≡ get_or pairs place own → own.paths ≡ paths_with s.proposal resource who s.needs
-kept_there es pairs p s resource who place own view ix apart found is =
+pub kept_there : (es : Entries) (pairs : List Pair) (p : Option Proposal) (s : NeedsState) (resource : List ℕ) (who : Who) (place : ℕ) (paths : List (List ℕ)) → needs_view es pairs p ≡ s → IsIndexed es pairs p → AreApart (labels_of pairs)
+    → Some place ≡ position (is_pair resource who) pairs → paths ≡ paths_at pairs place → paths ≡ paths_with s.proposal resource who s.needs
+kept_there es pairs p s resource who place paths view ix apart found is =
     let there_it_is = found_place pairs resource who place (sym found) in
-    sym (paths_here pairs place own there_it_is.0 is) ∙ kept_pair es pairs p resource who place ix apart there_it_is.0 there_it_is.1 ∙ ap (λ (t : NeedsState). paths_with t.proposal resource who t.needs) view
+    is ∙ kept_pair es pairs p resource who place ix apart there_it_is.0 there_it_is.1 ∙ ap (λ (t : NeedsState). paths_with t.proposal resource who t.needs) view

@@ -5,6 +5,9 @@ pub mod Tables
 pub mod Verdicts
 pub mod Scans
 pub mod Fits
+pub mod Lacks
+pub mod LiveFits
+pub mod LackLaws
 pub mod Laws
 pub mod Texts
 pub mod inner

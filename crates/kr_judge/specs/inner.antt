@@ -3,4 +3,5 @@ pub mod Earliest
 pub mod Indexes
 pub mod Lives
 pub mod Losses
+pub mod Places
 pub mod Views

@@ -14,13 +14,13 @@ fn first_lost<'a>(pair: &'a Pair, settings: &Settings) -> Option<(&'a str, &'a W
     ensures { option_map (λ lost. (lost.0.now, lost.1.now)) result
         ≡ lost_path (rows_of settings.now.entries.0) pair.now }
 {
+    let Some(path) = pair.paths.first() else {
+        return None;
+    };
     if has(settings.list_for(pair.resource.as_str()), &pair.who) {
         return None;
     }
-    match pair.paths.first() {
-        Some(path) => Some((path, &pair.who)),
-        None => None,
-    }
+    Some((path, &pair.who))
 }
 
 /// The one whose path comes first.

@@ -1,15 +1,17 @@
 //! The first reason of each kind against new settings.
-ghost use Rattle.std.specs.Prelude.{◌≡◌, ◌≢◌, None, MatchResult};
+ghost use Rattle.std.specs.Prelude.{◌≡◌, ◌≢◌, [], ◌∷◌, None, MatchResult};
 ghost use Rattle.std.specs.Option.{option_map};
 ghost use Rattle.kr_config.specs.Kept.{rows_of};
 ghost use Rattle.kr_config.specs.Nexts.{lent_class};
 ghost use Rattle.kr_judge.specs.Verdicts.{first, verdict_of};
+ghost use Rattle.kr_judge.specs.declared.judging.Writer.TheVariants.{Other, New};
 ghost use Rattle.kr_judge.specs.declared.verdict.Verdict.TheVariants.{Pass};
-ghost use Rattle.kr_judge.specs.inner.Losses.{losses_at, losses};
+ghost use Rattle.kr_judge.specs.inner.Losses.{losses_at, losses_on, losses, nearer};
 
-use crate::class_walk::first_unread;
+use crate::class_walk::next_class;
 use crate::generation_list::GenerationList;
 use crate::need_index::NeedIndex;
+use crate::provider_lists::unread_writer;
 use crate::verdict::Verdict;
 use kr_base::NoMemory;
 use kr_config::{BorrowedClass, Settings, Who};
@@ -24,47 +26,100 @@ pub enum Writer {
     New,
 }
 
-/// The first class that the one of a generation's settings and the new ones write by a provider
-/// that isn't in the list of the other.
-fn first_at<'a>(
-    generations: &'a GenerationList,
+/// What the one of a generation's settings and the new ones write at the class, where it isn't in
+/// the list of the other.
+fn unread_at<'a>(
     writer: Writer,
+    class: BorrowedClass<'_>,
     own: &'a Settings,
     new: &'a Settings,
-) -> Option<(BorrowedClass<'a>, &'a Who)>
-    ensures { option_map (λ lost. (lent_class lost.0, lost.1.now)) result
-        ≡ first (losses_at writer generations.now.generations (rows_of own.now.entries.0)
+) -> Option<&'a Who>
+    ensures { option_map (λ who. (lent_class class.entry, who.now)) result
+        ≡ first (losses_at writer (lent_class class.entry ∷ []) (rows_of own.now.entries.0)
         (rows_of new.now.entries.0)) }
 {
+    let (own, new) = (own.list_for_borrowed(class), new.list_for_borrowed(class));
     match writer {
-        Writer::Other => first_unread(generations, new, own, new),
-        Writer::New => first_unread(generations, new, new, own),
+        Writer::Other => unread_writer(own, new),
+        Writer::New => unread_writer(new, own),
     }
 }
 
-/// The first of the other live generations, and of their classes the first, at which a writer isn't
-/// read.
+/// The first of the other live generations with which a writer isn't read at the class.
 #[tactic(auto, using(crate::proofs::Walks::loss_begin, crate::proofs::Walks::loss_within, crate::proofs::Walks::loss_skip, crate::proofs::Walks::loss_none, crate::proofs::Walks::loss_found, crate::proofs::Walks::loss_end))]
-pub fn first_loss<'a>(
+fn loss_at<'a>(
     generations: &'a GenerationList,
     writer: Writer,
     replica: u32,
     settings: &'a Settings,
+    class: BorrowedClass<'a>,
 ) -> Option<(u32, BorrowedClass<'a>, &'a Who)>
     ensures { option_map (λ lost. (lost.0, lent_class lost.1, lost.2.now)) result
-        ≡ first (losses writer replica (rows_of settings.now.entries.0)
-        generations.now.generations) }
+        ≡ first (losses_on writer (lent_class class.entry ∷ []) replica
+        (rows_of settings.now.entries.0) generations.now.generations) }
 {
     for number in generations.live() {
         let generation = generations.at(*number);
         if generation.is_other(replica) {
-            let lost = first_at(generations, writer, generation.settings.get(), settings);
-            if let Some((class, who)) = lost {
+            let unread = unread_at(writer, class, generation.settings.get(), settings);
+            if let Some(who) = unread {
                 return Some((*number, class, who));
             }
         }
     }
     None
+}
+
+/// The one of the lesser generation, and of one generation the first.
+fn nearer_of<'a>(
+    best: Option<(u32, BorrowedClass<'a>, &'a Who)>,
+    other: Option<(u32, BorrowedClass<'a>, &'a Who)>,
+) -> Option<(u32, BorrowedClass<'a>, &'a Who)>
+    ensures { option_map (λ lost. (lost.0, lent_class lost.1, lost.2.now)) result
+        ≡ nearer (option_map (λ lost. (lost.0, lent_class lost.1, lost.2.now)) best.entry)
+        (option_map (λ lost. (lost.0, lent_class lost.1, lost.2.now)) other.entry) }
+{
+    match (best, other) {
+        (Some(first), Some(rival)) => if rival.0 < first.0 {
+            Some(rival)
+        } else {
+            Some(first)
+        },
+        (Some(first), None) => Some(first),
+        (None, other) => other,
+    }
+}
+
+/// The first of the other live generations, and of their classes the first, whose writer the new
+/// settings don't read; and the first that doesn't read what they write. It goes over the classes
+/// once.
+#[tactic(auto, using(crate::proofs::Nearest::nearest_begin, crate::proofs::Nearest::nearest_more, crate::proofs::Nearest::nearest_end, crate::proofs::Nearest::left_smaller))]
+fn first_losses<'a>(
+    generations: &'a GenerationList,
+    replica: u32,
+    settings: &'a Settings,
+) -> (
+    Option<(u32, BorrowedClass<'a>, &'a Who)>,
+    Option<(u32, BorrowedClass<'a>, &'a Who)>,
+)
+    ensures dropped { option_map (λ lost. (lost.0, lent_class lost.1, lost.2.now)) result.0
+        ≡ first (losses Other replica (rows_of settings.now.entries.0)
+        generations.now.generations) }
+    ensures unread { option_map (λ lost. (lost.0, lent_class lost.1, lost.2.now)) result.1
+        ≡ first (losses New replica (rows_of settings.now.entries.0)
+        generations.now.generations) }
+{
+    let mut after = None;
+    let mut dropped = None;
+    let mut unread = None;
+    while let Some(class) = next_class(generations, settings, after) {
+        let other = loss_at(generations, Writer::Other, replica, settings, class);
+        let new = loss_at(generations, Writer::New, replica, settings, class);
+        dropped = nearer_of(dropped, other);
+        unread = nearer_of(unread, new);
+        after = Some(class);
+    }
+    (dropped, unread)
 }
 
 /// The first reason of all.
@@ -87,12 +142,9 @@ pub fn judge(
         Some((path, who)) => return Verdict::drops_stored(alloc, path, who),
         None => {}
     }
-    match first_loss(generations, Writer::Other, replica, settings) {
-        Some((number, class, who)) => return Verdict::drops_writer(alloc, number, class, who),
-        None => {}
-    }
-    match first_loss(generations, Writer::New, replica, settings) {
-        Some((number, class, who)) => Verdict::unread(alloc, number, class, who),
-        None => Ok(Verdict::Pass),
+    match first_losses(generations, replica, settings) {
+        (Some((number, class, who)), _) => Verdict::drops_writer(alloc, number, class, who),
+        (None, Some((number, class, who))) => Verdict::unread(alloc, number, class, who),
+        (None, None) => Ok(Verdict::Pass),
     }
 }

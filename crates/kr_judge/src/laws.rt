@@ -1,5 +1,5 @@
 //! Laws of the definitions, for a reader and for callers' proofs. The functions do nothing.
-ghost use Rattle.kr_judge.specs.Laws.{PassesExactly, TableComputes, HasMembers, StaySorted, SetAtPath, DropAtPath};
+ghost use Rattle.kr_judge.specs.Laws.{PassesExactly, TableComputes, HasMembers, StaySorted, SetAtPath, DropAtPath, PathsAreNeeds, NumbersAreLive};
 
 /// The verdict is `Pass` exactly where the new settings read all that is stored and all that the
 /// other live generations write, and these read what the new settings write.
@@ -27,4 +27,11 @@ pub fn needs_stay_by_path()
 pub fn needs_go_by_path()
     ensures set { SetAtPath }
     ensures drop { DropAtPath }
+{}
+
+/// What a scan gives, which a board keeps: the paths that need a provider in the list of a resource
+/// are those at which just that is needed, and the live numbers are those of the live generations.
+pub fn scans_are_exact()
+    ensures paths { PathsAreNeeds }
+    ensures live { NumbersAreLive }
 {}

@@ -6,9 +6,10 @@ ghost use Rattle.kr_judge.specs.Boards.{AreByPath, drop_need, settle_need};
 ghost use Rattle.kr_judge.specs.Scans.{paths_with};
 ghost use Rattle.kr_judge.specs.Verdicts.{dropped_needs, first};
 ghost use Rattle.kr_judge.specs.inner.Earliest.{stored_by};
+ghost use Rattle.kr_judge.specs.inner.Indexes.{GrowsWith};
 
 use crate::first_dropped::first_dropped;
-use crate::pair::{Pair, find_pair, place_of_pair};
+use crate::pair_table::PairTable;
 use crate::path_map::PathMap;
 use crate::path_set::PathSet;
 use crate::proposal::{Proposal, drop_path, keep_proposal, make_proposal, unmake_proposal};
@@ -23,34 +24,36 @@ use std::marker::Model;
 #[derive(Drop)]
 pub struct NeedIndex {
     places: PathMap,
-    pairs: Vec<Pair>,
+    pairs: PairTable,
     proposal: Option<Proposal>,
     alloc: Global,
 }
 
 impl Model for NeedIndex {
+    ghost use Rattle.std.specs.Prelude.{length};
     ghost use Rattle.kr_judge.specs.inner.Indexes.{NeedsState, IsIndexed, AreApart, needs_of, labels_of, without_proposed, proposed_need};
 
     ghost Value = { NeedsState };
 
     ghost view = { λ index. record {
-      needs = needs_of (labels_of index.pairs.items) (without_proposed index.proposal index.places);
-      proposal = proposed_need (labels_of index.pairs.items) index.proposal;
+      needs = needs_of (labels_of index.pairs) (without_proposed index.proposal index.places);
+      proposal = proposed_need (labels_of index.pairs) index.proposal;
+      pairs = length index.pairs;
     } };
 
-    ghost invariant = { λ index. IsIndexed index.places index.pairs.items index.proposal
-        × AreApart (labels_of index.pairs.items) };
+    ghost invariant = { λ index. IsIndexed index.places index.pairs index.proposal
+        × AreApart (labels_of index.pairs) };
 }
 
 impl NeedIndex {
     /// No needs and no proposal.
     #[tactic(auto, using(crate::proofs::IndexSteps::none_yet, crate::proofs::Scans::apart_nil))]
     pub fn new(alloc: Global) -> NeedIndex
-        ensures { result ≡ record { needs = []; proposal = None } }
+        ensures { result ≡ record { needs = []; proposal = None; pairs = 0 } }
     {
         NeedIndex {
             places: PathMap::new(alloc),
-            pairs: Vec::new(alloc),
+            pairs: PairTable::new(alloc),
             proposal: None,
             alloc,
         }
@@ -62,19 +65,22 @@ impl NeedIndex {
         ensures { AreByPath self.now.needs }
     {
         // Read, so that the check sees the fields.
-        let _pairs = self.pairs.len();
+        let _pairs = self.pairs.as_slice();
     }
 
-    /// Proposes a need.
+    /// Proposes a need. There are never more pairs than were needed at one time and one: one comes
+    /// only where all that are there are needed.
     #[tactic(auto, using(crate::proofs::Scans::apart_same))]
     pub fn propose(&mut self, path: &str, resource: &str, who: &Who) -> Result<(), NoMemory>
         requires { self.old.proposal ≡ None }
         ensures ok { OnOk result (self.new ≡ record self.old {
           proposal = Some (record { path = path.now; resource = resource.now; who = who.now });
+          pairs = self.new.pairs;
         }) }
-        ensures err { OnErr result (self.new ≡ self.old) }
+        ensures err { OnErr result (self.new ≡ record self.old { pairs = self.new.pairs }) }
+        ensures grows { GrowsWith self.old.needs self.old.pairs self.new.pairs }
     {
-        let place = place_of_pair(&mut self.pairs, self.alloc, resource, who)?;
+        let place = self.pairs.place_of(resource, who)?;
         let made = make_proposal(&mut self.places, &mut self.pairs, self.alloc, path, place)?;
         self.proposal = Some(made);
         Ok(())
@@ -87,6 +93,7 @@ impl NeedIndex {
         ensures { self.new ≡ record {
           needs = settle_need keep self.old.needs self.old.proposal;
           proposal = None;
+          pairs = self.old.pairs;
         } }
     {
         let Some(proposal) = self.proposal.take() else {
@@ -126,8 +133,8 @@ impl NeedIndex {
         ensures none { IfNone result
             (paths_with self.now.proposal resource.now who.now self.now.needs ≡ []) }
     {
-        match find_pair(self.pairs.as_slice(), resource, who) {
-            Some(place) => Some(&self.pairs[place].paths),
+        match self.pairs.find(resource, who) {
+            Some(place) => Some(self.pairs.paths(place)),
             None => None,
         }
     }

@@ -5,7 +5,7 @@ ghost use Rattle.std.specs.BTreeMap.{is_at, insert_entry};
 ghost use Rattle.kr_config.specs.Nexts.{name_cmp};
 ghost use Rattle.kr_judge.specs.inner.Indexes.{IsIndexed, labels_of, without_proposed};
 
-use crate::pair::{Pair, put_path, take_path, take_unless};
+use crate::pair_table::PairTable;
 use crate::path_map::PathMap;
 use kr_base::{NoMemory, Text};
 use std::alloc::Global;
@@ -23,23 +23,23 @@ pub struct Proposal {
 #[tactic(auto, using(crate::proofs::IndexSteps::made_there, crate::proofs::IndexSteps::made_fresh, crate::proofs::IndexSteps::made_and_gone, crate::proofs::IndexSteps::without_there, crate::proofs::IndexSteps::without_fresh))]
 pub fn make_proposal(
     places: &mut PathMap,
-    pairs: &mut Vec<Pair>,
+    pairs: &mut PairTable,
     alloc: Global,
     path: &str,
     place: usize,
 ) -> Result<Proposal, NoMemory>
-    requires indexed { IsIndexed places.old pairs.old.items None }
-    requires place { place < length pairs.old.items }
+    requires indexed { IsIndexed places.old pairs.old None }
+    requires place { place < length pairs.old }
     ensures is { IfOk result (λ made. (made.path ≡ path.now) × (made.place ≡ place)) }
-    ensures made { IfOk result (λ made. IsIndexed places.new pairs.new.items (Some made)) }
+    ensures made { IfOk result (λ made. IsIndexed places.new pairs.new (Some made)) }
     ensures fresh { IfOk result (λ made. without_proposed (Some made) places.new ≡ places.old) }
-    ensures indexed { OnErr result (IsIndexed places.new pairs.new.items None) }
+    ensures indexed { OnErr result (IsIndexed places.new pairs.new None) }
     ensures same { OnErr result (places.new ≡ places.old) }
-    ensures labels { labels_of pairs.new.items ≡ labels_of pairs.old.items }
+    ensures labels { labels_of pairs.new ≡ labels_of pairs.old }
 {
     let kept = Text::copy(alloc, path)?;
     let key = Text::copy(alloc, path)?;
-    put_path(pairs, place, alloc, path)?;
+    pairs.put_path(place, path)?;
     match places.get(path) {
         Some(_own) => Ok(Proposal {
             path: kept,
@@ -53,7 +53,7 @@ pub fn make_proposal(
                 fresh: true,
             }),
             Err(NoMemory) => {
-                take_path(pairs, place, path);
+                pairs.take_path(place, path);
                 Err(NoMemory)
             }
         },
@@ -62,16 +62,16 @@ pub fn make_proposal(
 
 /// The path needs the pair, and no longer another.
 #[tactic(auto, using(crate::proofs::IndexSteps::there, crate::proofs::IndexSteps::fits, crate::proofs::IndexSteps::kept))]
-pub fn keep_proposal(places: &mut PathMap, pairs: &mut Vec<Pair>, proposal: Proposal)
-    requires { IsIndexed places.old pairs.old.items (Some proposal) }
-    ensures indexed { IsIndexed places.new pairs.new.items None }
+pub fn keep_proposal(places: &mut PathMap, pairs: &mut PairTable, proposal: Proposal)
+    requires { IsIndexed places.old pairs.old (Some proposal) }
+    ensures indexed { IsIndexed places.new pairs.new None }
     ensures places { places.new ≡ insert_entry name_cmp places.old proposal.path proposal.place }
-    ensures labels { labels_of pairs.new.items ≡ labels_of pairs.old.items }
+    ensures labels { labels_of pairs.new ≡ labels_of pairs.old }
 {
     let Some(own) = places.get(proposal.path.as_str()) else {
         unreachable!();
     };
-    take_unless(pairs, own, proposal.place, proposal.path.as_str());
+    pairs.take_unless(own, proposal.place, proposal.path.as_str());
     match places.insert(proposal.path, proposal.place) {
         Ok(()) => {}
         Err(_) => unreachable!(),
@@ -80,15 +80,15 @@ pub fn keep_proposal(places: &mut PathMap, pairs: &mut Vec<Pair>, proposal: Prop
 
 /// The path leaves the pair, unless it needed it before.
 #[tactic(auto, using(crate::proofs::IndexSteps::there, crate::proofs::IndexSteps::place_fits, crate::proofs::IndexSteps::gone_fresh, crate::proofs::IndexSteps::gone_own, crate::proofs::IndexSteps::gone_there, crate::proofs::IndexSteps::taken_fresh, crate::proofs::IndexSteps::taken_there))]
-pub fn unmake_proposal(places: &mut PathMap, pairs: &mut Vec<Pair>, proposal: Proposal)
-    requires { IsIndexed places.old pairs.old.items (Some proposal) }
-    ensures indexed { IsIndexed places.new pairs.new.items None }
+pub fn unmake_proposal(places: &mut PathMap, pairs: &mut PairTable, proposal: Proposal)
+    requires { IsIndexed places.old pairs.old (Some proposal) }
+    ensures indexed { IsIndexed places.new pairs.new None }
     ensures places { places.new ≡ without_proposed (Some proposal) places.old }
-    ensures labels { labels_of pairs.new.items ≡ labels_of pairs.old.items }
+    ensures labels { labels_of pairs.new ≡ labels_of pairs.old }
 {
     if proposal.fresh {
         let _own = places.remove(proposal.path.as_str());
-        take_path(pairs, proposal.place, proposal.path.as_str());
+        pairs.take_path(proposal.place, proposal.path.as_str());
         return;
     }
     let Some(own) = places.get(proposal.path.as_str()) else {
@@ -97,19 +97,19 @@ pub fn unmake_proposal(places: &mut PathMap, pairs: &mut Vec<Pair>, proposal: Pr
     if own == proposal.place {
         return;
     }
-    take_path(pairs, proposal.place, proposal.path.as_str());
+    pairs.take_path(proposal.place, proposal.path.as_str());
 }
 
 /// The path needs nothing.
 #[tactic(auto, using(crate::proofs::IndexSteps::fits_none, crate::proofs::IndexSteps::dropped_own, crate::proofs::IndexSteps::dropped_none))]
-pub fn drop_path(places: &mut PathMap, pairs: &mut Vec<Pair>, path: &str)
-    requires { IsIndexed places.old pairs.old.items None }
-    ensures indexed { IsIndexed places.new pairs.new.items None }
+pub fn drop_path(places: &mut PathMap, pairs: &mut PairTable, path: &str)
+    requires { IsIndexed places.old pairs.old None }
+    ensures indexed { IsIndexed places.new pairs.new None }
     ensures places { places.new ≡ remove_entry (is_at (name_cmp path.now)) places.old }
-    ensures labels { labels_of pairs.new.items ≡ labels_of pairs.old.items }
+    ensures labels { labels_of pairs.new ≡ labels_of pairs.old }
 {
     match places.remove(path) {
-        Some(place) => take_path(pairs, place, path),
+        Some(place) => pairs.take_path(place, path),
         None => {}
     }
 }

@@ -89,7 +89,7 @@ fn write_placed<'a, S: Sink>(
 }
 
 /// What stands before a class's own text, and that text.
-fn class_words(class: &Class) -> (&str, &str)
+pub fn class_words(class: &Class) -> (&str, &str)
     ensures { result.0.now ++ result.1.now ≡ class_text class.now }
 {
     match class {
@@ -100,7 +100,7 @@ fn class_words(class: &Class) -> (&str, &str)
 }
 
 /// A provider's kind, and its name where it has one.
-fn who_words(who: &Who) -> (&str, &str)
+pub fn who_words(who: &Who) -> (&str, &str)
     ensures { result.0.now ++ result.1.now ≡ who_text who.now }
 {
     match who {

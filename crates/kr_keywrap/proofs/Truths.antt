@@ -5,11 +5,12 @@ use Rattle.std.specs.Result.{result_ok}
 use Rattle.kr_aes.specs.KeyExpansion.{padded_schedule}
 use Rattle.kr_base.specs.InMemory.{after_call}
 use Rattle.kr_kms.specs.Calls.{Asks}
+use Rattle.kr_kms.specs.Exchanges.{Exchange, StatusCall, WrapCall, UnwrapCall, AgreesWith}
 use Rattle.kr_kms.specs.declared.plugin.Wrapped.{Wrapped}
 use Rattle.kr_keywrap.specs.declared.key_wrap.WrapNo.TheVariants.{Length}
 use Rattle.kr_keywrap.specs.KeyWrap.{IsKeyData, key_unwrap}
 use Rattle.kr_keywrap.specs.Keys.{Keys, opened_by, rounds_of, unwrapped_under, wrapped_under}
-use Rattle.kr_keywrap.specs.KeyLink.{IsWrapBy, KeyLinkState, link_of}
+use Rattle.kr_keywrap.specs.KeyLink.{IsWrapBy, KeyLinkState, KeyLinkStep, IsOfBytes, link_of, truth_of}
 use Rattle.kr_keywrap.proofs.Bodies.{not_wrapped, unwrap_of_wrapped}
 
 opened_of : (keys : Keys) (key_id kek plain : List ℕ) → keys key_id ≡ Some kek → IsKeyData plain
@@ -36,3 +37,13 @@ asks_ok old new x e =
 pub too_long : (decipher : List ℕ → List ℕ) (body : List ℕ) (size : ℕ) → size ≡ length body - 8 → 1016 < size
     → key_unwrap decipher body ≡ Err Length
 too_long decipher body size at long = not_wrapped decipher body size at (λ w. omega (arith, w.2))
+
+-- the link's answers agree with what the ring's keys open
+pub key_link_agrees : (keys : Keys) (old : KeyLinkState) (exchange : Exchange) (new : KeyLinkState) → KeyLinkStep keys old exchange new
+    → IsOfBytes exchange → AgreesWith (truth_of keys).opens exchange
+key_link_agrees keys old (StatusCall name answer) new h are = tt
+key_link_agrees keys old (WrapCall name plain (Ok wrapped)) new h are =
+    opens_wrapped keys old plain wrapped (record { size = h.answers.1; bytes = are }) h.answers.2
+key_link_agrees keys old (WrapCall name plain (Err why)) new h are = tt
+key_link_agrees keys old (UnwrapCall key (Ok bytes)) new h are = h.answers.2
+key_link_agrees keys old (UnwrapCall key (Err why)) new h are = tt

@@ -1,12 +1,17 @@
 -- A link in memory that wraps under the keys of a ring.
-use Rattle.std.specs.Prelude.{◌≡◌, ℕ, ◌⊎◌, true, List, [], codes, Some, Result, Ok, Err}
+use Rattle.std.specs.Prelude.{◌≡◌, ℕ, ◌<◌, ◌⊎◌, ⊤, Bool, true, false, if◌then◌else◌, List, [], codes, length, All, Some, IsSome, Result, Ok, Err, refl}
+use Rattle.std.proofs.Common.{◌∙◌, ap}
+use Rattle.kr_base.specs.Faults.{counted}
 use Rattle.kr_base.specs.InMemory.{Calls, IsListed, after_call, after_fault}
 use Rattle.kr_kms.specs.Calls.{Link}
+use Rattle.kr_kms.specs.Exchanges.{Exchange, StatusCall, WrapCall, UnwrapCall, KeepsLink}
+use Rattle.kr_kms.specs.Exchanges.{AgreesWith, asked_name, has_failed, is_fault}
 use Rattle.kr_kms.specs.Truth.{Truth}
 use Rattle.kr_kms.specs.declared.plugin.Status.{Status}
 use Rattle.kr_kms.specs.declared.plugin.Wrapped.{Wrapped}
 use Rattle.kr_kms.specs.declared.plugin.KmsNo.{KmsNo}
 use Rattle.kr_kms.specs.declared.plugin.KmsNo.TheVariants.{Failed, NoMemory}
+use Rattle.kr_keywrap.specs.KeyWrap.{IsWrappable}
 use Rattle.kr_keywrap.specs.Keys.{Keys, opened_by, wrapped_under}
 
 -- its plugin's name, the id of the key that it wraps under, and which of its calls fail
@@ -55,3 +60,71 @@ Answers old Served IsRight (Err Failed) new =
 Answers old Served IsRight (Err NoMemory) new =
     (IsListed old.calls → ⊥) × Served
     × (new ≡ record old { calls = after_call old.calls })
+
+-- ---- exchanges
+
+-- what the link answers, by the call
+abbrev pub AnswersCall : Keys → KeyLinkState → Exchange → KeyLinkState → Type 0
+AnswersCall keys old (StatusCall name answer) new =
+    Answers old (Unit {0}) (λ status. status ≡ status_of old.key_id) answer new
+AnswersCall keys old (WrapCall name plain answer) new =
+    Answers old (IsWrappable (length plain)) (IsWrapBy keys old plain) answer new
+AnswersCall keys old (UnwrapCall key answer) new =
+    Answers old (IsSome (opened_by keys key.key_id key.source))
+    (λ bytes. opened_by keys key.key_id key.source ≡ Some bytes) answer new
+
+-- what one call does
+pub record KeyLinkStep (keys : Keys) (old : KeyLinkState) (exchange : Exchange) (new : KeyLinkState)
+    : Type 0 where
+  pub own : asked_name exchange ≡ old.name
+  pub answers : AnswersCall keys old exchange new
+
+abbrev calls_after : Bool → Calls → Calls
+calls_after failed calls = if failed then after_fault calls else after_call calls
+
+faults_after : (failed : Bool) (calls : Calls)
+    → (calls_after failed calls).faults ≡ counted failed calls.faults
+faults_after true calls = refl
+faults_after false calls = refl
+
+after_answer : {T : Type 0} (old new : KeyLinkState) (Served : Type 0) (IsRight : T → Type 0)
+    (result : Result T KmsNo) → Answers old Served IsRight result new
+    → new ≡ record old { calls = calls_after (has_failed result) old.calls }
+after_answer old new Served IsRight (Ok given) h = h.3
+after_answer old new Served IsRight (Err Failed) h = h.1
+after_answer old new Served IsRight (Err NoMemory) h = h.2
+
+after_exchange : (keys : Keys) (old : KeyLinkState) (exchange : Exchange) (new : KeyLinkState)
+    → AnswersCall keys old exchange new
+    → new ≡ record old { calls = calls_after (is_fault exchange) old.calls }
+after_exchange keys old (StatusCall name answer) new h =
+    after_answer old new (Unit {0}) (λ status. status ≡ status_of old.key_id) answer h
+after_exchange keys old (WrapCall name plain answer) new h =
+    after_answer old new (IsWrappable (length plain)) (IsWrapBy keys old plain) answer h
+after_exchange keys old (UnwrapCall key answer) new h =
+    after_answer old new (IsSome (opened_by keys key.key_id key.source))
+    (λ bytes. opened_by keys key.key_id key.source ≡ Some bytes) answer h
+
+pub key_link_keeps : (keys : Keys) (old : KeyLinkState) (exchange : Exchange) (new : KeyLinkState)
+    → KeyLinkStep keys old exchange new → KeepsLink (link_of old) exchange (link_of new)
+key_link_keeps keys old exchange new h =
+    let is = after_exchange keys old exchange new h.answers in
+    record {
+      own = h.own;
+      named = ap (λ (l : KeyLinkState). l.name) is;
+      tells = ap (λ (l : KeyLinkState). Some (status_of l.key_id)) is;
+      counts = ap (λ (l : KeyLinkState). l.calls.faults) is
+          ∙ faults_after (is_fault exchange) old.calls;
+    }
+
+-- what was to be wrapped are bytes
+abbrev pub IsOfBytes : Exchange → Type 0
+IsOfBytes (StatusCall name answer) = ⊤
+IsOfBytes (WrapCall name plain answer) = All (λ byte. byte < 256) plain
+IsOfBytes (UnwrapCall key answer) = ⊤
+
+-- what such links answer agrees with what the ring's keys open
+abbrev pub KeyLinksAgree : Keys → Type 0
+KeyLinksAgree keys = (old : KeyLinkState) (exchange : Exchange) (new : KeyLinkState)
+    → KeyLinkStep keys old exchange new → IsOfBytes exchange
+    → AgreesWith (truth_of keys).opens exchange

@@ -5,12 +5,13 @@ ghost use Rattle.std.specs.Bool.{OnTrue};
 ghost use Rattle.kr_base.specs.Faults.{Rose};
 ghost use Rattle.kr_base.specs.InMemory.{IsListed, after_call, after_fault};
 ghost use Rattle.kr_base.specs.Limits.{IsShort};
-ghost use Rattle.kr_kms.specs.Calls.{Says, Wraps, Unwraps};
+ghost use Rattle.kr_kms.specs.Calls.{Says, Wraps, Unwraps, asked_key};
+ghost use Rattle.kr_kms.specs.Exchanges.{StatusCall, WrapCall, UnwrapCall};
 ghost use Rattle.kr_kms.specs.Limits.{IsWithinLimits};
 ghost use Rattle.kr_keywrap.specs.KeyWrap.{IsWrappable};
 ghost use Rattle.kr_keywrap.specs.Keys.{opened_by};
 ghost use Rattle.kr_keywrap.specs.KeyLink.{Answers, IsWrapBy, link_of, status_of, truth_of};
-ghost use Rattle.kr_keywrap.specs.KeyLink.{wrapped_by};
+ghost use Rattle.kr_keywrap.specs.KeyLink.{wrapped_by, KeyLinkStep, key_link_keeps};
 
 use crate::key_wrap::is_wrappable;
 use crate::keys::{ROOM, unwrap_under, wrap_under};
@@ -105,6 +106,10 @@ impl<R: Ring> Kms for KeyLink<R> {
 
     ghost link = { link_of };
 
+    ghost step = { KeyLinkStep R.keys };
+
+    ghost keeps = { key_link_keeps R.keys };
+
     fn name(&self) -> &str {
         self.name.as_str()
     }
@@ -119,6 +124,7 @@ impl<R: Ring> Kms for KeyLink<R> {
 
         // As the trait says.
         ensures says { Says (link_of self.old) result (link_of self.new) }
+        ensures asked { KeyLinkStep R.keys self.old (StatusCall self.old.name result) self.new }
     {
         if self.fails(true) {
             return Err(KmsNo::Failed);
@@ -136,6 +142,8 @@ impl<R: Ring> Kms for KeyLink<R> {
         // As the trait says.
         ensures wraps { Wraps (truth_of R.keys) (link_of self.old) plain.now result
             (link_of self.new) }
+        ensures asked { KeyLinkStep R.keys self.old
+            (WrapCall self.old.name plain.now result) self.new }
     {
         if !is_wrappable(plain.len()) {
             self.fails(false);
@@ -163,6 +171,8 @@ impl<R: Ring> Kms for KeyLink<R> {
         // As the trait says.
         ensures unwraps { Unwraps (truth_of R.keys) (link_of self.old) key_id.now annotations.now
             source.now result (link_of self.new) }
+        ensures asked { KeyLinkStep R.keys self.old (UnwrapCall (asked_key self.old.name key_id.now
+            annotations.now source.now) result) self.new }
     {
         let _annotations = annotations;
         let mut room = [0; ROOM];

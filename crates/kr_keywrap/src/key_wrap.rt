@@ -1,6 +1,6 @@
 //! The key wrap (RFC 3394 section 2.2). Nothing is allocated: the steps go over the lent buffer.
 
-ghost use Rattle.std.specs.Prelude.{◌≡◌, ◌≢◌, ◌↔◌, ℕ, ◌≤◌, ◌+◌, ◌-◌, ◌*◌, ◌/◌, List, ◌++◌, length, take, IsOk, IsTrue, IfErr, IsErrOf, OnOk, MatchResult};
+ghost use Rattle.std.specs.Prelude.{◌≡◌, ◌≢◌, ◌↔◌, ℕ, ◌≤◌, ◌+◌, ◌-◌, ◌*◌, ◌/◌, List, ◌++◌, length, take, IsOk, IsTrue, IfErr, IsErrOf, OnOk, MatchResult, replicate};
 ghost use Rattle.std.specs.Int.{w64, from_be_bytes, to_be_bytes};
 ghost use Rattle.kr_aes.specs.Cipher.{cipher};
 ghost use Rattle.kr_aes.specs.EquivalentInverse.{inverse_schedule};
@@ -44,8 +44,9 @@ pub fn wrap(words: &[u32; 60], rounds: Rounds, plain: &[u8], out: &mut [u8])
 }
 
 /// Writes the plain bytes of a body into `out`, which is 8 bytes shorter, or empty where the body
-/// has fewer than 8. After `Length` it is as before, after `Check` it holds any bytes. The words
-/// and the rounds are what `kr_aes::expand` gave for one key.
+/// has fewer than 8. After `Length` it is as before, after `Check` it is zero, so that nothing of
+/// what a wrong key made is left. The words and the rounds are what `kr_aes::expand` gave for one
+/// key.
 pub fn unwrap_key(
     words: &[u32; 60],
     rounds: Rounds,
@@ -65,6 +66,7 @@ pub fn unwrap_key(
     ensures check { IsErrOf result WrapNo.Check ↔ (IsWrappable (length body.now - 8)
         × ((before_steps (inverse_cipher words.now rounds) body.now).a ≢ initial_value)) }
     ensures kept { IsErrOf result WrapNo.Length → out.new ≡ out.old }
+    ensures wiped { IsErrOf result WrapNo.Check → out.new ≡ replicate (length out.old) 0 }
 {
     if !is_wrappable(out.len()) {
         return Err(WrapNo::Length);
@@ -75,6 +77,7 @@ pub fn unwrap_key(
     if unwrap_blocks(&inverse, rounds, number_of(&body[..HALF]), out) == INITIAL_VALUE {
         Ok(())
     } else {
+        out.fill(0);
         Err(WrapNo::Check)
     }
 }

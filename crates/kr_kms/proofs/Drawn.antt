@@ -1,5 +1,5 @@
 -- Why no seed was drawn is why none was made.
-use Rattle.std.proofs.Common.{◌≡◌, ℕ, List, Option, None, Err, inl}
+use Rattle.std.proofs.Common.{ℕ, List, Option, None, Err, inl}
 use Rattle.kr_kms.specs.Calls.{Link}
 use Rattle.kr_kms.specs.Health.{HasBreach}
 use Rattle.kr_kms.specs.Seeds.{MakesSeed}

@@ -1,15 +1,17 @@
 -- What is fetched through a cache.
-use Rattle.std.proofs.Common.{◌≡◌, ℕ, ◌≤◌, ◌⊎◌, true, List, length, Contains, Option, Some, None, Result, Ok, Err, IfOk, refl, sym, ap, subst, inl, inr, arith}
-use Rattle.std.specs.Prelude.{OnOk, OnErr}
+use Rattle.std.proofs.Common.{◌≡◌, ℕ, ◌≤◌, ◌⊎◌, ◌∙◌, Bool, true, false, cond, List, [], ◌∷◌, length, Contains, Option, Some, None, Result, Ok, Err, IfOk, refl, sym, ap, subst, inl, inr, arith}
+use Rattle.std.specs.Prelude.{◌-◌, OnOk, OnErr, take}
+use Rattle.std.specs.Map.{lookup, lookup_entry, remove_entry}
+use Rattle.std.specs.Option.{option_map_or}
 use Rattle.lru.specs.LruCache.{LruCache, lru_cache, put_entries}
 use Rattle.lru.proofs.CallerLemmas.{Contains-lookup, Contains-put_entries}
-use Rattle.kr_kms.specs.Cache.{CacheState, Fetches, AreOpen, GivesSeed, key_eq, seed_at}
+use Rattle.kr_kms.specs.Cache.{CacheState, Fetches, AreOpen, GivesSeed, KeepsAnswer, key_eq, seed_at}
 use Rattle.kr_kms.specs.Calls.{Link, Asks, IsSameLink, Unwraps, asked_key}
 use Rattle.kr_kms.specs.Truth.{Truth, TellsOf}
 use Rattle.kr_kms.specs.declared.plugin.KmsNo.{KmsNo}
 use Rattle.kr_kms.specs.declared.plugin.KmsNo.TheVariants.{Failed, NoMemory}
 use Rattle.kr_kms.specs.declared.seeds.SeedKey.{SeedKey}
-use Rattle.kr_kms.specs.inner.Keeping.{Rows, IsCopyAt, AreAmong, AreAmongWith}
+use Rattle.kr_kms.specs.inner.Keeping.{Rows, IsCopyAt, IsPut, AreAmong, AreAmongWith}
 use Rattle.kr_kms.proofs.Keys.{same_key}
 
 -- what is found under a key stands under it
@@ -44,6 +46,34 @@ put_or_not before after key seed (Ok old) is none other kept there =
     (subst (λ (l : LruCache SeedKey (List ℕ)). Contains l.entries (other, kept)) is there)
 put_or_not before after key seed (Err why) none is other kept there =
     inl (subst (λ (l : LruCache SeedKey (List ℕ)). Contains l.entries (other, kept)) is there)
+
+abbrev pub state_of : LruCache SeedKey (List ℕ) → CacheState
+state_of cache = record { rows = cache.entries; size = cache.cap }
+
+-- the same, exactly
+pub put_exact : {E : Type 0} (before : CacheState) (after : LruCache SeedKey (List ℕ)) (key : SeedKey)
+    (seed : List ℕ) (result : Result (Option (List ℕ)) E)
+    → OnOk result (after ≡ lru_cache (put_entries key_eq (lru_cache before.rows before.size) key seed) before.size)
+    → OnErr result (after ≡ lru_cache before.rows before.size)
+    → IsPut before key seed (state_of after)
+put_exact before after key seed (Ok old) is none = inr (ap state_of is)
+put_exact before after key seed (Err why) none is = inl (ap state_of is)
+
+no_entry : (test : SeedKey → Bool) (rows : Rows) → lookup test rows ≡ None → lookup_entry test rows ≡ None
+no_entry test [] none = refl
+no_entry test (row ∷ rows) none = by (test row.0) (no_entry test rows) none
+  where
+    by : (b : Bool) → (lookup test rows ≡ None → lookup_entry test rows ≡ None) → cond b (Some row.1) (lookup test rows) ≡ None → cond b (Some row) (lookup_entry test rows) ≡ None
+    by true rest none = absurd (cc)
+    by false rest none = rest none
+
+-- what is put under a key whose seed isn't kept goes before the others
+pub is_kept : (before : CacheState) (key : SeedKey) (seed : List ℕ) (after : CacheState)
+    → seed_at before.rows key ≡ None → IsPut before key seed after → KeepsAnswer before key (Ok seed) after
+is_kept before key seed after none (inl same) = inl same
+is_kept before key seed after none (inr put) = inr (put ∙ ap (λ (found : Option (SeedKey × List ℕ)). record before {
+  rows = option_map_or (λ e. (e.0, seed) ∷ remove_entry (key_eq key) before.rows) found ((key, seed) ∷ take (before.size - 1) before.rows);
+}) (no_entry (key_eq key) before.rows none))
 
 abbrev answer : List ℕ → Result (List ℕ) KmsNo
 answer seed = Ok seed

@@ -3,5 +3,8 @@ pub mod Drawn
 pub mod Fetching
 pub mod Keys
 pub mod Lent
+pub mod Linked
 pub mod MadeTapes
+pub mod Making
 pub mod Masks
+pub mod Opening

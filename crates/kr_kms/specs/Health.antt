@@ -1,10 +1,13 @@
 -- Whether a plugin is healthy, by the status that it answers (after KEP-3299).
-use Rattle.std.specs.Prelude.{◌≡◌, ℕ, List, codes, if◌then◌else◌, Option, Some, None, Result, Ok, Err, ⊤}
+use Rattle.std.specs.Prelude.{◌≡◌, ℕ, List, [], ◌∷◌, codes, if◌then◌else◌, Option, Some, None, Result, Ok, Err, ⊤}
 use Rattle.std.specs.Str.{bytes_eq}
 use Rattle.kr_base.specs.Faults.{Rose}
 use Rattle.kr_base.specs.Limits.{is_short}
 use Rattle.kr_base.specs.Told.{Agrees}
 use Rattle.kr_kms.specs.Calls.{Link}
+use Rattle.kr_kms.specs.Exchanges.{Exchange, StatusCall}
+use Rattle.kr_kms.specs.declared.plugin.KmsNo.{KmsNo}
+use Rattle.kr_kms.specs.declared.plugin.KmsNo.TheVariants as link
 use Rattle.kr_kms.specs.declared.plugin.Status.{Status}
 use Rattle.kr_kms.specs.declared.health.Field.{Field}
 use Rattle.kr_kms.specs.declared.health.Field.TheVariants.{Version, Healthz, KeyId}
@@ -33,3 +36,25 @@ TellsKeyId old (Err (Unhealthy field text)) new = HasBreach old (Some (field, te
 TellsKeyId old (Err Failed) new = Rose old.count new.count
 TellsKeyId old (Err DiceFailed) new = ⊥
 TellsKeyId old (Err NoMemory) new = ⊤
+
+-- ---- by which exchanges
+
+-- why a link gave no answer, as it is told
+abbrev pub seed_no : KmsNo → SeedNo
+seed_no link.Failed = Failed
+seed_no link.NoMemory = NoMemory
+
+-- the key id of a status that breaks no rule, and else the first rule that it breaks
+abbrev pub IsJudged : Status → Result (List ℕ) SeedNo → Type 0
+IsJudged status (Ok key_id) = (breach_in status ≡ None) × (status.key_id ≡ key_id)
+IsJudged status (Err (Unhealthy field text)) = breach_in status ≡ Some (field, text)
+IsJudged status (Err Failed) = ⊥
+IsJudged status (Err DiceFailed) = ⊥
+IsJudged status (Err NoMemory) = ⊥
+
+-- the status was asked once, and its answer decides
+pub data TellsKeyIdBy (name : List ℕ) (result : Result (List ℕ) SeedNo) : List Exchange → Type 0 where
+  no_status : (why : KmsNo) → result ≡ Err (seed_no why)
+      → TellsKeyIdBy name result (StatusCall name (Err why) ∷ [])
+  judged : (status : Status) → IsJudged status result
+      → TellsKeyIdBy name result (StatusCall name (Ok status) ∷ [])

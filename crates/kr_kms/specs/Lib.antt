@@ -1,6 +1,7 @@
 -- The definitions that contracts name.
 pub mod Cache
 pub mod Calls
+pub mod Exchanges
 pub mod Health
 pub mod Laws
 pub mod Limits

@@ -1,8 +1,9 @@
 //! Unwrapped seeds that are kept, so that a plugin isn't asked again.
 ghost use Rattle.std.specs.Prelude.{◌≡◌, ◌≤◌, [], IfOk, IfNone, length};
-ghost use Rattle.kr_kms.specs.Cache.{Fetches};
+ghost use Rattle.kr_base.specs.Walks.{Talk};
+ghost use Rattle.kr_kms.specs.Cache.{Fetches, FetchesBy};
 ghost use Rattle.kr_kms.specs.Calls.{asked_key};
-ghost use Rattle.kr_kms.specs.inner.Keeping.{IsCopyAt, AreAmong, AreAmongWith};
+ghost use Rattle.kr_kms.specs.inner.Keeping.{IsCopyAt, AreAmong, AreAmongWith, IsUsed, IsPut};
 
 use crate::plugin::{Kms, KmsNo};
 use crate::seeds::SeedKey;
@@ -51,9 +52,12 @@ impl SeedCache {
         annotations: &Annotations,
         source: &[u8],
     ) -> Result<Bytes, KmsNo>
-        ensures { Fetches L.truth L.link link.old self.old
+        ensures fetched { Fetches L.truth L.link link.old self.old
             (asked_key (L.link link.old).name key_id.now annotations.now source.now)
             result link.new self.new }
+        ensures asked { Talk L.step link.old link.new (FetchesBy
+            (asked_key (L.link link.old).name key_id.now annotations.now source.now)
+            self.old result self.new) }
     {
         // Its length tells that no more are kept than may be.
         let _fits = self.inner.len();
@@ -81,6 +85,7 @@ impl SeedCache {
     fn copy_of(&mut self, alloc: Global, key: &SeedKey) -> Option<Result<Bytes, KmsNo>>
         ensures found { IsCopyAt self.old.rows key.now result }
         ensures none { IfNone result (self.new ≡ self.old) }
+        ensures used { IsUsed self.old key.now result self.new }
         ensures rows { AreAmong self.old.rows self.new.rows }
         ensures size { self.new.size ≡ self.old.size }
         ensures fits { length self.new.rows ≤ self.new.size }
@@ -101,6 +106,7 @@ impl SeedCache {
     /// Keeps the seed under the key, where there is memory for it.
     fn keep(&mut self, alloc: Global, key: SeedKey, seed: &Bytes)
         ensures rows { AreAmongWith self.old.rows key seed.now self.new.rows }
+        ensures put { IsPut self.old key seed.now self.new }
         ensures size { self.new.size ≡ self.old.size }
         ensures fits { length self.new.rows ≤ self.new.size }
     {

@@ -1,8 +1,8 @@
 //! Whether a plugin is healthy, and the id of the key that it wraps with.
 ghost use Rattle.std.specs.Prelude.{◌≡◌};
 ghost use Rattle.kr_kms.specs.Calls.{IsSameLink};
-ghost use Rattle.kr_kms.specs.Health.{TellsKeyId};
-ghost use Rattle.kr_kms.specs.inner.Statuses.{IsJudged};
+ghost use Rattle.kr_base.specs.Walks.{Talk};
+ghost use Rattle.kr_kms.specs.Health.{TellsKeyId, TellsKeyIdBy, IsJudged};
 
 use crate::plugin::{Kms, KmsNo, Status};
 use kr_base::{Text, is_short};
@@ -37,6 +37,7 @@ pub enum SeedNo {
 pub fn key_id_of<L: Kms>(alloc: Global, link: &mut L) -> Result<Text, SeedNo>
     ensures same { IsSameLink (L.link link.old) (L.link link.new) }
     ensures told { TellsKeyId (L.link link.old) result (L.link link.new) }
+    ensures asked { Talk L.step link.old link.new (TellsKeyIdBy (L.link link.old).name result) }
 {
     match link.status(alloc) {
         Ok(status) => judge(status),

@@ -17,7 +17,7 @@ mod world;
 pub use cache::SeedCache;
 pub use file_faults::FileFaults;
 pub use health::{Field, SeedNo, key_id_of};
-pub use laws::keys_are_told_apart;
+pub use laws::{fetched_seeds_open, keys_are_told_apart, made_seeds_open, tables_agree};
 pub use mem_world::MemWorld;
 pub use plugin::{Kms, KmsNo, Status, Wrapped, is_within_limits};
 pub use seeds::{SeedKey, SeedRow, make_seed};

@@ -6,7 +6,7 @@ ghost use Rattle.std.specs.Str.{bytes_eq};
 ghost use Rattle.kr_base.specs.Faults.{Rose};
 ghost use Rattle.kr_base.specs.InMemory.{faults_of};
 ghost use Rattle.kr_kms.specs.Outside.{Loads, Notes, KeepsFiles, KeepsObjects, HandsOut, TakesBack};
-ghost use Rattle.kr_kms.specs.Outside.{same_seat, same_name, same_link};
+ghost use Rattle.kr_kms.specs.Outside.{same_seat, same_name, same_link, with_call};
 ghost use Rattle.kr_kms.specs.Outside.{IsFaultOrMemory, IsTape, RefusesTape, link_at};
 ghost use Rattle.kr_kms.specs.MemWorld.{file_of, seat_of, name_of, link_key, without_first};
 ghost use Rattle.kr_kms.specs.MemWorld.{first_dice, first_tape, first_link, new_tape, told_by};
@@ -321,6 +321,32 @@ impl<L: Kms + Send> World for MemWorld<L> {
             unreachable!();
         };
         self.tapes.put_back_by(at, tape);
+    }
+
+    fn back_settled(&mut self, name: &str, tape: MemTape)
+        requires out { 0 < (⟦<MemWorld<L> as World>⟧.told self.old).tapes.out name.now }
+        ensures put { self.new.tapes.items ≡ (name.now, tape) ∷ self.old.tapes.items }
+        ensures others { (self.new.files ≡ self.old.files) × (self.new.dice ≡ self.old.dice)
+            × (self.new.links ≡ self.old.links) × (self.new.room ≡ self.old.room)
+            × (self.new.faults ≡ self.old.faults) }
+
+        // As the trait says.
+        ensures back { TakesBack same_name (⟦<MemWorld<L> as World>⟧.told self.old).tapes
+            (⟦<MemWorld<L> as World>⟧.told self.new).tapes name.now (faults_of tape) }
+        ensures tape { (⟦<MemWorld<L> as World>⟧.told self.new).tapes.told name.now ≡ option_map
+            Some (Some tape.bytes) }
+        ensures asked { (⟦<MemWorld<L> as World>⟧.told self.new).asked
+            ≡ with_call (WorldCall.Settled name.now) (⟦<MemWorld<L> as World>⟧.told self.old).asked }
+        ensures file { (⟦<MemWorld<L> as World>⟧.told self.new).file ≡
+            (⟦<MemWorld<L> as World>⟧.told self.old).file }
+        ensures faults { (⟦<MemWorld<L> as World>⟧.told self.new).faults ≡
+            (⟦<MemWorld<L> as World>⟧.told self.old).faults }
+        ensures dice { (⟦<MemWorld<L> as World>⟧.told self.new).dice ≡
+            (⟦<MemWorld<L> as World>⟧.told self.old).dice }
+        ensures links { (⟦<MemWorld<L> as World>⟧.told self.new).links ≡
+            (⟦<MemWorld<L> as World>⟧.told self.old).links }
+    {
+        self.back_tape(name, tape);
     }
 
     fn back_dice(&mut self, seat: u32, dice: MemDice)

@@ -1,7 +1,8 @@
 //! A link to a plugin, which keeps the keys and wraps short secrets with them.
 ghost use Rattle.std.specs.Prelude.{◌≡◌, ◌↔◌, IsTrue};
 ghost use Rattle.kr_kms.specs.Truth.{Truth};
-ghost use Rattle.kr_kms.specs.Calls.{Link, Says, Wraps, Unwraps};
+ghost use Rattle.kr_kms.specs.Calls.{Link, Says, Wraps, Unwraps, asked_key};
+ghost use Rattle.kr_kms.specs.Exchanges.{Exchange, StatusCall, WrapCall, UnwrapCall, KeepsLink};
 ghost use Rattle.kr_kms.specs.Limits.{IsWithinLimits};
 
 use kr_base::{Annotations, Bytes, Text, are_few, is_short};
@@ -43,12 +44,16 @@ pub enum KmsNo {
     NoMemory,
 }
 
-/// A link to a plugin. No call changes its name or the status that it tells.
+/// A link to a plugin. No call changes its name or the status that it tells, and each that fails
+/// counts once.
 pub trait Kms {
     // What the type tells of the truth: one function for all links of it.
     ghost truth: { Truth };
 
     ghost link: { Self → Link };
+
+    // From the one state to the other the link was asked this, once, and answered it.
+    ghost step: { Self → Exchange → Self → Type 0 };
 
     /// The plugin's name. It needs no memory.
     fn name(&self) -> &str
@@ -60,12 +65,14 @@ pub trait Kms {
 
     /// Asks for the status.
     fn status(&mut self, alloc: Global) -> Result<Status, KmsNo>
-        ensures { Says (link self.old) result (link self.new) };
+        ensures says { Says (link self.old) result (link self.new) }
+        ensures asked { step self.old (StatusCall (link self.old).name result) self.new };
 
     /// Wraps plain bytes with the plugin's current key. An answer that passes a limit of wrapped
     /// sources is a fault.
     fn wrap(&mut self, alloc: Global, plain: &[u8]) -> Result<Wrapped, KmsNo>
-        ensures { Wraps truth (link self.old) plain.now result (link self.new) };
+        ensures wraps { Wraps truth (link self.old) plain.now result (link self.new) }
+        ensures asked { step self.old (WrapCall (link self.old).name plain.now result) self.new };
 
     /// Unwraps what was wrapped under this key id with these annotations.
     fn unwrap_source(
@@ -75,6 +82,13 @@ pub trait Kms {
         annotations: &Annotations,
         source: &[u8],
     ) -> Result<Bytes, KmsNo>
-        ensures { Unwraps truth (link self.old) key_id.now annotations.now source.now result
-            (link self.new) };
+        ensures unwraps { Unwraps truth (link self.old) key_id.now annotations.now source.now result
+            (link self.new) }
+        ensures asked { step self.old (UnwrapCall (asked_key (link self.old).name key_id.now
+            annotations.now source.now) result) self.new };
+
+    /// Any step is one of the link's own plugin, keeps the name and the told status, and counts a
+    /// fault once.
+    ghost keeps: { (old : Self) (exchange : Exchange) (new : Self) → step old exchange new
+        → KeepsLink (link old) exchange (link new) };
 }

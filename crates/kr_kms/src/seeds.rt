@@ -2,8 +2,9 @@
 ghost use Rattle.std.specs.Prelude.{◌≡◌, ◌≤◌, IfOk, IsUtf8, length, All};
 ghost use Rattle.kr_kms.specs.Calls.{IsSameLink, Asks, asked_key};
 ghost use Rattle.kr_kms.specs.Limits.{IsWithinLimits};
-ghost use Rattle.kr_kms.specs.Seeds.{IsSeedRow, MakesSeed};
-ghost use Rattle.kr_kms.specs.inner.Wrapping.{IsDrawn, row_with, IsRowOf};
+ghost use Rattle.kr_base.specs.Walks.{Talk};
+ghost use Rattle.kr_kms.specs.Seeds.{IsSeedRow, MakesSeed, MakesSeedBy, row_with};
+ghost use Rattle.kr_kms.specs.inner.Wrapping.{IsDrawn, IsRowOf, WrapsSeedBy};
 
 use crate::health::{SeedNo, key_id_of};
 use crate::plugin::{Kms, KmsNo, Wrapped};
@@ -83,6 +84,8 @@ pub fn make_seed<L: Kms, D: Dice>(
     ensures made { MakesSeed D.left D.count L.truth (L.link link.old) dice.old result
         (L.link link.new) dice.new }
     ensures later { D.count dice.old ≤ D.count dice.new }
+    ensures asked { Talk L.step link.old link.new
+        (MakesSeedBy D.left D.count (L.link link.old).name dice.old result dice.new) }
 {
     drop(key_id_of(alloc, link)?);
     let seed = draw_seed(alloc, dice)?;
@@ -115,6 +118,8 @@ fn wrap_seed<L: Kms>(alloc: Global, link: &mut L, seed: Bytes) -> Result<SeedRow
     requires size { length seed ≡ 32 }
     ensures asks { Asks (L.link link.old) result (L.link link.new) }
     ensures row { IfOk result (λ row. IsRowOf L.truth (L.link link.old).name seed row) }
+    ensures asked { Talk L.step link.old link.new
+        (WrapsSeedBy (L.link link.old).name seed result) }
 {
     let Ok(name) = Text::copy(alloc, link.name()) else {
         drop(seed);

@@ -4,10 +4,11 @@ ghost use Rattle.std.specs.Prelude.{if◌then◌else◌};
 ghost use Rattle.std.specs.Bool.{OnTrue};
 ghost use Rattle.kr_base.specs.Faults.{Rose};
 ghost use Rattle.kr_base.specs.InMemory.{IsListed, after_call, after_fault};
-ghost use Rattle.kr_kms.specs.Calls.{Says, Wraps, Unwraps};
+ghost use Rattle.kr_kms.specs.Calls.{Says, Wraps, Unwraps, asked_key};
+ghost use Rattle.kr_kms.specs.Exchanges.{StatusCall, WrapCall, UnwrapCall};
 ghost use Rattle.kr_kms.specs.Limits.{IsWithinLimits};
 ghost use Rattle.kr_kms.specs.Table.{Answers, salt_in, mask_of, xor_of, salt_pair, wrapped_by};
-ghost use Rattle.kr_kms.specs.Table.{status_of, table_truth, link_of};
+ghost use Rattle.kr_kms.specs.Table.{status_of, table_truth, link_of, TableStep, table_keeps};
 
 use crate::plugin::{Kms, KmsNo, Status, Wrapped};
 use kr_base::{Annotations, Bytes, CallLog, List, NoMemory, Text, both, is_short};
@@ -99,6 +100,10 @@ impl Kms for TablePlugin {
 
     ghost link = { link_of };
 
+    ghost step = { TableStep };
+
+    ghost keeps = { table_keeps };
+
     fn name(&self) -> &str {
         self.name.as_str()
     }
@@ -112,6 +117,7 @@ impl Kms for TablePlugin {
 
         // As the trait says.
         ensures says { Says (link_of self.old) result (link_of self.new) }
+        ensures asked { TableStep self.old (StatusCall self.old.name result) self.new }
     {
         if self.fails(true) {
             return Err(KmsNo::Failed);
@@ -135,6 +141,7 @@ impl Kms for TablePlugin {
 
         // As the trait says.
         ensures wraps { Wraps table_truth (link_of self.old) plain.now result (link_of self.new) }
+        ensures asked { TableStep self.old (WrapCall self.old.name plain.now result) self.new }
     {
         if self.fails(serves(self, plain)) {
             return Err(KmsNo::Failed);
@@ -158,6 +165,8 @@ impl Kms for TablePlugin {
         // As the trait says.
         ensures unwraps { Unwraps table_truth (link_of self.old) key_id.now annotations.now
             source.now result (link_of self.new) }
+        ensures asked { TableStep self.old (UnwrapCall (asked_key self.old.name key_id.now
+            annotations.now source.now) result) self.new }
     {
         if self.fails(true) {
             return Err(KmsNo::Failed);

@@ -1,8 +1,8 @@
 //! The world that a command runs in: its files, the tapes that it writes, the random source of each
 //! seat, and the links of each seat to plugins.
-ghost use Rattle.std.specs.Prelude.{◌≡◌, ◌<◌, IfOk, IfErr, OnErr, IsErrOf, Some, option_map};
+ghost use Rattle.std.specs.Prelude.{◌≡◌, ◌<◌, IfOk, IfErr, OnErr, IsErrOf, true, Some, option_map};
 ghost use Rattle.kr_base.specs.Faults.{Rose};
-ghost use Rattle.kr_kms.specs.Outside.{Outside, file_faults, Loads, Notes, KeepsFiles, KeepsObjects};
+ghost use Rattle.kr_kms.specs.Outside.{Outside, file_faults, Loads, Notes, KeepsFiles, KeepsObjects, with_call};
 ghost use Rattle.kr_kms.specs.Outside.{HandsOut, TakesBack, same_seat, same_name, same_link};
 ghost use Rattle.kr_kms.specs.Outside.{IsFaultOrMemory, IsTape, RefusesTape, link_at};
 
@@ -23,7 +23,7 @@ pub enum FileNo {
     NoMemory,
 }
 
-/// A call that asks a world for something.
+/// A call that a world notes.
 #[derive(Drop)]
 pub enum WorldCall {
     /// For the file of a name.
@@ -41,6 +41,8 @@ pub enum WorldCall {
         plugin: Text,
         program: Text,
     },
+    /// That the tape of a name is back, with all that it holds on the device.
+    Settled(Text),
 }
 
 /// Files and tapes by their names, random sources by the numbers of seats, and links by seat and
@@ -146,6 +148,21 @@ pub trait World {
         ensures tape { (told self.new).tapes.told name.now
             ≡ option_map Some (Self.Tap.told tape) }
         ensures asked { (told self.new).asked ≡ (told self.old).asked }
+        ensures file { (told self.new).file ≡ (told self.old).file }
+        ensures faults { (told self.new).faults ≡ (told self.old).faults }
+        ensures dice { (told self.new).dice ≡ (told self.old).dice }
+        ensures links { (told self.new).links ≡ (told self.old).links };
+
+    /// Takes the tape of the name back, all of which is on the device, and notes that.
+    fn back_settled(&mut self, name: &str, tape: Self::Tap)
+        requires out { 0 < (told self.old).tapes.out name.now }
+        requires settled { Self.Tap.settled tape ≡ true }
+        ensures back { TakesBack same_name (told self.old).tapes (told self.new).tapes name.now
+            (Self.Tap.count tape) }
+        ensures tape { (told self.new).tapes.told name.now
+            ≡ option_map Some (Self.Tap.told tape) }
+        ensures asked { (told self.new).asked
+            ≡ with_call (WorldCall.Settled name.now) (told self.old).asked }
         ensures file { (told self.new).file ≡ (told self.old).file }
         ensures faults { (told self.new).faults ≡ (told self.old).faults }
         ensures dice { (told self.new).dice ≡ (told self.old).dice }

@@ -1,6 +1,6 @@
 //! CBC (SP 800-38A section 6.2) with the padding of PKCS #7 (RFC 5652 section 6.3).
 
-ghost use Rattle.std.specs.Prelude.{◌≡◌, ◌≢◌, ◌↔◌, ℕ, ◌≤◌, ◌<◌, ◌+◌, ◌-◌, ◌*◌, ◌/◌, ◌%◌, List, All, length, take, drop, IsTrue, IfOk, IfErr, IfSome, MatchOption, MatchResult};
+ghost use Rattle.std.specs.Prelude.{◌≡◌, ◌≢◌, ◌↔◌, ℕ, ◌≤◌, ◌<◌, ◌+◌, ◌-◌, ◌*◌, ◌/◌, ◌%◌, List, All, length, take, drop, replicate, IsTrue, IfOk, IfErr, IsErrOf, OnErr, IfSome, MatchOption, MatchResult};
 ghost use Rattle.kr_aes.specs.Cipher.{cipher};
 ghost use Rattle.kr_aes.specs.InverseCipher.{inverse_cipher};
 ghost use Rattle.kr_aes.specs.KeyExpansion.{IsSchedule};
@@ -60,9 +60,10 @@ pub fn cbc_seal_in_place(
 }
 
 /// Opens what `cbc_seal` sealed: the body is the IV and the blocks behind it. The length of the
-/// data is answered, and the data stand at the front of `out`; the rest of `out` is any bytes, and
-/// so is all of it after `BadPadding`. A wrong key isn't noticed where what it decrypts to is
-/// padded data. The words and the rounds are what `kr_aes::expand` gave for one key.
+/// data is answered, and the data stand at the front of `out`; the rest of `out` is any bytes.
+/// After `BadPadding` all of it is zero, so that nothing of what a wrong key made is left. A wrong
+/// key isn't noticed where what it decrypts to is padded data. The words and the rounds are what
+/// `kr_aes::expand` gave for one key.
 pub fn cbc_unseal(
     words: &[u32; 60],
     rounds: Rounds,
@@ -77,6 +78,7 @@ pub fn cbc_unseal(
         (λ why. cbc_opened (inverse_cipher words.now rounds) body.now ≡ Err why) }
     ensures within { IfOk result (λ n. n < length out.new) }
     ensures kept { IfErr result (λ why. why ≢ ModeNo.BadPadding → out.new ≡ out.old) }
+    ensures wiped { IsErrOf result ModeNo.BadPadding → out.new ≡ replicate (length out.old) 0 }
 {
     if let Some(why) = refused_size(body.len()) {
         return Err(why);
@@ -86,7 +88,7 @@ pub fn cbc_unseal(
 }
 
 /// The same in one buffer: the body stands behind its first `from` bytes, and the data stand at
-/// its front afterwards.
+/// its front afterwards. After `BadPadding` all of the buffer is zero.
 pub fn cbc_unseal_in_place(
     words: &[u32; 60],
     rounds: Rounds,
@@ -101,6 +103,8 @@ pub fn cbc_unseal_in_place(
         (λ why. cbc_opened (inverse_cipher words.now rounds) body ≡ Err why) }
     ensures within { IfOk result (λ n. n < length buffer.new) }
     ensures kept { IfErr result (λ why. why ≢ ModeNo.BadPadding → buffer.new ≡ buffer.old) }
+    ensures wiped { IsErrOf result ModeNo.BadPadding
+        → buffer.new ≡ replicate (length buffer.old) 0 }
 {
     if let Some(why) = refused_size(buffer.len() - from) {
         return Err(why);
@@ -134,11 +138,15 @@ fn open(words: &[u32; 60], rounds: Rounds, buffer: &mut [u8], from: usize) -> Re
         (λ n. cbc_opened (inverse_cipher words.now rounds) body ≡ Ok (take n buffer.new))
         (λ why. cbc_opened (inverse_cipher words.now rounds) body ≡ Err why) }
     ensures why { IfErr result (λ why. why ≡ ModeNo.BadPadding) }
+    ensures wiped { OnErr result (buffer.new ≡ replicate (length buffer.old) 0) }
 {
     decrypt(words, rounds, buffer, from);
     match unpadded_length(&buffer[..buffer.len() - from - BLOCK]) {
         Some(length) => Ok(length),
-        None => Err(ModeNo::BadPadding),
+        None => {
+            buffer.fill(0);
+            Err(ModeNo::BadPadding)
+        }
     }
 }
 

@@ -136,7 +136,8 @@ fn checked_length(
     Ok(size)
 }
 
-/// Whether both are the same.
+/// Whether both are the same. It goes through all 16 bytes whatever it finds and decides once, so
+/// that its time doesn't tell how many bytes of a forged tag are right.
 fn is_same(tag: &[u8; TAG], other: &[u8]) -> bool
     requires { length other.now ≡ 16 }
     ensures { IsTrue result ↔ (other.now ≡ tag.now) }

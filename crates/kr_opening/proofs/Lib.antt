@@ -3,6 +3,7 @@ pub mod Boarding
 pub mod LastRows
 pub mod Needing
 pub mod Passing
+pub mod ReplicasJudged
 pub mod Sharing
 pub mod Taking
 pub mod Walking

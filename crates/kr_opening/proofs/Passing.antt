@@ -9,20 +9,16 @@ use Rattle.std.proofs.lemmas.List.Elements.{Contains-append_right}
 use Rattle.kr_config.specs.declared.class.Class.{Class}
 use Rattle.kr_config.specs.declared.class.Class.TheVariants.{Exact, Group, Rest}
 use Rattle.kr_config.specs.declared.pattern.Pattern.{Pattern}
-use Rattle.kr_config.specs.declared.who.Who.{Who}
 use Rattle.kr_config.specs.Kept.{Row, apart, keeps, keeps_row, keeps_patterns, keeps_providers, patterns_in, keys_in, kms_in}
 use Rattle.kr_config.specs.Lists.{first_list, list_of, class_list}
 use Rattle.kr_config.specs.Patterns.{matches, covers_group, covers_rest}
 use Rattle.kr_config.specs.Providers.{is_provider, rivals}
-use Rattle.kr_config.proofs.Narrowing.{each_class_narrows}
-use Rattle.kr_provider.specs.Readers.{writer_of}
 use Rattle.kr_judge.specs.declared.need.Need.{Need}
 use Rattle.kr_judge.specs.declared.verdict.Verdict.TheVariants.{Pass}
 use Rattle.kr_judge.specs.Boards.{GenerationState, is_live}
-use Rattle.kr_judge.specs.Tables.{table_of}
 use Rattle.kr_judge.specs.Verdicts.{with_numbers, is_other, others, judged_classes, verdict_of}
 use Rattle.kr_judge.specs.Fits.{ReadsWriter, FitsBoard}
-use Rattle.kr_judge.proofs.Tables.{is_table}
+use Rattle.kr_judge.proofs.Lacking.{everywhere, live_rows, other_is_live}
 use Rattle.kr_judge.proofs.Passing.{passes_exactly}
 
 -- ---- the others
@@ -63,33 +59,6 @@ other_there : (replica : ℕ) (generations : List GenerationState) (n : ℕ) (t 
 unfolding others
 other_there replica generations n t there o =
     there_filtered (λ m. is_other replica m.1) (with_numbers 0 generations) (n, t) there o
-
--- ---- writers
-
--- a list that isn't empty holds its writer
-pub own_writer : (list : List Who) → 1 ≤ length list → Contains list (writer_of list)
-own_writer [] l = absurd (omega arith)
-own_writer (who ∷ rest) l = (0, omega arith, refl)
-
-reads_first : (writers readers : List Who) → 1 ≤ length writers → ReadsWriter writers readers
-    → Contains readers (writer_of writers)
-reads_first [] readers l r = absurd (omega arith)
-reads_first (who ∷ rest) readers l r = r who refl
-
--- what is read at each class that is judged is so at every class
-read_everywhere : (added : List (List Row)) (writing reading : List Row) (class : Class)
-    → ((class : Class) → Contains (table_of added) class
-    → ReadsWriter (class_list writing class) (class_list reading class))
-    → Contains added writing → Contains added reading
-    → ((class : Class) → 1 ≤ length (class_list writing class))
-    → Contains (class_list reading class) (writer_of (class_list writing class))
-read_everywhere added writing reading class h w r l =
-    let narrow = each_class_narrows added (table_of added) class (is_table added) in
-    subst (λ list. Contains list (writer_of (class_list writing class))) (sym (narrow.2 reading r))
-    (subst (λ list. Contains (class_list reading narrow.0) (writer_of list))
-    (sym (narrow.2 writing w))
-    (reads_first (class_list writing narrow.0) (class_list reading narrow.0) (l narrow.0)
-    (h narrow.0 narrow.1)))
 
 -- ---- lists aren't empty
 
@@ -146,35 +115,14 @@ class_some rows k Rest = first_some covers_rest rows (rows_keep rows k)
 
 -- ---- a verdict that passes
 
-live_rows : (generations : List GenerationState) (t : GenerationState) → Contains generations t → is_live t ≡ true
-    → Contains (map (λ (g : GenerationState). g.rows) (filter is_live generations)) t.rows
-live_rows [] t (k, l, is) h = absurd (omega (arith, l))
-live_rows (g ∷ gs) t (zero, l, is) h =
-    subst (λ v. Contains (map (λ (x : GenerationState). x.rows)
-    (cond v (g ∷ filter is_live gs) (filter is_live gs))) t.rows)
-    (sym (subst (λ (x : GenerationState). is_live x ≡ true) (sym is) h))
-    (0, omega arith, ap (λ (x : GenerationState). x.rows) is)
-live_rows (g ∷ gs) t (suc k, l, is) h = by (is_live g) (live_rows gs t (k, omega arith, is) h)
-  where
-    by : (v : Bool) → Contains (map (λ (x : GenerationState). x.rows) (filter is_live gs)) t.rows
-        → Contains (map (λ (x : GenerationState). x.rows)
-        (cond v (g ∷ filter is_live gs) (filter is_live gs))) t.rows
-    by true c = Contains-append_right (g.rows ∷ [])
-        (map (λ (x : GenerationState). x.rows) (filter is_live gs)) t.rows c
-    by false c = c
-
 -- what the new settings have in common with each other live generation
 pub record AreReadable (needs : List Need) (generations : List GenerationState) (replica : ℕ)
     (rows : List Row) : Type 0 where
   pub stored : (need : Need) → Contains needs need → Contains (list_of rows need.resource) need.who
   pub reads : (t : GenerationState) → Contains generations t → is_other replica t ≡ true
-      → IsTrue (keeps t.rows) → (class : Class)
-      → Contains (class_list rows class) (writer_of (class_list t.rows class))
-  pub is_read : (t : GenerationState) → Contains generations t → is_other replica t ≡ true → (class : Class)
-      → Contains (class_list t.rows class) (writer_of (class_list rows class))
-
-other_lives : (replica : ℕ) (t : GenerationState) → is_other replica t ≡ true → is_live t ≡ true
-other_lives replica t o = and_left (is_live t) _ o
+      → (class : Class) → ReadsWriter (class_list t.rows class) (class_list rows class)
+  pub is_read : (t : GenerationState) → Contains generations t → is_other replica t ≡ true
+      → (class : Class) → ReadsWriter (class_list rows class) (class_list t.rows class)
 
 module _ (needs : List Need) (generations : List GenerationState) (replica : ℕ)
     (rows : List Row) (f : FitsBoard needs generations replica rows) where
@@ -193,24 +141,21 @@ module _ (needs : List Need) (generations : List GenerationState) (replica : ℕ
       f.readers (n.number, t) class (other_there replica generations n.number t n.there o) judged
 
 pub passed : (needs : List Need) (generations : List GenerationState) (replica : ℕ)
-    (rows : List Row) → IsTrue (keeps rows) → verdict_of needs generations replica rows ≡ Pass
+    (rows : List Row) → verdict_of needs generations replica rows ≡ Pass
     → AreReadable needs generations replica rows
-passed needs generations replica rows k e =
+passed needs generations replica rows e =
     let f = (passes_exactly needs generations replica rows).0 e in
-    let added = rows ∷ map (λ (g : GenerationState). g.rows) (filter is_live generations) in
+    let live = map (λ (g : GenerationState). g.rows) (filter is_live generations) in
     record {
       stored = f.stored;
-      reads = λ t there o kept class. read_everywhere added t.rows rows class
+      reads = λ t there o class. everywhere (rows ∷ live) t.rows rows class
           (reads_other needs generations replica rows f t there o)
-          (Contains-append_right (rows ∷ []) (map (λ (g : GenerationState). g.rows)
-          (filter is_live generations)) t.rows
-          (live_rows generations t there (other_lives replica t o)))
-          (0, omega arith, refl) (class_some t.rows kept);
-      is_read = λ t there o class. read_everywhere added rows t.rows class
+          (Contains-append_right (rows ∷ []) live t.rows
+          (live_rows generations t there (other_is_live replica t o)))
+          (0, omega arith, refl);
+      is_read = λ t there o class. everywhere (rows ∷ live) rows t.rows class
           (other_reads needs generations replica rows f t there o)
           (0, omega arith, refl)
-          (Contains-append_right (rows ∷ []) (map (λ (g : GenerationState). g.rows)
-          (filter is_live generations)) t.rows
-          (live_rows generations t there (other_lives replica t o)))
-          (class_some rows k);
+          (Contains-append_right (rows ∷ []) live t.rows
+          (live_rows generations t there (other_is_live replica t o)));
     }

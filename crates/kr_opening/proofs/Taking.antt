@@ -1,16 +1,16 @@
 -- The replicas' settings are taken up one by one.
-use Rattle.std.proofs.Common.{◌≡◌, ℕ, zero, suc, ◌<◌, ◌≤◌, ◌+◌, true, List, [], ◌∷◌, ◌++◌, length, get_or, take, drop, Contains, Option, None, Some, Result, Ok, Err, IsTrue, refl, sym, ap, subst, ◌∙◌, arith, inl, inr, ◌⊎◌, length-take}
+use Rattle.std.proofs.Common.{◌≡◌, ℕ, zero, suc, ◌<◌, ◌≤◌, ◌+◌, true, List, [], ◌∷◌, ◌++◌, length, get_or, take, Contains, Option, None, Some, Result, Ok, Err, refl, sym, ap, subst, ◌∙◌, arith, inl, inr, ◌⊎◌, length-take}
 use Rattle.std.specs.Prelude.{◌&&◌, not}
 use Rattle.std.specs.Option.{option_map}
 use Rattle.std.proofs.lemmas.Bool.{ne_eqb}
-use Rattle.std.proofs.lemmas.List.{take-append-drop, take_all}
-use Rattle.std.proofs.lemmas.List.Elements.{Contains-push_cases, Contains-append_left}
+use Rattle.std.proofs.lemmas.List.{take_all}
+use Rattle.std.proofs.lemmas.List.Elements.{Contains-push_cases}
 use Rattle.std.proofs.lemmas.Option.{none-some, same_Some, slice_get-get_or}
 use Rattle.kr_config.specs.declared.class.Class.{Class}
 use Rattle.kr_config.specs.declared.settings.Settings.{Settings}
-use Rattle.kr_config.specs.Kept.{Row, keeps, rows_of}
+use Rattle.kr_config.specs.Kept.{Row, rows_of}
 use Rattle.kr_config.specs.Lists.{list_of, class_list}
-use Rattle.kr_provider.specs.Readers.{writer_of}
+use Rattle.kr_judge.specs.Fits.{ReadsWriter}
 use Rattle.kr_judge.specs.declared.need.Need.{Need}
 use Rattle.kr_judge.specs.Boards.{GenerationState, BoardState, left_by, without_current}
 use Rattle.kr_judge.specs.Verdicts.{is_other}
@@ -19,7 +19,8 @@ use Rattle.kr_opening.specs.declared.opening_board.StartNo.{StartNo}
 use Rattle.kr_opening.specs.declared.opening_board.StartNo.TheVariants.{Stray, OtherSecret, Unfit, NoMemory}
 use Rattle.kr_opening.specs.Starts.{opening_generations, AllFit, IsUnfit}
 use Rattle.kr_opening.specs.inner.OpeningBoards.{Admits, TakesUp, TakesAllUp}
-use Rattle.kr_opening.proofs.Passing.{passed, AreReadable, own_writer, class_some}
+use Rattle.kr_judge.proofs.Lacking.{reads_own}
+use Rattle.kr_opening.proofs.Passing.{passed, AreReadable}
 use Rattle.kr_opening.specs.Replicas.{rows_in, settings_rows}
 
 abbrev pub fresh : ℕ → List Row → GenerationState
@@ -98,10 +99,9 @@ fit_gap rs needs f = record {
     ]
 
 fit_more : (rs : List (Option (List Row))) (needs : List Need) (i : ℕ) (rows : List Row)
-    → ((r : List Row) → Contains rs (Some r) → IsTrue (keeps r)) → IsTrue (keeps rows)
     → length rs ≤ i → AreReadable needs (opening_generations 0 rs) i rows → AllFit rs needs
     → AllFit (rs ++ Some rows ∷ []) needs
-fit_more rs needs i rows each k l p f = record {
+fit_more rs needs i rows l p f = record {
   writers = λ a b class ca cb. by a b class (Contains-push_cases rs (Some rows) (Some a) ca)
       (Contains-push_cases rs (Some rows) (Some b) cb);
   stored = λ a need ca there. kept a need there (Contains-push_cases rs (Some rows) (Some a) ca);
@@ -109,43 +109,31 @@ fit_more rs needs i rows each k l p f = record {
   where
     by : (a b : List Row) (class : Class) → Contains rs (Some a) ⊎ (Some rows ≡ Some a)
         → Contains rs (Some b) ⊎ (Some rows ≡ Some b)
-        → Contains (class_list a class) (writer_of (class_list b class))
+        → ReadsWriter (class_list b class) (class_list a class)
     by a b class (inl ca) (inl cb) = f.writers a b class ca cb
     by a b class (inl ca) (inr eb) =
         let t = taken_there 0 i rs a (omega (arith, l)) ca in
-        subst (λ r. Contains (class_list a class) (writer_of (class_list r class)))
+        subst (λ (r : List Row). ReadsWriter (class_list r class) (class_list a class))
         (same_Some rows b eb)
-        (subst (λ r. Contains (class_list r class) (writer_of (class_list rows class))) t.3
+        (subst (λ (r : List Row). ReadsWriter (class_list rows class) (class_list r class)) t.3
         (p.is_read t.0 t.1 t.2 class))
     by a b class (inr ea) (inl cb) =
         let t = taken_there 0 i rs b (omega (arith, l)) cb in
-        subst (λ r. Contains (class_list r class) (writer_of (class_list b class)))
+        subst (λ (r : List Row). ReadsWriter (class_list b class) (class_list r class))
         (same_Some rows a ea)
-        (subst (λ r. Contains (class_list rows class) (writer_of (class_list r class))) t.3
-        (p.reads t.0 t.1 t.2 (subst (λ r. IsTrue (keeps r)) (sym t.3) (each b cb)) class))
+        (subst (λ (r : List Row). ReadsWriter (class_list r class) (class_list rows class)) t.3
+        (p.reads t.0 t.1 t.2 class))
     by a b class (inr ea) (inr eb) =
-        subst (λ r. Contains (class_list r class) (writer_of (class_list b class)))
+        subst (λ (r : List Row). ReadsWriter (class_list b class) (class_list r class))
         (same_Some rows a ea)
-        (subst (λ r. Contains (class_list rows class) (writer_of (class_list r class)))
-        (same_Some rows b eb)
-        (own_writer (class_list rows class) (class_some rows k class)))
+        (subst (λ (r : List Row). ReadsWriter (class_list r class) (class_list rows class))
+        (same_Some rows b eb) (reads_own (class_list rows class)))
 
     kept : (a : List Row) (need : Need) → Contains needs need
         → Contains rs (Some a) ⊎ (Some rows ≡ Some a) → Contains (list_of a need.resource) need.who
     kept a need there (inl ca) = f.stored a need ca there
     kept a need there (inr ea) = subst (λ r. Contains (list_of r need.resource) need.who)
         (same_Some rows a ea) (p.stored need there)
-
--- ---- settings keep their rules
-
-kept_in : (replicas : List (Option Settings)) (rows : List Row)
-    → Contains (rows_in replicas) (Some rows) → IsTrue (keeps rows)
-kept_in [] rows (k, l, e) = absurd (omega (arith, l))
-kept_in (None ∷ rs) rows (zero, l, e) = absurd (none-some rows e)
-kept_in (None ∷ rs) rows (suc k, l, e) = kept_in rs rows (k, omega arith, e)
-kept_in (Some s ∷ rs) rows (zero, l, e) =
-    subst (λ r. IsTrue (keeps r)) (same_Some (rows_of s.entries.0) rows e) s.kept
-kept_in (Some s ∷ rs) rows (suc k, l, e) = kept_in rs rows (k, omega arith, e)
 
 -- ---- the loop
 
@@ -194,13 +182,6 @@ taken_gap replicas old now i t l e =
           (fit_gap (take i (rows_in replicas)) old.needs t.fit);
     }
 
-front_kept : (replicas : List (Option Settings)) (i : ℕ) (rows : List Row)
-    → Contains (take i (rows_in replicas)) (Some rows) → IsTrue (keeps rows)
-front_kept replicas i rows c = kept_in replicas rows
-    (subst (λ rs. Contains rs (Some rows)) (take-append-drop i (rows_in replicas))
-    (Contains-append_left (take i (rows_in replicas)) (drop i (rows_in replicas))
-    (Some rows) c))
-
 pub taken_more : (replicas : List (Option Settings)) (old now next : BoardState) (i : ℕ)
     (s : Settings) → AreTaken (rows_in replicas) old now i → i < length replicas
     → Some s ≡ get_or replicas i (Some s)
@@ -219,8 +200,8 @@ taken_more replicas old now next i s t l e takes =
     record {
       board_is = w.1 ∙ ap (λ gs. record old { generations = gs }) board;
       fit = subst (λ l. AllFit l old.needs) (sym more)
-          (fit_more rs old.needs i rows (front_kept replicas i) s.kept (omega (arith, size))
-          (passed old.needs (opening_generations 0 rs) i rows s.kept w.0) t.fit);
+          (fit_more rs old.needs i rows (omega (arith, size))
+          (passed old.needs (opening_generations 0 rs) i rows w.0) t.fit);
     }
 
 stops_at : (replicas : List (Option Settings)) (old now next : BoardState) (i : ℕ) (s : Settings)

@@ -14,7 +14,7 @@ use Rattle.kr_judge.specs.Boards.{BoardState, GenerationState}
 use Rattle.kr_judge.specs.Verdicts.{verdict_of}
 use Rattle.kr_opening.specs.declared.opening_board.StartNo.{StartNo}
 use Rattle.kr_opening.specs.declared.opening_board.StartNo.TheVariants.{Stray, OtherSecret, Unfit, NoMemory}
-use Rattle.kr_opening.specs.LiveFits.{AreFit}
+use Rattle.kr_judge.specs.LiveFits.{AreFit}
 use Rattle.kr_opening.specs.Needs.{provider_of, needs_of, HasNoStray, IsOtherSecret, HasNoOtherSecret}
 use Rattle.kr_opening.specs.Replicas.{first_rows}
 

@@ -4,9 +4,11 @@
 
 mod check;
 mod generation;
+mod laws;
 mod opening_board;
 pub mod start_parts;
 
 pub use check::store_check;
 pub use generation::Generation;
+pub use laws::judges_replicas;
 pub use opening_board::{StartNo, board_of, is_refusal};

@@ -28,12 +28,12 @@ use Rattle.kr_config.specs.Providers.{is_provider, is_key, is_kms, rivals}
 use Rattle.kr_config.proofs.Inversions.{both, left, right}
 use Rattle.kr_judge.specs.Providers.{has}
 use Rattle.kr_judge.specs.Tables.{in_order, table_of}
-use Rattle.kr_judge.proofs.Lists.{here, there, cases, filtered_none, map_empty, mapped_none, option_none}
+use Rattle.kr_judge.proofs.Lists.{cases, filtered_none, map_empty, mapped_none, option_none}
 use Rattle.kr_judge.proofs.Tables.{is_table}
 use Rattle.kr_plan.specs.Merges.{merge, pattern_of, merged_row, merged_rows, classes_of, wide_rows, turned_rows}
 use Rattle.kr_plan.specs.declared.refusal.PlanNo.TheVariants.{SecretClash, TooMany}
 use Rattle.kr_plan.specs.Plans.{clash, first_clash, clashes_at, clash_reasons, amounts, is_above, limit_reasons}
-use Rattle.kr_plan.proofs.Apart.{no_clash, clash_turn, merged_apart, all_filter, all_of}
+use Rattle.kr_plan.proofs.Apart.{no_clash, clash_turn, merged_apart, all_filter}
 use Rattle.kr_plan.proofs.ClassLists.{rest_in}
 use Rattle.kr_plan.proofs.Counting.{count_turn, count_most}
 use Rattle.kr_plan.proofs.KeptLists.{kept_of, each_kept, list_keeps}

@@ -1,5 +1,5 @@
 -- No reload of a plan is refused.
-use Rattle.std.proofs.Common.{◌≡◌, ℕ, ◌+◌, ◌<◌, Bool, true, false, List, [], ◌∷◌, Option, None, Some, Contains, refl, sym, ap, subst, ◌∙◌, ◌⊎◌, inl, inr, arith, IsTrue}
+use Rattle.std.proofs.Common.{◌≡◌, ℕ, ◌+◌, Bool, true, false, List, [], ◌∷◌, Contains, refl, sym, ap, subst, ◌∙◌, ◌⊎◌, inl, inr, arith}
 use Rattle.std.specs.Prelude.{◌&&◌, ◌||◌, ◌==◌, not, nat_lt}
 use Rattle.std.specs.List.{filter}
 use Rattle.std.proofs.lemmas.Bool.{ltb-true}
@@ -16,7 +16,7 @@ use Rattle.kr_judge.specs.declared.verdict.Verdict.TheVariants.{Pass}
 use Rattle.kr_judge.specs.Boards.{GenerationState, is_live, is_current_of}
 use Rattle.kr_judge.specs.Fits.{ReadsWriter}
 use Rattle.kr_judge.specs.Verdicts.{first, verdict_of, with_numbers, is_other, others}
-use Rattle.kr_judge.proofs.Lists.{here, there, cases, head_is}
+use Rattle.kr_judge.proofs.Lists.{there, cases, head_is}
 use Rattle.kr_judge.proofs.Passing.{passes_exactly}
 use Rattle.kr_plan.specs.Laws.{WidePasses, TurnedPasses, TargetPasses}
 use Rattle.kr_plan.specs.Merges.{merge, wide_rows, turned_rows}
@@ -70,7 +70,7 @@ module _ (one other : List Row) (needs : List Need) (generations : List Generati
       let current : own.current ≡ true = left own.current (own.replica == replica) some.4 in
       let live : is_live own ≡ true = ap (λ v. v || nat_lt 0 own.holders) current in
       let reads : Contains (list_of own.rows need.resource) need.who =
-      between.fit.stored own need member live m in
+      between.fit.stored own.rows need (own, member, live, refl) m in
       elim (between.gives own (Exact need.resource) member current) [
         | inl e ↦ inl (subst (λ l. Contains l need.who) e reads)
         | inr e ↦ inr (subst (λ l. Contains l need.who) e reads)

@@ -4,7 +4,7 @@ use Rattle.std.proofs.lemmas.List.{length-map}
 use Rattle.kr_config.specs.declared.class.Class.{Class}
 use Rattle.kr_config.specs.declared.settings.Entry.{Entry}
 use Rattle.kr_config.specs.Kept.{Row, row_of, rows_of, keeps}
-use Rattle.kr_plan.specs.Merges.{merged_rows, classes_of, wide_rows, turned_rows}
+use Rattle.kr_plan.specs.Merges.{merged_rows, classes_of, wide_rows}
 use Rattle.kr_plan.specs.Plans.{clashes_at, clash_reasons, amounts, limit_reasons}
 use Rattle.kr_plan.proofs.Keeping.{IsSmall, IsWithin, within, wide_small, wide_keeps, turned_keeps}
 

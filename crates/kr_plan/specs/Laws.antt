@@ -47,8 +47,8 @@ TurnedPasses = (from to : List Row) (needs : List Need) (generations : List Gene
     (replica : ℕ) → IsBetween (wide_rows from to) (turned_rows from to) needs generations replica
     → verdict_of needs generations replica (turned_rows from to) ≡ Pass
 
--- while each gives what the turned ones or `to` give, and what is stored needs the provider by which
--- `to` writes its resource, it may take up `to`
+-- while each gives what the turned ones or `to` give, and what is stored needs the provider by
+-- which `to` writes its resource, it may take up `to`
 abbrev pub TargetPasses : Type 0
 TargetPasses = (from to : List Row) (needs : List Need) (generations : List GenerationState)
     (replica : ℕ) → IsTrue (keeps to)

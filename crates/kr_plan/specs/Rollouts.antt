@@ -3,31 +3,24 @@ use Rattle.std.specs.Prelude.{◌≡◌, ℕ, ◌<◌, ◌⊎◌, true, List, Co
 use Rattle.std.specs.List.{list_any}
 use Rattle.kr_config.specs.declared.class.Class.{Class}
 use Rattle.kr_config.specs.Kept.{Row}
-use Rattle.kr_config.specs.Lists.{list_of, class_list}
+use Rattle.kr_config.specs.Lists.{class_list}
 use Rattle.kr_judge.specs.declared.need.Need.{Need}
-use Rattle.kr_judge.specs.Boards.{GenerationState, is_live, is_current_of}
-use Rattle.kr_judge.specs.Fits.{ReadsWriter}
-
--- what is stored, and what any live generation writes, each live generation reads
-pub record IsReadable (needs : List Need) (generations : List GenerationState) : Type 0 where
-  pub stored : (own : GenerationState) (need : Need) → Contains generations own
-      → IsTrue (is_live own) → Contains needs need
-      → Contains (list_of own.rows need.resource) need.who
-  pub writers : (own other : GenerationState) (class : Class) → Contains generations own
-      → Contains generations other → IsTrue (is_live own) → IsTrue (is_live other)
-      → ReadsWriter (class_list other.rows class) (class_list own.rows class)
+use Rattle.kr_judge.specs.Boards.{GenerationState, is_current_of}
+use Rattle.kr_judge.specs.Lacks.{IsLiveIn}
+use Rattle.kr_judge.specs.LiveFits.{AreFit}
 
 -- at the class the settings give the list of the one or of the other
 abbrev pub GivesEither : (one other : List Row) → List Row → Class → Type 0
 GivesEither one other rows class =
-    (class_list rows class ≡ class_list one class) ⊎ (class_list rows class ≡ class_list other class)
+    (class_list rows class ≡ class_list one class)
+    ⊎ (class_list rows class ≡ class_list other class)
 
--- What a verdict in the midst of a rollout may rest on: what is stored and the live generations fit;
--- the replica is in; only current generations are held; and each of these gives at every class the
--- list of the one settings or of the other.
+-- What a verdict in the midst of a rollout may rest on: what is stored and the live generations
+-- fit; the replica is in; only current generations are held; and each of these gives at every class
+-- the list of the one settings or of the other.
 pub record IsBetween (one other : List Row) (needs : List Need) (generations : List GenerationState)
     (replica : ℕ) : Type 0 where
-  pub fit : IsReadable needs generations
+  pub fit : AreFit (IsLiveIn generations) needs
   pub is_in : IsTrue (list_any (is_current_of replica) generations)
   pub held : (own : GenerationState) → Contains generations own → 0 < own.holders
       → own.current ≡ true

@@ -1,5 +1,5 @@
--- Settings as the text of a configuration: compact JSON with one provider an element, the members by
--- the bytes of their names.
+-- Settings as the text of a configuration: compact JSON with one provider an element, the members
+-- by the bytes of their names.
 use Rattle.std.specs.Prelude.{ℕ, List, ◌++◌, codes, map}
 use Rattle.base64.specs.Engines.{standard}
 use Rattle.base64.specs.GeneralPurpose.{encode_of}

@@ -1,5 +1,5 @@
 -- The board of a state in the midst of a planned rollout.
-use Rattle.std.proofs.Common.{◌≡◌, ℕ, zero, suc, ◌+◌, ◌<◌, Bool, true, false, cond, List, [], ◌∷◌, Contains, Option, None, Some, IsSome, refl, sym, ap, subst, ◌∙◌, ◌⊎◌, inl, inr, arith, count_by}
+use Rattle.std.proofs.Common.{◌≡◌, ℕ, zero, suc, ◌+◌, ◌<◌, Bool, true, false, cond, List, [], ◌∷◌, Contains, Option, None, Some, IsSome, refl, sym, ap, subst, ◌∙◌, inl, inr, arith, count_by}
 use Rattle.std.specs.Prelude.{◌&&◌, ◌||◌, ◌==◌, nat_lt}
 use Rattle.std.specs.List.{list_any, slice_get}
 use Rattle.std.specs.Option.{option_map}
@@ -7,25 +7,20 @@ use Rattle.std.proofs.lemmas.Bool.{eq-eqb, eqb-true, ltb-true}
 use Rattle.std.proofs.lemmas.List.Folds.{Any-from_list_any, list_any_at}
 use Rattle.std.proofs.lemmas.List.Sums.{sum_by-cons}
 use Rattle.std.proofs.lemmas.Option.{none-some, same_Some}
-use Rattle.kr_config.specs.declared.class.Class.{Class}
-use Rattle.kr_config.specs.declared.who.Who.{Who}
 use Rattle.kr_config.specs.Kept.{Row}
-use Rattle.kr_config.specs.Lists.{class_list}
 use Rattle.kr_provider.specs.Publication.{Publication}
-use Rattle.kr_provider.specs.Readers.{writer_of}
 use Rattle.kr_judge.specs.Boards.{GenerationState, is_live, is_current_of}
-use Rattle.kr_judge.specs.Fits.{ReadsWriter}
-use Rattle.kr_judge.specs.Verdicts.{first}
+use Rattle.kr_judge.specs.Lacks.{IsLiveIn}
+use Rattle.kr_judge.specs.LiveFits.{AreFit}
 use Rattle.kr_plan.specs.Merges.{wide_rows, turned_rows}
-use Rattle.kr_plan.specs.Rollouts.{IsReadable, IsBetween}
+use Rattle.kr_plan.specs.Rollouts.{IsBetween}
 use Rattle.kr_plan.proofs.Passing.{wide_passes, turned_passes, target_passes}
 use Rattle.kr_opening.specs.declared.generation.Generation.{Generation}
-use Rattle.kr_rollout.specs.declared.opening.Entry.{Entry}
 use Rattle.kr_rollout.specs.declared.opening.Opening.{Opening}
 use Rattle.kr_rollout.specs.Entries.{published_at}
 use Rattle.kr_rollout.specs.Fits.{IsFit}
-use Rattle.kr_rollout.specs.Histories.{state_of, IsLegal}
-use Rattle.kr_rollout.specs.States.{State, number_at, current_of, held_by, is_number, judged_generation, judged_generations, board_generations, IsLive, IsLiveNumber}
+use Rattle.kr_rollout.specs.Histories.{state_of}
+use Rattle.kr_rollout.specs.States.{State, current_of, held_by, is_number, judged_generation, judged_generations, board_generations, IsLive, IsLiveNumber}
 use Rattle.kr_history.proofs.Fitting.{legal_sound}
 use Rattle.kr_history.proofs.Sound.{IsSound, at_there, contains_at}
 use Rattle.kr_plan_laws.specs.PlannedLaws.{WideIsNotRefused, TurnedIsNotRefused, TargetIsNotRefused}
@@ -107,11 +102,6 @@ there_number numbers n c = list_any_at (is_number n) numbers c.0 (Some n) c.1
 
 -- ---- the state as a board
 
-writer_first : (providers : List Who) (who : Who) → first providers ≡ Some who
-    → writer_of providers ≡ who
-writer_first [] who h = absurd (none-some who h)
-writer_first (x ∷ xs) who h = same_Some x who h
-
 -- a generation that is judged is one of the state, with this number
 record HasNumber (st : State) (own : GenerationState) : Type 0 where
   number : ℕ
@@ -151,14 +141,15 @@ live_one st own h live = (h.number, by own.current refl live, h.rows_are)
     by false e k = inr (held_number st.held h.number
         (subst (λ n. 0 < n) (sym h.holders_are) (ltb-true 0 own.holders k)))
 
-readable : (st : State) → IsFit st → IsReadable st.needs (board_generations st)
+judged_live : (st : State) (rows : List Row) → IsLiveIn (board_generations st) rows → IsLive st rows
+judged_live st rows (own, m, live, is) =
+    subst (IsLive st) is (live_one st own (has_number st own m) live)
+
+readable : (st : State) → IsFit st → AreFit (IsLiveIn (board_generations st)) st.needs
 readable st fit = record {
-  stored = λ own need m live of.
-      fit.stored own.rows need (live_one st own (has_number st own m) live) of;
-  writers = λ own other class m n live live_other who f.
-      subst (Contains (class_list own.rows class)) (writer_first (class_list other.rows class) who f)
-      (fit.writers own.rows other.rows class (live_one st own (has_number st own m) live)
-      (live_one st other (has_number st other n) live_other));
+  stored = λ rows need live m. fit.stored rows need (judged_live st rows live) m;
+  writers = λ rows other class live beside.
+      fit.writers rows other class (judged_live st rows live) (judged_live st other beside);
 }
 
 module _ (o : Opening) (st : State) (sound : IsSound o st) (one other : List Row) (replica : ℕ)

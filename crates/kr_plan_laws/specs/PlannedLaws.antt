@@ -27,8 +27,8 @@ TurnedIsNotRefused = (o : Opening) (history : List Entry) (from to : List Row) (
     → IsMidway (wide_rows from to) (turned_rows from to) (state_of o history) replica
     → verdict_on (state_of o history) replica (turned_rows from to) ≡ Pass
 
--- and where each gives what the turned ones or `to` give, and the provider of each object is the one
--- by which `to` writes its resource, that on `to`
+-- and where each gives what the turned ones or `to` give, and the provider of each object is the
+-- one by which `to` writes its resource, that on `to`
 abbrev pub TargetIsNotRefused : Type 0
 TargetIsNotRefused = (o : Opening) (history : List Entry) (from to : List Row) (replica : ℕ)
     → IsLegal o history → IsTrue (keeps to)

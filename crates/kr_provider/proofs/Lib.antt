@@ -27,4 +27,8 @@ mod ObjectSources
 mod Cached
 mod SeedValues
 pub mod BenchLinks
+mod LinkTalks
+mod SeedTalks
+mod ReadTalks
+pub mod AgreeTalks
 pub mod WithoutPlugins

@@ -19,9 +19,18 @@ use Rattle.kr_provider.specs.AskedLinks.{AskedOnly, HasLinkWith}
 use Rattle.kr_provider.specs.Publishing.{AreSeedsOf, EndsAt, EndsWithin, IsHealthy, Publishes, bytes_of_seeds}
 use Rattle.kr_provider.specs.declared.refusal.PublishNo.{PublishNo}
 use Rattle.kr_provider.specs.declared.refusal.PublishNo.TheVariants.{PluginFailed, DiceFailed, Unhealthy, NoMemory}
-use Rattle.kr_provider.specs.inner.Making.{MakesAt, MakesOne, refusal_at}
+use Rattle.kr_provider.specs.Exchanges.{refusal_at, IsRefusalAt}
+use Rattle.kr_provider.specs.inner.Making.{MakesAt, MakesOne}
 use Rattle.kr_provider.proofs.AskedLists.{asked_none, asked_one, asked_then, breach_back, had, has_at, rose_at, rose_from, rose_later}
 use Rattle.kr_provider.proofs.NameOrder.{IsStrictlySortedBy-none, ascend_more, before_next, is_before, is_less, neither, none_between, not_itself, then_before, to_false}
+
+-- the refusal that is told is the plugin's, or there is no memory to tell it
+pub told_or : (name : List ℕ) (why : SeedNo) (refusal : PublishNo) → IsRefusalAt name why refusal
+    → (refusal ≡ refusal_at name why) ⊎ (refusal ≡ NoMemory)
+told_or name seed.Failed refusal told = told
+told_or name seed.DiceFailed refusal told = inl told
+told_or name (seed.Unhealthy field text) refusal told = told
+told_or name seed.NoMemory refusal told = inl told
 
 -- whether a name doesn't come after another
 abbrev pub is_passed : List ℕ → List ℕ → Bool
@@ -298,15 +307,10 @@ module _ {L D : Type 0} (truth : Truth) (link : L → Link) (left : D → Option
 
   -- the answer of one plugin, with its name where it refuses
   pub answers_at : (name : List ℕ) (links : List L) (dice : D) (why : SeedNo) (refusal : PublishNo)
-      (news : List L) (after : D) → (refusal ≡ refusal_at name why) ⊎ (refusal ≡ NoMemory)
+      (news : List L) (after : D) → IsRefusalAt name why refusal
       → MakesOne truth link left count name links dice (Err why) news after
       → MakesAt truth link left count name links dice (Err refusal) news after
-  answers_at name links dice why refusal news after (inr e) a =
-      subst (λ r. MakesAt truth link left count name links dice (Err r) news after) (sym e)
-      (Err why, a)
-  answers_at name links dice why refusal news after (inl e) a =
-      subst (λ r. MakesAt truth link left count name links dice (Err r) news after) (sym e)
-      (by why a)
+  answers_at name links dice why refusal news after told a = by_told (told_or name why refusal told)
     where
       by : (why : SeedNo) → MakesOne truth link left count name links dice (Err why) news after
           → MakesAt truth link left count name links dice (Err (refusal_at name why)) news after
@@ -314,3 +318,12 @@ module _ {L D : Type 0} (truth : Truth) (link : L → Link) (left : D → Option
       by seed.DiceFailed a = a
       by (seed.Unhealthy field text) a = (refl, a)
       by seed.NoMemory a = (Err seed.NoMemory, a)
+
+      by_told : (refusal ≡ refusal_at name why) ⊎ (refusal ≡ NoMemory)
+          → MakesAt truth link left count name links dice (Err refusal) news after
+      by_told (inr e) =
+          subst (λ r. MakesAt truth link left count name links dice (Err r) news after) (sym e)
+          (Err why, a)
+      by_told (inl e) =
+          subst (λ r. MakesAt truth link left count name links dice (Err r) news after) (sym e)
+          (by why a)

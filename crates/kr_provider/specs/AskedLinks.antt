@@ -43,3 +43,14 @@ pub record FaultRose {L : Type 0} (link : L → Link) (name : List ℕ) (olds ne
   pub old_named : (link old).name ≡ name
   pub new_named : (link new).name ≡ name
   pub rose : Rose (link old).count (link new).count
+
+-- one of the links took this step, and the others stay
+pub record Among {L E : Type 0} (step : L → E → L → Type 0) (olds : List L) (exchange : E)
+    (news : List L) : Type 0 where
+  pub front : List L
+  pub behind : List L
+  pub old : L
+  pub new : L
+  pub olds_are : olds ≡ front ++ old ∷ behind
+  pub news_are : news ≡ front ++ new ∷ behind
+  pub steps : step old exchange new

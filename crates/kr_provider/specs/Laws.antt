@@ -4,6 +4,9 @@ use Rattle.std.specs.List.{list_any}
 use Rattle.std.specs.Io.KnownBytes.{Consumes}
 use Rattle.kr_base.specs.Limits.{value_limit}
 use Rattle.kr_modes.specs.Gcm.{gcm_tag}
+use Rattle.kr_envelope.specs.declared.object.EncryptedObject.{EncryptedObject}
+use Rattle.kr_envelope.specs.declared.object.SourceKind.{SourceKind}
+use Rattle.kr_envelope.specs.declared.object.SourceKind.TheVariants.{Key, Seed}
 use Rattle.kr_config.specs.declared.who.Who.{Who}
 use Rattle.kr_config.specs.declared.who.Who.TheVariants.{Identity, Aescbc, Aesgcm, Kms}
 use Rattle.kr_config.specs.Kept.{Row, keeps_providers, plugins_in}
@@ -14,7 +17,7 @@ use Rattle.kr_kms.specs.Calls.{Link, IsSameLink}
 use Rattle.kr_kms.specs.Truth.{Opens, Truth}
 use Rattle.kr_provider.specs.AskedLinks.{AskedOnly, FaultRose}
 use Rattle.kr_provider.specs.Ciphers.{cipher_under}
-use Rattle.kr_provider.specs.Envelopes.{Envelope, object_of, unknown}
+use Rattle.kr_provider.specs.Envelopes.{Envelope, object_of, unknown, value_key}
 use Rattle.kr_provider.specs.PluginOrder.{MakesBefore, MakesEach, plugin_order}
 use Rattle.kr_provider.specs.Publication.{Publication, IsPublished, SeedOpens, names_plugin, seed_of, writer_at}
 use Rattle.kr_provider.specs.Publishing.{AreSeedsOf, EndsAt, bytes_of_seeds}
@@ -122,14 +125,33 @@ IsData (data_of plain) = ⊤
 IsData (refused why) = ⊥
 IsData unopened = ⊥
 
--- a value of aesgcm reads as data at a path exactly where its last 16 bytes are the tag of that
--- path
-abbrev pub ReadsUnderItsTag : Type 0
-ReadsUnderItsTag = (envelope : Envelope) (list : List Who) (name secret path bytes : List ℕ)
-    → reader_in list bytes ≡ Some (Aesgcm name secret)
-    → let body = body_by (Aesgcm name secret) bytes in
+-- the body is as long as a nonce of 12 bytes and a tag, and its last 16 bytes are the path's tag
+abbrev pub HasTagOf : (key path body : List ℕ) → Type 0
+HasTagOf key path body =
     let sealed = drop 12 body in
     let size = length sealed - 16 in
-    IsData (value_reading envelope list path bytes)
-    ↔ ((28 ≤ length body) × (drop size sealed
-    ≡ gcm_tag (cipher_under secret) (take 12 body) path (take size sealed)))
+    (28 ≤ length body) × (drop size sealed
+    ≡ gcm_tag (cipher_under key) (take 12 body) path (take size sealed))
+
+-- the same of a plugin's value: a source of type 0 is the key; of type 1 it is a seed, which makes
+-- the key by the info in front of the body
+abbrev pub HasTagUnder : SourceKind → (source path encrypted : List ℕ) → Type 0
+HasTagUnder Key key path encrypted = HasTagOf key path encrypted
+HasTagUnder Seed seed path encrypted =
+    HasTagOf (value_key seed (take 32 encrypted)) path (drop 32 encrypted)
+
+-- the object's source was unwrapped, to 32 bytes, under which it has the path's tag
+abbrev pub HasTagIn : Envelope → (path : List ℕ) → Type 0
+HasTagIn envelope path = (object : EncryptedObject) × (source : List ℕ)
+    × (envelope.object ≡ Ok object) × (envelope.source ≡ Some source) × (length source ≡ 32)
+    × HasTagUnder object.kind source path object.encrypted
+
+-- a value that is sealed with its path reads as data at a path exactly where it has that path's tag
+pub record ReadsUnderItsTag : Type 0 where
+  pub aesgcm : (envelope : Envelope) (list : List Who) (name secret path bytes : List ℕ)
+      → reader_in list bytes ≡ Some (Aesgcm name secret)
+      → IsData (value_reading envelope list path bytes)
+      ↔ HasTagOf secret path (body_by (Aesgcm name secret) bytes)
+  pub kms : (envelope : Envelope) (list : List Who) (name path bytes : List ℕ)
+      → reader_in list bytes ≡ Some (Kms name)
+      → IsData (value_reading envelope list path bytes) ↔ HasTagIn envelope path

@@ -4,6 +4,8 @@ pub mod BenchState
 pub mod Checks
 pub mod Ciphers
 pub mod Envelopes
+pub mod ExchangeLaws
+pub mod Exchanges
 pub mod KeyPages
 pub mod Laws
 pub mod Names

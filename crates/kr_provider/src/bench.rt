@@ -2,7 +2,9 @@
 ghost use Rattle.std.specs.Prelude.{◌≡◌, ◌↔◌, ◌≤◌, ◌<◌, [], ◌∷◌, length, Contains, Some, None, IsErr, IsSome, IfOk, IfErr, IfSome, OnOk, OnErr};
 ghost use Rattle.kr_base.specs.Limits.{path_limit, value_limit};
 ghost use Rattle.kr_config.specs.Kept.{keys_in, plugins_in, rows_of};
-ghost use Rattle.kr_provider.specs.AskedLinks.{AskedOnly};
+ghost use Rattle.kr_base.specs.Walks.{Talk};
+ghost use Rattle.kr_provider.specs.AskedLinks.{Among, AskedOnly};
+ghost use Rattle.kr_provider.specs.Exchanges.{PublishesBy, ReadsBy, TellsKeyIdAt};
 ghost use Rattle.kr_provider.specs.KeyPages.{HoldKeys, adopted_secrets, size_of, free_pages};
 ghost use Rattle.kr_provider.specs.Names.{HasLinks, names_of};
 ghost use Rattle.kr_provider.specs.Publication.{list_at, writer_at};
@@ -192,6 +194,9 @@ impl<L: Kms, D: Dice> Bench<L, D> {
         ensures cached { IfSome self.old.published (λ p. HeedsCache self.old.cache.rows
             p.seeds (list_at p resource.now) path.now bytes.now self.old.links result
             self.new.links) }
+        ensures exchanged { IfSome self.old.published (λ p. Talk (Among L.step) self.old.links
+            self.new.links (ReadsBy p.seeds (list_at p resource.now) path.now bytes.now
+            self.old.cache result self.new.cache)) }
         ensures kept { self.new
             ≡ record self.old { links = self.new.links; cache = self.new.cache } }
     {
@@ -217,6 +222,9 @@ impl<L: Kms, D: Dice> Bench<L, D> {
         ensures cached { IfSome self.old.published (λ p. HeedsCache self.old.cache.rows
             p.seeds (list_at p resource.now) path.now value self.old.links result
             self.new.links) }
+        ensures exchanged { IfSome self.old.published (λ p. Talk (Among L.step) self.old.links
+            self.new.links (ReadsBy p.seeds (list_at p resource.now) path.now value
+            self.old.cache result self.new.cache)) }
         ensures kept { self.new
             ≡ record self.old { links = self.new.links; cache = self.new.cache } }
     {
@@ -236,6 +244,8 @@ impl<L: Kms, D: Dice> Bench<L, D> {
         requires link { Contains (names_of L.link self.old.links) name.now }
         ensures told { TellsKeyIdOf L.link name.now self.old.links result self.new.links }
         ensures asked { AskedOnly L.link (name.now ∷ []) self.old.links self.new.links }
+        ensures exchanged { Talk (Among L.step) self.old.links self.new.links
+            (TellsKeyIdAt name.now result) }
         ensures kept { self.new ≡ record self.old { links = self.new.links } }
     {
         key_id_in(alloc, name, &mut self.links)
@@ -254,6 +264,9 @@ impl<L: Kms, D: Dice> Bench<L, D> {
         ensures asked { AskedOnly L.link (plugins_in (rows_of settings.entries.0)) self.old.links
             self.new.links }
         ensures later { D.count self.old.dice ≤ D.count self.new.dice }
+        ensures exchanged { Talk (Among L.step) self.old.links self.new.links
+            (PublishesBy D.left D.count (rows_of settings.entries.0) self.old.dice result
+            self.new.dice) }
         ensures kept { self.new
             ≡ record self.old { links = self.new.links; dice = self.new.dice } }
     {
@@ -331,6 +344,7 @@ fn key_id_in<L: Kms>(alloc: Global, name: &str, links: &mut Links<L>) -> Result<
     requires { Contains (names_of L.link links.old) name.now }
     ensures told { TellsKeyIdOf L.link name.now links.old result links.new }
     ensures asked { AskedOnly L.link (name.now ∷ []) links.old links.new }
+    ensures exchanged { Talk (Among L.step) links.old links.new (TellsKeyIdAt name.now result) }
 {
     match links.key_id(alloc, name) {
         Ok(key_id) => Ok(key_id),

@@ -40,7 +40,8 @@ pub fn some_reading()
     ensures { ReadsSomehow }
 {}
 
-/// A value of aesgcm is data at the paths of its tag alone.
+/// A value of aesgcm, or of a plugin whose object's source was unwrapped, is data at the paths of its
+/// tag alone.
 pub fn tag_of_path()
     ensures { ReadsUnderItsTag }
 {}

@@ -6,6 +6,7 @@ mod adopted;
 mod adoption;
 mod bench;
 mod check;
+pub mod exchange_laws;
 mod key_pages;
 pub mod laws;
 mod links;

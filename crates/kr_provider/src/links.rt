@@ -3,11 +3,12 @@ ghost use Rattle.std.specs.Prelude.{◌≡◌, ◌↔◌, ◌≤◌, ◌<◌, []
 ghost use Rattle.std.specs.List.{list_all, list_any};
 ghost use Rattle.std.specs.Str.{bytes_eq};
 ghost use Rattle.kr_config.specs.Kept.{rows_of};
-ghost use Rattle.kr_kms.specs.Cache.{Fetches};
+ghost use Rattle.kr_base.specs.Walks.{Talk};
+ghost use Rattle.kr_kms.specs.Cache.{Fetches, FetchesBy};
 ghost use Rattle.kr_kms.specs.Calls.{asked_key};
-ghost use Rattle.kr_kms.specs.Health.{TellsKeyId};
-ghost use Rattle.kr_kms.specs.Seeds.{MakesSeed};
-ghost use Rattle.kr_provider.specs.AskedLinks.{AsksOne, HasLinkWith};
+ghost use Rattle.kr_kms.specs.Health.{TellsKeyId, TellsKeyIdBy};
+ghost use Rattle.kr_kms.specs.Seeds.{MakesSeed, MakesSeedBy};
+ghost use Rattle.kr_provider.specs.AskedLinks.{Among, AsksOne, HasLinkWith};
 ghost use Rattle.kr_provider.specs.Names.{AreDistinct, HasLinks, names_of};
 ghost use Rattle.kr_provider.specs.inner.Scan.{is_served};
 
@@ -108,8 +109,9 @@ impl<L: Kms> Links<L> {
     /// The id of the key that the plugin of this name wraps with.
     pub(crate) fn key_id(&mut self, alloc: Global, name: &str) -> Result<Text, SeedNo>
         requires { Contains (names_of L.link self.old) name.now }
-        ensures { AsksOne L.link name.now
+        ensures told { AsksOne L.link name.now
             (λ old new. TellsKeyId (L.link old) result (L.link new)) self.old self.new }
+        ensures exchanged { Talk (Among L.step) self.old self.new (TellsKeyIdBy name.now result) }
     {
         let at = place_of(self.items.as_slice(), name);
         key_id_of(alloc, &mut self.items[at])
@@ -127,6 +129,8 @@ impl<L: Kms> Links<L> {
             (λ old new. MakesSeed D.left D.count L.truth (L.link old) dice.old result (L.link new)
             dice.new) self.old self.new }
         ensures later { D.count dice.old ≤ D.count dice.new }
+        ensures exchanged { Talk (Among L.step) self.old self.new
+            (MakesSeedBy D.left D.count name.now dice.old result dice.new) }
     {
         let at = place_of(self.items.as_slice(), name);
         make_seed(alloc, &mut self.items[at], dice)
@@ -140,9 +144,12 @@ impl<L: Kms> Links<L> {
         object: &EncryptedObject,
     ) -> Result<Bytes, KmsNo>
         requires { Contains (names_of L.link self.old) name.now }
-        ensures { AsksOne L.link name.now (λ old new. Fetches L.truth L.link old cache.old
+        ensures fetched { AsksOne L.link name.now (λ old new. Fetches L.truth L.link old cache.old
             (asked_key name.now object.now.key_id object.now.annotations object.now.source)
             result new cache.new) self.old self.new }
+        ensures exchanged { Talk (Among L.step) self.old self.new (FetchesBy
+            (asked_key name.now object.now.key_id object.now.annotations object.now.source)
+            cache.old result cache.new) }
     {
         let at = place_of(self.items.as_slice(), name);
         cache.fetch(

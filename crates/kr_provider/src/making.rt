@@ -1,10 +1,12 @@
 //! The seeds of a configuration's plugins, made in the order of their names.
-ghost use Rattle.std.specs.Prelude.{◌≡◌, ◌≤◌, ◌⊎◌, [], false, Contains, IfOk, IsOk};
+ghost use Rattle.std.specs.Prelude.{◌≡◌, ◌≤◌, [], false, Contains, IfOk, IsOk};
 ghost use Rattle.kr_config.specs.Kept.{plugins_in, rows_of};
-ghost use Rattle.kr_provider.specs.AskedLinks.{AskedOnly};
+ghost use Rattle.kr_base.specs.Walks.{Talk};
+ghost use Rattle.kr_provider.specs.AskedLinks.{Among, AskedOnly};
+ghost use Rattle.kr_provider.specs.Exchanges.{IsRefusalAt};
 ghost use Rattle.kr_provider.specs.Names.{HasLinks, names_of};
 ghost use Rattle.kr_provider.specs.Publication.{names_plugin};
-ghost use Rattle.kr_provider.specs.inner.Making.{MakesAll, MakesAt, refusal_at};
+ghost use Rattle.kr_provider.specs.inner.Making.{MakesAll, MakesAllBy, MakesAt, MakesOneBy};
 
 use crate::links::Links;
 use crate::refusal::PublishNo;
@@ -29,6 +31,8 @@ pub(crate) fn make_seeds<L: Kms, D: Dice>(
     ensures none { names_plugin (rows_of settings.now.entries.0) ≡ false
         → IfOk result (λ made. made.0 ≡ []) × IsOk result
         × (links.new ≡ links.old) × (dice.new ≡ dice.old) }
+    ensures exchanged { Talk (Among L.step) links.old links.new
+        (MakesAllBy D.left D.count (rows_of settings.now.entries.0) dice.old result dice.new) }
 {
     let mut made = List::new(alloc);
     let mut after = "";
@@ -56,6 +60,8 @@ fn make_one<L: Kms, D: Dice>(
         links.new
         dice.new }
     ensures later { D.count dice.old ≤ D.count dice.new }
+    ensures exchanged { Talk (Among L.step) links.old links.new
+        (MakesOneBy D.left D.count name.now dice.old result dice.new) }
 {
     match links.make_seed(alloc, name, dice) {
         Ok(row) => Ok(row),
@@ -65,15 +71,18 @@ fn make_one<L: Kms, D: Dice>(
 
 /// What the refusal of the plugin of this name is, or that there is no memory for it.
 pub(crate) fn refusal_at(alloc: Global, name: &str, why: SeedNo) -> PublishNo
-    ensures { (result ≡ refusal_at name.now why) ⊎ (result ≡ PublishNo.NoMemory) }
+    ensures { IsRefusalAt name.now why result }
 {
-    let Ok(name) = Text::copy(alloc, name) else {
-        return PublishNo::NoMemory;
-    };
     match why {
-        SeedNo::Failed => PublishNo::PluginFailed { name },
+        SeedNo::Failed => match Text::copy(alloc, name) {
+            Ok(name) => PublishNo::PluginFailed { name },
+            Err(_) => PublishNo::NoMemory,
+        },
         SeedNo::DiceFailed => PublishNo::DiceFailed,
-        SeedNo::Unhealthy { field, text } => PublishNo::Unhealthy { name, field, text },
+        SeedNo::Unhealthy { field, text } => match Text::copy(alloc, name) {
+            Ok(name) => PublishNo::Unhealthy { name, field, text },
+            Err(_) => PublishNo::NoMemory,
+        },
         SeedNo::NoMemory => PublishNo::NoMemory,
     }
 }

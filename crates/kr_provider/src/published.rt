@@ -3,7 +3,9 @@ ghost use Rattle.std.specs.Prelude.{◌≡◌, ◌≤◌, [], true, false, Ok};
 ghost use Rattle.std.specs.List.{list_any};
 ghost use Rattle.kr_config.specs.Kept.{plugins_in, rows_of};
 ghost use Rattle.kr_config.specs.Providers.{is_kms, is_provider};
-ghost use Rattle.kr_provider.specs.AskedLinks.{AskedOnly};
+ghost use Rattle.kr_base.specs.Walks.{Talk};
+ghost use Rattle.kr_provider.specs.AskedLinks.{Among, AskedOnly};
+ghost use Rattle.kr_provider.specs.Exchanges.{PublishesBy};
 ghost use Rattle.kr_provider.specs.Names.{HasLinks, names_of};
 ghost use Rattle.kr_provider.specs.Publication.{IsProviderList, names_plugin};
 ghost use Rattle.kr_provider.specs.Publishing.{Publishes};
@@ -134,6 +136,8 @@ pub fn publish<L: Kms, D: Dice>(
     ensures none { names_plugin (rows_of settings.entries.0) ≡ false
         → (result ≡ Ok (record { rows = rows_of settings.entries.0; seeds = [] }))
         × (links.new ≡ links.old) × (dice.new ≡ dice.old) }
+    ensures exchanged { Talk (Among L.step) links.old links.new
+        (PublishesBy D.left D.count (rows_of settings.entries.0) dice.old result dice.new) }
 {
     let seeds = make_seeds(alloc, settings.get(), links, dice)?;
     Ok(Published { settings, seeds })

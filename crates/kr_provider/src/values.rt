@@ -5,7 +5,10 @@ ghost use Rattle.kr_config.specs.declared.who.Who.{Who};
 ghost use Rattle.kr_kms.specs.Cache.{AreOpen, seed_at};
 ghost use Rattle.kr_kms.specs.Seeds.{IsSeedRow};
 ghost use Rattle.kr_kms.specs.declared.seeds.SeedRow.{SeedRow};
+ghost use Rattle.kr_base.specs.Walks.{Talk};
+ghost use Rattle.kr_provider.specs.AskedLinks.{Among};
 ghost use Rattle.kr_provider.specs.Envelopes.{seed_key};
+ghost use Rattle.kr_provider.specs.Exchanges.{ReadsBy};
 ghost use Rattle.kr_provider.specs.KeyPages.{secrets_in};
 ghost use Rattle.kr_provider.specs.Names.{HasAdoptedLinks, names_of};
 ghost use Rattle.kr_provider.specs.Publication.{IsProviderList, list_at, seed_of};
@@ -13,6 +16,7 @@ ghost use Rattle.kr_provider.specs.Reading.{source_reading};
 ghost use Rattle.kr_provider.specs.Unsealing.{HeedsCache, IsSeedOf, UnsealsBy};
 ghost use Rattle.kr_provider.specs.inner.Scan.{AreAmong, AreNamedIn, HaveSeeds};
 ghost use Rattle.kr_provider.specs.inner.Sources.{Gives, GivesSource, IsReadBy, OpensSource, UnsealsObject};
+ghost use Rattle.kr_provider.specs.inner.Sources.{OpensSourceBy, UnsealsObjectBy};
 
 use crate::adoption::Adoption;
 use crate::links::Links;
@@ -46,6 +50,8 @@ pub(crate) fn unseal_for<L: Kms>(
         (list_at p resource.now) path.now value links.old result links.new) }
     ensures cached { IfSome adoption.now.published (λ p. HeedsCache cache.old.rows
         p.seeds (list_at p resource.now) path.now value links.old result links.new) }
+    ensures exchanged { IfSome adoption.now.published (λ p. Talk (Among L.step) links.old links.new
+        (ReadsBy p.seeds (list_at p resource.now) path.now value cache.old result cache.new)) }
     ensures kept { AreOpen L.truth cache.new.rows }
 {
     let published = adoption.published();
@@ -77,6 +83,8 @@ fn unseal_in<L: Kms>(
         links.new }
     ensures cached { HeedsCache cache.old.rows seeds.now list.now path.now value links.old
         result links.new }
+    ensures exchanged { Talk (Among L.step) links.old links.new
+        (ReadsBy seeds.now list.now path.now value cache.old result cache.new) }
     ensures kept { AreOpen L.truth cache.new.rows }
 {
     let bytes = value.as_slice();
@@ -131,6 +139,11 @@ fn by_plugin<L: Kms>(
         → seed_of name.now seeds ≡ Some row.now
         → IsReadBy list bytes (Who.Kms name.now) body.now first
         → HeedsCache cache.old.rows seeds list path.now bytes links.old result links.new }
+    ensures exchanged { (seeds : List SeedRow) (list : List Who) (bytes : List ℕ)
+        → seed_of name.now seeds ≡ Some row.now
+        → IsReadBy list bytes (Who.Kms name.now) body.now first
+        → Talk (Among L.step) links.old links.new
+        (ReadsBy seeds list path.now bytes cache.old result cache.new) }
     ensures kept { AreOpen L.truth cache.new.rows }
 {
     let object = read_object(alloc, body)?;
@@ -160,6 +173,8 @@ fn unseal_object<L: Kms>(
         → seed_at cache.old.rows (seed_key name.now object) ≡ Some source
         → (links.new ≡ links.old) × ((IsSeedOf row.now name.now object → ⊥)
         → Gives (source_reading object.kind source path.now object.encrypted) result) }
+    ensures exchanged { Talk (Among L.step) links.old links.new
+        (UnsealsObjectBy row.now name.now object path.now cache.old result cache.new) }
     ensures kept { AreOpen L.truth cache.new.rows }
 {
     if is_seed_of(row, name, &object) {
@@ -169,7 +184,8 @@ fn unseal_object<L: Kms>(
     by_source(object.kind, source.as_slice(), path, object.encrypted)
 }
 
-/// What the plugin of this name unwraps the source of an object to.
+/// What the plugin of this name unwraps the source of an object to. Its name is copied before it is
+/// asked, so that its fault is always told.
 fn open_source<L: Kms>(
     alloc: Global,
     name: &str,
@@ -183,14 +199,17 @@ fn open_source<L: Kms>(
     ensures cached { (source : List ℕ)
         → seed_at cache.old.rows (seed_key name.now object.now) ≡ Some source
         → (links.new ≡ links.old) × GivesSource source result }
+    ensures exchanged { Talk (Among L.step) links.old links.new
+        (OpensSourceBy name.now object.now cache.old result cache.new) }
     ensures kept { AreOpen L.truth cache.new.rows }
 {
+    let asked = match Text::copy(alloc, name) {
+        Ok(asked) => asked,
+        Err(_) => return Err(UnsealNo::NoMemory),
+    };
     match links.fetch(cache, name, object) {
         Ok(source) => Ok(source),
         Err(KmsNo::NoMemory) => Err(UnsealNo::NoMemory),
-        Err(KmsNo::Failed) => match Text::copy(alloc, name) {
-            Ok(name) => Err(UnsealNo::PluginFailed { name }),
-            Err(_) => Err(UnsealNo::NoMemory),
-        },
+        Err(KmsNo::Failed) => Err(UnsealNo::PluginFailed { name: asked }),
     }
 }

@@ -20,7 +20,7 @@ use Rattle.kr_rollout.specs.Openings.{start_of, room_of, board, opening_by, Name
 use Rattle.kr_opening.specs.Needs.{needs_of}
 use Rattle.kr_opening.specs.Replicas.{first_rows, generations_from, current_from, settings_of, IsFirstIn}
 use Rattle.kr_rollout.specs.Fits.{IsFit}
-use Rattle.kr_opening.specs.LiveFits.{AreFit}
+use Rattle.kr_judge.specs.LiveFits.{AreFit}
 use Rattle.kr_rollout.specs.Histories.{IsLegal}
 use Rattle.kr_opening.specs.Starts.{opening_generations, MayStart, Boards}
 use Rattle.kr_rollout.specs.Laws.{BoardAtStart}

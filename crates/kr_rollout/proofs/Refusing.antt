@@ -5,10 +5,8 @@ use Rattle.std.proofs.lemmas.List.{take-append-drop}
 use Rattle.std.proofs.lemmas.List.Elements.{Contains-append_left}
 use Rattle.std.proofs.lemmas.Option.{none-some, same_Some}
 use Rattle.kr_config.specs.declared.class.Class.{Class}
-use Rattle.kr_config.specs.declared.who.Who.{Who}
 use Rattle.kr_config.specs.Kept.{Row}
 use Rattle.kr_config.specs.Lists.{list_of, class_list}
-use Rattle.kr_provider.specs.Readers.{writer_of}
 use Rattle.kr_judge.specs.declared.need.Need.{Need}
 use Rattle.kr_judge.specs.declared.verdict.Verdict.TheVariants.{Pass}
 use Rattle.kr_judge.specs.Boards.{GenerationState}
@@ -45,30 +43,23 @@ unfolding others
 other_in replica generations n c = in_numbered 0 generations n
     (in_filter (λ m. is_other replica m.1) (with_numbers 0 generations) n c)
 
--- ---- writers
-
-reads_by : (writers readers : List Who) → Contains readers (writer_of writers)
-    → ReadsWriter writers readers
-reads_by [] readers c who e = absurd (none-some who e)
-reads_by (first ∷ rest) readers c who e = subst (Contains readers) (same_Some first who e) c
+-- ---- the verdict
 
 pub pass_by : (needs : List Need) (generations : List GenerationState) (replica : ℕ)
     (rows : List Row)
     → ((need : Need) → Contains needs need → Contains (list_of rows need.resource) need.who)
     → ((t : GenerationState) → Contains generations t → (class : Class)
-    → Contains (class_list rows class) (writer_of (class_list t.rows class)))
+    → ReadsWriter (class_list t.rows class) (class_list rows class))
     → ((t : GenerationState) → Contains generations t → (class : Class)
-    → Contains (class_list t.rows class) (writer_of (class_list rows class)))
+    → ReadsWriter (class_list rows class) (class_list t.rows class))
     → verdict_of needs generations replica rows ≡ Pass
 pass_by needs generations replica rows stored writers readers =
     (passes_exactly needs generations replica rows).1 (record {
       stored = stored;
       writers = λ other class there judged.
-          reads_by (class_list other.1.rows class) (class_list rows class)
-          (writers other.1 (other_in replica generations other there) class);
+          writers other.1 (other_in replica generations other there) class;
       readers = λ other class there judged.
-          reads_by (class_list rows class) (class_list other.1.rows class)
-          (readers other.1 (other_in replica generations other there) class);
+          readers other.1 (other_in replica generations other there) class;
     })
 
 -- ---- the replicas

@@ -112,7 +112,7 @@ module _ (old : RolloutState) (kept : BoardState) (seat replica : ℕ) (p : Publ
   reload_serves expect may is =
       stepped old (with_generation old replica p) seat (event.Reload replica p expect)
       (answer.Reloaded (length old.state.generations)) refl (is_after old replica p) l refl
-      (may.0, (published, may.1)) (is, (passes, refl)) tt (omega arith)
+      (may.0, (published, may.1)) (is, (passes, refl)) tt (omega arith) refl
       (record {
         row = omega arith;
         replaced = omega arith;
@@ -128,7 +128,7 @@ module _ (old : RolloutState) (kept : BoardState) (seat replica : ℕ) (p : Publ
   join_serves may is =
       stepped old (with_generation old replica p) seat (event.Join replica p)
       (answer.Joined (length old.state.generations)) refl (is_after old replica p) l refl
-      (may.0, (published, may.1)) (is, (passes, refl)) tt (omega arith)
+      (may.0, (published, may.1)) (is, (passes, refl)) tt (omega arith) refl
       (record {
         row = omega arith;
         replaced = omega arith;
@@ -217,7 +217,7 @@ leave_serves : (c : RolloutState) (kept : BoardState) (seat replica number : ℕ
     (without_replica c replica)
 leave_serves c kept seat replica number k l may is =
     stepped c (without_replica c replica) seat (event.Leave replica) (answer.Departed number) refl
-    (left_state c replica) l refl may is tt (omega arith)
+    (left_state c replica) l refl may is tt (omega arith) refl
     (record {
       row = omega arith;
       replaced = omega arith;

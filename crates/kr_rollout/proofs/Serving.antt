@@ -22,7 +22,7 @@ use Rattle.kr_rollout.specs.Entries.{entry_of, published_at, generation_named_by
 use Rattle.kr_rollout.specs.States.{State, number_at, current_of, held_by}
 use Rattle.kr_rollout.specs.Answers.{IsAnswer}
 use Rattle.kr_rollout.specs.Writes.{Writes}
-use Rattle.kr_rollout.specs.Steps.{after, IsStep, KeepsRules}
+use Rattle.kr_rollout.specs.Steps.{after, HidesNoFault, IsStep, KeepsRules}
 use Rattle.kr_rollout.specs.Callers.{did_of, gave_of, Shows, StoresIt}
 use Rattle.kr_rollout.specs.inner.Rollouts.{RolloutState, IsRollout, AreNumbers, line_now, state_with, MayServe, Serves}
 use Rattle.kr_rollout.proofs.Revisions.{live_at}
@@ -132,6 +132,25 @@ stores_still asked (answer.Present number) e s = tt
 stores_still asked (answer.Departed number) e s = absurd s
 stores_still asked answer.NoMemory e s = tt
 
+-- an answer that changes nothing hides no fault
+none_hidden : (gave : Gave) (count : ℕ) → IsStill gave → HidesNoFault gave count count
+none_hidden (Adopted number) count s = refl
+none_hidden (Found revision) count s = refl
+none_hidden Absent count s = refl
+none_hidden (Written revision) count s = refl
+none_hidden (Changed last) count s = refl
+none_hidden Released count s = refl
+none_hidden (Reloaded number) count s = refl
+none_hidden (Joined number) count s = refl
+none_hidden (Refused verdict) count s = refl
+none_hidden (Moved number) count s = refl
+none_hidden (Present number) count s = refl
+none_hidden (Departed number) count s = refl
+none_hidden (Gone replica) count s = refl
+none_hidden StoreFailed count s = absurd s
+none_hidden (StoreFull needed) count s = refl
+none_hidden Nothing count s = refl
+
 -- a step to a state with the same rows and generations
 step_to : (o : Opening) (st next : State) (seat : ℕ) (did : Did) (gave : Gave)
     → seat < length o.reloads → KeepsRules did o
@@ -139,8 +158,9 @@ step_to : (o : Opening) (st next : State) (seat : ℕ) (did : Did) (gave : Gave)
     → after st (entry_now st seat did gave) ≡ next → next.rows ≡ st.rows
     → next.generations ≡ st.generations
     → Reaches st.rows st.generations (line_now st seat did gave)
+    → HidesNoFault gave st.count st.count
     → IsStep o st (entry_now st seat did gave)
-step_to o st next seat did gave l rules answer writes is rows generations reach =
+step_to o st next seat did gave l rules answer writes is rows generations reach faults =
     let r : (after st (entry_now st seat did gave)).rows ≡ st.rows = ap (λ (s : State). s.rows) is
     ∙ rows in
     let g : (after st (entry_now st seat did gave)).generations ≡ st.generations =
@@ -152,6 +172,7 @@ step_to o st next seat did gave l rules answer writes is rows generations reach 
       answer = answer;
       writes = writes;
       counted = omega arith;
+      faults = faults;
       payload = (λ i. entry_of (sym r i) (sym g i) (line_now st seat did gave));
       reaches = subst (λ gs. Reaches (after st (entry_now st seat did gave)).rows gs
           (line_now st seat did gave)) (sym g)
@@ -173,7 +194,8 @@ told c seat event answer s l rules is reach shows =
       opening = refl;
       state = sym a;
       step = step_to c.opening c.state c.state seat (did_of event) (gave_of answer) l rules is
-          (writes_still c.opening c.state (gave_of answer) _ s) a refl refl reach;
+          (writes_still c.opening c.state (gave_of answer) _ s) a refl refl reach
+          (none_hidden (gave_of answer) c.state.count s);
       records = record {
         seat_is = refl;
         did_is = refl;
@@ -357,7 +379,7 @@ adopted c kept seat replica number p k l may is there =
             replaced = omega arith;
             generation = names_none (length c.state.generations) (held_by c.state seat)
                 (Adopted number) may.1 (k.current replica number is);
-          });
+          }) refl;
       records = record {
         seat_is = refl;
         did_is = refl;
@@ -384,7 +406,7 @@ let_go c kept seat k l may =
             replaced = omega arith;
             generation = names_held (length c.state.generations) (held_by c.state seat) Released may
                 (held_in c.state seat k.held);
-          });
+          }) refl;
       records = record { seat_is = refl; did_is = refl; gave_is = refl; shows = tt; stores = tt };
     }
 

@@ -31,7 +31,7 @@ use Rattle.kr_rollout.specs.Openings.{board}
 use Rattle.kr_rollout.specs.Answers.{IsAnswer}
 use Rattle.kr_opening.specs.Checks.{written_check}
 use Rattle.kr_rollout.specs.Writes.{Writes, IsSealedAnew}
-use Rattle.kr_rollout.specs.Steps.{after, put_need, put_row, KeepsRules}
+use Rattle.kr_rollout.specs.Steps.{after, put_need, put_row, HidesNoFault, KeepsRules}
 use Rattle.kr_rollout.specs.Callers.{did_of, gave_of, IsResealing, Shows, StoresIt}
 use Rattle.kr_rollout.specs.inner.Rollouts.{RolloutState, opening_of, state_with, IsRollout, line_now, Serves}
 use Rattle.kr_rollout.specs.inner.Writing.{written_as, deleted_as, needs_with, needs_without, sealed_over, ReplacesBy}
@@ -52,12 +52,13 @@ pub stepped : (c next : RolloutState) (seat : ℕ) (asked : Event) (given : Answ
     → KeepsRules (did_of asked) c.opening
     → IsAnswer (did_of asked) (gave_of given) c.state (held_by next.state seat)
     → Writes (gave_of given) c.opening c.state (entry_then next seat asked given)
-    → c.state.count ≤ next.state.count → Reaches next.state.rows next.state.generations
+    → c.state.count ≤ next.state.count
+    → HidesNoFault (gave_of given) c.state.count next.state.count → Reaches next.state.rows next.state.generations
     (line_now next.state seat (did_of asked) (gave_of given))
     → Shows given (entry_then next seat asked given)
     → StoresIt asked given (entry_then next seat asked given)
     → Serves c seat asked given (line_now next.state seat (did_of asked) (gave_of given)) next
-stepped c next seat asked given opening state l held rules is writes counted reach shows stores =
+stepped c next seat asked given opening state l held rules is writes counted faults reach shows stores =
     record {
       opening = opening;
       state = state;
@@ -68,6 +69,7 @@ stepped c next seat asked given opening state l held rules is writes counted rea
         answer = is;
         writes = writes;
         counted = counted;
+        faults = faults;
         payload = ap (λ (s : State). entry_of s.rows s.generations
             (line_now next.state seat (did_of asked) (gave_of given))) state;
         reaches = subst (λ (s : State). Reaches s.rows s.generations
@@ -329,7 +331,7 @@ module _ (store next : Kept) (kept later : BoardState) (generations : List Gener
             w.within,
             row_is,
           )
-          w.later
+          w.later w.same_count
           (record {
             row = omega (
               arith,
@@ -362,7 +364,7 @@ module _ (store next : Kept) (kept later : BoardState) (generations : List Gener
             f.within,
             f.rose,
           )
-          f.later (record {
+          f.later f.once (record {
             row = omega arith;
             replaced = omega arith;
             generation =
@@ -391,6 +393,7 @@ module _ (store next : Kept) (kept later : BoardState) (generations : List Gener
             r.2,
           )
           (omega (arith, ap (λ (s : Kept). s.count) r.0))
+          (ap (λ (s : Kept). s.count) r.0)
           (record {
             row = omega arith;
             replaced = omega arith;
@@ -406,6 +409,7 @@ module _ (store next : Kept) (kept later : BoardState) (generations : List Gener
           (stays_so (ap (λ (x : BoardState). x.needs) b) rows)
           l refl (path_rule, resource_rule, sealing.plain_is) (ap is_some held_is) tt
           (omega (arith, ap (λ (s : Kept). s.count) r))
+          (ap (λ (s : Kept). s.count) r)
           (record { row = omega arith; replaced = omega arith; generation = bound_is Nothing })
           tt tt
 
@@ -429,6 +433,7 @@ module _ (store next : Kept) (kept later : BoardState) (generations : List Gener
           (stays_so (ap (λ (x : BoardState). x.needs) b) rows)
           l refl path_rule d.0 tt
           (omega (arith, ap (λ (s : Kept). s.count) d.1))
+          (ap (λ (s : Kept). s.count) d.1)
           (record {
             row = omega arith;
             replaced = omega arith;
@@ -459,7 +464,7 @@ module _ (store next : Kept) (kept later : BoardState) (generations : List Gener
             w.within,
             row_is,
           )
-          w.later
+          w.later w.same_count
           (record {
             row = omega (
               arith,
@@ -480,7 +485,7 @@ module _ (store next : Kept) (kept later : BoardState) (generations : List Gener
           (stays_so (ap (λ (x : BoardState). x.needs) b) f.rows)
           l refl path_rule tt
           (row, (d.0, refl), f.within, f.rose)
-          f.later (record {
+          f.later f.once (record {
             row = omega arith;
             replaced = omega arith;
             generation =
@@ -498,6 +503,7 @@ module _ (store next : Kept) (kept later : BoardState) (generations : List Gener
           l refl path_rule tt
           (row, (d.0, refl), r.1, r.2)
           (omega (arith, ap (λ (s : Kept). s.count) r.0))
+          (ap (λ (s : Kept). s.count) r.0)
           (record {
             row = omega arith;
             replaced = omega arith;
@@ -513,6 +519,7 @@ module _ (store next : Kept) (kept later : BoardState) (generations : List Gener
           (stays_so (ap (λ (x : BoardState). x.needs) b) rows)
           l refl path_rule tt tt
           (omega (arith, ap (λ (s : Kept). s.count) d))
+          (ap (λ (s : Kept). s.count) d)
           (record {
             row = omega arith;
             replaced = omega arith;
@@ -589,7 +596,7 @@ module _ (store next : Kept) (kept later : BoardState) (generations : List Gener
             w.within,
             new_is,
           )
-          w.later
+          w.later w.same_count
           (record {
             row = omega (
               arith,
@@ -621,7 +628,7 @@ module _ (store next : Kept) (kept later : BoardState) (generations : List Gener
             f.within,
             f.rose,
           )
-          f.later (record {
+          f.later f.once (record {
             row = omega arith;
             replaced =
                 omega (arith, there_before, ap (λ (rows : List LogRow). length rows) f.rows);
@@ -652,6 +659,7 @@ module _ (store next : Kept) (kept later : BoardState) (generations : List Gener
             q.2,
           )
           (omega (arith, ap (λ (s : Kept). s.count) q.0))
+          (ap (λ (s : Kept). s.count) q.0)
           (record {
             row = omega arith;
             replaced =
@@ -669,6 +677,7 @@ module _ (store next : Kept) (kept later : BoardState) (generations : List Gener
           (stays_so (ap (λ (x : BoardState). x.needs) r.1) rows)
           l refl path_rule (ap is_some held_is, (λ s. r.0.2 s.0 s.1), r.0.0) tt
           (omega (arith, ap (λ (s : Kept). s.count) same))
+          (ap (λ (s : Kept). s.count) same)
           (record {
             row = omega arith;
             replaced =
@@ -686,6 +695,7 @@ module _ (store next : Kept) (kept later : BoardState) (generations : List Gener
           (stays_so (ap (λ (x : BoardState). x.needs) r.1) rows)
           l refl path_rule (ap is_some held_is) tt
           (omega (arith, ap (λ (s : Kept). s.count) same))
+          (ap (λ (s : Kept). s.count) same)
           (record {
             row = omega arith;
             replaced =

@@ -1,6 +1,7 @@
 -- A step of a rollout: the condition in which an entry may stand behind a state, and the state
 -- after it.
 use Rattle.std.specs.Prelude.{◌≡◌, ℕ, ◌<◌, ◌≤◌, ◌⊎◌, List, [], ◌∷◌, ◌++◌, length, slice_set, All, Option, None, Some, ⊤}
+use Rattle.kr_base.specs.Numbering.{next_number}
 use Rattle.kr_base.specs.Rules.{IsPath, IsResource}
 use Rattle.kr_store.specs.declared.rows.LogRow.{LogRow}
 use Rattle.kr_store.specs.declared.rows.Row.{Row}
@@ -13,7 +14,7 @@ use Rattle.kr_opening.specs.declared.generation.Generation.{Generation}
 use Rattle.kr_rollout.specs.declared.line.Did.{Did}
 use Rattle.kr_rollout.specs.declared.line.Did.TheVariants.{Adopt, Fetch, After, Put, Delete, Replace, LetGo, Reload, Join, Leave}
 use Rattle.kr_rollout.specs.declared.line.Gave.{Gave}
-use Rattle.kr_rollout.specs.declared.line.Gave.TheVariants.{Adopted, Written, Released, Reloaded, Joined, Departed}
+use Rattle.kr_rollout.specs.declared.line.Gave.TheVariants.{Adopted, Written, Released, Reloaded, Joined, Departed, StoreFailed}
 use Rattle.kr_rollout.specs.declared.opening.Entry.{Entry}
 use Rattle.kr_rollout.specs.declared.opening.Opening.{Opening}
 use Rattle.kr_rollout.specs.Entries.{entry_of, Reaches}
@@ -112,8 +113,14 @@ KeepsRules (Reload replica p expect) o = (replica < length o.replicas) × IsAdmi
 KeepsRules (Join replica p) o = (replica < length o.replicas) × IsAdmitted o.names p
 KeepsRules (Leave replica) o = replica < length o.replicas
 
+-- no fault of the store is hidden: the count of its faults is one higher where the answer tells that
+-- the store failed, and else as before
+abbrev pub HidesNoFault : Gave → (before now : ℕ) → Type 0
+HidesNoFault StoreFailed before now = now ≡ next_number before
+HidesNoFault gave before now = now ≡ before
+
 -- the entry names a seat and what it held, answers as the table has it, and shows what is there
--- after it; the count of faults never falls
+-- after it; the count of faults never falls, and none is hidden
 pub record IsStep (o : Opening) (st : State) (e : Entry) : Type 0 where
   pub seat : e.line.seat < length o.reloads
   pub held : e.line.held ≡ held_by st e.line.seat
@@ -121,5 +128,6 @@ pub record IsStep (o : Opening) (st : State) (e : Entry) : Type 0 where
   pub answer : IsAnswer e.line.did e.line.gave st e.line.held
   pub writes : Writes e.line.gave o st e
   pub counted : st.count ≤ e.line.faults
+  pub faults : HidesNoFault e.line.gave st.count e.line.faults
   pub payload : e ≡ entry_of (after st e).rows (after st e).generations e.line
   pub reaches : Reaches (after st e).rows (after st e).generations e.line

@@ -7,6 +7,7 @@ use Rattle.std.specs.Option.{option_map}
 use Rattle.std.specs.Str.{bytes_eq}
 use Rattle.std.proofs.lemmas.Slice.Eq.{bytes_eq-Decides}
 use Rattle.kr_base.specs.Faults.{Rose}
+use Rattle.kr_base.specs.Numbering.{next_number}
 use Rattle.kr_store.specs.declared.format.Format.{Format}
 use Rattle.kr_store.specs.declared.rows.Change.{Change}
 use Rattle.kr_store.specs.declared.rows.Change.TheVariants.{Put, Delete}
@@ -221,8 +222,9 @@ pub fails_at : (format : Format) (rows : List KeptRow) (index : Index) (limit : 
     → IsStore format rows index limit log → kept_of format rows limit log ≡ s → e ≡ log.end
     → n ≡ length (behind_end format e (length rows + 1) line) → e + n ≤ limit
     → now.end ≡ log.end → now.torn ≡ true → Rose log.count now.count → log.count ≤ now.count
+    → now.count ≡ next_number log.count
     → Fails s (kept_of format rows limit now) line
-fails_at format rows index limit log now s line e n i v ends size fits d t r l =
+fails_at format rows index limit log now s line e n i v ends size fits d t r l o =
     subst (λ (z : Kept). Fails z (kept_of format rows limit now) line) v (record {
       rows = refl;
       format = refl;
@@ -232,6 +234,7 @@ fails_at format rows index limit log now s line e n i v ends size fits d t r l =
       torn = t;
       rose = r;
       later = l;
+      once = o;
     })
 
 pub wrote_at : (format : Format) (rows : List KeptRow) (index : Index) (limit : ℕ)
@@ -239,9 +242,9 @@ pub wrote_at : (format : Format) (rows : List KeptRow) (index : Index) (limit : 
     → IsStore format rows index limit log → kept_of format rows limit log ≡ s → e ≡ log.end
     → n ≡ length (behind_end format e (length rows + 1) line) → e + n ≤ limit
     → log_row_of row ≡ line → k ≡ length rows + 1 → now.end ≡ e + n → now.torn ≡ false
-    → log.count ≤ now.count
+    → log.count ≤ now.count → now.count ≡ log.count
     → Wrote s (kept_of format (rows ++ row ∷ []) limit now) line k
-wrote_at format rows index limit log now s line row e n k i v ends size fits same is d t l =
+wrote_at format rows index limit log now s line row e n k i v ends size fits same is d t l o =
     subst (λ (z : Kept). Wrote z (kept_of format (rows ++ row ∷ []) limit now) line k) v (record {
       revision_is = omega (arith, log_rows_length rows);
       rows = log_rows_more rows row ∙ ap (λ (x : LogRow). log_rows_of rows ++ x ∷ []) same;
@@ -251,6 +254,7 @@ wrote_at format rows index limit log now s line row e n k i v ends size fits sam
       within = omega (arith, sized format rows index limit log line e n i ends size);
       whole = t;
       later = l;
+      same_count = o;
     })
 
 -- the index has a live row, so the rows have

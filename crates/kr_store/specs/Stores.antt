@@ -6,6 +6,7 @@ use Rattle.std.specs.Cmp.Lexicographic.{slice_cmp}
 use Rattle.std.specs.List.Sorted.{IsStrictlySortedBy}
 use Rattle.kr_base.specs.Told.{Agrees}
 use Rattle.kr_base.specs.Faults.{Rose}
+use Rattle.kr_base.specs.Numbering.{next_number}
 use Rattle.kr_base.specs.Rules.{IsPath}
 use Rattle.kr_store.specs.declared.format.Check.{Check}
 use Rattle.kr_store.specs.declared.format.Format.{Format}
@@ -62,7 +63,7 @@ Loads told limit (Err (why, tape)) = HasBreach told limit why
 abbrev pub length_with : Kept → LogRow → ℕ
 length_with store row = length (file_bytes store.format (store.rows ++ row ∷ []))
 
--- the row was written, with this revision
+-- the row was written, with this revision, and the tape didn't fail
 pub record Wrote (old new : Kept) (row : LogRow) (revision : ℕ) : Type 0 where
   pub revision_is : revision ≡ length old.rows + 1
   pub rows : new.rows ≡ old.rows ++ row ∷ []
@@ -72,8 +73,9 @@ pub record Wrote (old new : Kept) (row : LogRow) (revision : ℕ) : Type 0 where
   pub within : length_with old row ≤ old.limit
   pub whole : new.torn ≡ false
   pub later : old.count ≤ new.count
+  pub same_count : new.count ≡ old.count
 
--- the tape failed; the rows are as before
+-- the tape failed, once; the rows are as before
 pub record Fails (old new : Kept) (row : LogRow) : Type 0 where
   pub rows : new.rows ≡ old.rows
   pub format : new.format ≡ old.format
@@ -83,6 +85,7 @@ pub record Fails (old new : Kept) (row : LogRow) : Type 0 where
   pub torn : new.torn ≡ true
   pub rose : Rose old.count new.count
   pub later : old.count ≤ new.count
+  pub once : new.count ≡ next_number old.count
 
 -- why a row wasn't written
 abbrev pub Refusal : Kept → Kept → LogRow → PutNo → Type 0

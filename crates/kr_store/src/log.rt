@@ -47,7 +47,7 @@ impl<T: Tape> Log<T> {
         }
     }
 
-    /// Lets the tape end with the file.
+    /// Lets the tape end with the file, on the device too, before other bytes follow there.
     fn ready(&mut self) -> Result<(), Failed>
         ensures readies { Readies self.old self.new result }
         ensures cause { IsCounted self.old.count self.new.count result }
@@ -56,6 +56,10 @@ impl<T: Tape> Log<T> {
             return Ok(());
         }
         match self.tape.cut(self.end) {
+            Ok(()) => {}
+            Err(Failed) => return Err(Failed),
+        }
+        match self.tape.settle() {
             Ok(()) => {
                 self.torn = false;
                 Ok(())

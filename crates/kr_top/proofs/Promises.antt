@@ -1,18 +1,23 @@
--- What `run` promises by what its words were read as: a fleet, a load, another command; or by why
--- they weren't.
-use Rattle.std.proofs.Common.{ℕ, ◌≤◌, List, Option, Err, refl, inl, arith}
+-- What `run` promises by what its words were read as: a fleet, a load, a watch, another command; or
+-- by why they weren't.
+use Rattle.std.proofs.Common.{◌≡◌, ℕ, ◌≤◌, List, Option, Err, refl, inl, arith}
 use Rattle.kr_kms.specs.Calls.{Link}
 use Rattle.kr_kms.specs.Truth.{Truth}
 use Rattle.kr_cmd_messages.specs.FleetAsked.{AskNoFleet, AsksFleet}
 use Rattle.kr_cmd_messages.specs.LoadAsked.{AskNoLoad, AsksLoad}
 use Rattle.kr_cmd_messages.specs.Message.{line_of, status_of}
 use Rattle.kr_cmd_messages.specs.Receipts.{Receipt, Tells}
+use Rattle.kr_cmd_messages.specs.WatchAsked.{AskNoWatch, AsksWatch}
 use Rattle.kr_cmd_messages.specs.declared.fleet_words.FleetWords.{FleetWords}
 use Rattle.kr_cmd_messages.specs.declared.load_words.LoadWords.{LoadWords}
+use Rattle.kr_cmd_messages.specs.declared.watch_words.WatchWords.{WatchWords}
 use Rattle.kr_cmd_messages.specs.declared.refusal.Stop.{Stop}
+use Rattle.kr_cmd_messages.specs.declared.refusal.Stop.TheVariants.{NoMemory}
 use Rattle.kr_cmd_messages.specs.inner.FleetAnswers.{IsFleetAsked}
 use Rattle.kr_cmd_messages.specs.inner.LoadAnswers.{IsLoadAsked}
+use Rattle.kr_cmd_messages.specs.inner.WatchAnswers.{IsWatchAsked}
 use Rattle.kr_cmd_messages.proofs.LoadAsked.{asked_small, not_both, one_load}
+use Rattle.kr_cmd_messages.proofs.WatchAsked.{not_fleet_and_watch, not_load_and_watch, one_watch}
 use Rattle.kr_cmd_steps.specs.Around.{Around}
 use Rattle.kr_cmd_steps.specs.Ran.{IsIdle, StopsAtOnce}
 use Rattle.kr_cmd_fleet.specs.Fleets.{RanFleet}
@@ -21,25 +26,50 @@ use Rattle.kr_cmd_gen.specs.GeneratedLoads.{RanLoad}
 use Rattle.kr_cmd_gen.proofs.LoadHeads.{load_headline}
 use Rattle.kr_cmd_gen.proofs.LoadReadings.{load_readings}
 use Rattle.kr_cmd_gen.proofs.LoadRuns.{fleet_unread, for_load, load_at_once, load_unread}
+use Rattle.kr_cmd_watch.specs.Watchings.{RanWatch}
+use Rattle.kr_cmd_watch.proofs.WatchRuns.{for_watch, no_watch_by_fleet, no_watch_by_load, no_watch_by_watch, watch_at_once, watch_unread}
 use Rattle.kr_cmd_laws.proofs.FleetReadings.{fleet_readings}
 use Rattle.kr_cmd_laws.proofs.Leaving.{tapes_left}
 use Rattle.kr_cmd_laws.proofs.Readings.{readings}
 use Rattle.kr_cmd_laws.proofs.RunHeads.{runs_have_headlines}
 use Rattle.kr_top.specs.Run.{Runs}
-use Rattle.kr_top.specs.inner.Parts.{RunsAlone, RunsOther}
+use Rattle.kr_top.specs.inner.Parts.{RunsAlone, RunsOther, RunsUnloaded}
 
 -- ---- the words were read
 
-module _ (T : Type 0) {L : Type 0} (truth : Truth) (link : L → Link) (words : List (List ℕ))
-    (old new : Around) (output errors : Receipt) (status : ℕ) where
-  -- as a load
-  pub load_promised : (read : LoadWords) → AsksLoad words read
-      → RanLoad T truth link read old new output errors status
-      → RunsOther T truth link words old new output errors status
-  load_promised read is ran = record {
+module _ (T : Type 0) {L D : Type 0} (truth : Truth) (link : L → Link)
+    (left : D → Option (List ℕ)) (count : D → ℕ) (words : List (List ℕ)) (old new : Around)
+    (output errors : Receipt) (status : ℕ) where
+  -- as a watch
+  pub watch_promised : (read : WatchWords) → AsksWatch words read
+      → RanWatch T truth link left count read old new output errors status
+      → RunsUnloaded T truth link left count words old new output errors status
+  watch_promised read is ran = record {
     ran = λ none. absurd (none read is);
     readings = λ none. absurd (none read is);
     tapes = λ none. absurd (none read is);
+    watch = λ asked asks. for_watch (one_watch words read asked is asks) ran;
+  }
+
+  -- as no watch
+  pub unwatched : AskNoWatch words → RunsAlone words old new output errors status
+      → RunsUnloaded T truth link left count words old new output errors status
+  unwatched none alone = record {
+    ran = λ _. alone.ran;
+    readings = λ _. alone.readings;
+    tapes = λ _. alone.tapes;
+    watch = λ asked asks. absurd (none asked asks);
+  }
+
+  -- as a load
+  pub load_promised : (read : LoadWords) → AsksLoad words read
+      → RanLoad T truth link read old new output errors status
+      → RunsOther T truth link left count words old new output errors status
+  load_promised read is ran = record {
+    ran = λ none. absurd (none.0 read is);
+    readings = λ none. absurd (none.0 read is);
+    tapes = λ none. absurd (none.0 read is);
+    watch = λ asked asks. absurd (not_load_and_watch words read asked is asks);
     load_headline = λ asked asks. load_headline T truth link asked old new output errors status
         (for_load (one_load words read asked is asks) ran);
     load = λ asked asks. for_load (one_load words read asked is asks) ran;
@@ -48,50 +78,54 @@ module _ (T : Type 0) {L : Type 0} (truth : Truth) (link : L → Link) (words : 
   }
 
   -- as no load
-  pub other_promised : AskNoLoad words → RunsAlone words old new output errors status
-      → RunsOther T truth link words old new output errors status
-  other_promised none alone = record {
-    ran = λ _. alone.ran;
-    readings = λ _. alone.readings;
-    tapes = λ _. alone.tapes;
+  pub other_promised : AskNoLoad words
+      → RunsUnloaded T truth link left count words old new output errors status
+      → RunsOther T truth link left count words old new output errors status
+  other_promised none other = record {
+    ran = λ asked. other.ran asked.1;
+    readings = λ asked. other.readings asked.1;
+    tapes = λ asked. other.tapes asked.1;
+    watch = other.watch;
     load_headline = λ asked asks. absurd (none asked asks);
     load = λ asked asks. absurd (none asked asks);
     load_readings = λ asked asks. absurd (none asked asks);
   }
 
-  module _ {D : Type 0} (left : D → Option (List ℕ)) (count : D → ℕ) where
-    -- as a fleet
-    pub fleet_promised : (read : FleetWords) → AsksFleet words read
-        → RanFleet T truth link left count read old new output errors status
-        → Runs T truth link left count words old new output errors status
-    fleet_promised read is ran = record {
-      headline = λ asked asks. runs_have_headlines T truth link left count asked old new output
-          errors status (for_asked (one_fleet words read asked is asks) ran);
-      ran = λ none. absurd (none.0 read is);
-      readings = λ none. absurd (none.0 read is);
-      tapes = λ none. absurd (none.0 read is);
-      fleet = λ asked asks. for_asked (one_fleet words read asked is asks) ran;
-      fleet_readings = λ asked asks. fleet_readings T truth link left count asked old new output
-          errors status (for_asked (one_fleet words read asked is asks) ran);
-      load_headline = λ asked asks. absurd (not_both words read asked is asks);
-      load = λ asked asks. absurd (not_both words read asked is asks);
-      load_readings = λ asked asks. absurd (not_both words read asked is asks);
-    }
+  -- as a fleet
+  pub fleet_promised : (read : FleetWords) → AsksFleet words read
+      → RanFleet T truth link left count read old new output errors status
+      → Runs T truth link left count words old new output errors status
+  fleet_promised read is ran = record {
+    headline = λ asked asks. runs_have_headlines T truth link left count asked old new output
+        errors status (for_asked (one_fleet words read asked is asks) ran);
+    ran = λ none. absurd (none.0 read is);
+    readings = λ none. absurd (none.0 read is);
+    tapes = λ none. absurd (none.0 read is);
+    fleet = λ asked asks. for_asked (one_fleet words read asked is asks) ran;
+    watch = λ asked asks. absurd (not_fleet_and_watch words read asked is asks);
+    fleet_readings = λ asked asks. fleet_readings T truth link left count asked old new output
+        errors status (for_asked (one_fleet words read asked is asks) ran);
+    load_headline = λ asked asks. absurd (not_both words read asked is asks);
+    load = λ asked asks. absurd (not_both words read asked is asks);
+    load_readings = λ asked asks. absurd (not_both words read asked is asks);
+  }
 
-    -- as no fleet
-    pub unfleeted : AskNoFleet words → RunsOther T truth link words old new output errors status
-        → Runs T truth link left count words old new output errors status
-    unfleeted none other = record {
-      headline = λ asked asks. absurd (none asked asks);
-      ran = λ alone. other.ran alone.1;
-      readings = λ alone. other.readings alone.1;
-      tapes = λ alone. other.tapes alone.1;
-      fleet = λ asked asks. absurd (none asked asks);
-      fleet_readings = λ asked asks. absurd (none asked asks);
-      load_headline = other.load_headline;
-      load = other.load;
-      load_readings = other.load_readings;
-    }
+  -- as no fleet
+  pub unfleeted : AskNoFleet words
+      → RunsOther T truth link left count words old new output errors status
+      → Runs T truth link left count words old new output errors status
+  unfleeted none other = record {
+    headline = λ asked asks. absurd (none asked asks);
+    ran = λ alone. other.ran (alone.1, alone.2);
+    readings = λ alone. other.readings (alone.1, alone.2);
+    tapes = λ alone. other.tapes (alone.1, alone.2);
+    fleet = λ asked asks. absurd (none asked asks);
+    watch = other.watch;
+    fleet_readings = λ asked asks. absurd (none asked asks);
+    load_headline = other.load_headline;
+    load = other.load;
+    load_readings = other.load_readings;
+  }
 
 -- ---- they weren't: nothing around was touched, and the line tells why
 
@@ -117,7 +151,28 @@ module _ (words : List (List ℕ)) (a : Around) (output errors : Receipt) (statu
         (inl (stops, (refl, idle))) tells;
   }
 
-  module _ (T : Type 0) {L : Type 0} (truth : Truth) (link : L → Link) where
+  module _ (T : Type 0) {L D : Type 0} (truth : Truth) (link : L → Link)
+      (left : D → Option (List ℕ)) (count : D → ℕ) where
+    ran_watch : ((asked : WatchWords) → AsksWatch words asked → stop ≡ NoMemory)
+        → (asked : WatchWords) → AsksWatch words asked
+        → RanWatch T truth link left count asked a a output errors status
+    ran_watch lacks asked asks = record {
+      result = Err stop;
+      did = watch_unread T truth link left count asked stop (lacks asked asks) a output idle;
+      tells = tells;
+      written = written_later;
+      told = later;
+    }
+
+    pub watch_not_read : IsWatchAsked words (Err stop)
+        → RunsUnloaded T truth link left count words a a output errors status
+    watch_not_read read = let alone = alone_unread (watch_at_once words stop read) in record {
+      ran = λ none. alone.ran;
+      readings = λ none. alone.readings;
+      tapes = λ none. alone.tapes;
+      watch = ran_watch (no_watch_by_watch words stop read);
+    }
+
     ran_load : IsLoadAsked words (Err stop) → (asked : LoadWords) → AsksLoad words asked
         → RanLoad T truth link asked a a output errors status
     ran_load read asked asks = record {
@@ -129,11 +184,12 @@ module _ (words : List (List ℕ)) (a : Around) (output errors : Receipt) (statu
     }
 
     pub other_unread : IsLoadAsked words (Err stop)
-        → RunsOther T truth link words a a output errors status
+        → RunsOther T truth link left count words a a output errors status
     other_unread read = let alone = alone_unread (load_at_once words stop read) in record {
       ran = λ none. alone.ran;
       readings = λ none. alone.readings;
       tapes = λ none. alone.tapes;
+      watch = ran_watch (no_watch_by_load words stop read);
       load_headline = λ asked asks. load_headline T truth link asked a a output errors status
           (ran_load read asked asks);
       load = ran_load read;
@@ -152,31 +208,31 @@ module _ (words : List (List ℕ)) (a : Around) (output errors : Receipt) (statu
       told = later;
     }
 
-    module _ {D : Type 0} (left : D → Option (List ℕ)) (count : D → ℕ) where
-      ran_fleet : IsFleetAsked words (Err stop) → (asked : FleetWords) → AsksFleet words asked
-          → RanFleet T truth link left count asked a a output errors status
-      ran_fleet read asked asks = record {
-        result = Err stop;
-        did = unread T truth link left count words asked asks stop read a output idle;
-        tells = tells;
-        written = written_later;
-        told = later;
-      }
+    ran_fleet : IsFleetAsked words (Err stop) → (asked : FleetWords) → AsksFleet words asked
+        → RanFleet T truth link left count asked a a output errors status
+    ran_fleet read asked asks = record {
+      result = Err stop;
+      did = unread T truth link left count words asked asks stop read a output idle;
+      tells = tells;
+      written = written_later;
+      told = later;
+    }
 
-      pub run_unread : IsFleetAsked words (Err stop)
-          → Runs T truth link left count words a a output errors status
-      run_unread read = let alone = alone_unread (at_once words stop read) in record {
-        headline = λ asked asks. runs_have_headlines T truth link left count asked a a output
-            errors status (ran_fleet read asked asks);
-        ran = λ none. alone.ran;
-        readings = λ none. alone.readings;
-        tapes = λ none. alone.tapes;
-        fleet = ran_fleet read;
-        fleet_readings = λ asked asks. fleet_readings T truth link left count asked a a output
-            errors status (ran_fleet read asked asks);
-        load_headline = λ asked asks. load_headline T truth link asked a a output errors status
-            (load_by_fleet read asked asks);
-        load = load_by_fleet read;
-        load_readings = λ asked asks. load_readings T truth link asked a a output errors status
-            (asked_small asks) (load_by_fleet read asked asks);
-      }
+    pub run_unread : IsFleetAsked words (Err stop)
+        → Runs T truth link left count words a a output errors status
+    run_unread read = let alone = alone_unread (at_once words stop read) in record {
+      headline = λ asked asks. runs_have_headlines T truth link left count asked a a output
+          errors status (ran_fleet read asked asks);
+      ran = λ none. alone.ran;
+      readings = λ none. alone.readings;
+      tapes = λ none. alone.tapes;
+      fleet = ran_fleet read;
+      watch = ran_watch (no_watch_by_fleet words stop read);
+      fleet_readings = λ asked asks. fleet_readings T truth link left count asked a a output
+          errors status (ran_fleet read asked asks);
+      load_headline = λ asked asks. load_headline T truth link asked a a output errors status
+          (load_by_fleet read asked asks);
+      load = load_by_fleet read;
+      load_readings = λ asked asks. load_readings T truth link asked a a output errors status
+          (asked_small asks) (load_by_fleet read asked asks);
+    }

@@ -9,8 +9,10 @@ use Rattle.kr_kms.specs.Truth.{Truth}
 use Rattle.kr_cmd_messages.specs.FleetAsked.{AskAlone, AsksFleet}
 use Rattle.kr_cmd_messages.specs.LoadAsked.{AsksLoad}
 use Rattle.kr_cmd_messages.specs.Receipts.{Receipt}
+use Rattle.kr_cmd_messages.specs.WatchAsked.{AsksWatch}
 use Rattle.kr_cmd_messages.specs.declared.fleet_words.FleetWords.{FleetWords}
 use Rattle.kr_cmd_messages.specs.declared.load_words.LoadWords.{LoadWords}
+use Rattle.kr_cmd_messages.specs.declared.watch_words.WatchWords.{WatchWords}
 use Rattle.kr_cmd_steps.specs.Afterwards.{AreLeft}
 use Rattle.kr_cmd_steps.specs.Around.{Around}
 use Rattle.kr_cmd_steps.specs.Ran.{Ran, Readings}
@@ -20,6 +22,7 @@ use Rattle.kr_cmd_gen.specs.GeneratedLoads.{RanLoad}
 use Rattle.kr_cmd_gen.specs.LoadHeadlines.{LoadHeadline}
 use Rattle.kr_cmd_gen.specs.LoadReadings.{LoadReadings}
 use Rattle.kr_cmd_laws.specs.RunHeadlines.{RunHeadline}
+use Rattle.kr_cmd_watch.specs.Watchings.{RanWatch}
 
 pub record Runs (T : Type 0) {L D : Type 0} (truth : Truth) (link : L → Link)
     (left : D → Option (List ℕ)) (count : D → ℕ) (words : List (List ℕ)) (old new : Around)
@@ -28,8 +31,8 @@ pub record Runs (T : Type 0) {L D : Type 0} (truth : Truth) (link : L → Link)
   -- at its path, or with a reply that has its cause
   pub headline : (asked : FleetWords) → AsksFleet words asked
       → RunHeadline T truth link left count asked old new output errors status
-  -- each command but `fleet` and `gen`, and words that mean none: its steps, one behind another,
-  -- what they consumed and said, and how they ended
+  -- each command but `fleet`, `watch` and `gen`, and words that mean none: its steps, one behind
+  -- another, what they consumed and said, and how they ended
   pub ran : AskAlone words → Ran words old new output errors status
   -- what follows from `ran`: from what each status comes, and when it must come
   pub readings : AskAlone words → Readings words old new output errors status
@@ -42,6 +45,11 @@ pub record Runs (T : Type 0) {L D : Type 0} (truth : Truth) (link : L → Link)
   -- what follows from `fleet`: from what each status comes, and when it must come
   pub fleet_readings : (asked : FleetWords) → AsksFleet words asked
       → FleetReadings T truth link left count asked old new output errors status
+  -- `watch`: the steps of a fleet, at which the live rows are read too; its one history; just the
+  -- text of what is shown of it on the output, in pages or as the changes since a revision; and
+  -- the fleet's status, with 1 for 0 at a revision that is gone or ahead
+  pub watch : (asked : WatchWords) → AsksWatch words asked
+      → RanWatch T truth link left count asked old new output errors status
   -- `gen`, for its operator: the same headline over the lines that the seed and the size decide
   pub load_headline : (asked : LoadWords) → AsksLoad words asked
       → LoadHeadline T truth link asked old new output errors status

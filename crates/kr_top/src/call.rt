@@ -4,47 +4,54 @@ ghost use Rattle.kr_words.specs.Grammar.{texts};
 ghost use Rattle.kr_cmd_steps.specs.Around.{Around, around, with_world};
 ghost use Rattle.kr_cmd_steps.specs.Commands.{steps};
 ghost use Rattle.kr_cmd_messages.specs.FleetAsked.{AskNoFleet};
+ghost use Rattle.kr_cmd_messages.specs.LoadAsked.{AskNoLoad};
 ghost use Rattle.kr_cmd_fleet.specs.Fleets.{RanAlone, RanFleet};
 ghost use Rattle.kr_cmd_gen.specs.GeneratedLoads.{RanLoad};
+ghost use Rattle.kr_cmd_watch.specs.Watchings.{RanWatch};
 ghost use Rattle.kr_cmd_steps.specs.Ran.{Answers};
+ghost use Rattle.kr_cmd_messages.specs.WatchAsked.{AsksWatch};
 ghost use Rattle.kr_cmd_messages.specs.Message.{line_of, status_of};
 ghost use Rattle.kr_cmd_messages.specs.Receipts.{Tells, receipt};
 ghost use Rattle.kr_cmd_messages.specs.declared.fleet_words.FleetWords.{FleetWords};
 ghost use Rattle.kr_cmd_messages.specs.declared.load_words.LoadWords.{LoadWords};
+ghost use Rattle.kr_cmd_messages.specs.declared.watch_words.WatchWords.{WatchWords};
 ghost use Rattle.kr_cmd_steps.specs.inner.Phases.{Does};
 ghost use Rattle.kr_cmd_messages.specs.inner.Asking.{KeepsRules};
 ghost use Rattle.kr_cmd_steps.specs.inner.Reporting.{saying};
 ghost use Rattle.kr_top.specs.Run.{Runs};
-ghost use Rattle.kr_top.specs.inner.Parts.{RunsAlone, RunsOther};
+ghost use Rattle.kr_top.specs.inner.Parts.{RunsAlone, RunsOther, RunsUnloaded};
 
 use kr_base::{Sink, Source};
 use kr_cmd_fleet::fleet::fleet;
 use kr_cmd_gen::load;
 use kr_cmd_messages::{
-    Command, Done, Ended, FleetWords, LoadWords, Outcome, Stop, read_command, read_fleet,
-    read_load, tell,
+    Command, Done, Ended, FleetWords, LoadWords, Outcome, Stop, WatchWords, read_command,
+    read_fleet, read_load, read_watch, tell,
 };
 use kr_cmd_rewrite::rewrite;
 use kr_cmd_steps::write_output;
 use kr_cmd_store::judge::judge;
-use kr_cmd_store::{get, list, migrate, put};
+use kr_cmd_store::{get, list, migrate, put, verify};
 use kr_cmd_values::check::check;
 use kr_cmd_values::convert::convert;
 use kr_cmd_values::inspect::inspect;
 use kr_cmd_values::plan;
+use kr_cmd_watch::watch;
 use kr_kms::World;
 use std::alloc::Global;
 use std::sync::Wait;
 use std::thread::Threads;
 
 /// Does the command that the words mean, and answers its status: 0 done, 1 a value or a reload was
-/// refused, two configurations clash, or a rewrite left some objects, 2 the words mean no command,
-/// 3 a configuration or a store is not read, or they don't go together, 4 an object of the outside
-/// failed, 5 want of memory, 6 a limit was passed. Each status other than 0 has one line on `errors`, but for a
-/// reload that was refused, for a rewrite that left some and for those that the replies of a fleet
-/// or of a load decide, of which the output says why; where the line can't be written the status is
-/// 4. The workers of a fleet and of a load wait for each other by `rt`. What is promised, by what
-/// the words ask for, stands on one page, field by field: `Runs` of specs/Run.antt.
+/// refused, two configurations clash, a rewrite left some objects, or a watch's revision is gone or
+/// ahead, 2 the words mean no command, 3 a configuration or a store is not read, or they don't go
+/// together, 4 an object of the outside failed, 5 want of memory, 6 a limit was passed. Each status
+/// other than 0 has one line on `errors`, but for a reload that was refused, for values that
+/// `verify` finds refused, for a rewrite that left some, for a revision that is gone or ahead, and
+/// for those that the replies of a fleet, a watch or a load decide, of which the output says why;
+/// where the line can't be written the status is 4. The workers of these three wait for each other
+/// by `rt`. What is promised, by what the words ask for, stands on one page, field by field: `Runs`
+/// of specs/Run.antt.
 pub fn run<R: Threads + Wait + Sync, W: World, I: Source, O: Sink, E: Sink>(
     rt: &R,
     alloc: Global,
@@ -82,7 +89,7 @@ fn run_other<R: Threads + Wait + Sync, W: World, I: Source, O: Sink, E: Sink>(
     output: &mut O,
     errors: &mut E,
 ) -> u8
-    ensures { RunsOther W.Tap W.Link.truth W.Link.link (texts words.now)
+    ensures { RunsOther W.Tap W.Link.truth W.Link.link W.Rand.left W.Rand.count (texts words.now)
         (around W.Link.truth (W.told world.old) (I.left input.old) (I.count input.old))
         (around W.Link.truth (W.told world.new) (I.left input.new) (I.count input.new))
         (receipt (O.held output.old) (O.held output.new) (O.count output.old) (O.count output.new))
@@ -95,7 +102,60 @@ fn run_other<R: Threads + Wait + Sync, W: World, I: Source, O: Sink, E: Sink>(
             drop(asked);
             status
         }
+        Ok(None) => run_unloaded(rt, alloc, words, world, input, output, errors),
+        Err(stop) => tell_end(errors, Err(stop)),
+    }
+}
+
+/// The same for words that ask for no load either.
+fn run_unloaded<R: Threads + Wait + Sync, W: World, I: Source, O: Sink, E: Sink>(
+    rt: &R,
+    alloc: Global,
+    words: &[String],
+    world: &mut W,
+    input: &mut I,
+    output: &mut O,
+    errors: &mut E,
+) -> u8
+    ensures { RunsUnloaded W.Tap W.Link.truth W.Link.link W.Rand.left W.Rand.count
+        (texts words.now)
+        (around W.Link.truth (W.told world.old) (I.left input.old) (I.count input.old))
+        (around W.Link.truth (W.told world.new) (I.left input.new) (I.count input.new))
+        (receipt (O.held output.old) (O.held output.new) (O.count output.old) (O.count output.new))
+        (receipt (E.held errors.old) (E.held errors.new) (E.count errors.old) (E.count errors.new))
+        result }
+{
+    match read_watch(alloc, words) {
+        Ok(Some(asked)) => {
+            let status = run_watch(rt, alloc, words, &asked, world, output, errors);
+            drop(asked);
+            status
+        }
         Ok(None) => alone(alloc, words, world, input, output, errors),
+        Err(stop) => tell_end(errors, Err(stop)),
+    }
+}
+
+/// Runs a watch, and tells how it ended where its replies don't.
+fn run_watch<R: Threads + Wait + Sync, W: World, O: Sink, E: Sink>(
+    rt: &R,
+    alloc: Global,
+    words: &[String],
+    asked: &WatchWords,
+    world: &mut W,
+    output: &mut O,
+    errors: &mut E,
+) -> u8
+    requires means { AsksWatch (texts words.now) asked.now }
+    ensures { (a : Around) → a.truth ≡ W.Link.truth
+        → RanWatch W.Tap W.Link.truth W.Link.link W.Rand.left W.Rand.count asked.now
+        (with_world (W.told world.old) a) (with_world (W.told world.new) a)
+        (receipt (O.held output.old) (O.held output.new) (O.count output.old) (O.count output.new))
+        (receipt (E.held errors.old) (E.held errors.new) (E.count errors.old) (E.count errors.new))
+        result }
+{
+    match watch(rt, alloc, asked, world, output) {
+        Ok(ending) => ending.status(),
         Err(stop) => tell_end(errors, Err(stop)),
     }
 }
@@ -122,7 +182,7 @@ fn run_load<R: Threads + Wait + Sync, W: World, O: Sink, E: Sink>(
     }
 }
 
-/// The same for each command but `fleet` and `gen`. Where the words ask for a fleet or a load
+/// The same for each command but `fleet`, `watch` and `gen`. Where the words ask for one of these
 /// nothing is done, and there is no status.
 pub fn run_alone<W: World, I: Source, O: Sink, E: Sink>(
     alloc: Global,
@@ -171,6 +231,34 @@ fn other_alone<W: World, I: Source, O: Sink, E: Sink>(
             drop(asked);
             None
         }
+        Ok(None) => unloaded_alone(alloc, words, world, input, output, errors),
+        Err(stop) => Some(tell_end(errors, Err(stop))),
+    }
+}
+
+/// The same for words that ask for no load either.
+fn unloaded_alone<W: World, I: Source, O: Sink, E: Sink>(
+    alloc: Global,
+    words: &[String],
+    world: &mut W,
+    input: &mut I,
+    output: &mut O,
+    errors: &mut E,
+) -> Option<u8>
+    requires fleet { AskNoFleet (texts words.now) }
+    requires load { AskNoLoad (texts words.now) }
+    ensures { RanAlone (texts words.now)
+        (around W.Link.truth (W.told world.old) (I.left input.old) (I.count input.old))
+        (around W.Link.truth (W.told world.new) (I.left input.new) (I.count input.new))
+        (receipt (O.held output.old) (O.held output.new) (O.count output.old) (O.count output.new))
+        (receipt (E.held errors.old) (E.held errors.new) (E.count errors.old) (E.count errors.new))
+        result }
+{
+    match read_watch(alloc, words) {
+        Ok(Some(asked)) => {
+            drop(asked);
+            None
+        }
         Ok(None) => Some(alone(alloc, words, world, input, output, errors)),
         Err(stop) => Some(tell_end(errors, Err(stop))),
     }
@@ -198,7 +286,8 @@ fn run_fleet<R: Threads + Wait + Sync, W: World, O: Sink, E: Sink>(
     }
 }
 
-/// Does a command that no one waits in. Words that ask for a fleet or a load mean none here.
+/// Does a command that no one waits in. Words that ask for a fleet, a watch or a load mean none
+/// here.
 fn alone<W: World, I: Source, O: Sink, E: Sink>(
     alloc: Global,
     words: &[String],
@@ -264,6 +353,7 @@ fn perform<W: World, I: Source>(
         Command::Inspect => silent(inspect(alloc, input)),
         Command::Put { object, store } => silent(put(alloc, object, store, world, input)),
         Command::Get(words) => silent(get(alloc, words, world)),
+        Command::Verify(words) => silent(verify(alloc, words, world)),
         Command::Migrate(words) => silent(migrate(alloc, words, world)),
         Command::Rows { store } => silent(list(alloc, store.as_str(), world)),
         Command::Judge(words) => silent(judge(alloc, words, world)),

@@ -121,7 +121,7 @@ above_one front x back r =
     (λ y l. less_above x.path y l) back (rise_back front x back r))
 
 -- the rest behind the last item of a page are those behind its path
-rest_behind : (items : List Item) (resource after : List ℕ) (front : List Item) (x : Item)
+pub rest_behind : (items : List Item) (resource after : List ℕ) (front : List Item) (x : Item)
     (back : List Item) → Rise items → items_above items resource after ≡ front ++ x ∷ back
     → items_above items resource x.path ≡ back
 rest_behind items resource after front x back r e =

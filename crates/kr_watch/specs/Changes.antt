@@ -38,7 +38,8 @@ revision_after revision (change ∷ changes) = revision_after change.revision ch
 
 -- those with a greater revision
 abbrev pub changes_above : ℕ → List Change → List Change
-changes_above revision changes = filter (λ (change : Change). nat_lt revision change.revision) changes
+changes_above revision changes =
+    filter (λ (change : Change). nat_lt revision change.revision) changes
 
 -- revisions go up by one, from this one on
 abbrev pub FollowOn : ℕ → List Change → Type 0

@@ -10,10 +10,11 @@ use Rattle.kr_words.specs.declared.name.OptionName.{OptionName}
 use Rattle.kr_words.specs.declared.name.OptionName.TheVariants.{Config, Resource, Path, Plugin}
 use Rattle.kr_words.specs.declared.name.OptionName.TheVariants.{Store, Replica, Reload, File, Seed}
 use Rattle.kr_words.specs.declared.name.OptionName.TheVariants.{Size, To, From, Replicas, Show}
+use Rattle.kr_words.specs.declared.name.OptionName.TheVariants.{Limit, Since}
 
 abbrev pub all_names : List OptionName
 all_names = Config ∷ Resource ∷ Path ∷ Plugin ∷ Store ∷ Replica ∷ Reload ∷ File ∷ Seed ∷ Size
-    ∷ To ∷ From ∷ Replicas ∷ Show ∷ []
+    ∷ To ∷ From ∷ Replicas ∷ Show ∷ Limit ∷ Since ∷ []
 
 -- what holds of each name of the list holds of each name
 pub each_name : (P : OptionName → Type 0) → All P all_names → (name : OptionName) → P name
@@ -31,6 +32,8 @@ each_name P h To = h 10 Config (omega arith)
 each_name P h From = h 11 Config (omega arith)
 each_name P h Replicas = h 12 Config (omega arith)
 each_name P h Show = h 13 Config (omega arith)
+each_name P h Limit = h 14 Config (omega arith)
+each_name P h Since = h 15 Config (omega arith)
 
 pub or_few : (P : Type 0) (b : Bool) (n m : ℕ) → IsTrue b ↔ P → b ≡ false → n ≡ m
     → IsTrue (leb n 1) ↔ (P ⊎ (m ≤ 1))

@@ -2,9 +2,9 @@
 use Rattle.std.proofs.Common.{◌≡◌, ℕ, ◌^◌, ◌<◌, ◌≤◌, List, Option, Some, None, IfSome, IsSome}
 use Rattle.std.proofs.Common.{IsSomeAnd, MatchOption, refl, sym, subst, arith, Contains}
 use Rattle.kr_words.specs.declared.command.Verb.{Verb}
-use Rattle.kr_words.specs.declared.command.Verb.TheVariants.{Judge, Plan, Gen}
+use Rattle.kr_words.specs.declared.command.Verb.TheVariants.{Judge, Plan, Gen, Watch}
 use Rattle.kr_words.specs.declared.name.OptionName.{OptionName}
-use Rattle.kr_words.specs.declared.name.OptionName.TheVariants.{Reload, Seed, Size, Replicas}
+use Rattle.kr_words.specs.declared.name.OptionName.TheVariants.{Limit, Reload, Seed, Since, Size, Replicas}
 use Rattle.kr_words.specs.Names.{text_of, required_options}
 use Rattle.kr_words.specs.Numerals.{IsDecimal}
 use Rattle.kr_words.specs.Options.{value_of}
@@ -72,6 +72,25 @@ planned_given verb options r command e within m =
     some_between (value_of options (text_of Replicas)) r m
     (given (λ t. (n : ℕ) × IsDecimal t n × (1 ≤ n)) options verb Plan Replicas command e
     (2, omega arith, refl) (value_rule {verb = verb} {options = options} Replicas command)) within
+
+pub limit_given : (verb : Verb) (options : List (List ℕ × List ℕ)) (r : Option ℕ)
+    → IsCommand verb options → verb ≡ Watch → IsWithin options (text_of Limit) 10000
+    → MatchOption r ((n : ℕ) → IsNumberAt options (text_of Limit) n → 2 ^ 64 ≤ n)
+    (λ n. IsNumberAt options (text_of Limit) n) → IsSome r
+limit_given verb options r command e within m =
+    some_number (value_of options (text_of Limit)) r 10000 (omega arith) m
+    (given (λ t. (n : ℕ) × IsDecimal t n × (n ≤ 10000)) options verb Watch Limit command e
+    (3, omega arith, refl) within)
+
+pub since_given : (verb : Verb) (options : List (List ℕ × List ℕ)) (r : Option ℕ)
+    → IsCommand verb options → IsSome (value_of options (text_of Since))
+    → MatchOption r ((n : ℕ) → IsNumberAt options (text_of Since) n → 2 ^ 64 ≤ n)
+    (λ n. IsNumberAt options (text_of Since) n) → IsSome r
+since_given verb options r command some m =
+    some_number (value_of options (text_of Since)) r 18446744073709551615 (omega arith) m
+    (both (λ t. (n : ℕ) × IsDecimal t n × (n ≤ 18446744073709551615))
+    (value_of options (text_of Since)) some
+    (value_rule {verb = verb} {options = options} Since command))
 
 small_reload : {R : Type 0} (number : R → ℕ) (file : R → List ℕ) (o : Option (List ℕ))
     (r : Option R) (replicas : ℕ) → replicas ≤ 16

@@ -3,18 +3,21 @@ use Rattle.std.proofs.Common.{◌≡◌, ℕ, ◌≤◌, ◌<◌, inl, inr, List
 use Rattle.std.proofs.Common.{codes, refl, sym, ap, ◌∙◌, subst, arith, if◌then◌else◌}
 use Rattle.std.specs.Str.{bytes_eq}
 use Rattle.std.proofs.lemmas.List.Elements.{All-weaker, recursion_from_All}
+use Rattle.kr_words.specs.declared.command.Verb.TheVariants.{Verify}
 use Rattle.kr_words.specs.declared.command.Verb.{Verb}
 use Rattle.kr_words.specs.declared.command.Verb.TheVariants.{Encrypt, Decrypt, Check, Inspect, Put}
-use Rattle.kr_words.specs.declared.command.Verb.TheVariants.{Get, Rows, Migrate, Judge, Plan, Rewrite, Fleet, Gen}
+use Rattle.kr_words.specs.declared.command.Verb.TheVariants.{Get, Rows, Migrate, Judge, Plan, Rewrite}
+use Rattle.kr_words.specs.declared.command.Verb.TheVariants.{Fleet, Gen, Watch}
 use Rattle.kr_words.specs.declared.name.OptionName.{OptionName}
 use Rattle.kr_words.specs.declared.name.OptionName.TheVariants.{Config, Resource, Path, Plugin}
 use Rattle.kr_words.specs.declared.name.OptionName.TheVariants.{Store, Replica, Reload, File, Seed}
 use Rattle.kr_words.specs.declared.name.OptionName.TheVariants.{Size, To, From, Replicas, Show}
+use Rattle.kr_words.specs.declared.name.OptionName.TheVariants.{Limit, Since}
 use Rattle.kr_words.specs.Names.{word_of, text_of}
 use Rattle.kr_words.specs.Options.{value_of, count_of}
 use Rattle.kr_words.specs.Numerals.{IsDecimal}
 use Rattle.kr_words.specs.Rules.{IsOption, IsCommand}
-use Rattle.kr_words.specs.Grammar.{Spells, Means, HasManyReplicas, IsAboveSize}
+use Rattle.kr_words.specs.Grammar.{Spells, Means, HasManyReplicas, IsAbovePage, IsAboveSize}
 use Rattle.kr_words.specs.inner.Spelling.{IsPlain, ArePlain, HasNoSmall, HasNoFewReplicas}
 use Rattle.kr_words.proofs.Spellings.{spelled_once}
 use Rattle.kr_words.proofs.Values.{value_rule}
@@ -27,12 +30,14 @@ verb_at word =
     if bytes_eq word (codes "inspect") then Inspect else (
     if bytes_eq word (codes "put") then Put else (
     if bytes_eq word (codes "get") then Get else (
+    if bytes_eq word (codes "verify") then Verify else (
     if bytes_eq word (codes "list") then Rows else (
     if bytes_eq word (codes "judge") then Judge else (
     if bytes_eq word (codes "rewrite") then Rewrite else (
     if bytes_eq word (codes "fleet") then Fleet else (
     if bytes_eq word (codes "plan") then Plan else (
-    if bytes_eq word (codes "migrate") then Migrate else Gen)))))))))))
+    if bytes_eq word (codes "migrate") then Migrate else (
+    if bytes_eq word (codes "watch") then Watch else Gen)))))))))))))
 
 verb_at-word : (verb : Verb) → verb_at (word_of verb) ≡ verb
 unfolding verb_at
@@ -42,6 +47,7 @@ verb_at-word Check = refl
 verb_at-word Inspect = refl
 verb_at-word Put = refl
 verb_at-word Get = refl
+verb_at-word Verify = refl
 verb_at-word Rows = refl
 verb_at-word Judge = refl
 verb_at-word Rewrite = refl
@@ -49,6 +55,7 @@ verb_at-word Fleet = refl
 verb_at-word Gen = refl
 verb_at-word Migrate = refl
 verb_at-word Plan = refl
+verb_at-word Watch = refl
 
 -- two commands have two words
 word_once : (verb verb' : Verb) → word_of verb ≡ word_of verb' → verb ≡ verb'
@@ -69,6 +76,8 @@ plain_text To = grind arith
 plain_text From = grind arith
 plain_text Replicas = grind arith
 plain_text Show = grind arith
+plain_text Limit = grind arith
+plain_text Since = grind arith
 
 -- the options of a command have plain names
 plain_options : {verb : Verb} {options : List (List ℕ × List ℕ)} → IsCommand verb options
@@ -133,3 +142,9 @@ pub many : {verb : Verb} {options : List (List ℕ × List ℕ)} → IsCommand v
 many {verb} {options} m (inl files) = inl files
 many {verb} {options} m (inr none) =
     inr (larger 16 (value_of options (text_of Replicas)) (value_rule Replicas m) none)
+
+-- and so is the number of a page's items
+pub above_page : {verb : Verb} {options : List (List ℕ × List ℕ)} → IsCommand verb options
+    → HasNoSmall options (text_of Limit) 10000 → IsAbovePage options
+above_page {verb} {options} m none =
+    larger 10000 (value_of options (text_of Limit)) (value_rule Limit m) none

@@ -13,6 +13,7 @@ use Rattle.kr_words.specs.declared.name.OptionName.{OptionName}
 use Rattle.kr_words.specs.declared.name.OptionName.TheVariants.{Config, Resource, Path, Plugin}
 use Rattle.kr_words.specs.declared.name.OptionName.TheVariants.{Store, Replica, Reload, File, Seed}
 use Rattle.kr_words.specs.declared.name.OptionName.TheVariants.{Size, To, From, Replicas, Show}
+use Rattle.kr_words.specs.declared.name.OptionName.TheVariants.{Limit, Since}
 use Rattle.kr_words.specs.Names.{text_of, required_options}
 use Rattle.kr_words.specs.Options.{is_named, value_of, count_of}
 use Rattle.kr_words.specs.Rules.{IsValue, IsOption, IsCommand}
@@ -31,7 +32,9 @@ name_at text =
     if bytes_eq text (codes "from") then From else (
     if bytes_eq text (codes "replicas") then Replicas else (
     if bytes_eq text (codes "show") then Show else (
-    if bytes_eq text (codes "to") then To else Size))))))))))))
+    if bytes_eq text (codes "to") then To else (
+    if bytes_eq text (codes "limit") then Limit else (
+    if bytes_eq text (codes "since") then Since else Size))))))))))))))
 
 name_at-text : (name : OptionName) → name_at (text_of name) ≡ name
 unfolding name_at
@@ -49,6 +52,8 @@ name_at-text To = refl
 name_at-text From = refl
 name_at-text Replicas = refl
 name_at-text Show = refl
+name_at-text Limit = refl
+name_at-text Since = refl
 
 -- two names have two texts
 pub name_once : (a b : OptionName) → text_of a ≡ text_of b → a ≡ b

@@ -7,7 +7,7 @@ use Rattle.std.specs.String.{string_bytes}
 use Rattle.kr_words.specs.declared.command.Verb.{Verb}
 use Rattle.kr_words.specs.declared.command.Command.{Command}
 use Rattle.kr_words.specs.declared.command.WordsNo.{WordsNo}
-use Rattle.kr_words.specs.declared.command.WordsNo.TheVariants.{Usage, Replicas, Size, NoMemory}
+use Rattle.kr_words.specs.declared.command.WordsNo.TheVariants.{Usage, Replicas, Size, Page, NoMemory}
 use Rattle.kr_words.specs.Names.{word_of}
 use Rattle.kr_words.specs.Options.{count_of}
 use Rattle.kr_words.specs.Rules.{IsCommand}
@@ -53,6 +53,10 @@ replica_limit = 16
 abbrev pub size_limit : ℕ
 size_limit = 10000
 
+-- the most items of a page
+abbrev pub page_limit : ℕ
+page_limit = 10000
+
 -- how many replicas there are
 abbrev pub replicas_of : List (List ℕ × List ℕ) → ℕ
 replicas_of options = count_of options (codes "replica")
@@ -75,13 +79,21 @@ IsWithinSize options = IsWithin options (codes "size") size_limit
 abbrev pub IsAboveSize : List (List ℕ × List ℕ) → Type 0
 IsAboveSize options = IsAbove options (codes "size") size_limit
 
--- What words are read as: the command that they mean, or the first refusal. More than 16 replicas
--- and a size above 10,000 are refused only where the words mean a command. Want of memory may take
--- any answer's place.
+-- no page is asked for, or one of up to 10,000 items
+abbrev pub IsWithinPage : List (List ℕ × List ℕ) → Type 0
+IsWithinPage options = IsWithin options (codes "limit") page_limit
+
+-- a page of more than 10,000 items is asked for
+abbrev pub IsAbovePage : List (List ℕ × List ℕ) → Type 0
+IsAbovePage options = IsAbove options (codes "limit") page_limit
+
+-- What words are read as: the command that they mean, or the first refusal. More than 16 replicas,
+-- a size above 10,000 and pages of more than 10,000 items are refused only where the words mean a
+-- command. Want of memory may take any answer's place.
 abbrev pub Reads : List (List ℕ) → Result Command WordsNo → Type 0
 Reads words (Ok command) =
     Means words command.verb command.options.0 × HasFewReplicas command.options.0
-    × IsWithinSize command.options.0
+    × IsWithinSize command.options.0 × IsWithinPage command.options.0
 Reads words (Err Usage) =
     (verb : Verb) (options : List (List ℕ × List ℕ)) → Means words verb options → ⊥
 Reads words (Err Replicas) =
@@ -90,4 +102,7 @@ Reads words (Err Replicas) =
 Reads words (Err Size) =
     (verb : Verb) × (options : List (List ℕ × List ℕ)) × Means words verb options
     × HasFewReplicas options × IsAboveSize options
+Reads words (Err Page) =
+    (verb : Verb) × (options : List (List ℕ × List ℕ)) × Means words verb options
+    × HasFewReplicas options × IsWithinSize options × IsAbovePage options
 Reads words (Err NoMemory) = ⊤

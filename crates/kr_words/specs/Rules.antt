@@ -9,6 +9,7 @@ use Rattle.kr_words.specs.declared.name.OptionName.{OptionName}
 use Rattle.kr_words.specs.declared.name.OptionName.TheVariants.{Config, Resource, Path, Plugin}
 use Rattle.kr_words.specs.declared.name.OptionName.TheVariants.{Store, Replica, Reload, File, Seed}
 use Rattle.kr_words.specs.declared.name.OptionName.TheVariants.{Size, To, From, Replicas, Show}
+use Rattle.kr_words.specs.declared.name.OptionName.TheVariants.{Limit, Since}
 use Rattle.kr_words.specs.Names.{text_of, required_options, optional, IsRepeatable}
 use Rattle.kr_words.specs.Options.{count_of}
 use Rattle.kr_words.specs.Numerals.{IsDecimal}
@@ -54,6 +55,8 @@ IsValue verb replicas To value = ⊤
 IsValue verb replicas From value = ⊤
 IsValue verb replicas Replicas value = (n : ℕ) × IsDecimal value n × (1 ≤ n)
 IsValue verb replicas Show value = IsShown value
+IsValue verb replicas Limit value = (n : ℕ) × IsDecimal value n × (1 ≤ n)
+IsValue verb replicas Since value = (n : ℕ) × IsDecimal value n × (n ≤ 18446744073709551615)
 
 -- an option of the command, with a value that it may have
 abbrev pub IsOption : Verb → ℕ → List ℕ × List ℕ → Type 0

@@ -2,11 +2,12 @@
 ghost use Rattle.std.specs.Prelude.{◌≡◌, ◌^◌, ◌<◌, ◌≤◌, ℕ, List, MatchOption, IsSome, IsSomeAnd};
 ghost use Rattle.std.specs.Prelude.{Contains, codes, slice_get};
 ghost use Rattle.std.specs.Option.{option_copied};
-ghost use Rattle.kr_words.specs.Options.{values_of, count_of};
+ghost use Rattle.kr_words.specs.Options.{value_of, values_of, count_of};
 ghost use Rattle.kr_words.specs.Arguments.{is_plugin, program_of, IsNumberAt, IsReloadOf};
 ghost use Rattle.kr_words.specs.Arguments.{IsReloadAt};
 ghost use Rattle.kr_words.specs.Rules.{before_equals, after_equals, IsCommand};
-ghost use Rattle.kr_words.specs.Grammar.{replica_limit, replicas_of, HasFewReplicas, IsWithinSize};
+ghost use Rattle.kr_words.specs.Grammar.{replica_limit, replicas_of, HasFewReplicas, IsWithinPage};
+ghost use Rattle.kr_words.specs.Grammar.{IsWithinSize};
 ghost use Rattle.kr_words.specs.declared.command.Verb.{Verb};
 
 use crate::command::{Command, count_of, first_value};
@@ -92,6 +93,28 @@ impl Command {
             → IsSomeAnd result (λ n. (1 ≤ n) × (n ≤ replica_limit)) }
     {
         number_at(self.options.as_slice(), OptionName::Replicas.text())
+    }
+
+    /// How many items a page has. `watch` says it.
+    pub fn limit(&self) -> Option<u64>
+        ensures number { MatchOption result
+            ((n : ℕ) → IsNumberAt self.now.options.0 (codes "limit") n → 2 ^ 64 ≤ n)
+            (λ n. IsNumberAt self.now.options.0 (codes "limit") n) }
+        ensures given { IsCommand self.now.verb self.now.options.0 → self.now.verb ≡ Verb.Watch
+            → IsWithinPage self.now.options.0 → IsSome result }
+    {
+        number_at(self.options.as_slice(), OptionName::Limit.text())
+    }
+
+    /// The revision since which changes are to be shown. `watch` may have one.
+    pub fn since(&self) -> Option<u64>
+        ensures number { MatchOption result
+            ((n : ℕ) → IsNumberAt self.now.options.0 (codes "since") n → 2 ^ 64 ≤ n)
+            (λ n. IsNumberAt self.now.options.0 (codes "since") n) }
+        ensures given { IsCommand self.now.verb self.now.options.0
+            → IsSome (value_of self.now.options.0 (codes "since")) → IsSome result }
+    {
+        number_at(self.options.as_slice(), OptionName::Since.text())
     }
 }
 

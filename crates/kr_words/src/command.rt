@@ -20,6 +20,8 @@ pub enum Verb {
     Put,
     /// Gets a value from a store, decrypted.
     Get,
+    /// Tells what each value of a store reads as.
+    Verify,
     /// Lists the rows of a store; its word is `list`.
     Rows,
     /// Copies a store of the first format into a new one of the second.
@@ -34,6 +36,8 @@ pub enum Verb {
     Fleet,
     /// Generates a load over a new store.
     Gen,
+    /// Runs the replicas of a fleet file, and shows what a watch of them shows.
+    Watch,
 }
 
 /// What a command line means: a command and its options as pairs of a name without dashes and a
@@ -55,6 +59,8 @@ pub enum WordsNo {
     Replicas,
     /// The size is above 10,000.
     Size,
+    /// A page has more than 10,000 items.
+    Page,
     /// There was no memory for the options.
     NoMemory,
 }

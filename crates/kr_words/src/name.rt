@@ -35,6 +35,10 @@ pub enum OptionName {
     Replicas,
     /// Which settings of a plan are shown in place of its moves.
     Show,
+    /// How many items a page has.
+    Limit,
+    /// The revision since which changes are shown.
+    Since,
 }
 
 /// The command of a word.
@@ -50,6 +54,7 @@ pub fn verb_of(word: &str) -> Option<Verb>
         "inspect" => Some(Verb::Inspect),
         "put" => Some(Verb::Put),
         "get" => Some(Verb::Get),
+        "verify" => Some(Verb::Verify),
         "list" => Some(Verb::Rows),
         "migrate" => Some(Verb::Migrate),
         "judge" => Some(Verb::Judge),
@@ -57,13 +62,14 @@ pub fn verb_of(word: &str) -> Option<Verb>
         "rewrite" => Some(Verb::Rewrite),
         "fleet" => Some(Verb::Fleet),
         "gen" => Some(Verb::Gen),
+        "watch" => Some(Verb::Watch),
         _ => None,
     }
 }
 
 impl OptionName {
     /// Each name once.
-    pub const ALL: [OptionName; 14] = [
+    pub const ALL: [OptionName; 16] = [
         OptionName::Config,
         OptionName::Resource,
         OptionName::Path,
@@ -78,6 +84,8 @@ impl OptionName {
         OptionName::From,
         OptionName::Replicas,
         OptionName::Show,
+        OptionName::Limit,
+        OptionName::Since,
     ];
 
     /// The option of that name, without its dashes.
@@ -101,6 +109,8 @@ impl OptionName {
             "from" => Some(OptionName::From),
             "replicas" => Some(OptionName::Replicas),
             "show" => Some(OptionName::Show),
+            "limit" => Some(OptionName::Limit),
+            "since" => Some(OptionName::Since),
             _ => None,
         }
     }
@@ -124,6 +134,8 @@ impl OptionName {
             OptionName::From => "from",
             OptionName::Replicas => "replicas",
             OptionName::Show => "show",
+            OptionName::Limit => "limit",
+            OptionName::Since => "since",
         }
     }
 
@@ -153,6 +165,7 @@ impl Verb {
                 OptionName::Path,
             ],
             Verb::Get => &[OptionName::Config, OptionName::Store, OptionName::Path],
+            Verb::Verify => &[OptionName::Config, OptionName::Store],
             Verb::Rows => &[OptionName::Store],
             Verb::Migrate => &[OptionName::Config, OptionName::Store, OptionName::To],
             Verb::Judge => &[OptionName::Store, OptionName::Replica, OptionName::Reload],
@@ -160,6 +173,12 @@ impl Verb {
             Verb::Rewrite => &[OptionName::Config, OptionName::Store],
             Verb::Fleet => &[OptionName::File, OptionName::Store],
             Verb::Gen => &[OptionName::Seed, OptionName::Size, OptionName::Store],
+            Verb::Watch => &[
+                OptionName::File,
+                OptionName::Store,
+                OptionName::Resource,
+                OptionName::Limit,
+            ],
         }
     }
 
@@ -168,10 +187,16 @@ impl Verb {
         ensures { result.now ≡ optional self }
     {
         match self {
-            Verb::Encrypt | Verb::Decrypt | Verb::Put | Verb::Get | Verb::Rewrite | Verb::Fleet =>
-                &[OptionName::Plugin],
+            Verb::Encrypt
+            | Verb::Decrypt
+            | Verb::Put
+            | Verb::Get
+            | Verb::Verify
+            | Verb::Rewrite
+            | Verb::Fleet => &[OptionName::Plugin],
             Verb::Check => &[OptionName::Resource],
             Verb::Plan => &[OptionName::Show],
+            Verb::Watch => &[OptionName::Plugin, OptionName::Since],
             Verb::Inspect | Verb::Rows | Verb::Migrate | Verb::Judge | Verb::Gen => &[],
         }
     }

@@ -20,8 +20,12 @@ const REPLICA_LIMIT: usize = 16;
 /// The greatest size of a command line.
 const SIZE_LIMIT: u64 = 10_000;
 
+/// The most items of a page.
+const PAGE_LIMIT: u64 = 10_000;
+
 /// Reads the words of a command line, those behind the program's name. Words that mean no command
-/// are refused first, then too many replicas, then a size that is too large.
+/// are refused first, then too many replicas, then a size that is too large, then pages of too many
+/// items.
 pub fn read_words(alloc: Global, words: &[String]) -> Result<Command, WordsNo>
     ensures { Reads (texts words.now) result }
 {
@@ -44,6 +48,9 @@ pub fn read_words(alloc: Global, words: &[String]) -> Result<Command, WordsNo>
     }
     if !is_within(options.as_slice(), OptionName::Size, SIZE_LIMIT) {
         return Err(WordsNo::Size);
+    }
+    if !is_within(options.as_slice(), OptionName::Limit, PAGE_LIMIT) {
+        return Err(WordsNo::Page);
     }
     Ok(Command { verb, options })
 }

@@ -66,6 +66,8 @@ fn is_value(verb: Verb, replicas: usize, name: OptionName, value: &str) -> bool
         OptionName::Size => is_positive(value),
         OptionName::Replicas => is_positive(value),
         OptionName::Show => is_shown(value),
+        OptionName::Limit => is_positive(value),
+        OptionName::Since => number_of(value).is_some(),
     }
 }
 

@@ -51,7 +51,7 @@ use Rattle.kr_script.specs.declared.script.ScriptLine.{ScriptLine}
 use Rattle.kr_script.specs.declared.script.ScriptLine.TheVariants as line
 use Rattle.kr_script.specs.declared.told.Told.{Told}
 use Rattle.kr_workers.specs.declared.files.SettingsFile.{SettingsFile}
-use Rattle.kr_workers.specs.Changes.{MayChange, MayWrite}
+use Rattle.kr_workers.specs.Changes.{AllowsChange, MayChange}
 use Rattle.kr_workers.specs.Files.{rows_at}
 use Rattle.kr_workers.specs.Replies.{Reply, told_of_delete, told_of_join, told_of_leave, told_of_refresh, told_of_reload, told_of_write}
 use Rattle.kr_workers.specs.ScriptLines.{Does, DoesJoin, DoesReload, IfRead, Workplace}
@@ -114,11 +114,11 @@ module _ {L D : Type 0} (truth : Truth) (link : L → Link) (left : D → Option
     (count : D → ℕ) (settings_in : (file : List ℕ) → Option (List setting)) (own : ℕ)
     (asked : ScriptLine) (reply : Told) where
   abbrev pub OfLine : Entry → Type 0
-  OfLine e = MayWrite settings_in own asked reply e
+  OfLine e = MayChange settings_in own asked reply e
 
   abbrev pub Changes : Gave → Did → (held : Option ℕ) → Option Publication → Type 0
   Changes given done held published =
-      MayChange settings_in own asked reply given done held published
+      AllowsChange settings_in own asked reply given done held published
 
   abbrev pub Adding : (old new : Caller) → Type 0
   Adding old new = Makes OfLine old new
@@ -607,7 +607,7 @@ module _ {L D : Type 0} (truth : Truth) (link : L → Link) (left : D → Option
   where
     line_makes : (it : ScriptLine) → asked ≡ it → (old new : Workplace L D) → IsCaller old.caller
         → Does truth link left count files own it old (Ok reply) new
-        → Makes (MayWrite (rows_at files) own asked reply) old.caller new.caller
+        → Makes (MayChange (rows_at files) own asked reply) old.caller new.caller
     line_makes (line.Put resource path plain) is old new k d = write_makes truth link left count
         (rows_at files) own asked reply resource path plain is old.caller.seat own old.caller
         new.caller old.dice new.dice d.0 d.1 d.2
@@ -631,9 +631,9 @@ module _ {L D : Type 0} (truth : Truth) (link : L → Link) (left : D → Option
     pub made : (old new : Workplace L D) (part : List Entry) → IsCaller old.caller
         → Adds old.caller part new.caller
         → Does truth link left count files own asked old (Ok reply) new
-        → All (MayWrite (rows_at files) own asked reply) part
+        → All (MayChange (rows_at files) own asked reply) part
     made old new part k adds does =
         let m = line_makes asked refl old new k does in
-        subst (λ (l : List Entry). All (MayWrite (rows_at files) own asked reply) l)
+        subst (λ (l : List Entry). All (MayChange (rows_at files) own asked reply) l)
         (append_cancel_left old.caller.mine m.part part
         (sym m.mine_is ∙ ap (λ (c : Caller). c.mine) adds.new_is)) m.all

@@ -6,13 +6,16 @@ use Rattle.std.proofs.lemmas.Bool.{false≢true}
 use Rattle.std.proofs.lemmas.List.{append_assoc, append_cancel_left}
 use Rattle.std.proofs.lemmas.List.Elements.{All-cons, All-nil}
 use Rattle.kr_base.specs.Faults.{Rose}
+use Rattle.kr_config.specs.Kept.{Row as setting}
 use Rattle.kr_kms.specs.Calls.{Link}
 use Rattle.kr_kms.specs.Health.{HasBreach}
 use Rattle.kr_kms.specs.Truth.{Truth}
 use Rattle.kr_kms.specs.declared.health.Field.{Field}
 use Rattle.kr_provider.specs.AskedLinks.{FaultRose, HasLinkWith}
 use Rattle.kr_provider.specs.Publication.{Publication}
+use Rattle.kr_provider.specs.declared.refusal.ValueNo.{ValueNo}
 use Rattle.kr_provider.specs.declared.refusal.ValueNo.TheVariants as value
+use Rattle.kr_store.specs.declared.rows.Row.{Row}
 use Rattle.kr_rollout.specs.declared.answer.Answer.{Answer}
 use Rattle.kr_rollout.specs.declared.answer.Answer.TheVariants as answer
 use Rattle.kr_rollout.specs.declared.event.Event.{Event}
@@ -36,11 +39,12 @@ use Rattle.kr_fleet.specs.SingleCalls.{IsDelete, IsLeave}
 use Rattle.kr_fleet.specs.WriteCalls.{IsWrite, Puts}
 use Rattle.kr_fleet.specs.declared.outcome.Read.{Read}
 use Rattle.kr_fleet.specs.declared.outcome.Read.TheVariants as read
-use Rattle.kr_rewrite.specs.declared.outcome.Step.{Step}
+use Rattle.kr_script.specs.declared.script.ScriptLine.TheVariants as line
 use Rattle.kr_script.specs.declared.told.Told.{Told}
 use Rattle.kr_script.specs.declared.told.Told.TheVariants as told
 use Rattle.kr_workers.specs.Replies.{Reply, told_of_delete, told_of_leave, told_of_read, told_of_refusal, told_of_write}
-use Rattle.kr_workers.specs.Shapes.{DeletePart, GetPart, HasDone, HoldsPart, IsAlone, IsOne, IsOut, LeavePart, PutPart, ReadsBy}
+use Rattle.kr_workers.specs.Configurations.{CannotBeSealed, NamesPlugin, ReadBy}
+use Rattle.kr_workers.specs.Shapes.{DeletePart, GetPart, HasDone, HoldsPart, IsAlone, IsOne, PartIs, PutPart}
 
 -- ---- what a caller adds
 
@@ -172,7 +176,10 @@ held_parted own old adopted acted new number p Is a g m = record {
   };
 }
 
--- the replica was out
+-- the replica was out when its generation was to be adopted
+abbrev pub IsOut : (replica : ℕ) → (part : List Entry) → Type 0
+IsOut replica part = IsAlone (did.Adopt replica) (gave.Gone replica) part
+
 pub out_parted : (own : ℕ) (old new : Caller) → IsCaller old → holding old.mine ≡ None
     → AddsEntry old (event.Adopt own) (answer.Gone own) new → Parted (IsOut own) old new
 out_parted own old new k idle a = alone old new (event.Adopt own) (answer.Gone own) k idle a
@@ -191,7 +198,7 @@ has_reply (Err spent) = false
 module _ {L D : Type 0} (truth : Truth) (link : L → Link) (left : D → Option (List ℕ))
     (count : D → ℕ) (own : ℕ) (old new : Caller) (k : IsCaller old)
     (idle : holding old.mine ≡ None) (olds news : List L) (dice after : D)
-    (MeetsAll : List Step → Type 0) (part : List Entry) (adds : Adds old part new) where
+    (RewriteDone : Told → Type 0) (part : List Entry) (adds : Adds old part new) where
   abbrev Fails : (name : List ℕ) → Type 0
   Fails name = FaultRose link name olds news
 
@@ -209,7 +216,8 @@ module _ {L D : Type 0} (truth : Truth) (link : L → Link) (left : D → Option
   module _ (resource path plain : List ℕ) where
     abbrev PutsPart : Told → Type 0
     PutsPart reply =
-        PutPart Fails Draws Breaks KeysSame MeetsAll old.seat own part resource path plain reply
+        PutPart Fails Draws Breaks KeysSame NamesPlugin CannotBeSealed ReadBy RewriteDone old.seat
+        own part resource path plain reply
 
     abbrev asked_put : (stored : List ℕ) → Event
     asked_put stored = event.Put path resource plain stored
@@ -253,6 +261,16 @@ module _ {L D : Type 0} (truth : Truth) (link : L → Link) (left : D → Option
           (held_parted own old adopted acted new number p Is a g
           (none_between number p (λ mids. mids ≡ []) adopted acted same refl))
 
+      put_refused : (why : ValueNo) → CannotBeSealed p resource plain why → acted ≡ adopted
+          → HoldsPart own part (λ p number mids.
+          (mids ≡ []) × CannotBeSealed p resource plain why)
+      put_refused why cannot same =
+          let Is : (p : Publication) → (number : ℕ) → List Entry → Type 0 = λ p number mids.
+          (mids ≡ []) × CannotBeSealed p resource plain why in
+          part_here (λ part. HoldsPart own part Is) old new part adds
+          (held_parted own old adopted acted new number p Is a g
+          (none_between number p (Is p number) adopted acted same (refl, cannot)))
+
       puts_part : (result : Result ℕ CallNo)
           → Puts left count resource path plain p adopted dice result acted after
           → PutsPart (reply_of (told_of_write old.seat result))
@@ -270,8 +288,9 @@ module _ {L D : Type 0} (truth : Truth) (link : L → Link) (left : D → Option
       puts_part (Err (refusal.Refused value.NotUtf8)) d = absurd d
       puts_part (Err (refusal.Refused value.SeedLength)) d = absurd d
       puts_part (Err (refusal.Refused value.NoProvider)) d = absurd d
-      puts_part (Err (refusal.Refused value.LooksEncrypted)) d = (d.0.2, put_none d.1)
-      puts_part (Err (refusal.Refused value.TooLarge)) d = (d.0.1, put_none d.1)
+      puts_part (Err (refusal.Refused value.LooksEncrypted)) d =
+          put_refused value.LooksEncrypted (d.0.1, d.0.2) d.1
+      puts_part (Err (refusal.Refused value.TooLarge)) d = put_refused value.TooLarge d.0.1 d.1
       puts_part (Err (refusal.PluginFailed name)) d = absurd d
       puts_part (Err refusal.DiceFailed) d = (refl, d.0.2, put_none d.1)
       puts_part (Err refusal.StoreFailed) d = put_one d.stored answer.StoreFailed d.put
@@ -301,7 +320,8 @@ module _ {L D : Type 0} (truth : Truth) (link : L → Link) (left : D → Option
 
   module _ (path : List ℕ) where
     abbrev GetsPart : Told → Type 0
-    GetsPart reply = GetPart Fails Draws Breaks KeysSame MeetsAll old.seat own part path reply
+    GetsPart reply = GetPart Fails Draws Breaks KeysSame NamesPlugin CannotBeSealed ReadBy
+        RewriteDone old.seat own part path reply
 
     early_get : (why : CallNo) → AdoptsNothing own old why new
         → GetsPart (reply_of (told_of_refusal old.seat why))
@@ -345,7 +365,8 @@ module _ {L D : Type 0} (truth : Truth) (link : L → Link) (left : D → Option
       gets_part (Err (refusal.PluginFailed name)) d = (
         d.1.unseals.rose,
         d.0.revision,
-        get_one (answer.Found d.0) d.1.found (ReadsBy name)
+        get_one (answer.Found d.0) d.1.found
+            (λ p e. (row : Row) × (e.row ≡ Some row) × ReadBy name p row)
             (d.0, d.1.found.records.shows, d.1.unseals.reader),
       )
       gets_part (Err refusal.DiceFailed) d = absurd d
@@ -381,7 +402,8 @@ module _ {L D : Type 0} (truth : Truth) (link : L → Link) (left : D → Option
   module _ (path : List ℕ) where
     abbrev DeletesPart : Told → Type 0
     DeletesPart reply =
-        DeletePart Fails Draws Breaks KeysSame MeetsAll old.seat own part path reply
+        DeletePart Fails Draws Breaks KeysSame NamesPlugin CannotBeSealed ReadBy RewriteDone
+        old.seat own part path reply
 
     pub delete_part : (result : Result (Option ℕ) CallNo) → IsDelete path old result new
         → DeletesPart (reply_of (told_of_delete old.seat result))
@@ -398,10 +420,10 @@ module _ {L D : Type 0} (truth : Truth) (link : L → Link) (left : D → Option
     delete_part (Err refusal.Spent) d = tt
     delete_part (Err refusal.NoMemory) d = tt
 
-  module _ (named : ℕ) where
+  module _ (settings_in : (file : List ℕ) → Option (List setting)) (named : ℕ) where
     abbrev LeavesPart : Told → Type 0
-    LeavesPart reply =
-        LeavePart Fails Draws Breaks KeysSame MeetsAll old.seat own part named reply
+    LeavesPart reply = PartIs Fails Draws Breaks KeysSame NamesPlugin CannotBeSealed ReadBy
+        RewriteDone old.seat own part settings_in (line.Leave named) reply
 
     -- it never wants memory
     pub leave_part : (result : Result (Option ℕ) CallNo) (reply : Told)

@@ -1,5 +1,5 @@
 -- The part of each line that was done has its shape.
-use Rattle.std.proofs.Common.{◌≡◌, ℕ, List, [], Option, None, Some, Ok, inl, inr, ap, sym, subst}
+use Rattle.std.proofs.Common.{◌≡◌, ℕ, List, [], Option, None, Some, Ok, inl, inr, refl, ap, sym, subst}
 use Rattle.kr_base.specs.Faults.{Rose}
 use Rattle.kr_config.specs.Kept.{Row as setting}
 use Rattle.kr_kms.specs.Calls.{Link}
@@ -12,7 +12,6 @@ use Rattle.kr_history.specs.Acting.{IsCaller}
 use Rattle.kr_history.specs.Parts.{Adds}
 use Rattle.kr_fleet.specs.LoadCalls.{AreKeysSame}
 use Rattle.kr_rewrite.specs.Drives.{CoversLive}
-use Rattle.kr_rewrite.specs.declared.outcome.Step.{Step}
 use Rattle.kr_script.specs.declared.script.ScriptLine.{ScriptLine}
 use Rattle.kr_script.specs.declared.script.ScriptLine.TheVariants as line
 use Rattle.kr_script.specs.declared.told.Told.{Told}
@@ -22,7 +21,9 @@ use Rattle.kr_workers.specs.Files.{rows_at}
 use Rattle.kr_workers.specs.LineParts.{HasShape, PartsHaveShape}
 use Rattle.kr_workers.specs.Replies.{Reply}
 use Rattle.kr_workers.specs.ScriptLines.{Does, DoesJoin, DoesReload, IfRead, Workplace}
-use Rattle.kr_workers.specs.Shapes.{JoinPart, OfFile, ReloadPart}
+use Rattle.kr_workers.specs.Configurations.{CannotBeSealed, NamesPlugin, ReadBy}
+use Rattle.kr_workers.specs.RewriteParts.{RewritePart}
+use Rattle.kr_workers.specs.Shapes.{JoinPart, ReloadPart}
 use Rattle.kr_workers.proofs.Shaping.{delete_part, leave_part, read_part, reply_of, write_part}
 use Rattle.kr_workers.proofs.ShapingLoads.{join_part, refresh_part, reload_part}
 use Rattle.kr_workers.proofs.ShapingRewrites.{drive_part}
@@ -30,18 +31,24 @@ use Rattle.kr_workers.proofs.ShapingRewrites.{drive_part}
 -- a reload's part and a join's, by the settings of the file
 module _ {L D : Type 0} (link : L → Link) (count : D → ℕ) (own : ℕ) (old new : Workplace L D)
     (part : List Entry) (named : ℕ) where
+  -- what a rewrite did
+  abbrev Rewrote : Told → Type 0
+  Rewrote = RewritePart (λ name. FaultRose link name old.links new.links)
+      (Rose (count old.dice) (count new.dice)) (λ met. CoversLive [] met old.caller new.caller)
+      old.caller.seat own part
+
   abbrev ReloadShape : List setting → Told → Type 0
   ReloadShape rows reply = ReloadPart (λ name. FaultRose link name old.links new.links)
       (Rose (count old.dice) (count new.dice))
       (λ name field text. HasLinkWith link name (λ it. HasBreach it (Some (field, text))) old.links)
-      (λ p. AreKeysSame link old.links p.seeds) (λ met. CoversLive [] met old.caller new.caller)
+      (λ p. AreKeysSame link old.links p.seeds) NamesPlugin CannotBeSealed ReadBy Rewrote
       old.caller.seat own part named rows reply
 
   abbrev JoinShape : List setting → Told → Type 0
   JoinShape rows reply = JoinPart (λ name. FaultRose link name old.links new.links)
       (Rose (count old.dice) (count new.dice))
       (λ name field text. HasLinkWith link name (λ it. HasBreach it (Some (field, text))) old.links)
-      (λ p. AreKeysSame link old.links p.seeds) (λ met. CoversLive [] met old.caller new.caller)
+      (λ p. AreKeysSame link old.links p.seeds) NamesPlugin CannotBeSealed ReadBy Rewrote
       old.caller.seat own part named rows reply
 
 module _ {L D : Type 0} (truth : Truth) (link : L → Link) (left : D → Option (List ℕ))
@@ -51,8 +58,10 @@ module _ {L D : Type 0} (truth : Truth) (link : L → Link) (left : D → Option
   abbrev Shaped : ScriptLine → Told → Type 0
   Shaped asked told = HasShape link count files own old new part asked told
 
-  abbrev MeetsAll : List Step → Type 0
-  MeetsAll met = CoversLive [] met old.caller new.caller
+  abbrev RewriteDone : Told → Type 0
+  RewriteDone = RewritePart (λ name. FaultRose link name old.links new.links)
+      (Rose (count old.dice) (count new.dice)) (λ met. CoversLive [] met old.caller new.caller)
+      old.caller.seat own part
 
   -- the reply is what the call's answer tells
   as_told : (asked : ScriptLine) (other : Reply) → Ok reply ≡ other
@@ -63,69 +72,74 @@ module _ {L D : Type 0} (truth : Truth) (link : L → Link) (left : D → Option
       → IfRead (rows_at files file) (λ rows. DoesReload truth link left count named rows old
       (Ok reply) new)
       → Shaped (line.Reload named file) reply
-  reloaded named file d = by (rows_at files file) d
+  reloaded named file d = by (rows_at files file) refl d
     where
-      by : (rows : Option (List setting))
+      by : (rows : Option (List setting)) → rows_at files file ≡ rows
           → IfRead rows (λ rows. DoesReload truth link left count named rows old (Ok reply) new)
-          → OfFile (λ name. FaultRose link name old.links new.links)
-          (Rose (count old.dice) (count new.dice))
-          (λ name field text. HasLinkWith link name (λ it. HasBreach it (Some (field, text)))
-          old.links) (λ p. AreKeysSame link old.links p.seeds) MeetsAll old.caller.seat own part
-          rows (λ rows. ReloadShape link count own old new part named rows reply)
-      by None d = absurd d
-      by (Some rows) (inl none) =
-          subst (λ (r : Told). ReloadShape link count own old new part named rows r)
-          (sym (ap reply_of none.0)) tt
-      by (Some rows) (inr d) =
-          subst (λ (r : Told). ReloadShape link count own old new part named rows r)
-          (sym (ap reply_of d.1))
-          (reload_part truth link left count own old.caller new.caller k idle old.links new.links
-          old.dice new.dice MeetsAll part adds named rows d.0 d.2)
+          → Shaped (line.Reload named file) reply
+      by None is d = absurd d
+      by (Some rows) is (inl none) = (
+        rows,
+        is,
+        subst (λ (r : Told). ReloadShape link count own old new part named rows r)
+            (sym (ap reply_of none.0)) tt,
+      )
+      by (Some rows) is (inr d) = (
+        rows,
+        is,
+        subst (λ (r : Told). ReloadShape link count own old new part named rows r)
+            (sym (ap reply_of d.1))
+            (reload_part truth link left count own old.caller new.caller k idle old.links new.links
+            old.dice new.dice RewriteDone part adds named rows d.0 d.2),
+      )
 
   joined : (named : ℕ) (file : List ℕ)
       → IfRead (rows_at files file) (λ rows. DoesJoin truth link left count named rows old
       (Ok reply) new)
       → Shaped (line.Join named file) reply
-  joined named file d = by (rows_at files file) d
+  joined named file d = by (rows_at files file) refl d
     where
-      by : (rows : Option (List setting))
+      by : (rows : Option (List setting)) → rows_at files file ≡ rows
           → IfRead rows (λ rows. DoesJoin truth link left count named rows old (Ok reply) new)
-          → OfFile (λ name. FaultRose link name old.links new.links)
-          (Rose (count old.dice) (count new.dice))
-          (λ name field text. HasLinkWith link name (λ it. HasBreach it (Some (field, text)))
-          old.links) (λ p. AreKeysSame link old.links p.seeds) MeetsAll old.caller.seat own part
-          rows (λ rows. JoinShape link count own old new part named rows reply)
-      by None d = absurd d
-      by (Some rows) (inl none) =
-          subst (λ (r : Told). JoinShape link count own old new part named rows r)
-          (sym (ap reply_of none.0)) tt
-      by (Some rows) (inr d) =
-          subst (λ (r : Told). JoinShape link count own old new part named rows r)
-          (sym (ap reply_of d.1))
-          (join_part truth link left count own old.caller new.caller k idle old.links new.links
-          old.dice new.dice MeetsAll part adds named rows d.0 d.2)
+          → Shaped (line.Join named file) reply
+      by None is d = absurd d
+      by (Some rows) is (inl none) = (
+        rows,
+        is,
+        subst (λ (r : Told). JoinShape link count own old new part named rows r)
+            (sym (ap reply_of none.0)) tt,
+      )
+      by (Some rows) is (inr d) = (
+        rows,
+        is,
+        subst (λ (r : Told). JoinShape link count own old new part named rows r)
+            (sym (ap reply_of d.1))
+            (join_part truth link left count own old.caller new.caller k idle old.links new.links
+            old.dice new.dice RewriteDone part adds named rows d.0 d.2),
+      )
 
   pub line_part : (asked : ScriptLine)
       → Does truth link left count files own asked old (Ok reply) new → Shaped asked reply
   line_part (line.Put resource path plain) d = as_told (line.Put resource path plain) _ d.1
       (write_part truth link left count own old.caller new.caller k idle old.links new.links
-      old.dice new.dice MeetsAll part adds resource path plain d.0 d.2)
+      old.dice new.dice RewriteDone part adds resource path plain d.0 d.2)
   line_part (line.Get path) d = as_told (line.Get path) _ d.1
       (read_part truth link left count own old.caller new.caller k idle old.links new.links
-      old.dice new.dice MeetsAll part adds path d.0 d.2)
+      old.dice new.dice RewriteDone part adds path d.0 d.2)
   line_part (line.Delete path) d = as_told (line.Delete path) _ d.1
       (delete_part truth link left count own old.caller new.caller k idle old.links new.links
-      old.dice new.dice MeetsAll part adds path d.0 d.2)
+      old.dice new.dice RewriteDone part adds path d.0 d.2)
   line_part line.Rewrite d = as_told line.Rewrite _ d.1
       (drive_part truth link left count own old.caller new.caller k idle old.links new.links
       old.dice new.dice part adds d.0 d.2)
   line_part (line.Reload named file) d = reloaded named file d
   line_part line.Refresh d = as_told line.Refresh _ d.1
       (refresh_part truth link left count own old.caller new.caller k idle old.links new.links
-      old.dice new.dice MeetsAll part adds d.0 d.2)
+      old.dice new.dice RewriteDone part adds d.0 d.2)
   line_part (line.Join named file) d = joined named file d
   line_part (line.Leave named) d = leave_part truth link left count own old.caller new.caller k
-      idle old.links new.links old.dice new.dice MeetsAll part adds named d.0 reply d.1 d.2
+      idle old.links new.links old.dice new.dice RewriteDone part adds (rows_at files) named d.0 reply
+      d.1 d.2
 
 pub parts_have_shape : {L D : Type 0} → (truth : Truth) (link : L → Link)
     (left : D → Option (List ℕ)) (count : D → ℕ) (files : List SettingsFile)

@@ -31,11 +31,11 @@ use Rattle.kr_fleet.specs.declared.outcome.Joining.{Joining}
 use Rattle.kr_fleet.specs.declared.outcome.Joining.TheVariants as joining
 use Rattle.kr_fleet.specs.declared.outcome.Loaded.{Loaded}
 use Rattle.kr_fleet.specs.declared.outcome.Loaded.TheVariants as loaded
-use Rattle.kr_rewrite.specs.declared.outcome.Step.{Step}
 use Rattle.kr_script.specs.declared.told.Told.{Told}
 use Rattle.kr_workers.specs.Replies.{told_of_join, told_of_refresh, told_of_refusal, told_of_reload}
-use Rattle.kr_workers.specs.Shapes.{BringsRows, HoldsPart, IsAlone, IsOne, IsOut, JoinPart, RefreshPart, ReloadPart, reload_by}
-use Rattle.kr_workers.proofs.Shaping.{Mids, alone, has_done, held_parted, holds_entry, none_between, out_parted, part_here, parted_one, parted_same, reply_of}
+use Rattle.kr_workers.specs.Configurations.{CannotBeSealed, NamesPlugin, ReadBy}
+use Rattle.kr_workers.specs.Shapes.{BringsRows, HoldsPart, IsAlone, IsOne, JoinPart, RefreshPart, ReloadPart}
+use Rattle.kr_workers.proofs.Shaping.{IsOut, Mids, alone, has_done, held_parted, holds_entry, none_between, out_parted, part_here, parted_one, parted_same, reply_of}
 
 -- ---- which plugin ended it
 
@@ -64,7 +64,7 @@ module _ {L D : Type 0} (truth : Truth) (link : L → Link) (left : D → Option
 module _ {L D : Type 0} (truth : Truth) (link : L → Link) (left : D → Option (List ℕ))
     (count : D → ℕ) (own : ℕ) (old new : Caller) (k : IsCaller old)
     (idle : holding old.mine ≡ None) (olds news : List L) (dice after : D)
-    (MeetsAll : List Step → Type 0) (part : List Entry) (adds : Adds old part new) where
+    (RewriteDone : Told → Type 0) (part : List Entry) (adds : Adds old part new) where
   abbrev Fails : (name : List ℕ) → Type 0
   Fails name = FaultRose link name olds news
 
@@ -91,16 +91,18 @@ module _ {L D : Type 0} (truth : Truth) (link : L → Link) (left : D → Option
   module _ (named : ℕ) (rows : List setting) where
     abbrev ReloadsPart : Told → Type 0
     ReloadsPart reply =
-        ReloadPart Fails Draws Breaks KeysSame MeetsAll old.seat own part named rows reply
+        ReloadPart Fails Draws Breaks KeysSame NamesPlugin CannotBeSealed ReadBy RewriteDone
+        old.seat own part named rows reply
 
     abbrev JoinsPart : Told → Type 0
     JoinsPart reply =
-        JoinPart Fails Draws Breaks KeysSame MeetsAll old.seat own part named rows reply
+        JoinPart Fails Draws Breaks KeysSame NamesPlugin CannotBeSealed ReadBy RewriteDone old.seat
+        own part named rows reply
 
     reloaded : (given : Answer)
         → Brings truth link left count rows (reload_of named None) old olds dice given new news
         after
-        → BringsRows (reload_by named) rows (gave_of given) part
+        → BringsRows (λ p. did.Reload named p None) rows (gave_of given) part
     reloaded given b = record {
       p = b.p;
       rows_are = b.publishes.0;
@@ -163,7 +165,8 @@ module _ {L D : Type 0} (truth : Truth) (link : L → Link) (left : D → Option
 
   abbrev RefreshesPart : Told → Type 0
   RefreshesPart reply =
-      RefreshPart Fails Draws Breaks KeysSame MeetsAll old.seat own part reply
+      RefreshPart Fails Draws Breaks KeysSame NamesPlugin CannotBeSealed ReadBy RewriteDone old.seat
+      own part reply
 
   early_refresh : (why : CallNo) → AdoptsNothing own old why new
       → RefreshesPart (reply_of (told_of_refusal old.seat why))

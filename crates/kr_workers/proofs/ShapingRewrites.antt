@@ -5,10 +5,8 @@ use Rattle.std.proofs.lemmas.List.Elements.{All-append}
 use Rattle.kr_base.specs.Faults.{Rose}
 use Rattle.kr_base.proofs.Counting.{Rose-later}
 use Rattle.kr_kms.specs.Calls.{Link}
-use Rattle.kr_kms.specs.Health.{HasBreach}
 use Rattle.kr_kms.specs.Truth.{Truth}
-use Rattle.kr_kms.specs.declared.health.Field.{Field}
-use Rattle.kr_provider.specs.AskedLinks.{FaultRose, HasLinkWith}
+use Rattle.kr_provider.specs.AskedLinks.{FaultRose}
 use Rattle.kr_provider.specs.Names.{names_of}
 use Rattle.kr_provider.specs.Publication.{Publication, list_at, writer_at}
 use Rattle.kr_provider.specs.Sealing.{Seals}
@@ -18,12 +16,12 @@ use Rattle.kr_provider.specs.declared.refusal.SealNo.{SealNo}
 use Rattle.kr_provider.specs.declared.refusal.SealNo.TheVariants as sealing
 use Rattle.kr_provider.specs.declared.refusal.UnsealNo.{UnsealNo}
 use Rattle.kr_provider.specs.declared.refusal.UnsealNo.TheVariants as unsealing
+use Rattle.kr_provider.specs.declared.refusal.ValueNo.TheVariants as value
 use Rattle.kr_provider.proofs.AskedLists.{rose_later}
 use Rattle.kr_store.specs.declared.rows.Row.{Row}
 use Rattle.kr_rollout.specs.declared.answer.Answer.{Answer}
 use Rattle.kr_rollout.specs.declared.answer.Answer.TheVariants as answer
 use Rattle.kr_rollout.specs.declared.event.Event.TheVariants as event
-use Rattle.kr_rollout.specs.declared.line.Did.TheVariants as did
 use Rattle.kr_rollout.specs.declared.line.Gave.{Gave}
 use Rattle.kr_rollout.specs.declared.line.Gave.TheVariants as gave
 use Rattle.kr_rollout.specs.declared.opening.Entry.{Entry}
@@ -35,7 +33,6 @@ use Rattle.kr_history.specs.declared.call.CallNo.{CallNo}
 use Rattle.kr_history.specs.declared.call.CallNo.TheVariants as refusal
 use Rattle.kr_history.proofs.Following.{adopted_law, released_law, stays_law}
 use Rattle.kr_history.proofs.Nexts.{caller_next}
-use Rattle.kr_fleet.specs.LoadCalls.{AreKeysSame}
 use Rattle.kr_rewrite.specs.declared.outcome.Report.{Report}
 use Rattle.kr_rewrite.specs.declared.outcome.Step.{Step}
 use Rattle.kr_rewrite.specs.declared.outcome.Step.TheVariants as step
@@ -43,41 +40,43 @@ use Rattle.kr_rewrite.specs.Drives.{CoversLive, EndsBy, IsDrive, Walks, last_of,
 use Rattle.kr_rewrite.specs.Rewrites.{FindsNone, IsStep, ReplacesBy, ResealsBy, Rewrites, RewritesBy, RewritesData, Steps}
 use Rattle.kr_script.specs.declared.told.Told.{Told}
 use Rattle.kr_workers.specs.Replies.{told_of_drive, told_of_refusal}
-use Rattle.kr_workers.specs.Shapes.{HoldsPart, IsFound, IsOne, IsOut, Meets, Passes, ReadsBy, Reseals, RewritePart}
-use Rattle.kr_workers.specs.Shapes as shape
-use Rattle.kr_workers.proofs.Shaping.{Holds, Mids, Parted, has_done, held_parted, holds_entry, one_between, out_parted, part_here, parted_both, parted_one, reply_of}
+use Rattle.kr_workers.specs.Configurations.{HasData, IsFresh, IsLeft, IsStale, ReadBy}
+use Rattle.kr_workers.specs.RewriteParts.{IsFound, Meets, Passes, Reseals, RewritePart}
+use Rattle.kr_workers.specs.RewriteParts as shape
+use Rattle.kr_workers.specs.Shapes.{HoldsPart}
+use Rattle.kr_workers.proofs.Shaping.{Holds, IsOut, Mids, Parted, has_done, held_parted, holds_entry, one_between, out_parted, part_here, parted_both, parted_one, reply_of}
 
 -- ---- what a step does by the generation that is held
 
 -- a row was found, and a Replace of it was answered so
-abbrev pub Stops : (above : List ℕ) → Gave → List Entry → Type 0
-Stops above given mids = (path : List ℕ) × Reseals above path given mids
+abbrev pub Stops : Publication → (above : List ℕ) → Gave → List Entry → Type 0
+Stops p above given mids = (path : List ℕ) × Reseals p above path given mids
 
 -- a full store tells how large its file would be
-abbrev pub IsFull : (above : List ℕ) → List Entry → Type 0
-IsFull above mids = (path : List ℕ) × (needed : ℕ) × Reseals above path (gave.StoreFull needed) mids
+abbrev pub IsFull : Publication → (above : List ℕ) → List Entry → Type 0
+IsFull p above mids =
+    (path : List ℕ) × (needed : ℕ) × Reseals p above path (gave.StoreFull needed) mids
 
--- a row was found, and no more
-abbrev pub FindsAny : (above : List ℕ) → List Entry → Type 0
-FindsAny above mids = (path : List ℕ) × Passes above path mids
+-- a stale row was found, and no more
+abbrev pub FindsStale : Publication → (above : List ℕ) → List Entry → Type 0
+FindsStale p above mids = (path : List ℕ) × Passes above path (IsStale p) mids
 
 -- one that this plugin reads
 abbrev pub FindsRead : (above name : List ℕ) → Publication → List Entry → Type 0
-FindsRead above name p mids =
-    (revision : ℕ) × IsOne mids (did.After above) (gave.Found revision) (ReadsBy name p)
+FindsRead above name p mids = (path : List ℕ) × Passes above path (ReadBy name p) mids
 
 module _ {L D : Type 0} (link : L → Link) (count : D → ℕ) (above : List ℕ) (olds news : List L)
     (dice after : D) where
   abbrev StepDoes : (number : ℕ) → Publication → (old new : Caller) → Result Step CallNo → Type 0
-  StepDoes number p old new (Ok taken) = Parted (Mids number p (Meets above taken)) old new
+  StepDoes number p old new (Ok taken) = Parted (Mids number p (Meets p above taken)) old new
   StepDoes number p old new (Err (refusal.PluginFailed name)) = FaultRose link name olds news
       × Parted (Mids number p (FindsRead above name p)) old new
   StepDoes number p old new (Err refusal.DiceFailed) = Rose (count dice) (count after)
-      × Parted (Mids number p (FindsAny above)) old new
+      × Parted (Mids number p (FindsStale p above)) old new
   StepDoes number p old new (Err refusal.StoreFailed) =
-      Parted (Mids number p (Stops above gave.StoreFailed)) old new
+      Parted (Mids number p (Stops p above gave.StoreFailed)) old new
   StepDoes number p old new (Err (refusal.StoreFull needed)) =
-      Parted (Mids number p (IsFull above)) old new
+      Parted (Mids number p (IsFull p above)) old new
   StepDoes number p old new (Err refusal.Spent) = ⊤
   StepDoes number p old new (Err refusal.NoMemory) = ⊤
   StepDoes number p old new (Err why) = ⊥
@@ -85,17 +84,17 @@ module _ {L D : Type 0} (link : L → Link) (count : D → ℕ) (above : List �
   -- with the Adopt before it and the LetGo behind it; then the seat holds nothing
   abbrev StepAdds : (own : ℕ) → (old new : Caller) → Result Step CallNo → Type 0
   StepAdds own old new (Ok taken) =
-      Parted (λ part. HoldsPart own part (λ p number mids. Meets above taken mids)) old new
+      Parted (λ part. HoldsPart own part (λ p number mids. Meets p above taken mids)) old new
       × (holding new.mine ≡ None)
   StepAdds own old new (Err (refusal.PluginFailed name)) = FaultRose link name olds news
       × Parted (λ part. HoldsPart own part (λ p number mids. FindsRead above name p mids)) old new
   StepAdds own old new (Err refusal.DiceFailed) = Rose (count dice) (count after)
-      × Parted (λ part. HoldsPart own part (λ p number mids. FindsAny above mids)) old new
+      × Parted (λ part. HoldsPart own part (λ p number mids. FindsStale p above mids)) old new
   StepAdds own old new (Err refusal.StoreFailed) =
-      Parted (λ part. HoldsPart own part (λ p number mids. Stops above gave.StoreFailed mids)) old
+      Parted (λ part. HoldsPart own part (λ p number mids. Stops p above gave.StoreFailed mids)) old
       new
   StepAdds own old new (Err (refusal.StoreFull needed)) =
-      Parted (λ part. HoldsPart own part (λ p number mids. IsFull above mids)) old new
+      Parted (λ part. HoldsPart own part (λ p number mids. IsFull p above mids)) old new
   StepAdds own old new (Err refusal.Gone) = Parted (IsOut own) old new
   StepAdds own old new (Err refusal.Spent) = ⊤
   StepAdds own old new (Err refusal.NoMemory) = ⊤
@@ -111,12 +110,14 @@ module _ {L D : Type 0} (truth : Truth) (link : L → Link) (left : D → Option
   abbrev RowDoes : Result Step CallNo → Type 0
   RowDoes result = StepDoes link count above olds news dice after number p old new result
 
-  row_found : IsFound above row.path row.revision finds.entry
-  row_found = record {
+  row_found : (Is : Row → Type 0) → Is row
+      → IsFound above row.path row.revision finds.entry Is
+  row_found Is is = record {
     does = has_done old found (event.After above) (answer.Found row) finds;
     row = row;
     row_is = finds.records.shows;
     path_is = refl;
+    is = is;
   }
 
   found_alone : (Is : List Entry → Type 0) → new ≡ found → Is (finds.entry ∷ [])
@@ -125,26 +126,28 @@ module _ {L D : Type 0} (truth : Truth) (link : L → Link) (left : D → Option
       (parted_one (Mids number p Is) old found (event.After above) (answer.Found row) finds
       (holds_entry number p old found (event.After above) (answer.Found row) k held finds, is))
 
-  passed : Passes above row.path (finds.entry ∷ [])
-  passed = record {
+  passed : (Is : Row → Type 0) → Is row → Passes above row.path Is (finds.entry ∷ [])
+  passed Is is = record {
     revision = row.revision;
     find = finds.entry;
     mids_are = refl;
-    finds = row_found;
+    finds = row_found Is is;
   }
 
-  found_any : new ≡ found → Parted (Mids number p (FindsAny above)) old new
-  found_any same = found_alone (FindsAny above) same (row.path, passed)
+  found_stale : IsStale p row → new ≡ found
+      → Parted (Mids number p (FindsStale p above)) old new
+  found_stale stale same =
+      found_alone (FindsStale p above) same (row.path, passed (IsStale p) stale)
 
-  module _ (stored : List ℕ) (given : Answer)
+  module _ (stale : IsStale p row) (stored : List ℕ) (given : Answer)
       (a : AddsEntry found (event.Replace row.path row.revision stored) given new) where
-    resealed : Reseals above row.path (gave_of given) (finds.entry ∷ (a.entry ∷ []))
+    resealed : Reseals p above row.path (gave_of given) (finds.entry ∷ (a.entry ∷ []))
     resealed = record {
       revision = row.revision;
       find = finds.entry;
       replace = a.entry;
       mids_are = refl;
-      finds = row_found;
+      finds = row_found (IsStale p) stale;
       replaces = has_done found new (event.Replace row.path row.revision stored) given a;
     }
 
@@ -166,73 +169,78 @@ module _ {L D : Type 0} (truth : Truth) (link : L → Link) (left : D → Option
           is,
         ))
 
-  replaced : (stored : List ℕ) (given : Answer) (result : Result Step CallNo)
+  replaced : IsStale p row → (stored : List ℕ) (given : Answer) (result : Result Step CallNo)
       → AddsEntry found (event.Replace row.path row.revision stored) given new
       → ReplacesBy row.path given result → RowDoes result
-  replaced stored (answer.Written revision) result a r = subst RowDoes (sym r)
-      (both_entries stored (answer.Written revision) a (Meets above (step.Rewritten row.path))
-      (revision, resealed stored (answer.Written revision) a))
-  replaced stored (answer.Changed last) result a r = subst RowDoes (sym r)
-      (both_entries stored (answer.Changed last) a (Meets above (step.Changed row.path))
-      (last, resealed stored (answer.Changed last) a))
-  replaced stored answer.StoreFailed result a r = subst RowDoes (sym r)
-      (both_entries stored answer.StoreFailed a (Stops above gave.StoreFailed)
-      (row.path, resealed stored answer.StoreFailed a))
-  replaced stored (answer.StoreFull needed) result a r = subst RowDoes (sym r)
-      (both_entries stored (answer.StoreFull needed) a (IsFull above)
-      (row.path, needed, resealed stored (answer.StoreFull needed) a))
-  replaced stored answer.NoMemory result a r = subst RowDoes (sym r) tt
-  replaced stored (answer.Adopted other q) result a r = absurd r
-  replaced stored (answer.Found other) result a r = absurd r
-  replaced stored answer.Absent result a r = absurd r
-  replaced stored answer.Released result a r = absurd r
-  replaced stored (answer.Reloaded other) result a r = absurd r
-  replaced stored (answer.Joined other) result a r = absurd r
-  replaced stored (answer.Refused verdict) result a r = absurd r
-  replaced stored (answer.Moved other) result a r = absurd r
-  replaced stored (answer.Present other) result a r = absurd r
-  replaced stored (answer.Departed other) result a r = absurd r
-  replaced stored (answer.Gone replica) result a r = absurd r
+  replaced stale stored (answer.Written revision) result a r = subst RowDoes (sym r)
+      (both_entries stale stored (answer.Written revision) a (Meets p above (step.Rewritten row.path))
+      (revision, resealed stale stored (answer.Written revision) a))
+  replaced stale stored (answer.Changed last) result a r = subst RowDoes (sym r)
+      (both_entries stale stored (answer.Changed last) a (Meets p above (step.Changed row.path))
+      (last, resealed stale stored (answer.Changed last) a))
+  replaced stale stored answer.StoreFailed result a r = subst RowDoes (sym r)
+      (both_entries stale stored answer.StoreFailed a (Stops p above gave.StoreFailed)
+      (row.path, resealed stale stored answer.StoreFailed a))
+  replaced stale stored (answer.StoreFull needed) result a r = subst RowDoes (sym r)
+      (both_entries stale stored (answer.StoreFull needed) a (IsFull p above)
+      (row.path, needed, resealed stale stored (answer.StoreFull needed) a))
+  replaced stale stored answer.NoMemory result a r = subst RowDoes (sym r) tt
+  replaced stale stored (answer.Adopted other q) result a r = absurd r
+  replaced stale stored (answer.Found other) result a r = absurd r
+  replaced stale stored answer.Absent result a r = absurd r
+  replaced stale stored answer.Released result a r = absurd r
+  replaced stale stored (answer.Reloaded other) result a r = absurd r
+  replaced stale stored (answer.Joined other) result a r = absurd r
+  replaced stale stored (answer.Refused verdict) result a r = absurd r
+  replaced stale stored (answer.Moved other) result a r = absurd r
+  replaced stale stored (answer.Present other) result a r = absurd r
+  replaced stale stored (answer.Departed other) result a r = absurd r
+  replaced stale stored (answer.Gone replica) result a r = absurd r
 
-  sealed_anew : (plain : List ℕ) (sealed : Result (List ℕ) SealNo) (result : Result Step CallNo)
+  sealed_anew : (plain : List ℕ) → HasData p row true plain → (sealed : Result (List ℕ) SealNo)
+      (result : Result Step CallNo)
       → Seals left count p.seeds (writer_at p row.resource) row.path plain dice after sealed
       → ResealsBy p row plain sealed found result new → RowDoes result
-  sealed_anew plain (Ok stored) result s (inl r) =
-      replaced stored r.given result r.replaces r.answers
-  sealed_anew plain (Ok stored) result s (inr n) = subst RowDoes (sym n.1) tt
-  sealed_anew plain (Err sealing.LooksEncrypted) result s r = subst RowDoes (sym r.0)
-      (found_alone (Meets above (step.Left row.path)) r.1 passed)
-  sealed_anew plain (Err (sealing.TooLarge size)) result s r = subst RowDoes (sym r.0)
-      (found_alone (Meets above (step.Left row.path)) r.1 passed)
-  sealed_anew plain (Err sealing.DiceFailed) result s r =
-      subst RowDoes (sym r.0) (s.2, found_any r.1)
-  sealed_anew plain (Err sealing.NoMemory) result s r = subst RowDoes (sym r.0) tt
+  sealed_anew plain h (Ok stored) result s (inl r) =
+      replaced (plain, h) stored r.given result r.replaces r.answers
+  sealed_anew plain h (Ok stored) result s (inr n) = subst RowDoes (sym n.1) tt
+  sealed_anew plain h (Err sealing.LooksEncrypted) result s r = subst RowDoes (sym r.0)
+      (found_alone (Meets p above (step.Left row.path)) r.1
+      (passed (IsLeft p) (inr (plain, value.LooksEncrypted, h, (s.1, s.2)))))
+  sealed_anew plain h (Err (sealing.TooLarge size)) result s r = subst RowDoes (sym r.0)
+      (found_alone (Meets p above (step.Left row.path)) r.1
+      (passed (IsLeft p) (inr (plain, value.TooLarge, h, s.1))))
+  sealed_anew plain h (Err sealing.DiceFailed) result s r =
+      subst RowDoes (sym r.0) (s.2, found_stale (plain, h) r.1)
+  sealed_anew plain h (Err sealing.NoMemory) result s r = subst RowDoes (sym r.0) tt
 
   data_rewritten : (plain : List ℕ) (stale : Bool) (result : Result Step CallNo)
+      → HasData p row stale plain
       → RewritesData left count p row plain stale found dice result new after → RowDoes result
-  data_rewritten plain false result r = subst RowDoes (sym r.0)
-      (found_alone (Meets above (step.Fresh row.path)) r.1 passed)
-  data_rewritten plain true result (inl r) = sealed_anew plain r.sealed result r.seals r.reseals
-  data_rewritten plain true result (inr c) = subst RowDoes (sym c.0) tt
+  data_rewritten plain false result h r = subst RowDoes (sym r.0)
+      (found_alone (Meets p above (step.Fresh row.path)) r.1 (passed (IsFresh p) (plain, h)))
+  data_rewritten plain true result h (inl r) =
+      sealed_anew plain h r.sealed result r.seals r.reseals
+  data_rewritten plain true result h (inr c) = subst RowDoes (sym c.0) tt
 
   opened_rewritten : (opened : Result Opened UnsealNo) (result : Result Step CallNo)
       → UnsealsBy truth link p.seeds (list_at p row.resource) row.path row.stored olds opened news
       → RewritesBy left count p row opened found dice result new after → RowDoes result
-  opened_rewritten (Ok opened) result u r =
-      data_rewritten opened.plain opened.stale result r
+  opened_rewritten (Ok opened) result u r = data_rewritten opened.plain opened.stale result (
+    u.envelope,
+    record { object = u.object; seed = u.published; unsourced = u.unsourced; reads = u.is.0 },
+    sym u.is.1,
+  ) r
   opened_rewritten (Err (unsealing.Refused why)) result u r = subst RowDoes (sym r.0)
-      (found_alone (Meets above (step.Left row.path)) r.1 passed)
+      (found_alone (Meets p above (step.Left row.path)) r.1 (passed (IsLeft p) (inl (
+        u.envelope,
+        why,
+        record { object = u.object; seed = u.published; unsourced = u.unsourced; reads = u.is },
+      ))))
   opened_rewritten (Err (unsealing.PluginFailed name)) result u r = subst RowDoes (sym r.0) (
     u.rose,
-    found_alone (FindsRead above name p) r.1 (
-      row.revision,
-      record {
-        entry = finds.entry;
-        mids_are = refl;
-        does = has_done old found (event.After above) (answer.Found row) finds;
-        is = (row, finds.records.shows, u.reader);
-      },
-    ),
+    found_alone (FindsRead above name p) r.1
+        (row.path, passed (ReadBy name p) u.reader),
   )
   opened_rewritten (Err unsealing.NoMemory) result u r = subst RowDoes (sym r.0) tt
 
@@ -284,7 +292,7 @@ module _ {L D : Type 0} (truth : Truth) (link : L → Link) (left : D → Option
           → StepDoes link count above olds news dice after number p adopted acted result
           → AddsBy result
       held_step number p adopted acted a g (Ok taken) s = (
-        held_parted own old adopted acted new number p (λ p number mids. Meets above taken mids) a g
+        held_parted own old adopted acted new number p (λ p number mids. Meets p above taken mids) a g
             s,
         released_law acted new g,
       )
@@ -296,14 +304,14 @@ module _ {L D : Type 0} (truth : Truth) (link : L → Link) (left : D → Option
       )
       held_step number p adopted acted a g (Err refusal.DiceFailed) s = (
         s.0,
-        held_parted own old adopted acted new number p (λ p number mids. FindsAny above mids) a g
+        held_parted own old adopted acted new number p (λ p number mids. FindsStale p above mids) a g
             s.1,
       )
       held_step number p adopted acted a g (Err refusal.StoreFailed) s =
           held_parted own old adopted acted new number p
-          (λ p number mids. Stops above gave.StoreFailed mids) a g s
+          (λ p number mids. Stops p above gave.StoreFailed mids) a g s
       held_step number p adopted acted a g (Err (refusal.StoreFull needed)) s =
-          held_parted own old adopted acted new number p (λ p number mids. IsFull above mids) a g s
+          held_parted own old adopted acted new number p (λ p number mids. IsFull p above mids) a g s
       held_step number p adopted acted a g (Err (refusal.Unhealthy name field text)) s = absurd s
       held_step number p adopted acted a g (Err refusal.Gone) s = absurd s
       held_step number p adopted acted a g (Err refusal.Spent) s = tt
@@ -364,7 +372,7 @@ module _ {L D : Type 0} (truth : Truth) (link : L → Link) (left : D → Option
         w.goes in
         let rest = walked_then (path_of above taken) met w.middle new w.mids news w.between after
         (first.0.next k) first.1 w.behind p in
-        parted_both (λ part. HoldsPart own part (λ p number mids. Meets above taken mids))
+        parted_both (λ part. HoldsPart own part (λ p number mids. Meets p above taken mids))
         (shape.Walks own (path_of above taken) met Ends)
         (shape.Walks own above (taken ∷ met) Ends) old w.middle last first.0 rest
         (λ front back h more. (front, back, refl, h, more))
@@ -379,18 +387,11 @@ module _ {L D : Type 0} (truth : Truth) (link : L → Link) (left : D → Option
     abbrev Draws : Type 0
     Draws = Rose (count dice) (count after)
 
-    abbrev Breaks : (name : List ℕ) → Field → (text : List ℕ) → Type 0
-    Breaks name field text = HasLinkWith link name (λ it. HasBreach it (Some (field, text))) olds
-
-    abbrev KeysSame : Publication → Type 0
-    KeysSame p = AreKeysSame link olds p.seeds
-
     abbrev MeetsAll : List Step → Type 0
     MeetsAll met = CoversLive [] met old new
 
     abbrev RewritesPart : Told → Type 0
-    RewritesPart reply =
-        RewritePart Fails Draws Breaks KeysSame MeetsAll old.seat own part reply
+    RewritesPart reply = RewritePart Fails Draws MeetsAll old.seat own part reply
 
     module _ (met : List Step) (ended : Result Step CallNo) (report : Report)
         (e : EndsBy truth link left count own [] met old olds dice ended report new news after)
@@ -430,19 +431,19 @@ module _ {L D : Type 0} (truth : Truth) (link : L → Link) (left : D → Option
           (
             met,
             met_then met (Err refusal.DiceFailed) report e
-                (λ above rest. HoldsPart own rest (λ p number mids. FindsAny above mids)) s.1,
+                (λ above rest. HoldsPart own rest (λ p number mids. FindsStale p above mids)) s.1,
           ),
         )
     cut_part met refusal.StoreFailed report e = (
       met,
       met_then met (Err refusal.StoreFailed) report e
-          (λ above rest. HoldsPart own rest (λ p number mids. Stops above gave.StoreFailed mids))
+          (λ above rest. HoldsPart own rest (λ p number mids. Stops p above gave.StoreFailed mids))
           (last_step met (Err refusal.StoreFailed) report e),
     )
     cut_part met (refusal.StoreFull needed) report e = (
       met,
       met_then met (Err (refusal.StoreFull needed)) report e
-          (λ above rest. HoldsPart own rest (λ p number mids. IsFull above mids))
+          (λ above rest. HoldsPart own rest (λ p number mids. IsFull p above mids))
           (last_step met (Err (refusal.StoreFull needed)) report e),
     )
     cut_part met (refusal.Unhealthy name field text) report e =

@@ -70,13 +70,14 @@ module _ (settings_in : (file : List ℕ) → Option (List setting)) (own : ℕ)
       (asked ≡ line.Leave replica) × (reply ≡ told.Left number)
   MayLeave number done = ⊥
 
-  abbrev pub MayChange : Gave → Did → (held : Option ℕ) → Option Publication → Type 0
-  MayChange (gave.Written revision) done held published = MayStore revision done
-  MayChange (gave.Reloaded number) done held published = MayReload number held published done
-  MayChange (gave.Joined number) done held published = MayJoin number done
-  MayChange (gave.Departed number) done held published = MayLeave number done
-  MayChange given done held published = ⊤
+  abbrev pub AllowsChange : Gave → Did → (held : Option ℕ) → Option Publication → Type 0
+  AllowsChange (gave.Written revision) done held published = MayStore revision done
+  AllowsChange (gave.Reloaded number) done held published = MayReload number held published done
+  AllowsChange (gave.Joined number) done held published = MayJoin number done
+  AllowsChange (gave.Departed number) done held published = MayLeave number done
+  AllowsChange given done held published = ⊤
 
-  -- so a reply that tells anything else tells that nothing was changed
-  abbrev pub MayWrite : Entry → Type 0
-  MayWrite e = MayChange e.line.gave e.line.did e.line.held e.published
+  -- so a reply that tells anything else tells that nothing was changed; but for a rewrite, which
+  -- may have replaced rows before what it tells
+  abbrev pub MayChange : Entry → Type 0
+  MayChange e = AllowsChange e.line.gave e.line.did e.line.held e.published

@@ -11,6 +11,8 @@ pub mod Plugins
 pub mod Gets
 pub mod Causes
 pub mod Shapes
+pub mod Configurations
+pub mod RewriteParts
 pub mod LineParts
 pub mod Endings
 pub mod Sentences

@@ -15,6 +15,8 @@ use Rattle.kr_workers.specs.declared.files.SettingsFile.{SettingsFile}
 use Rattle.kr_workers.specs.Files.{rows_at}
 use Rattle.kr_workers.specs.Runs.{IsDone, LineDone}
 use Rattle.kr_workers.specs.ScriptLines.{Workplace}
+use Rattle.kr_workers.specs.Configurations.{CannotBeSealed, NamesPlugin, ReadBy}
+use Rattle.kr_workers.specs.RewriteParts.{RewritePart}
 use Rattle.kr_workers.specs.Shapes.{PartIs}
 
 -- by the links and the random source before the line and behind it
@@ -24,8 +26,10 @@ HasShape link count files replica old new part asked reply =
     PartIs (λ name. FaultRose link name old.links new.links)
     (Rose (count old.dice) (count new.dice))
     (λ name field text. HasLinkWith link name (λ it. HasBreach it (Some (field, text))) old.links)
-    (λ p. AreKeysSame link old.links p.seeds) (λ met. CoversLive [] met old.caller new.caller)
-    old.caller.seat replica part (rows_at files) asked reply
+    (λ p. AreKeysSame link old.links p.seeds) NamesPlugin CannotBeSealed ReadBy
+    (RewritePart (λ name. FaultRose link name old.links new.links)
+    (Rose (count old.dice) (count new.dice)) (λ met. CoversLive [] met old.caller new.caller)
+    old.caller.seat replica part) old.caller.seat replica part (rows_at files) asked reply
 
 abbrev pub PartsHaveShape : {L D : Type 0} → Truth → (L → Link) → (D → Option (List ℕ)) → (D → ℕ)
     → List SettingsFile → Type 0

@@ -12,7 +12,7 @@ use Rattle.kr_script.specs.declared.script.ScriptLine.{ScriptLine}
 use Rattle.kr_script.specs.declared.told.Told.{Told}
 use Rattle.kr_workers.specs.declared.files.SettingsFile.{SettingsFile}
 use Rattle.kr_workers.specs.Budgets.{brought_by, entries_of, puts_of}
-use Rattle.kr_workers.specs.Changes.{MayWrite}
+use Rattle.kr_workers.specs.Changes.{MayChange}
 use Rattle.kr_workers.specs.Files.{rows_at}
 use Rattle.kr_workers.specs.ScriptLines.{Does, Workplace}
 
@@ -42,7 +42,7 @@ module _ {L D : Type 0} (truth : Truth) (link : L → Link) (left : D → Option
     pub does : Does truth link left count files replica done.line old (Ok done.reply) new
     pub known : IsCaller old.caller
     pub idle : holding old.caller.mine ≡ None
-    pub made : All (MayWrite (rows_at files) replica done.line done.reply) done.part
+    pub made : All (MayChange (rows_at files) replica done.line done.reply) done.part
     pub adds : Adds old.caller done.part new.caller
     pub within : IsWithin (entries_of (length done.part) done.line) (brought_by done.line)
         (puts_of done.line) done.part

@@ -1,7 +1,7 @@
--- A tape that is out, and the counts that go back with it.
+-- A tape or a random source that is out, and the counts that go back with it.
 use Rattle.std.proofs.Common.{◌≡◌, ℕ, ◌<◌, List, cond, refl, ap, arith}
-use Rattle.kr_kms.specs.Outside.{Objects, HandsOut, TakesBack, at_key, same_name}
-use Rattle.kr_kms.proofs.Lent.{names_decide}
+use Rattle.kr_kms.specs.Outside.{Objects, HandsOut, TakesBack, at_key, same_name, same_seat}
+use Rattle.kr_kms.proofs.Lent.{names_decide, seats_decide}
 
 -- one of the name
 own : (name : List ℕ) → at_key same_name name 1 name ≡ 1
@@ -27,3 +27,11 @@ goes_back {V} {old} {mid} {new} {name} given back =
 pub stays : {V : Type 0} {old new : Objects (List ℕ) V} {name : List ℕ} → new ≡ old
     → new.out name ≡ old.out name
 stays {V} {old} {new} {name} same = ap (λ (o : Objects (List ℕ) V). o.out name) same
+
+own_seat : (seat : ℕ) → at_key same_seat seat 1 seat ≡ 1
+own_seat seat = ap (λ q. cond q 1 0) ((seats_decide seat seat).1 refl)
+
+-- the same of a random source, by its seat
+pub seat_is_out : {V : Type 0} {old new : Objects ℕ V} {seat : ℕ} {count : ℕ}
+    → HandsOut same_seat old new seat count → 0 < new.out seat
+seat_is_out {V} {old} {new} {seat} given = omega (arith, given.out seat, own_seat seat)

@@ -14,6 +14,32 @@ use std::rt::Files;
 /// Whether the first and the second call passed, and how often the link has failed then.
 type Called = (bool, bool, u64);
 
+/// How often a link has failed before and after its first call.
+fn faults_of_a_call<L: Kms>(alloc: Global, link: &mut L) -> (u64, u64)
+    ensures { (L.link link.new).name ≡ (L.link link.old).name }
+{
+    let before = link.faults();
+    let _status = link.status(alloc).is_ok();
+    (before, link.faults())
+}
+
+/// The same of a link to a program.
+fn faults_at_first<R: Files<File = File> + Processes<Started = SystemProcess>>(
+    rt: &R,
+    alloc: Global,
+    program: &str,
+) -> Option<(u64, u64)> {
+    let mut world = RealWorld::new(alloc, SystemFiles::new(rt));
+    match world.link(alloc, 0, "p", program) {
+        Ok(mut link) => {
+            let faults = faults_of_a_call(alloc, &mut link);
+            world.back_link(0, link);
+            Some(faults)
+        }
+        Err(_) => None,
+    }
+}
+
 fn call_twice<L: Kms>(alloc: Global, link: &mut L) -> Called
     ensures { (L.link link.new).name ≡ (L.link link.old).name }
 {
@@ -28,8 +54,7 @@ fn called<R: Files<File = File> + Processes<Started = SystemProcess>>(
     alloc: Global,
     program: &str,
 ) -> (Option<Called>, u64) {
-    let files = SystemFiles::new(rt);
-    let mut world = RealWorld::new(alloc, &files);
+    let mut world = RealWorld::new(alloc, SystemFiles::new(rt));
     match world.link(alloc, 0, "p", program) {
         Ok(mut link) => {
             let calls = call_twice(alloc, &mut link);
@@ -84,8 +109,7 @@ fn served<R: Files<File = File> + Processes<Started = SystemProcess>>(
     alloc: Global,
     program: &str,
 ) -> Option<Served> {
-    let files = SystemFiles::new(rt);
-    let mut world = RealWorld::new(alloc, &files);
+    let mut world = RealWorld::new(alloc, SystemFiles::new(rt));
     match world.link(alloc, 0, "p", program) {
         Ok(mut link) => {
             let told = tells(alloc, &mut link);
@@ -143,6 +167,7 @@ fn a_plugin_is_asked_and_answers(rt: HostRuntime) {
 // It sends the request back, which is no reply; so do both.
 #[test]
 fn cat_is_no_plugin(rt: HostRuntime) {
+    assert!(rt; faults_at_first(&rt, rt.alloc(), "cat") == Some((0, 1)));
     assert!(rt; called(&rt, rt.alloc(), "cat") == (Some((false, false, 2)), 0));
 }
 

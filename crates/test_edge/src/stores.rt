@@ -1,14 +1,12 @@
 //! Stores as files, in the folder that the tests run in.
-ghost use Rattle.std.specs.Prelude.{◌≡◌};
+ghost use Rattle.std.specs.Prelude.{◌≡◌, None};
 
 use kr_base::Tape;
-use kr_edge::{FileTape, NamedFiles, RealWorld, SystemFiles};
+use kr_edge::{DiskFile, FileTape, PlacedFile, PlacedNo, RealWorld, SystemFiles, open_store};
 use kr_kms::{FileNo, World};
 use std::alloc::Global;
-use std::cell::Cell;
-use std::fs::{File, Metadata, OpenFile};
-use std::io::{self, ErrorKind};
-use std::os::unix::fs::{FileExt, MetadataExt};
+use std::fs::File;
+use std::os::unix::fs::MetadataExt;
 use std::process::{Processes, SystemProcess};
 use std::rt::Files;
 
@@ -79,8 +77,7 @@ fn keeps<R: Files<File = File> + Processes<Started = SystemProcess>>(
     alloc: Global,
     name: &str,
 ) -> bool {
-    let files = SystemFiles::new(rt);
-    let mut world = RealWorld::new(alloc, &files);
+    let mut world = RealWorld::new(alloc, SystemFiles::new(rt));
     refusal(&mut world, alloc, name, false) == Some(FileNo::Absent)
         && is_written_alone(&mut world, alloc, name)
         && mode(rt, name) == Some(0o600)
@@ -101,9 +98,8 @@ fn is_locked<R: Files<File = File> + Processes<Started = SystemProcess>>(
     alloc: Global,
     name: &str,
 ) -> bool {
-    let files = SystemFiles::new(rt);
-    let mut first = RealWorld::new(alloc, &files);
-    let mut second = RealWorld::new(alloc, &files);
+    let mut first = RealWorld::new(alloc, SystemFiles::new(rt));
+    let mut second = RealWorld::new(alloc, SystemFiles::new(rt));
     match first.tape(alloc, name, true) {
         Ok(tape) => {
             let locked = refusal(&mut second, alloc, name, true) == Some(FileNo::Failed);
@@ -127,8 +123,7 @@ fn is_no_store<R: Files<File = File> + Processes<Started = SystemProcess>>(
     alloc: Global,
     name: &str,
 ) -> bool {
-    let files = SystemFiles::new(rt);
-    let mut world = RealWorld::new(alloc, &files);
+    let mut world = RealWorld::new(alloc, SystemFiles::new(rt));
     refusal(&mut world, alloc, name, true) == Some(FileNo::Failed) && world.faults() == 1
 }
 
@@ -153,62 +148,66 @@ enum Full {
 }
 
 /// A file of a disk that has room for its first six bytes alone. It takes and gives two at a time,
-/// and interrupts every other call.
+/// and interrupts every other call of these.
 #[derive(Drop)]
 struct SmallDisk {
-    file: File,
+    file: DiskFile,
     full: Full,
-    stops: Cell<bool>,
+    stops: bool,
+    synced: bool,
 }
 
 impl SmallDisk {
     /// Whether this call is interrupted.
-    fn stops(&self) -> bool {
-        let stops = self.stops.get();
-        self.stops.set(!stops);
-        stops
+    fn stops(&mut self) -> bool
+        ensures { self.new.synced ≡ self.old.synced }
+    {
+        self.stops = !self.stops;
+        !self.stops
     }
 }
 
-impl FileExt for SmallDisk {
-    fn read_at(&self, buf: &mut [u8], offset: u64) -> io::Result<usize> {
-        if self.stops() {
-            return Err(ErrorKind::Interrupted.into());
-        }
-        let most = buf.len().min(2);
-        self.file.read_at(&mut buf[..most], offset)
+impl PlacedFile for SmallDisk {
+    ghost told = { λ disk. None };
+
+    ghost synced = { λ disk. disk.synced };
+
+    fn len(&mut self) -> Result<u64, PlacedNo> {
+        self.file.len()
     }
 
-    fn write_at(&self, buf: &[u8], offset: u64) -> io::Result<usize> {
+    fn read_at(&mut self, at: u64, into: &mut [u8]) -> Result<usize, PlacedNo> {
         if self.stops() {
-            return Err(ErrorKind::Interrupted.into());
+            return Err(PlacedNo::Interrupted);
         }
-        if offset < 6 {
-            let most = buf.len().min(2);
-            return self.file.write_at(&buf[..most], offset);
+        let most = into.len().min(2);
+        self.file.read_at(at, &mut into[..most])
+    }
+
+    fn write_at(&mut self, at: u64, bytes: &[u8]) -> Result<usize, PlacedNo> {
+        self.synced = false;
+        if self.stops() {
+            return Err(PlacedNo::Interrupted);
+        }
+        if at < 6 {
+            let most = bytes.len().min(2);
+            return self.file.write_at(at, &bytes[..most]);
         }
         match self.full {
-            Full::Fails => Err(ErrorKind::StorageFull.into()),
+            Full::Fails => Err(PlacedNo::Failed),
             Full::TakesNothing => Ok(0),
         }
     }
-}
 
-impl OpenFile for SmallDisk {
-    fn metadata(&self) -> io::Result<Metadata> {
-        self.file.metadata()
+    fn set_len(&mut self, len: u64) -> Result<(), PlacedNo> {
+        self.synced = false;
+        self.file.set_len(len)
     }
 
-    fn set_len(&self, size: u64) -> io::Result<()> {
-        self.file.set_len(size)
-    }
-
-    fn sync_all(&self) -> io::Result<()> {
-        self.file.sync_all()
-    }
-
-    fn sync_data(&self) -> io::Result<()> {
-        self.file.sync_data()
+    fn sync_data(&mut self) -> Result<(), PlacedNo> {
+        let synced = self.file.sync_data();
+        self.synced = synced.is_ok();
+        synced
     }
 }
 
@@ -229,10 +228,14 @@ fn survives<R: Files<File = File> + Processes<Started = SystemProcess>>(
     name: &str,
     full: Full,
 ) -> bool {
-    match SystemFiles::new(rt).open_store(name, true) {
+    match open_store(&mut SystemFiles::new(rt), name, true) {
         Ok(file) => {
-            let stops = Cell::new(true);
-            let mut tape = FileTape::first(SmallDisk { file, full, stops });
+            let mut tape = FileTape::first(SmallDisk {
+                file,
+                full,
+                stops: true,
+                synced: false,
+            });
             goes_back(&mut tape) & (tape.close() == 1)
         }
         Err(_) => false,

@@ -1,5 +1,5 @@
-//! test_fleet_calls: reads calls of replicas over a core, a line each, and prints what they answer, so that
-//! it can be compared with another implementation.
+//! test_fleet_calls: reads calls of replicas over a core, a line each, and prints what they answer,
+//! so that it can be compared with another implementation.
 #![tactic(auto)]
 
 mod between;

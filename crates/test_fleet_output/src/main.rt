@@ -1,5 +1,5 @@
-//! test_fleet_output: reads what happened in a fleet, an event or a reply a line, and prints the fleet's
-//! output as kr_script writes it, so that it can be compared with another implementation.
+//! test_fleet_output: reads what happened in a fleet, an event or a reply a line, and prints the
+//! fleet's output as kr_script writes it, so that it can be compared with another implementation.
 #![tactic(auto)]
 
 mod answered;

@@ -1,5 +1,5 @@
-//! test_rollout: reads what happens to stores and to rollouts over them, an event a line, and prints
-//! each line of the journal, so that it can be compared with another implementation.
+//! test_rollout: reads what happens to stores and to rollouts over them, an event a line, and
+//! prints each line of the journal, so that it can be compared with another implementation.
 #![tactic(auto)]
 
 mod alone;

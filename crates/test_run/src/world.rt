@@ -1,5 +1,5 @@
 //! The world in memory, of which calls fail by their numbers too.
-ghost use Rattle.std.specs.Prelude.{None, Some};
+ghost use Rattle.std.specs.Prelude.{None};
 
 use crate::plugin::TurningPlugin;
 use kr_base::{Bytes, List, MemDice, MemTape, Text};
@@ -70,10 +70,11 @@ impl World for FailingWorld {
 
     type Link = TurningPlugin;
 
-    // It tells nothing of its files, since a load may fail.
+    // It tells nothing of its files, since a load may fail, nor of what it was asked for, since it
+    // has no memory to keep that a tape came back settled.
     ghost told = { λ world. record {
       file = λ name. None;
-      asked = Some world.asked.items;
+      asked = None;
       faults = world.faults;
       dice = (⟦<MemWorld<TurningPlugin> as World>⟧.told world.inner).dice;
       tapes = (⟦<MemWorld<TurningPlugin> as World>⟧.told world.inner).tapes;
@@ -188,6 +189,10 @@ impl World for FailingWorld {
 
     fn back_tape(&mut self, name: &str, tape: MemTape) {
         self.inner.back_tape(name, tape);
+    }
+
+    fn back_settled(&mut self, name: &str, tape: MemTape) {
+        self.inner.back_settled(name, tape);
     }
 
     fn back_dice(&mut self, seat: u32, dice: MemDice) {

@@ -265,6 +265,11 @@ func (f *forms) scalar(ours string, theirs interface{}) bool {
 	} else {
 		f.typed = true
 	}
+	// (a dropped tab may leave what begins a document, as `---`, which alone reads as no text)
+	less := strings.Trim(ours, " \t")
+	if f.tab && less == theirs {
+		return true
+	}
 	value, err := read([]byte(strings.TrimLeft(ours, " \t")))
 	return err == nil && reflect.DeepEqual(value, theirs)
 }

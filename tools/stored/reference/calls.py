@@ -3,7 +3,7 @@
 import functools
 from contextlib import suppress
 
-from . import configuration, fleet, load, plugins, rollout, store
+from . import configuration, fleet, load, plugins, rollout, store, watch
 from .board import Board
 from .outside import Stop, load_settings, programs_of
 from .values import Refused, check_of, inspected, reader_of, seal, unseal
@@ -159,6 +159,29 @@ def judge(options, world, output):
     return b"", 0 if verdict == "pass" else 1
 
 
+def verified(bench, entries, path, row):
+    """What is said of a live row."""
+    try:
+        _data, is_stale = bench.unseal(configuration.list_for(entries, row.resource.decode()), path.decode(), row.value)
+    except Refused as no:
+        return f"refused {no.text()}"
+    return "stale" if is_stale else "fresh"
+
+
+def verify(options, world, output):
+    entries, programs = settings_of_object(options, world)
+    _form, rows = world.tape(options["store"]).load()
+    bench = Bench(world, programs)
+    lines, counts = [], {"fresh": 0, "stale": 0, "refused": 0}
+    for path, (revision, row) in sorted(store.live(rows).items()):
+        said = verified(bench, entries, path, row)
+        lines.append(f"{revision} {row.resource.decode()} {path.decode()} {said}")
+        counts[said.split(" ")[0]] += 1
+    lines += [f"{word} {count}" for word, count in counts.items()]
+    output.write_all("".join(f"{line}\n" for line in lines).encode())
+    return b"", 1 if counts["refused"] else 0
+
+
 def rewritten(bench, providers, form, rows, tape, row):
     """What becomes of a live row; where it is written anew, that row stands behind the others."""
     try:
@@ -222,10 +245,14 @@ def answer(words, world, source, output):
             return get(options, world, output)
         if command == "fleet":
             return fleet.run(options, world, output)
+        if command == "watch":
+            return watch.run(options, world, output)
         if command == "gen":
             return load.run(options, world, output)
         if command == "rewrite":
             return rewrite(options, world, output)
+        if command == "verify":
+            return verify(options, world, output)
         if command == "migrate":
             return migrate(options, world, output)
         if command == "inspect":

@@ -101,7 +101,7 @@ class Core:
     def __init__(self, tape, form, rows, names, opening):
         """`opening` has for each replica its entries and seeds, or None."""
         self.tape, self.form, self.rows, self.names = tape, form, rows, names
-        self.end, self.current, self.journal = len(tape.content), {}, []
+        self.end, self.current, self.journal, self.changes = len(tape.content), {}, [], []
         self.board, self.seeds = Board(len(names)), []
         self.check_rows(opening[0][0])
         for number, found in enumerate(opening):
@@ -212,8 +212,10 @@ class Serving:
     def put(self, resource, path, text):
         if not self.adopt():
             return "gone"
-        row, writer = self.sealed(resource, path, b"" if text == "-" else base64.b64decode(text))
+        data = b"" if text == "-" else base64.b64decode(text)
+        row, writer = self.sealed(resource, path, data)
         revision = self.append("put", path, row)
+        self.core.changes.append(("put", path, revision, (resource, data)))
         self.core.board.needs[path] = (resource, writer)
         self.line("put", path, revision)
         self.let_go()
@@ -233,6 +235,7 @@ class Serving:
             self.line("delete", path, 0)
             return "absent"
         revision = self.append("delete", path, store.Row(path.encode()))
+        self.core.changes.append(("delete", path, revision, None))
         del self.core.board.needs[path]
         self.line("delete", path, revision)
         return f"delete {revision}"
@@ -261,6 +264,7 @@ class Serving:
         except Refused:
             return "left"
         number = self.append("replace", path, new)
+        self.core.changes.append(("replace", path, number, None))
         self.core.board.needs[path] = (resource, writer)
         self.line("replace", path, revision, number)
         return "rewritten"
@@ -348,7 +352,23 @@ def opened(world, workers, programs, replicas, files):
     return outfits, opening
 
 
-def run(options, world, output):
+def first_items(outfit, opening, rows):
+    """The live rows as the first worker's links read them by the first replica's configuration: revision, resource and data of
+    each path; no data where a value is refused. What was unwrapped isn't kept for the worker's lines."""
+    (entries, seeds), items = opening, {}
+    by_plugin = functools.partial(plugins.unseal, seeds, {name: Kept(link) for name, link in outfit.links.items()})
+    for path, (revision, row) in sorted(store.live(rows).items()):
+        resource = row.resource.decode()
+        try:
+            data = unseal(configuration.list_for(entries, resource), path, row.value, by_plugin)[0]
+        except Refused:
+            data = None
+        items[path.decode()] = (revision, resource, data)
+    return items
+
+
+def work(options, world, watched=False):
+    """The core behind all lines, the workers with their replies, and the items of the opening where these are wanted."""
     replicas, workers = load(world, options["file"])
     files = {file: load_settings(world, file) for file in files_named(replicas, workers)}
     programs = programs_of(options, [entry for entries in files.values() for entry in entries])
@@ -357,12 +377,23 @@ def run(options, world, output):
     if budget(workers, rows) > MOST_JOURNAL:
         raise Stop(6, f"limit journal {MOST_JOURNAL}")
     outfits, opening = opened(world, workers, programs, replicas, files)
+    first = first_items(outfits[0], opening[0], rows) if watched else {}
+    begun = len(rows)
     core = Core(tape, form, rows, [name for name, _ in replicas], opening)
     replies = []
     for worker, outfit in zip(workers, outfits):
         serving = Serving(core, worker, outfit, files)
         replies.append([serving.reply(words) for words in worker.lines])
+    return core, list(zip(workers, replies)), first, begun
+
+
+def all_replies(told):
+    return [reply for _, own in told for reply in own]
+
+
+def run(options, world, output):
+    core, told, _, _ = work(options, world)
     text = ["journal", *core.journal, "replies"]
-    text += [f"{worker.name} {number} {reply}" for worker, own in zip(workers, replies) for number, reply in enumerate(own, 1)]
+    text += [f"{worker.name} {number} {reply}" for worker, own in told for number, reply in enumerate(own, 1)]
     output.write_all(("\n".join([*text, "end"]) + "\n").encode())
-    return b"", status_of([reply for own in replies for reply in own])
+    return b"", status_of(all_replies(told))

@@ -17,11 +17,14 @@ OPTIONS = {
     "rewrite": (("config", "store"), ("plugin",)),
     "fleet": (("file", "store"), ("plugin",)),
     "gen": (("seed", "size", "store"), ()),
+    "watch": (("file", "store", "resource", "limit"), ("plugin", "since")),
+    "verify": (("config", "store"), ("plugin",)),
 }
 REPEATED = ("plugin", "replica")
 MOST_REPLICAS = 16
 MOST_SIZE = 10_000
-MOST_SEED = 2**64 - 1
+MOST_PAGE = 10_000
+MOST_NUMBER = 2**64 - 1
 
 
 class Usage(Exception):
@@ -108,7 +111,10 @@ def keep_rules(command, found):
         if number(found["replicas"][0]) < 1 or found.get("show", ["wide"])[0] not in ("wide", "turned"):
             raise Usage
     if command == "gen":
-        if number(found["seed"][0]) > MOST_SEED or number(found["size"][0]) < 1:
+        if number(found["seed"][0]) > MOST_NUMBER or number(found["size"][0]) < 1:
+            raise Usage
+    if command == "watch":
+        if number(found["limit"][0]) < 1 or number(found.get("since", ["0"])[0]) > MOST_NUMBER:
             raise Usage
 
 
@@ -128,4 +134,6 @@ def command_of(words):
         raise WordsLimit(f"replicas {MOST_REPLICAS}")
     if command == "gen" and number(found["size"][0]) > MOST_SIZE:
         raise WordsLimit(f"size {MOST_SIZE}")
+    if command == "watch" and number(found["limit"][0]) > MOST_PAGE:
+        raise WordsLimit(f"page {MOST_PAGE}")
     return command, {name: values if name in REPEATED else values[0] for name, values in found.items()}

@@ -92,6 +92,7 @@ def add_decrypt(book):
     decrypt(book, "decrypt_mark", TWO, CBC + bytes(16) + bytes.fromhex("f9528ad9d9301f4d1a31c2be36ca6835"))
     decrypt(book, "decrypt_empty_under_32", "secrets: aescbc:key1=K32", CBC + IV + bytes.fromhex("8ea2b7ca516745bfeafc49904b496089"))
     # no provider reads it
+    decrypt(book, "decrypt_12_identity_alone", BARE, HELLO)
     decrypt(book, "decrypt_12_other_kind", "secrets: identity, aesgcm:key1=K16", HELLO)
     decrypt(book, "decrypt_12_other_name", "secrets: aescbc:key2=K16, identity", HELLO)
     decrypt(book, "decrypt_12_longer_name", "secrets: aescbc:key=K16, identity", HELLO)

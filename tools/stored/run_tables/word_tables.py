@@ -135,6 +135,7 @@ OTHERS = {
 VALUES = {
     **{"config": "c.json", "resource": "secrets", "path": "/", "store": "s", "to": "t", "replica": "r", "reload": "0=f"},
     **{"file": "f", "seed": "1", "size": "1", "plugin": "p=prog", "from": "c.json", "replicas": "2", "show": "wide"},
+    **{"limit": "1", "since": "0"},
 }
 for verb, (required, further) in OPTIONS.items():
     own = [word for name in required for word in (f"--{name}", VALUES[name])]

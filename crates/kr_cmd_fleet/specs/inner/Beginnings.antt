@@ -8,6 +8,7 @@ use Rattle.kr_provider.specs.Publication.{Publication}
 use Rattle.kr_rollout.specs.Cores.{CoreState}
 use Rattle.kr_rollout.specs.Openings.{opening_by}
 use Rattle.kr_store.specs.Stores.{Kept}
+use Rattle.kr_watch.specs.declared.item.Item.{Item}
 use Rattle.kr_cmd_steps.specs.Around.{Around}
 use Rattle.kr_cmd_fleet.specs.FleetFiles.{NamedRows, no_file, rows_at}
 use Rattle.kr_cmd_fleet.specs.Fleets.{Begun, Replicas, publishing}
@@ -55,12 +56,13 @@ first_core plan reloads room store replicas = record {
 }
 
 -- what the workers begin with
-abbrev pub begun_with : Plan → (budgets : List ℕ) → Kept → Replicas → Begun
-begun_with plan budgets store replicas = record {
+abbrev pub begun_with : Plan → (budgets : List ℕ) → Kept → Replicas → List Item → Begun
+begun_with plan budgets store replicas items = record {
   plan = plan_of plan;
   stored = stored_of store;
   budgets = budgets;
   replicas = replicas;
+  items = items;
 }
 
 -- it, where something started

@@ -13,6 +13,7 @@ use Rattle.kr_workers.specs.declared.worker.Worker.{Worker}
 use Rattle.kr_cmd_fleet.specs.declared.fleet.Record.{Record}
 use Rattle.kr_cmd_fleet.specs.declared.fleet_file.Plan.{Plan}
 use Rattle.kr_cmd_fleet.specs.declared.outfit.Outfit.{Outfit}
+use Rattle.kr_cmd_fleet.specs.declared.watch_start.WatchStart.{WatchStart}
 use Rattle.kr_cmd_messages.specs.declared.refusal.Stop.{Stop}
 use Rattle.kr_cmd_messages.specs.declared.refusal.Stop.TheVariants.{NoMemory}
 use Rattle.kr_cmd_fleet.specs.inner.Outfits.{AreLater}
@@ -29,7 +30,7 @@ pub record KeepsStore (o : Opening) (rows : List LogRow) (store : Kept) : Type 0
 
 module _ {T L D : Type 0} (truth : Truth) (link : L → Link) (left : D → Option (List ℕ))
     (count : D → ℕ) (plan : Plan) (budgets : List ℕ) (o : Opening)
-    (workers : List (Worker T L D)) where
+    (start : WatchStart) (workers : List (Worker T L D)) where
   -- the workers did their lines in one history
   pub record WorkersRan (made : Record) (store : Kept) (outfits : List (Outfit L D))
       : Type 0 where
@@ -37,6 +38,7 @@ module _ {T L D : Type 0} (truth : Truth) (link : L → Link) (left : D → Opti
     pub ended : List (Worker T L D)
     pub one : IsOneHistory truth link left count plan.files.0 history o plan.script.workers.0
         budgets workers ended
+    pub start_is : made.start ≡ start
     pub lines_are : made.lines.0 ≡ map (λ (e : Entry). e.line) history
     pub replies_are : made.replies.0 ≡ map (λ (w : Worker T L D). w.told) ended
     pub outfits_are : outfits ≡ outfits_of ended

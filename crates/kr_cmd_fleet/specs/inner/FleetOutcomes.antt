@@ -1,5 +1,5 @@
 -- What a fleet over a store gives: it ended up to its workers, or they ran.
-use Rattle.std.specs.Prelude.{◌≡◌, ℕ, ◌⊎◌, List, [], ◌∷◌, map, All, IfSome, Option, Result, Ok, Err, ⊤}
+use Rattle.std.specs.Prelude.{◌≡◌, ℕ, ◌⊎◌, Bool, true, false, List, [], ◌∷◌, length, map, All, IfSome, Option, Result, Ok, Err, ⊤}
 use Rattle.kr_kms.specs.Calls.{Link}
 use Rattle.std.specs.Option.{option_map}
 use Rattle.kr_kms.specs.Truth.{TellsOf, Truth, key_of}
@@ -10,29 +10,39 @@ use Rattle.kr_workers.specs.declared.budget.BudgetNo.TheVariants as budget
 use Rattle.kr_workers.specs.declared.worker.Worker as fleet_worker
 use Rattle.kr_cmd_steps.specs.Around.{Around, IsHome}
 use Rattle.kr_cmd_fleet.specs.FleetFiles.{FleetPlan, NamedRows}
-use Rattle.kr_cmd_fleet.specs.Fleets.{Begun, Replicas, RunsFleet, StartsNone, rows_of_replica}
+use Rattle.kr_cmd_fleet.specs.Fleets.{Begun, FailsToSettle, Replicas, RunsFleet, StartsNone, rows_of_replica, settled_behind}
 use Rattle.kr_cmd_steps.specs.Steps.{Steps}
 use Rattle.kr_cmd_fleet.specs.declared.fleet.Record.{Record}
 use Rattle.kr_cmd_messages.specs.declared.refusal.Limit.TheVariants as limit
 use Rattle.kr_cmd_messages.specs.declared.refusal.Refusal.TheVariants.{Limit}
 use Rattle.kr_cmd_messages.specs.declared.refusal.Stop.{Stop}
 use Rattle.kr_cmd_messages.specs.declared.refusal.Stop.TheVariants.{Refused, NoMemory}
+use Rattle.kr_cmd_fleet.specs.inner.Readings.{KnowsItems}
 use Rattle.kr_cmd_steps.specs.inner.Phases.{Does}
+
+-- what the workers ran from, where the store was settled behind them
+abbrev pub settled_if : Bool → (store : List ℕ) → Around → Around
+settled_if false store mid = mid
+settled_if true store mid = settled_behind store mid
 
 module _ (T : Type 0) {L D : Type 0} (truth : Truth) (link : L → Link)
     (left : D → Option (List ℕ)) (count : D → ℕ) where
-  -- the workers ran, and left this record
-  pub record LeavesRecord (steps : Steps Begun) (store : List ℕ) (plan : FleetPlan)
-      (old new : Around) (made : Record) : Type 0 where
+  -- the workers ran, and left this record; the store was settled behind them, if so
+  pub record LeavesRecord (settled watched : Bool) (steps : Steps Begun) (store : List ℕ)
+      (plan : FleetPlan) (old new : Around) (made : Record) : Type 0 where
     pub begun : Begun
     pub plan_is : begun.plan ≡ plan
     pub mid : Around
     pub does : Does steps old mid (Ok begun)
     pub history : List Entry
     pub ended : List (fleet_worker.Worker T L D)
-    pub runs : RunsFleet truth link left count store begun mid new history ended
+    pub runs : RunsFleet truth link left count store begun (settled_if settled store mid) new
+        history ended
     pub lines : made.lines.0 ≡ map (λ (e : Entry). e.line) history
     pub replies : made.replies.0 ≡ map (λ (w : fleet_worker.Worker T L D). w.told) ended
+    pub items_are : made.start.items.0 ≡ begun.items
+    pub revision_is : made.start.revision ≡ length begun.stored.rows
+    pub known : KnowsItems watched truth begun.stored.rows begun.replicas begun.items
     pub home : IsHome old new
 
   -- memory lacked for the workers
@@ -46,11 +56,30 @@ module _ (T : Type 0) {L D : Type 0} (truth : Truth) (link : L → Link)
     pub home : IsHome old new
 
   -- what these steps up to the workers give
-  abbrev pub RunsBy : Steps Begun → (store : List ℕ) → FleetPlan → (old new : Around)
-      → Result Record Stop → Type 0
-  RunsBy steps store plan old new (Ok made) = LeavesRecord steps store plan old new made
-  RunsBy steps store plan old new (Err stop) =
+  abbrev pub RunsBy : (watched : Bool) → Steps Begun → (store : List ℕ) → FleetPlan
+      → (old new : Around) → Result Record Stop → Type 0
+  RunsBy watched steps store plan old new (Ok made) =
+      LeavesRecord false watched steps store plan old new made
+  RunsBy watched steps store plan old new (Err stop) =
       Does steps old new (Err stop) ⊎ LacksWorkers steps store old new stop
+
+  -- the workers ran, and the store couldn't be settled behind them
+  pub record LacksSettling (steps : Steps Begun) (store : List ℕ) (old new : Around)
+      (stop : Stop) : Type 0 where
+    pub begun : Begun
+    pub mid : Around
+    pub does : Does steps old mid (Ok begun)
+    pub fails : FailsToSettle store begun mid new stop
+    pub home : IsHome old new
+
+  -- what these steps up to the workers give, where the store is settled behind them
+  abbrev pub SettlesBy : (watched : Bool) → Steps Begun → (store : List ℕ) → FleetPlan
+      → (old new : Around) → Result Record Stop → Type 0
+  SettlesBy watched steps store plan old new (Ok made) =
+      LeavesRecord true watched steps store plan old new made
+  SettlesBy watched steps store plan old new (Err stop) =
+      Does steps old new (Err stop) ⊎ LacksWorkers steps store old new stop
+      ⊎ LacksSettling steps store old new stop
 
 -- why there are no budgets, as a command says it
 abbrev pub budget_stop : BudgetNo → Stop

@@ -5,6 +5,7 @@ use Rattle.kr_words.specs.declared.command.Verb.{Verb}
 use Rattle.kr_words.specs.declared.command.Verb.TheVariants as verbs
 use Rattle.kr_cmd_messages.specs.Command.{AskBadly}
 use Rattle.kr_cmd_messages.specs.LoadAsked.{AskNoLoad}
+use Rattle.kr_cmd_messages.specs.WatchAsked.{AskNoWatch}
 use Rattle.kr_cmd_messages.specs.declared.fleet_words.FleetWords.{FleetWords}
 use Rattle.kr_cmd_messages.specs.declared.refusal.Stop.{Stop}
 use Rattle.kr_cmd_messages.specs.declared.refusal.Stop.TheVariants.{Words, NoMemory}
@@ -15,7 +16,7 @@ abbrev pub IsFleetAsked : List (List ℕ) → Result (Option FleetWords) Stop �
 IsFleetAsked words (Ok (Some asked)) = AsksFleet words asked
 IsFleetAsked words (Ok None) = AskNoFleet words
 IsFleetAsked words (Err (Words why)) =
-    AskBadly why words × AskNoFleet words × AskNoLoad words
+    AskBadly why words × AskNoFleet words × AskNoLoad words × AskNoWatch words
 IsFleetAsked words (Err NoMemory) = ⊤
 IsFleetAsked words (Err stop) = ⊥
 

@@ -9,12 +9,14 @@ use Rattle.kr_cmd_messages.specs.declared.load_words.LoadWords.{LoadWords}
 use Rattle.kr_cmd_messages.specs.declared.refusal.Stop.{Stop}
 use Rattle.kr_cmd_messages.specs.declared.refusal.Stop.TheVariants.{Words, NoMemory}
 use Rattle.kr_cmd_messages.specs.LoadAsked.{AsksLoad, AskNoLoad}
+use Rattle.kr_cmd_messages.specs.WatchAsked.{AskNoWatch}
 
 -- they ask for this one, or for none
 abbrev pub IsLoadAsked : List (List ℕ) → Result (Option LoadWords) Stop → Type 0
 IsLoadAsked words (Ok (Some asked)) = AsksLoad words asked
 IsLoadAsked words (Ok None) = AskNoLoad words
-IsLoadAsked words (Err (Words why)) = AskBadly why words × AskNoLoad words
+IsLoadAsked words (Err (Words why)) =
+    AskBadly why words × AskNoLoad words × AskNoWatch words
 IsLoadAsked words (Err NoMemory) = ⊤
 IsLoadAsked words (Err stop) = ⊥
 

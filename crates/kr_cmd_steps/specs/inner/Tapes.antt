@@ -5,7 +5,7 @@ use Rattle.kr_base.specs.Faults.{Rose}
 use Rattle.kr_base.specs.Limits.{store_limit}
 use Rattle.kr_base.specs.Told.{Agrees}
 use Rattle.kr_kms.specs.Outside.{Outside, with_call, file_faults, same_name, KeepsFiles, HandsOut, TakesBack, IsTape}
-use Rattle.kr_kms.specs.declared.world.WorldCall.TheVariants.{Tape}
+use Rattle.kr_kms.specs.declared.world.WorldCall.TheVariants.{Settled, Tape}
 use Rattle.kr_store.specs.File.{IsFile}
 use Rattle.kr_store.specs.Stores.{Kept}
 use Rattle.kr_store.specs.Rows.{live}
@@ -54,6 +54,22 @@ pub record ReturnedTape (name : List ℕ) (old new : Outside) (told : Option (Li
   pub asked : new.asked ≡ old.asked
   pub dice : new.dice ≡ old.dice
   pub links : new.links ≡ old.links
+
+-- a world that was told that a tape of the name is back settled
+abbrev pub with_settled : (name : List ℕ) → Outside → Outside
+with_settled name world = record world { asked = with_call (Settled name) world.asked }
+
+-- the tape came back: settled, where something was made; or it couldn't be settled, and that fault
+-- stands in place of what was made; or what ended the command stands
+abbrev pub ReturnsSettled : {A : Type 0} → (name : List ℕ) → Object → (old new : Outside)
+    → (told : Option (List ℕ)) (count : ℕ) → (made result : Result A Stop) → Type 0
+ReturnsSettled name object old new told count (Ok made) (Ok x) =
+    (x ≡ made) × ReturnedTape name (with_settled name old) new told count
+ReturnsSettled name object old new told count (Ok made) (Err stop) =
+    (later : ℕ) × Rose count later × (stop ≡ Fault object later)
+    × ReturnedTape name old new told later
+ReturnsSettled name object old new told count (Err why) result =
+    (result ≡ Err why) × ReturnedTape name old new told count
 
 -- why a store wasn't loaded, as a command says it, by the faults of its tape
 abbrev pub load_stop : Object → ℕ → StoreNo → Stop

@@ -1,6 +1,6 @@
 -- Needs as they are kept: for each path the place of its pair of a resource and a provider, and for
 -- each pair the paths that need it.
-use Rattle.std.specs.Prelude.{◌≡◌, ℕ, ◌<◌, ◌==◌, ◌&&◌, Bool, true, false, IsSome, if◌then◌else◌, List, [], length, get_or, map, MatchOption, Option, None, Some, ⊤}
+use Rattle.std.specs.Prelude.{◌≡◌, ℕ, ◌<◌, ◌+◌, ◌⊎◌, Contains, ◌==◌, ◌&&◌, Bool, true, false, IsSome, if◌then◌else◌, List, [], length, get_or, map, MatchOption, Option, None, Some, ⊤}
 use Rattle.std.specs.List.{filter}
 use Rattle.std.specs.List.Sorted.{IsStrictlySortedBy}
 use Rattle.std.specs.Option.{option_map}
@@ -76,10 +76,11 @@ pub record IsIndexed (entries : List (List ℕ × ℕ)) (pairs : List Pair)
       ≡ with_proposed proposal place (paths_of place entries)
   pub stands : MatchOption proposal ⊤ (Stands entries (length pairs))
 
--- what is seen of it
+-- what is seen of it; pairs is how many pairs are kept
 pub record NeedsState : Type 0 where
   pub needs : List Need
   pub proposal : Option Need
+  pub pairs : ℕ
 
 abbrev pub proposed_need : List (List ℕ × Who) → Option Proposal → Option Need
 proposed_need labels proposal = option_map (λ p. need_of labels (p.path, p.place)) proposal
@@ -112,4 +113,16 @@ abbrev pub needs_view : List (List ℕ × ℕ) → List Pair → Option Proposal
 needs_view entries pairs proposal = record {
   needs = needs_of (labels_of pairs) (without_proposed proposal entries);
   proposal = proposed_need (labels_of pairs) proposal;
+  pairs = length pairs;
 }
+
+-- of the needs so many are of a resource and a provider each of their own
+abbrev pub AreSoManyApart : List Need → ℕ → Type 0
+AreSoManyApart needs count = (chosen : List Need)
+    × ((need : Need) → Contains chosen need → Contains needs need)
+    × AreApart (map (λ need. (need.resource, need.who)) chosen)
+    × (length chosen ≡ count)
+
+-- there is a pair more only where so many were needed as there were pairs, and then one more
+abbrev pub GrowsWith : List Need → (old new : ℕ) → Type 0
+GrowsWith needs old new = (new ≡ old) ⊎ (AreSoManyApart needs old × (new ≡ old + 1))

@@ -1,23 +1,18 @@
 -- How seeds are made: one by one, and all.
-use Rattle.std.specs.Prelude.{◌≡◌, ℕ, List, Option, Result, Ok, Err}
-use Rattle.kr_config.specs.Kept.{Row}
+use Rattle.std.specs.Prelude.{◌≡◌, ℕ, List, [], Option, Result, Ok, Err}
+use Rattle.kr_config.specs.Kept.{Row, plugins_in}
 use Rattle.kr_kms.specs.Calls.{Link}
-use Rattle.kr_kms.specs.Seeds.{MakesSeed}
+use Rattle.kr_kms.specs.Exchanges.{Exchange}
+use Rattle.kr_kms.specs.Seeds.{MakesSeed, MakesSeedBy}
 use Rattle.kr_kms.specs.Truth.{Truth}
 use Rattle.kr_kms.specs.declared.health.SeedNo.{SeedNo}
 use Rattle.kr_kms.specs.declared.health.SeedNo.TheVariants as seed
 use Rattle.kr_kms.specs.declared.seeds.SeedRow.{SeedRow}
 use Rattle.kr_provider.specs.AskedLinks.{AsksOne}
+use Rattle.kr_provider.specs.Exchanges.{IsToldAt, MakesSeedsBy}
 use Rattle.kr_provider.specs.Publishing.{Publishes}
 use Rattle.kr_provider.specs.declared.refusal.PublishNo.{PublishNo}
 use Rattle.kr_provider.specs.declared.refusal.PublishNo.TheVariants.{PluginFailed, DiceFailed, Unhealthy, NoMemory}
-
--- a refusal of the plugin of this name
-abbrev pub refusal_at : List ℕ → SeedNo → PublishNo
-refusal_at name seed.Failed = PluginFailed name
-refusal_at name seed.DiceFailed = DiceFailed
-refusal_at name (seed.Unhealthy field text) = Unhealthy name field text
-refusal_at name seed.NoMemory = NoMemory
 
 module _ {L D : Type 0} (truth : Truth) (link : L → Link) (left : D → Option (List ℕ))
     (count : D → ℕ) where
@@ -44,3 +39,17 @@ module _ {L D : Type 0} (truth : Truth) (link : L → Link) (left : D → Option
       (Ok (record { rows = rows; seeds = made.0 })) new after
   MakesAll rows links dice (Err why) new after =
       Publishes truth link left count rows links dice (Err why) new after
+
+module _ {D : Type 0} (left : D → Option (List ℕ)) (count : D → ℕ) where
+  -- the exchanges with the plugin of this name, and what of it is told
+  abbrev pub MakesOneBy : List ℕ → D → Result SeedRow PublishNo → D → List Exchange → Type 0
+  MakesOneBy name dice result after exchanges = (answer : Result SeedRow SeedNo)
+      × MakesSeedBy left count name dice answer after exchanges × IsToldAt name answer result
+
+  -- with all plugins that the entries name
+  abbrev pub MakesAllBy : List Row → D → Result (List SeedRow × ℕ) PublishNo → D → List Exchange
+      → Type 0
+  MakesAllBy rows dice (Ok made) after exchanges =
+      MakesSeedsBy left count (plugins_in rows) [] dice (Ok made.0) after exchanges
+  MakesAllBy rows dice (Err why) after exchanges =
+      MakesSeedsBy left count (plugins_in rows) [] dice (Err why) after exchanges

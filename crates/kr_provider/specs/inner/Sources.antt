@@ -5,11 +5,15 @@ use Rattle.kr_envelope.specs.declared.object.EncryptedObject.{EncryptedObject}
 use Rattle.kr_envelope.specs.declared.object.ObjectNo.{ObjectNo}
 use Rattle.kr_envelope.specs.declared.object.ObjectNo.TheVariants as object
 use Rattle.kr_envelope.specs.Limits.{Reads}
+use Rattle.kr_kms.specs.Cache.{CacheState, FetchesBy}
 use Rattle.kr_kms.specs.Calls.{Link}
+use Rattle.kr_kms.specs.Exchanges.{Exchange}
+use Rattle.kr_kms.specs.declared.plugin.KmsNo.{KmsNo}
 use Rattle.kr_kms.specs.Truth.{Truth, TellsOf, key_of}
 use Rattle.kr_kms.specs.declared.seeds.SeedRow.{SeedRow}
 use Rattle.kr_provider.specs.AskedLinks.{AskedOnly, FaultRose}
 use Rattle.kr_provider.specs.Envelopes.{seed_key}
+use Rattle.kr_provider.specs.Exchanges.{LacksSource}
 use Rattle.kr_provider.specs.Readers.{body_by, is_reader, reader_in, writer_of}
 use Rattle.kr_provider.specs.Reading.{Reading, data_of, object_refusal, refused, source_reading}
 use Rattle.kr_provider.specs.Unsealing.{IsSeedOf}
@@ -100,3 +104,41 @@ pub record IsReadBy (list : List Who) (bytes : List ℕ) (who : Who) (body : Lis
   pub body_is : body ≡ body_by who bytes
   pub first_is : is_reader bytes (writer_of list) ≡ first
   pub writer : first ≡ true → writer_of list ≡ who
+
+-- ---- by which exchanges
+
+-- the source that was fetched, or why there is none
+abbrev pub IsSourceOr : (name : List ℕ) → Result (List ℕ) KmsNo → Result (List ℕ) UnsealNo → Type 0
+IsSourceOr name (Ok source) result = result ≡ Ok source
+IsSourceOr name (Err why) result = LacksSource name why result
+
+-- the source of an object of the plugin of this name was fetched through the cache; or there was no
+-- memory for the name, and nothing was asked
+abbrev pub OpensSourceBy : (name : List ℕ) → EncryptedObject → CacheState
+    → Result (List ℕ) UnsealNo → CacheState → List Exchange → Type 0
+OpensSourceBy name found cache result after exchanges =
+    ((result ≡ Err NoMemory) × (after ≡ cache) × (exchanges ≡ [])) ⊎
+    ((source : Result (List ℕ) KmsNo)
+    × FetchesBy (seed_key name found) cache source after exchanges × IsSourceOr name source result)
+
+-- the data under the source that was fetched, or why there is none
+abbrev pub GivesByFetch : (name : List ℕ) → EncryptedObject → (path : List ℕ)
+    → Result (List ℕ) KmsNo → Result (List ℕ) UnsealNo → Type 0
+GivesByFetch name found path (Ok source) result =
+    Gives (source_reading found.kind source path found.encrypted) result
+GivesByFetch name found path (Err why) result = LacksSource name why result
+
+-- by the published seed, where that is the object's; else by its source, which was fetched, or there
+-- was no memory to ask for it
+pub data UnsealsObjectBy (row : SeedRow) (name : List ℕ) (found : EncryptedObject) (path : List ℕ)
+    (cache : CacheState) (result : Result (List ℕ) UnsealNo) (after : CacheState)
+    : List Exchange → Type 0 where
+  by_published : IsSeedOf row name found
+      → Gives (source_reading found.kind row.seed path found.encrypted) result → after ≡ cache
+      → UnsealsObjectBy row name found path cache result after []
+  by_fetch : {exchanges : List Exchange} (source : Result (List ℕ) KmsNo)
+      → (IsSeedOf row name found → ⊥) → FetchesBy (seed_key name found) cache source after exchanges
+      → GivesByFetch name found path source result
+      → UnsealsObjectBy row name found path cache result after exchanges
+  unasked_for : (IsSeedOf row name found → ⊥) → result ≡ Err NoMemory → after ≡ cache
+      → UnsealsObjectBy row name found path cache result after []

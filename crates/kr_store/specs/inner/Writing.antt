@@ -1,6 +1,7 @@
 -- Writing one row.
 use Rattle.std.specs.Prelude.{◌≡◌, ℕ, ◌≤◌, Bool, if◌then◌else◌, List, [], Result, Ok, Err}
 use Rattle.kr_base.specs.Faults.{Rose}
+use Rattle.kr_base.specs.Numbering.{next_number}
 use Rattle.kr_store.specs.declared.format.Format.{Format}
 use Rattle.kr_store.specs.declared.kept_row.Kind.{Kind}
 use Rattle.kr_store.specs.File.{magic}
@@ -14,16 +15,16 @@ use Rattle.kr_store.specs.declared.write.WriteNo.TheVariants.{Failed, NoMemory}
 abbrev pub lead : Format → Bool → List ℕ
 lead format empty = if empty then magic format else []
 
--- the row's bytes were appended and the index has it; or the tape failed, or nothing was touched,
--- and the index stays
+-- the row's bytes were appended without a fault and the index has it; or the tape failed, once, or
+-- nothing was touched, and the index stays
 abbrev pub Writes :
     {A : Type 0} → Tail → Tail → Index → Index → ℕ → List ℕ → Kind → List ℕ → Result A WriteNo
     → Type 0
 Writes old new before after k path kind bytes (Ok x) =
     Extends {E = WriteNo} old new bytes (Ok x) × AddsAs before after k path kind
-    × (old.count ≤ new.count)
+    × (old.count ≤ new.count) × (new.count ≡ old.count)
 Writes old new before after k path kind bytes (Err Failed) =
     Tears old new × StaysAs before after path kind
-    × Rose old.count new.count × (old.count ≤ new.count)
+    × Rose old.count new.count × (old.count ≤ new.count) × (new.count ≡ next_number old.count)
 Writes old new before after k path kind bytes (Err NoMemory) =
     (new ≡ old) × StaysAs before after path kind

@@ -1,15 +1,25 @@
 //! The table of the classes that settings tell apart.
 use kr_base::NoMemory;
-use kr_config::{Class, ClassTable, read};
+use kr_config::{Class, ClassTable, Settings, read};
 use std::alloc::Global;
 use std::test::Fail;
 
 /// Secrets, the others of the core group, and all others.
 const THREE: &str =
-    r#"{"apiVersion":"apiserver.config.k8s.io/v1","kind":"EncryptionConfiguration","resources":[{"resources":["secrets"],"providers":[{"identity":{}}]},{"resources":["*."],"providers":[{"identity":{}}]},{"resources":["*.*"],"providers":[{"identity":{}}]}]}"#;
+    r#"{"apiVersion":"apiserver.config.k8s.io/v1","kind":"EncryptionConfiguration","resources":[{"resources":["secrets"],"providers":[{"identity":{}}]},{"resources":["*."],"providers":[{"aesgcm":{"keys":[{"name":"k","secret":"c2VjcmV0IGlzIHNlY3VyZQ=="}]}}]},{"resources":["*.*"],"providers":[{"aescbc":{"keys":[{"name":"k","secret":"dGhpcyBpcyBwYXNzd29yZA=="}]}}]}]}"#;
+
+/// The settings of the three entries.
+fn settings_of(alloc: Global) -> Option<Settings> {
+    let read = read(alloc, THREE.as_bytes()).ok()?;
+    let Settings {
+        entries,
+        fallback: _fallback,
+    } = read;
+    Settings::of(alloc, entries).ok()
+}
 
 fn table_of(alloc: Global) -> Option<ClassTable> {
-    let settings = read(alloc, THREE.as_bytes()).ok()?;
+    let settings = settings_of(alloc)?;
     let mut table = ClassTable::new(alloc);
     let added = table.add(&settings);
     drop(settings);

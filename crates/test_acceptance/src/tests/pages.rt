@@ -1,4 +1,4 @@
-//! The pages of a bench: more keys than it has pages, and two configurations in turn.
+//! What a bench has room for: more keys than it has pages, two configurations in turn, and data.
 ghost use Rattle.std.specs.Prelude.{◌≡◌, ◌≤◌, false, length, IfSome, IsSome, IsTrue};
 ghost use Rattle.kr_base.specs.Limits.{value_limit};
 ghost use Rattle.kr_config.specs.Kept.{rows_of};
@@ -8,7 +8,7 @@ use super::{AESCBC, IV};
 use kr_base::{Bytes, List, MemDice};
 use kr_config::{Settings, read};
 use kr_kms::TablePlugin;
-use kr_provider::{Bench, Links, Published, Shared, names_plugin, publish};
+use kr_provider::{Bench, Links, Published, SealNo, Shared, names_plugin, publish};
 use std::alloc::Global;
 use std::test::Fail;
 
@@ -16,11 +16,28 @@ use std::test::Fail;
 const TWO: &str =
     r#"{"apiVersion":"apiserver.config.k8s.io/v1","kind":"EncryptionConfiguration","resources":[{"resources":["secrets"],"providers":[{"aescbc":{"keys":[{"name":"key2","secret":"c2VjcmV0IGlzIHNlY3VyZQ=="},{"name":"key1","secret":"AAECAwQFBgcICQoLDA0ODxAREhMUFRYXGBkaGxwdHh8="}]}}]}]}"#;
 
+/// Two keys of a rotation, of which the first writes; the second alone; and a third beside both.
+const BOTH: &str =
+    r#"{"apiVersion":"apiserver.config.k8s.io/v1","kind":"EncryptionConfiguration","resources":[{"resources":["secrets"],"providers":[{"aescbc":{"keys":[{"name":"key1","secret":"c2VjcmV0IGlzIHNlY3VyZQ=="},{"name":"key2","secret":"dGhpcyBpcyBwYXNzd29yZA=="}]}},{"identity":{}}]}]}"#;
+
+const LAST: &str =
+    r#"{"apiVersion":"apiserver.config.k8s.io/v1","kind":"EncryptionConfiguration","resources":[{"resources":["secrets"],"providers":[{"aescbc":{"keys":[{"name":"key2","secret":"dGhpcyBpcyBwYXNzd29yZA=="}]}},{"identity":{}}]}]}"#;
+
+const THREE: &str =
+    r#"{"apiVersion":"apiserver.config.k8s.io/v1","kind":"EncryptionConfiguration","resources":[{"resources":["secrets"],"providers":[{"aescbc":{"keys":[{"name":"key1","secret":"c2VjcmV0IGlzIHNlY3VyZQ=="},{"name":"key2","secret":"dGhpcyBpcyBwYXNzd29yZA=="},{"name":"key3","secret":"AAECAwQFBgcICQoLDA0ODw=="}]}}]}]}"#;
+
+/// What values of the two keys begin with.
+const BY_KEY1: &[u8] = b"k8s:enc:aescbc:v1:key1:";
+
+const BY_KEY2: &[u8] = b"k8s:enc:aescbc:v1:key2:";
+
 type Worker = Bench<TablePlugin, MemDice>;
 
-/// A bench that adopted nothing yet, whose random source gives `IV` four times.
-fn bench_of(alloc: Global, pages: u32) -> Option<Worker> {
-    let bytes = Bytes::from_vec(IV.repeat(alloc, 4).ok()?);
+/// A bench that adopted nothing yet, whose random source gives `IV` so many times.
+fn bench_of(alloc: Global, pages: u32, times: usize) -> Option<Worker>
+    requires { times ≤ 4096 }
+{
+    let bytes = Bytes::from_vec(IV.repeat(alloc, times).ok()?);
     let dice = MemDice::new(bytes, List::new(alloc));
     match Bench::new(alloc, Links::new(alloc), dice, pages, 1) {
         Ok(bench) => Some(bench),
@@ -149,54 +166,125 @@ fn refuses(alloc: Global, bench: &mut Worker) -> Option<bool> {
 
 #[test]
 fn more_keys_than_pages(rt: HostRuntime) -> Result<(), Fail> {
-    let mut bench = bench_of(rt.alloc(), 1).ok_or("no bench")?;
+    let mut bench = bench_of(rt.alloc(), 1, 4).ok_or("no bench")?;
     let refuses = refuses(rt.alloc(), &mut bench);
     close(bench);
     assert_eq!(rt; refuses, Some(true));
     Ok(())
 }
 
-/// Whether a bench of two pages adopts both in turn, a thousand times, and seals by the last.
-fn turns_between(
-    alloc: Global,
-    bench: &mut Worker,
-    one: &Shared<Published>,
-    two: &Shared<Published>,
-) -> Option<bool>
-    requires one { names_plugin one.now.rows ≡ false }
-    requires two { names_plugin two.now.rows ≡ false }
+/// Whether the bench seals by the key of this prefix, and reads it back.
+fn seals_by(alloc: Global, bench: &mut Worker, prefix: &[u8]) -> bool
+    requires { IsSome bench.old.published }
+    ensures { IsSome bench.new.published }
 {
-    for _ in 0..500 {
-        if !adopts(bench, one) || bench.keys() != 1 || !adopts(bench, two) || bench.keys() != 2 {
-            return Some(false);
+    match sealed(alloc, bench) {
+        Some(value) => {
+            let is = value.as_slice().starts_with(prefix);
+            drop(value);
+            is
         }
+        None => false,
     }
-    if !adopts(bench, two) {
-        return Some(false);
-    }
-    let value = sealed(alloc, bench)?;
-    let is = value.as_slice().starts_with(b"k8s:enc:aescbc:v1:key2:");
-    drop(value);
-    Some(is)
 }
 
-fn takes_turns(alloc: Global, bench: &mut Worker) -> Option<bool> {
+/// Whether the bench adopts it, and then seals by the key of this prefix.
+fn takes_up(alloc: Global, bench: &mut Worker, published: &Shared<Published>, prefix: &[u8]) -> bool
+    requires { names_plugin published.now.rows ≡ false }
+    ensures { IsTrue result → IsSome bench.new.published }
+{
+    if !adopts(bench, published) {
+        return false;
+    }
+    seals_by(alloc, bench, prefix)
+}
+
+/// Whether the bench has too few pages for its keys.
+fn is_too_many(bench: &mut Worker, published: &Shared<Published>) -> bool
+    requires { names_plugin published.now.rows ≡ false }
+    ensures { IsSome bench.old.published → IsSome bench.new.published }
+{
+    match published.share() {
+        Ok(published) => bench.adopt(published).is_err(),
+        Err(_) => false,
+    }
+}
+
+/// Whether a bench takes up both in turn, a thousand times each, and seals by each.
+fn takes_turns(
+    alloc: Global,
+    bench: &mut Worker,
+    both: &Shared<Published>,
+    last: &Shared<Published>,
+) -> bool
+    requires both { names_plugin both.now.rows ≡ false }
+    requires last { names_plugin last.now.rows ≡ false }
+    ensures { IsTrue result → IsSome bench.new.published }
+{
+    for _ in 0..999 {
+        if !takes_up(alloc, bench, both, BY_KEY1) || !takes_up(alloc, bench, last, BY_KEY2) {
+            return false;
+        }
+    }
+    takes_up(alloc, bench, both, BY_KEY1) && takes_up(alloc, bench, last, BY_KEY2)
+}
+
+/// Whether a bench of two pages takes turns so, refuses three keys then, and still seals by the
+/// last one's.
+fn is_full_then(
+    alloc: Global,
+    bench: &mut Worker,
+    both: &Shared<Published>,
+    last: &Shared<Published>,
+    three: &Shared<Published>,
+) -> bool
+    requires both { names_plugin both.now.rows ≡ false }
+    requires last { names_plugin last.now.rows ≡ false }
+    requires three { names_plugin three.now.rows ≡ false }
+{
+    if !takes_turns(alloc, bench, both, last) {
+        return false;
+    }
+    is_too_many(bench, three) && seals_by(alloc, bench, BY_KEY2)
+}
+
+fn is_full_at_three(alloc: Global, bench: &mut Worker) -> Option<bool> {
+    let both = published(alloc, BOTH)?;
+    let last = published(alloc, LAST)?;
+    let three = published(alloc, THREE)?;
+    Some(is_full_then(alloc, bench, &both, &last, &three))
+}
+
+// Each of the 2,000 adoptions is followed by a sealing, and so is the refusal.
+#[test]
+fn two_thousand_adoptions_and_a_refusal(rt: HostRuntime) -> Result<(), Fail> {
+    let mut bench = bench_of(rt.alloc(), 2, 2001).ok_or("no bench")?;
+    let is = is_full_at_three(rt.alloc(), &mut bench);
+    close(bench);
+    assert_eq!(rt; is, Some(true));
+    Ok(())
+}
+
+/// How many bytes of data are too many, where the bench says so of these.
+fn too_many(alloc: Global, bench: &mut Worker, data: &[u8]) -> Option<u64> {
     let one = published(alloc, AESCBC)?;
-    let Some(two) = published(alloc, TWO) else {
-        drop(one);
+    if !adopts(bench, &one) {
         return None;
-    };
-    let takes = turns_between(alloc, bench, &one, &two);
-    drop(one);
-    drop(two);
-    takes
+    }
+    match bench.seal(alloc, "secrets", "/a", data) {
+        Err(SealNo::TooLarge { length }) => Some(length),
+        _ => None,
+    }
 }
 
 #[test]
-fn a_thousand_adoptions(rt: HostRuntime) -> Result<(), Fail> {
-    let mut bench = bench_of(rt.alloc(), 2).ok_or("no bench")?;
-    let takes = takes_turns(rt.alloc(), &mut bench);
+fn data_above_the_limit_is_too_large(rt: HostRuntime) -> Result<(), Fail> {
+    let data = vec![in rt.alloc(); 7u8; 2_097_153]?;
+    let mut bench = bench_of(rt.alloc(), 1, 2).ok_or("no bench")?;
+    let above = too_many(rt.alloc(), &mut bench, data.as_slice());
+    let at = too_many(rt.alloc(), &mut bench, &data.as_slice()[1..]);
     close(bench);
-    assert_eq!(rt; takes, Some(true));
+    assert_eq!(rt; above, Some(2_097_153));
+    assert_eq!(rt; at, None);
     Ok(())
 }

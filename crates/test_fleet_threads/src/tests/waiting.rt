@@ -1,4 +1,6 @@
 //! Links that wait for each other in the midst of their calls.
+ghost use Rattle.kr_kms.specs.Exchanges.{KeepsLink};
+
 use kr_base::{Annotations, Bytes};
 use kr_kms::{Kms, KmsNo, Status, Wrapped};
 use std::alloc::Global;
@@ -39,6 +41,11 @@ impl<'a, L: Kms + Drop> Kms for Waiting<'a, L> {
     ghost truth = { L.truth };
 
     ghost link = { λ waiting. L.link waiting.inner };
+
+    // No more is said of its exchanges than of any link's.
+    ghost step = { λ old exchange new. KeepsLink (L.link old.inner) exchange (L.link new.inner) };
+
+    ghost keeps = { λ old exchange new h. h };
 
     fn name(&self) -> &str {
         self.inner.name()

@@ -78,17 +78,20 @@ fn puts(alloc: Global, store: &mut Store<MemTape>, path: &str, stored: &[u8]) ->
 }
 
 /// The revision of another value, where the path has this revision.
-fn replaces(alloc: Global, store: &mut Store<MemTape>, path: &str, revision: u64) -> Option<u64> {
+fn replaces(
+    alloc: Global,
+    store: &mut Store<MemTape>,
+    path: &str,
+    revision: u64,
+) -> Result<u64, PutNo> {
     let Ok(stored) = Bytes::copy(alloc, b"new") else {
-        return None;
+        return Err(PutNo::NoMemory);
     };
     if path_ok(path) && stored.as_slice().len() <= 10_000 {
-        store
-            .replace_if(path, revision, stored, Check { value: 7 })
-            .ok()
+        store.replace_if(path, revision, stored, Check { value: 7 })
     } else {
         drop(stored);
-        None
+        Err(PutNo::NoMemory)
     }
 }
 
@@ -188,8 +191,8 @@ fn check(store: &Store<MemTape>, path: &str) -> Option<Check> {
 /// Whether another row takes the place of a file's only row, with this check.
 fn replaces_with(alloc: Global, store: &mut Store<MemTape>, wanted: Option<Check>) -> bool {
     has(store, "/s", 1, b"hi")
-        && replaces(alloc, store, "/s", 2).is_none()
-        && replaces(alloc, store, "/s", 1) == Some(2)
+        && replaces(alloc, store, "/s", 2) == Err(PutNo::Changed { revision: 1 })
+        && replaces(alloc, store, "/s", 1) == Ok(2)
         && has(store, "/s", 2, b"new")
         && check(store, "/s") == wanted
 }
@@ -235,10 +238,25 @@ fn tears(alloc: Global, store: &mut Store<MemTape>) -> bool {
         && !store.torn()
 }
 
+/// Whether each call at one path is answered in its turn, where the second write fails: a put, one
+/// that fails and leaves the rows as they were, a put, two deletes, and another value.
+fn takes_each(alloc: Global, store: &mut Store<MemTape>) -> bool {
+    puts(alloc, store, "/s", b"1") == 1
+        && put(alloc, store, "/s", b"2") == Err(PutNo::Failed)
+        && store.revision() == 1
+        && has(store, "/s", 1, b"1")
+        && puts(alloc, store, "/s", b"3") == 2
+        && deletes(store, "/s") == Ok(Some(3))
+        && deletes(store, "/s") == Ok(None)
+        && replaces(alloc, store, "/s", 2) == Err(PutNo::Changed { revision: 3 })
+        && store.revision() == 3
+}
+
 /// What is asked of the store of a file.
 #[derive(Clone, Copy)]
 enum Ask {
     Finds,
+    Each,
     Replaces(Option<Check>),
     Lends,
     Grows {
@@ -252,6 +270,7 @@ enum Ask {
 fn answer(alloc: Global, store: &mut Store<MemTape>, ask: Ask) -> bool {
     match ask {
         Ask::Finds => finds(alloc, store),
+        Ask::Each => takes_each(alloc, store),
         Ask::Replaces(check) => replaces_with(alloc, store, check),
         Ask::Lends => lends(store),
         Ask::Grows {
@@ -283,6 +302,11 @@ fn finds_and_replaces_rows(rt: HostRuntime) {
     assert!(rt; answers(alloc, ONE_ROW, &[], Ask::Replaces(Some(Check { value: 7 }))));
     assert!(rt; answers(alloc, OLD_ROW, &[], Ask::Replaces(None)));
     assert!(rt; answers(alloc, ONE_ROW, &[], Ask::Lends));
+}
+
+#[test]
+fn a_path_is_put_deleted_and_not_replaced(rt: HostRuntime) {
+    assert!(rt; answers(rt.alloc(), b"", &[2], Ask::Each));
 }
 
 /// Whether the first bytes of a file of one row are answered as they must be.

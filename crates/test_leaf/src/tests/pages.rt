@@ -1,6 +1,6 @@
 //! A pool of two pages: each call with ample memory, and the refusal where no page is free.
 
-use kr_pages::{Full, Pages};
+use kr_pages::Pages;
 use std::test::Fail;
 
 /// Whether two pages of a pool of two are taken, written and given back, and one of them is zero
@@ -39,21 +39,31 @@ fn pages_are_taken_and_given_back(rt: HostRuntime) -> Result<(), Fail> {
     Ok(())
 }
 
-/// Whether a pool of no page refuses one.
-fn refuses(pool: &mut Pages) -> bool {
-    match pool.take() {
-        Ok(page) => {
-            pool.give(page);
-            false
-        }
-        Err(Full) => pool.out() == 0,
+/// Whether two pages are taken, a third is refused, and both are out then.
+fn refuses_the_third(pool: &mut Pages) -> bool {
+    let Ok(first) = pool.take() else {
+        return false;
+    };
+    let Ok(second) = pool.take() else {
+        pool.give(first);
+        return false;
+    };
+    if let Ok(third) = pool.take() {
+        pool.give(first);
+        pool.give(second);
+        pool.give(third);
+        return false;
     }
+    let out = pool.free() == 0 && pool.out() == 2;
+    pool.give(first);
+    pool.give(second);
+    out
 }
 
 #[test]
-fn refuses_where_no_page_is_free(rt: HostRuntime) -> Result<(), Fail> {
-    let mut pool = Pages::new(rt.alloc(), 0)?;
-    let is = refuses(&mut pool);
+fn a_pool_of_two_is_full_at_the_third(rt: HostRuntime) -> Result<(), Fail> {
+    let mut pool = Pages::new(rt.alloc(), 2)?;
+    let is = refuses_the_third(&mut pool);
     drop(pool);
     assert!(rt; is);
     Ok(())

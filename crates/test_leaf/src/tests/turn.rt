@@ -3,10 +3,11 @@ ghost use Rattle.std.specs.Prelude.{◌≡◌, ℕ, ◌+◌, ◌*◌, ◌<◌, �
 ghost use Rattle.kr_turn.specs.declared.seat.Place.{Place};
 ghost use Rattle.kr_turn.specs.Seats.{IsSeatOf, AreAll, number_of};
 
-use kr_base::{List, NoMemory};
+use kr_base::{List, NoMemory, Spent};
 use kr_turn::{Seat, Turn, Turned};
 use std::alloc::Global;
 use std::sync::Wait;
+use std::sync::atomic::{AtomicBool, Ordering};
 use std::test::Fail;
 use std::thread;
 use std::thread::Threads;
@@ -68,13 +69,21 @@ impl<T> Turned for Handed<T> {
     }
 }
 
-/// Hands over the numbers from 0 on.
-fn hand_over<T, R: Wait>(rt: &R, turn: &Turn<Handed<T>>, seat: &mut Seat<Handed<T>>, count: u64)
+/// Hands over the numbers from 0 on, and sets the flag where a turn is refused.
+fn hand_over<T, R: Wait>(
+    rt: &R,
+    turn: &Turn<Handed<T>>,
+    seat: &mut Seat<Handed<T>>,
+    count: u64,
+    spent: &AtomicBool,
+)
     requires { IsSeatOf turn.now seat.old }
     ensures { IsSeatOf turn.now seat.new × (number_of seat.new ≡ number_of seat.old) }
 {
     for number in 0..count {
-        let _ = turn.act(rt, seat, number);
+        if turn.act(rt, seat, number) == Err(Spent) {
+            spent.store(true, Ordering::SeqCst);
+        }
     }
 }
 
@@ -84,6 +93,7 @@ fn hand_over_each<T: Send, R: Threads + Wait + Sync>(
     turn: &Turn<Handed<T>>,
     seats: &mut Vec<Seat<Handed<T>>>,
     count: u64,
+    spent: &AtomicBool,
 )
     requires { All (IsSeatOf turn.now) seats.old.items }
     ensures its { All (IsSeatOf turn.now) seats.new.items }
@@ -100,7 +110,7 @@ fn hand_over_each<T: Send, R: Threads + Wait + Sync>(
             requires { IsSeatOf turn.now seat.old }
             ensures { IsSeatOf turn.entry.now seat.exit.now
                 × (number_of seat.exit.now ≡ number_of seat.entry.now) }
-        { hand_over(rt, turn, seat, count) },
+        { hand_over(rt, turn, seat, count, spent) },
     );
 }
 
@@ -112,6 +122,7 @@ fn handed_over<T: Send + Drop, R: Threads + Wait + Sync>(
     room: usize,
     budgets: &[u64],
     count: u64,
+    spent: &AtomicBool,
 ) -> Result<Handed<T>, NoMemory>
     requires count { (1 ≤ length budgets.now) × (length budgets.now ≤ 64) }
     requires room { sum budgets.now ≤ room }
@@ -126,7 +137,7 @@ fn handed_over<T: Send + Drop, R: Threads + Wait + Sync>(
         Err((refused, _)) => return Err(refused),
     };
     let mut row = seats.into_vec();
-    hand_over_each(rt, &turn, &mut row, count);
+    hand_over_each(rt, &turn, &mut row, count, spent);
     Ok(turn.close(List::from_vec(row)))
 }
 
@@ -147,11 +158,27 @@ fn in_order<T>(state: &Handed<T>, seat: u32) -> Option<u64> {
 // Each seat wants one turn more than its budget.
 #[test]
 fn eight_seats_keep_their_order_and_budgets(rt: HostRuntime) -> Result<(), Fail> {
-    let state = handed_over(&rt, rt.alloc(), 7u8, 8000, &[1000; 8], 1001)?;
+    let spent = AtomicBool::new(false);
+    let state = handed_over(&rt, rt.alloc(), 7u8, 8000, &[1000; 8], 1001, &spent)?;
     assert_eq!(rt; state.beside, 7);
     assert_eq!(rt; state.numbers.len(), 8000);
     for seat in 0..8 {
         assert_eq!(rt; in_order(&state, seat), Some(1000));
     }
+    assert!(rt; spent.load(Ordering::SeqCst));
+    Ok(())
+}
+
+// The first turn is answered and is the only line; the second one is refused.
+#[test]
+fn a_second_turn_of_one_is_spent(rt: HostRuntime) -> Result<(), Fail> {
+    let spent = AtomicBool::new(false);
+    let state = handed_over(&rt, rt.alloc(), 7u8, 1, &[1], 1, &spent)?;
+    assert_eq!(rt; in_order(&state, 0), Some(1));
+    assert!(rt; !spent.load(Ordering::SeqCst));
+    let state = handed_over(&rt, rt.alloc(), 7u8, 1, &[1], 2, &spent)?;
+    assert_eq!(rt; in_order(&state, 0), Some(1));
+    assert_eq!(rt; state.numbers.len(), 1);
+    assert!(rt; spent.load(Ordering::SeqCst));
     Ok(())
 }

@@ -3,7 +3,7 @@ use Rattle.kr_base.proofs.Transferring.{took-more, took-count, took-at-most}
 use Rattle.kr_base.proofs.transfer.read_all.Goals as goal
 
 pub loop-preserved : goal.loop-preserved
-loop-preserved g c = took-more c.read.new.into _ _ c.in-Ok.n _ c.loop.invariant c.in-Ok.ensures.bytes.0 c.in-Ok.ensures.bound.0 (omega arith) (omega arith) c.in-Ok-extend_from_slice.ensures.items c.in-Ok.ensures.cause.later
+loop-preserved g c = took-more c.read.new.into _ _ c.in-Ok.n _ c.loop.invariant c.in-Ok.ensures.bytes.0 c.in-Ok.ensures.bound.0 (omega arith) (omega arith) c.in-Ok-extend_from_slice.ensures.items c.in-Ok.ensures.cause.once
 
 pub returns-then-n-rest-clause-whole : goal.returns-then-n-rest-clause-whole
 returns-then-n-rest-clause-whole g c = took-count _ c.read.new.into c.in-Ok.n c.loop.invariant c.in-Ok.ensures.bytes.0 c.in-Ok.ensures.bound.0 (omega (arith, length-take {A = ℕ})) (omega arith)

@@ -1,7 +1,8 @@
 -- `begin`: what the replicas publish, and the workers.
-use Rattle.std.proofs.Common.{[], inl, subst, ◌∙◌}
+use Rattle.std.proofs.Common.{◌≡◌, [], Ok, Err, inl, length, sym, subst, ◌∙◌, arith}
 use Rattle.std.specs.Prelude.{IfOk}
-use Rattle.kr_cmd_fleet.specs.Fleets.{launching, publishing, starting}
+use Rattle.kr_cmd_fleet.specs.Fleets.{launching, publishing, starting, starting_with}
+use Rattle.kr_cmd_fleet.specs.FirstItems.{watching}
 use Rattle.kr_cmd_fleet.specs.inner.Plans.{named, plan_of}
 use Rattle.kr_cmd_fleet.specs.inner.FleetOutcomes.{ArePublished, published_in}
 use Rattle.kr_cmd_steps.specs.inner.Lent.{with_lent_tape}
@@ -9,8 +10,14 @@ use Rattle.kr_cmd_fleet.specs.inner.Outfits.{with_outfits}
 use Rattle.kr_cmd_steps.specs.inner.ProgramNames.{names_in}
 use Rattle.kr_cmd_steps.specs.inner.Phases.{Does}
 use Rattle.kr_cmd_steps.specs.inner.Tapes.{stored_of}
+use Rattle.kr_opening.specs.Replicas.{IsFirstIn}
+use Rattle.kr_cmd_fleet.specs.declared.watch_start.WatchStart.{WatchStart}
+use Rattle.kr_cmd_fleet.specs.inner.Readings.{HasFirst, KnowsItems, read_in}
+use Rattle.kr_cmd_fleet.proofs.FirstReads.{has_first}
 use Rattle.kr_cmd_fleet.proofs.FleetRuns.{runs_with}
-use Rattle.kr_cmd_steps.proofs.Goes.{stops}
+use Rattle.kr_cmd_fleet.proofs.Plans.{plan_first, plan_replicas, plan_workers}
+use Rattle.kr_cmd_fleet.proofs.Publishings.{published_first}
+use Rattle.kr_cmd_steps.proofs.Goes.{goes_on, stops}
 use Rattle.kr_cmd_fleet.proofs.Outfits.{later_many, later_named, later_trans}
 use Rattle.kr_cmd_fleet.proofs.fleet.begin.Goals as goal
 
@@ -28,26 +35,95 @@ returns-in-Err-clause-made g c name a t =
     (with_outfits link left count 0 olds over) (with_outfits link left count 0 outs over)
     (published_in r)) c.in-Err.is (c.publish_first-published.ensures.does over t) in
     inl (stops (publishing (named plan.files.0) [] plan.script.replicas.0)
-    (starting (plan_of plan) (stored_of store) c.args.budgets.now.entries.items) c.in-Err.stop
+    (starting_with c.args.watched (plan_of plan) (stored_of store)
+    c.args.budgets.now.entries.items) c.in-Err.stop
     does)
+
+pub read_first-read-requires : goal.read_first-read-requires
+read_first-read-requires g c =
+    let plan = c.args.plan.now in
+    let outs = c.publish_first-published.result.1.0 in
+    let made = c.in-Ok.replicas.0 in
+    let published = subst (λ r. IfOk r (λ made. ArePublished g.L.Kms.truth (named plan.files.0)
+    plan.script.replicas.0 made.0)) c.in-Ok.is c.publish_first-published.ensures.replicas in
+    record {
+      first = subst IsFirstIn (sym c.as_slice.ensures)
+          (published_first g.L.Kms.truth (named plan.files.0) plan.script.replicas.0 made published
+          (plan_replicas plan c.requires.plan).0 (plan_first plan c.requires.plan));
+      some = omega (
+        arith,
+        (plan_workers plan c.requires.plan).0,
+        c.requires.seats,
+        later_many g.L.Kms.link g.D.Dice.left g.D.Dice.count c.args.outfits.0 outs
+            c.publish_first-published.ensures.later,
+      );
+      links = subst (HasFirst g.L.Kms.truth g.L.Kms.link outs) (sym c.as_slice.ensures)
+          (has_first g.L.Kms.truth g.L.Kms.link plan c.requires.plan outs made
+          (later_named g.L.Kms.link g.D.Dice.left g.D.Dice.count (names_in plan.programs)
+          c.args.outfits.0 outs c.publish_first-published.ensures.later c.requires.named)
+          published);
+    }
+
+pub returns-in-Err-read-clause-made : goal.returns-in-Err-read-clause-made
+returns-in-Err-read-clause-made g c name a t =
+    let plan = c.args.plan.now in
+    let link = g.L.Kms.link in
+    let left = g.D.Dice.left in
+    let count = g.D.Dice.count in
+    let store = c.args.store in
+    let budgets = c.args.budgets.now.entries.items in
+    let olds = c.args.outfits.0 in
+    let mids = c.publish_first-published.result.1.0 in
+    let outs = c.read_first-read.result.1.0 in
+    let over = with_lent_tape name store.told store.count a in
+    let does = subst (λ r. Does (publishing (named plan.files.0) [] plan.script.replicas.0)
+    (with_outfits link left count 0 olds over) (with_outfits link left count 0 mids over)
+    (published_in r)) c.in-Ok.is (c.publish_first-published.ensures.does over t) in
+    let reads = subst (λ rs. Does (watching c.args.watched store.rows rs)
+    (with_outfits link left count 0 mids over) (with_outfits link left count 0 outs over)
+    (Err c.in-Err-read.stop)) c.as_slice.ensures
+    (subst (λ r. Does (watching c.args.watched store.rows c.as_slice.result.now)
+    (with_outfits link left count 0 mids over) (with_outfits link left count 0 outs over)
+    (read_in r)) c.in-Err-read.is (c.read_first-read.ensures.does over t)) in
+    inl (goes_on (publishing (named plan.files.0) [] plan.script.replicas.0)
+    (starting_with c.args.watched (plan_of plan) (stored_of store) budgets) c.in-Ok.replicas.0
+    does (stops (watching c.args.watched store.rows c.in-Ok.replicas.0)
+    (starting (plan_of plan) (stored_of store) budgets c.in-Ok.replicas.0)
+    c.in-Err-read.stop reads))
+
+pub returns-in-Err-read-clause-later : goal.returns-in-Err-read-clause-later
+returns-in-Err-read-clause-later g c = later_trans g.L.Kms.link g.D.Dice.left
+    g.D.Dice.count c.args.outfits.0 c.publish_first-published.result.1.0
+    c.read_first-read.result.1.0 c.publish_first-published.ensures.later
+    c.read_first-read.ensures.later
 
 pub work_with-requires-clause-seats : goal.work_with-requires-clause-seats
 work_with-requires-clause-seats g c = λ κs lives.
     later_many g.L.Kms.link g.D.Dice.left g.D.Dice.count c.args.outfits.0
-    c.publish_first-published.result.1.0 c.publish_first-published.ensures.later
+    c.read_first-read.result.1.0
+    (later_trans g.L.Kms.link g.D.Dice.left g.D.Dice.count c.args.outfits.0
+    c.publish_first-published.result.1.0 c.read_first-read.result.1.0
+    c.publish_first-published.ensures.later c.read_first-read.ensures.later)
     ∙ c.requires.seats
 
 pub work_with-requires-clause-named : goal.work_with-requires-clause-named
 work_with-requires-clause-named g c = λ κs lives.
     later_named g.L.Kms.link g.D.Dice.left g.D.Dice.count (names_in c.args.plan.now.programs)
-    c.args.outfits.0 c.publish_first-published.result.1.0
-    c.publish_first-published.ensures.later c.requires.named
+    c.args.outfits.0 c.read_first-read.result.1.0
+    (later_trans g.L.Kms.link g.D.Dice.left g.D.Dice.count c.args.outfits.0
+    c.publish_first-published.result.1.0 c.read_first-read.result.1.0
+    c.publish_first-published.ensures.later c.read_first-read.ensures.later) c.requires.named
 
 pub work_with-requires-clause-published : goal.work_with-requires-clause-published
 work_with-requires-clause-published g c = λ κs lives.
     let plan = c.args.plan.now in
     subst (λ r. IfOk r (λ made. ArePublished g.L.Kms.truth (named plan.files.0)
     plan.script.replicas.0 made.0)) c.in-Ok.is c.publish_first-published.ensures.replicas
+
+pub work_with-requires-clause-revision : goal.work_with-requires-clause-revision
+work_with-requires-clause-revision g c = λ κs lives.
+    subst (λ r. IfOk r (λ (s : WatchStart). s.revision ≡ length c.args.store.rows))
+    c.in-Ok-read.is c.read_first-read.ensures.revision
 
 pub returns-clause-made : goal.returns-clause-made
 returns-clause-made g c name a t =
@@ -56,26 +132,49 @@ returns-clause-made g c name a t =
     let left = g.D.Dice.left in
     let count = g.D.Dice.count in
     let store = c.args.store in
+    let budgets = c.args.budgets.now.entries.items in
     let olds = c.args.outfits.0 in
-    let outs = c.publish_first-published.result.1.0 in
+    let mids = c.publish_first-published.result.1.0 in
+    let outs = c.read_first-read.result.1.0 in
+    let items = c.in-Ok-read.start.items.0 in
+    let made = c.in-Ok.replicas.0 in
     let over = with_lent_tape name store.told store.count a in
     let does = subst (λ r. Does (publishing (named plan.files.0) [] plan.script.replicas.0)
-    (with_outfits link left count 0 olds over) (with_outfits link left count 0 outs over)
+    (with_outfits link left count 0 olds over) (with_outfits link left count 0 mids over)
     (published_in r)) c.in-Ok.is (c.publish_first-published.ensures.does over t) in
-    runs_with g.row.T.Denot g.L.Kms.truth link left count name (plan_of plan)
-    (launching (plan_of plan) (stored_of store) c.args.budgets.now.entries.items) outs
+    let reads = subst (λ rs. Does (watching c.args.watched store.rows rs)
+    (with_outfits link left count 0 mids over) (with_outfits link left count 0 outs over)
+    (Ok items)) c.as_slice.ensures
+    (subst (λ r. Does (watching c.args.watched store.rows c.as_slice.result.now)
+    (with_outfits link left count 0 mids over) (with_outfits link left count 0 outs over)
+    (read_in r)) c.in-Ok-read.is (c.read_first-read.ensures.does over t)) in
+    let known = subst (λ rs. KnowsItems c.args.watched g.L.Kms.truth store.rows rs items)
+    c.as_slice.ensures
+    (subst (λ r. IfOk r (λ (s : WatchStart). KnowsItems c.args.watched g.L.Kms.truth store.rows
+    c.as_slice.result.now s.items.0)) c.in-Ok-read.is c.read_first-read.ensures.known) in
+    runs_with g.row.T.Denot g.L.Kms.truth link left count c.args.watched name (plan_of plan)
+    (launching c.args.watched (plan_of plan) (stored_of store) budgets) outs
     (with_outfits link left count 0 olds over)
     (with_outfits link left count 0 c.work_with.result.2.0
     (with_lent_tape name c.work_with.result.1.told c.work_with.result.1.count a))
     c.work_with.result.0
-    (c.work_with.ensures.made name a olds t (record {
+    (c.work_with.ensures.made name a olds c.args.watched t (record {
       are_named = c.requires.named;
       seats = c.requires.seats;
-      later = c.publish_first-published.ensures.later;
-      does = does;
+      later = later_trans link left count olds mids outs c.publish_first-published.ensures.later
+          c.read_first-read.ensures.later;
+      onward = λ kept result d.
+          goes_on (publishing (named plan.files.0) [] plan.script.replicas.0)
+          (starting_with c.args.watched (plan_of plan) (stored_of store) budgets) made does
+          (goes_on (watching c.args.watched store.rows made)
+          (starting (plan_of plan) (stored_of store) budgets made) items reads d);
+      known = known;
     }))
 
 pub returns-clause-later : goal.returns-clause-later
 returns-clause-later g c = later_trans g.L.Kms.link g.D.Dice.left g.D.Dice.count
-    c.args.outfits.0 c.publish_first-published.result.1.0 c.work_with.result.2.0
-    c.publish_first-published.ensures.later c.work_with.ensures.later
+    c.args.outfits.0 c.read_first-read.result.1.0 c.work_with.result.2.0
+    (later_trans g.L.Kms.link g.D.Dice.left g.D.Dice.count c.args.outfits.0
+    c.publish_first-published.result.1.0 c.read_first-read.result.1.0
+    c.publish_first-published.ensures.later c.read_first-read.ensures.later)
+    c.work_with.ensures.later

@@ -6,7 +6,7 @@ use Rattle.kr_cmd_fleet.specs.Fleets.{beginning}
 use Rattle.kr_cmd_steps.specs.Steps.{and_then}
 use Rattle.kr_cmd_fleet.specs.inner.Plans.{plan_of}
 use Rattle.kr_cmd_messages.specs.declared.refusal.Object.TheVariants.{Store}
-use Rattle.kr_cmd_fleet.proofs.FleetRuns.{over_tape}
+use Rattle.kr_cmd_fleet.proofs.SettledRuns.{over_settled}
 use Rattle.kr_cmd_steps.proofs.Tapes.{not_lent, is_out}
 use Rattle.kr_cmd_fleet.proofs.fleet.fleet_by.Goals as goal
 
@@ -14,8 +14,8 @@ pub returns-in-Err : goal.returns-in-Err
 returns-in-Err g c a truth = inl (not_lent c.in-Err.ensures.files c.in-Err.ensures.objects a
     c.args.store.now true c.in-Err.stop c.in-Err.ensures.why c.in-Err.ensures.asked)
 
-pub close_tape-requires-clause-out : goal.close_tape-requires-clause-out
-close_tape-requires-clause-out g c = λ κs lives.
+pub settle_tape-requires-clause-out : goal.settle_tape-requires-clause-out
+settle_tape-requires-clause-out g c = λ κs lives.
     let name = c.args.store.now in
     subst (λ tapes. 0 < tapes.out name) (sym c.fleet_on-made.ensures.out)
     (is_out name c.in-Ok.ensures.lent)
@@ -24,6 +24,11 @@ pub returns : goal.returns
 returns g c a truth =
     let name = c.args.store.now in
     let plan = plan_of c.args.plan.now in
-    over_tape _ _ _ _ _ name plan (and_then (stored_on Store name) (beginning plan)) a _
-    c.in-Ok.ensures.lent c.close_tape.ensures
+    over_settled _ _ _ _ _ c.args.watched name plan
+    (and_then (stored_on Store name) (beginning c.args.watched plan)) a
+    (g.W.World.told c.args.world.now) (g.W.World.told c.open_tape.new.world)
+    (g.W.Tap.Tape.told c.in-Ok.tape) (g.W.Tap.Tape.count c.in-Ok.tape)
+    (g.W.World.told c.fleet_on-made.new.world) (g.W.World.told c.settle_tape.new.world)
+    (g.W.Tap.Tape.told c.fleet_on-made.result.1) (g.W.Tap.Tape.count c.fleet_on-made.result.1)
+    c.fleet_on-made.result.0 c.settle_tape.result c.in-Ok.ensures.lent c.settle_tape.ensures
     (c.fleet_on-made.ensures.made name a truth)

@@ -117,6 +117,7 @@ returns-in-Ok g c =
         history = c.in-Ok.core.history;
         ended = c.run_fleet-ended.new.workers.items;
         one = one;
+        start_is = refl;
         lines_are = c.close-store.ensures.lines;
         replies_are = c.part-outfits.ensures.replies;
         outfits_are = outfits;

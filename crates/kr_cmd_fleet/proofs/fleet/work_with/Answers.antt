@@ -1,9 +1,10 @@
 -- `work_with`: the core, and the workers.
-use Rattle.std.proofs.Common.{[], Err, ap, inl, inr, length, sym, subst, ◌∙◌, arith}
+use Rattle.std.proofs.Common.{[], Ok, Err, ap, inl, inr, length, sym, subst, ◌∙◌, arith}
 use Rattle.kr_rollout.specs.Cores.{CoreState}
 use Rattle.kr_store.specs.Stores.{Kept}
 use Rattle.kr_workers.specs.Budgets.{AreBudgets}
-use Rattle.kr_cmd_fleet.specs.Fleets.{launching, publishing, starting}
+use Rattle.kr_cmd_fleet.specs.Fleets.{launching}
+use Rattle.kr_cmd_fleet.specs.inner.Beginnings.{begun_with}
 use Rattle.kr_cmd_fleet.specs.inner.Plans.{named, plan_of}
 use Rattle.kr_cmd_fleet.specs.inner.Outfits.{AreLater, AreNamed}
 use Rattle.kr_cmd_steps.specs.inner.ProgramNames.{names_in}
@@ -11,20 +12,19 @@ use Rattle.kr_cmd_steps.specs.inner.Phases.{Does}
 use Rattle.kr_cmd_steps.specs.inner.Tapes.{stored_of}
 use Rattle.kr_cmd_fleet.specs.inner.Workings.{with_crew}
 use Rattle.kr_cmd_fleet.proofs.FleetCrews.{closed_at_once, ran_back, ran_with, ready, unhired}
-use Rattle.kr_cmd_steps.proofs.Goes.{goes_on}
 use Rattle.kr_cmd_fleet.proofs.Outfits.{later_refl}
 use Rattle.kr_cmd_fleet.proofs.Plans.{plan_first, plan_names, plan_replicas}
 use Rattle.kr_cmd_fleet.proofs.Publishings.{published_among, published_first, published_many}
 use Rattle.kr_cmd_fleet.proofs.fleet.work_with.Goals as goal
 
-pub start-requires-clause-first : goal.start-requires-clause-first
-start-requires-clause-first g c =
+pub start_core-requires-clause-first : goal.start_core-requires-clause-first
+start_core-requires-clause-first g c =
     let plan = c.args.plan.now in
     published_first g.L.Kms.truth (named plan.files.0) plan.script.replicas.0 c.args.replicas.0
     c.requires.published (plan_replicas plan c.requires.plan).0 (plan_first plan c.requires.plan)
 
-pub start-requires-clause-replicas : goal.start-requires-clause-replicas
-start-requires-clause-replicas g c =
+pub start_core-requires-clause-replicas : goal.start_core-requires-clause-replicas
+start_core-requires-clause-replicas g c =
     let plan = c.args.plan.now in
     omega (
       arith,
@@ -33,15 +33,15 @@ start-requires-clause-replicas g c =
       (plan_replicas plan c.requires.plan).1,
     )
 
-pub start-requires-clause-names : goal.start-requires-clause-names
-start-requires-clause-names g c =
+pub start_core-requires-clause-names : goal.start_core-requires-clause-names
+start_core-requires-clause-names g c =
     let plan = c.args.plan.now in
     published_among g.L.Kms.truth (named plan.files.0) (names_in plan.programs)
     (plan_names plan c.requires.plan) plan.script.replicas.0 c.args.replicas.0
     c.requires.published
 
 pub returns-in-Err-clause-made : goal.returns-in-Err-clause-made
-returns-in-Err-clause-made g c name a olds t p =
+returns-in-Err-clause-made g c name a olds watched t p =
     let plan = c.args.plan.now in
     let budgets = c.args.budgets.now.entries.items in
     let link = g.L.Kms.link in
@@ -49,12 +49,11 @@ returns-in-Err-clause-made g c name a olds t p =
     let count = g.D.Dice.count in
     let store = c.args.store in
     let outs = c.args.outfits.0 in
-    inl (subst (λ (k : Kept). Does (launching (plan_of plan) (stored_of store) budgets)
+    inl (subst (λ (k : Kept). Does (launching watched (plan_of plan) (stored_of store) budgets)
     (with_crew link left count name store olds a) (with_crew link left count name k outs a)
     (Err c.in-Err.stop)) (sym c.in-Err.ensures.back)
-    (goes_on (publishing (named plan.files.0) [] plan.script.replicas.0)
-    (starting (plan_of plan) (stored_of store) budgets) c.args.replicas.0 p.does
-    (c.in-Err.ensures.does (with_crew link left count name store outs a))))
+    (p.onward store (Err c.in-Err.stop)
+    (c.in-Err.ensures.does (with_crew link left count name store outs a) c.args.start.items.0)))
 
 pub returns-in-Err-clause-later : goal.returns-in-Err-clause-later
 returns-in-Err-clause-later g c =
@@ -66,7 +65,7 @@ hire-requires g c = record {
 }
 
 pub returns-in-Err-hire-clause-made : goal.returns-in-Err-hire-clause-made
-returns-in-Err-hire-clause-made g c name a olds t p =
+returns-in-Err-hire-clause-made g c name a olds watched t p =
     let plan = c.args.plan.now in
     let link = g.L.Kms.link in
     let left = g.D.Dice.left in
@@ -78,10 +77,11 @@ returns-in-Err-hire-clause-made g c name a olds t p =
     let kept = c.close-store.result.0 in
     let k = closed_at_once core kept none c.close-store.ensures.rows c.close-store.ensures.count
     c.close-store.ensures.format c.close-store.ensures.torn c.known.ensures in
-    inr (unhired g.L.Kms.truth link left count plan c.requires.plan
-    c.args.budgets.now.entries.items name a store olds outs c.args.replicas.0 p.does
-    (c.in-Ok.ensures.does (with_crew link left count name store outs a)) p.are_named p.seats
-    p.later c.requires.published c.requires.store c.args.budgets.now.reloads.items
+    inr (unhired g.L.Kms.truth link left count watched plan c.requires.plan
+    c.args.budgets.now.entries.items name a store olds outs c.args.replicas.0 c.args.start
+    (p.onward store (Ok (begun_with plan c.args.budgets.now.entries.items store c.args.replicas.0
+    c.args.start.items.0)) (c.in-Ok.ensures.does (with_crew link left count name store outs a)
+    c.args.start.items.0)) p.known c.requires.revision p.are_named p.seats p.later c.requires.published c.requires.store c.args.budgets.now.reloads.items
     c.requires.reloads core.opening (ap (λ (k : CoreState). k.opening) c.in-Ok.ensures.core)
     g.row.T.Denot kept k c.in-Err-hire.outfits.0 c.in-Err-hire.ensures.returned)
 
@@ -110,7 +110,7 @@ run_crew-requires-clause-named g c = λ κs lives.
     c.requires.named
 
 pub returns-clause-made : goal.returns-clause-made
-returns-clause-made g c name a olds t p =
+returns-clause-made g c name a olds watched t p =
     let plan = c.args.plan.now in
     let link = g.L.Kms.link in
     let left = g.D.Dice.left in
@@ -118,10 +118,11 @@ returns-clause-made g c name a olds t p =
     let store = c.args.store in
     let outs = c.args.outfits.0 in
     let hired = c.in-Ok-hire.ensures.hired in
-    ran_with g.L.Kms.truth link left count plan c.requires.plan
-    c.args.budgets.now.entries.items name a store olds outs c.args.replicas.0 p.does
-    (c.in-Ok.ensures.does (with_crew link left count name store outs a)) p.are_named p.seats
-    p.later c.requires.published c.requires.store c.args.budgets.now.reloads.items
+    ran_with g.L.Kms.truth link left count watched plan c.requires.plan
+    c.args.budgets.now.entries.items name a store olds outs c.args.replicas.0 c.args.start
+    (p.onward store (Ok (begun_with plan c.args.budgets.now.entries.items store c.args.replicas.0
+    c.args.start.items.0)) (c.in-Ok.ensures.does (with_crew link left count name store outs a)
+    c.args.start.items.0)) p.known c.requires.revision p.are_named p.seats p.later c.requires.published c.requires.store c.args.budgets.now.reloads.items
     c.requires.reloads c.in-Ok.core.opening
     (ap (λ (k : CoreState). k.opening) c.in-Ok.ensures.core) c.in-Ok-hire.crew.workers.items
     hired.outfits_are (hired.many ∙ ap length c.as_slice.ensures) c.run_crew.result.1
@@ -131,6 +132,6 @@ pub returns-clause-later : goal.returns-clause-later
 returns-clause-later g c = ran_back g.L.Kms.truth g.L.Kms.link g.D.Dice.left g.D.Dice.count
     c.args.plan.now c.args.budgets.now.entries.items c.args.outfits.0 c.args.outfits.0
     (later_refl g.L.Kms.link g.D.Dice.left g.D.Dice.count c.args.outfits.0)
-    c.in-Ok.core.opening c.in-Ok-hire.crew.workers.items
+    c.in-Ok.core.opening c.args.start c.in-Ok-hire.crew.workers.items
     c.in-Ok-hire.ensures.hired.outfits_are c.run_crew.result.1 c.run_crew.result.2.0
     c.run_crew.result.0 c.run_crew.ensures.ran

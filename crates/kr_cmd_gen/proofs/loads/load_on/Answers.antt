@@ -1,5 +1,5 @@
 -- `load_on`: the store on the tape, the budgets, and the workers.
-use Rattle.std.proofs.Common.{◌≡◌, ◌+◌, ◌<◌, Err, sym, ap, subst}
+use Rattle.std.proofs.Common.{◌≡◌, ◌+◌, ◌<◌, Err, sym, ap, subst, false}
 use Rattle.std.specs.Prelude.{sum}
 use Rattle.kr_base.specs.Limits.{journal_limit}
 use Rattle.kr_workers.specs.Budgets.{all_reloads, budgets_of, put_lines}
@@ -67,7 +67,7 @@ returns-in-Err-budgets_of g c name a truth =
     (stored_on Store name) (load_beginning plan) (stored_of store) old now now
     (c.in-Ok.ensures.ok name (with_streams a)) (Err stop)
     (load_ends g.row.T.Denot g.L.Kms.truth g.L.Kms.link c.args.seed name plan
-    (budgeting store.rows (parts_of plan.fleet)) (launching plan (stored_of store)) now now stop
+    (budgeting store.rows (parts_of plan.fleet)) (launching false plan (stored_of store)) now now stop
     (subst (λ s. Does (budgeting store.rows (parts_of plan.fleet)) now now (Err s))
     (sym c.budget_stop.ensures)
     (not_budgeted store.rows parts c.live_count.result c.live_count.ensures why
@@ -93,7 +93,7 @@ returns g c name a truth =
     (stored_on Store name) (load_beginning plan) (stored_of store) old now new
     (c.in-Ok.ensures.ok name (with_streams a)) made
     (load_before g.row.T.Denot g.L.Kms.truth g.L.Kms.link c.args.seed name plan
-    (budgeting store.rows (parts_of plan.fleet)) (launching plan (stored_of store)) budgets now
+    (budgeting store.rows (parts_of plan.fleet)) (launching false plan (stored_of store)) budgets now
     now new
     (budgeted store.rows parts c.live_count.result c.live_count.ensures budgets
     (subst (λ p. budgets ≡ budgets_of (c.live_count.result + put_lines p) p)

@@ -1,6 +1,6 @@
 -- `load_with`: what the replicas publish, the outfits, and the workers.
-use Rattle.std.proofs.Common.{◌≡◌, [], Ok, ap, inl, length, sym, subst, ◌∙◌, arith}
-use Rattle.kr_cmd_fleet.specs.Fleets.{launching, publishing, starting}
+use Rattle.std.proofs.Common.{◌≡◌, false, true, [], Ok, ap, inl, length, sym, subst, ◌∙◌, arith}
+use Rattle.kr_cmd_fleet.specs.Fleets.{launching, publishing, starting, starting_with}
 use Rattle.kr_cmd_gen.specs.GeneratedLoads.{no_faults, with_streams, nothing_told}
 use Rattle.kr_cmd_fleet.specs.inner.Plans.{named, plan_of}
 use Rattle.kr_cmd_steps.specs.inner.Lent.{with_lent_tape}
@@ -27,7 +27,8 @@ returns-in-Err g c name a truth =
     let plan = c.args.plan.now in
     let store = c.args.store in
     inl (stops (publishing (named plan.files.0) [] plan.script.replicas.0)
-    (starting (plan_of plan) (stored_of store) c.args.budgets.now.entries.items) c.in-Err.stop
+    (starting_with false (plan_of plan) (stored_of store) c.args.budgets.now.entries.items)
+    c.in-Err.stop
     (c.in-Err.ensures.does
     (with_lent_tape name store.told store.count (seeded_from 1 3 a)) truth))
 
@@ -38,7 +39,7 @@ returns-in-Err-make_outfits g c name a truth =
     let budgets = c.args.budgets.now.entries.items in
     let over = with_lent_tape name store.told store.count (with_streams a) in
     inl (goes_on (publishing (named plan.files.0) [] plan.script.replicas.0)
-    (starting (plan_of plan) (stored_of store) budgets) c.in-Ok.replicas.0
+    (starting_with false (plan_of plan) (stored_of store) budgets) c.in-Ok.replicas.0
     (c.in-Ok.ensures.does
     (with_lent_tape name store.told store.count (seeded_from 1 3 a)) truth)
     (lacks_start (plan_of plan) (stored_of store) budgets c.in-Ok.replicas.0 over))
@@ -85,7 +86,7 @@ returns g c name a truth =
     let later = c.work_with-made.ensures.later in
     let there = crew_seeded link name back after (later_bare link outfits after later known.bare)
     (later_many link nothing_told no_faults outfits after later ∙ four) a in
-    let next = launching (plan_of plan) (stored_of store) budgets in
+    let next = launching false (plan_of plan) (stored_of store) budgets in
     let publish = publishing (named plan.files.0) [] plan.script.replicas.0 in
     runs_same g.row.T.Denot g.L.Kms.truth link c.args.seed name (plan_of plan) next
     (with_crew link nothing_told no_faults name store outfits a)
@@ -95,12 +96,19 @@ returns g c name a truth =
     (runs_crew g.row.T.Denot g.L.Kms.truth link c.args.seed name (plan_of plan) next outfits
     (with_crew link nothing_told no_faults name store outfits a)
     (with_crew link nothing_told no_faults name back after a) known c.work_with-made.result.0
-    (c.work_with-made.ensures.made name a outfits truth (record {
+    (c.work_with-made.ensures.made name a outfits false truth (record {
       are_named = subst (λ programs. AreNamed link (names_in programs) outfits)
           (sym c.requires.plan.bare) (bare_named link outfits known.bare);
       seats = c.in-Ok-make_outfits.ensures.many ∙ ap length c.as_slice.ensures;
       later = later_refl link nothing_told no_faults outfits;
-      does = subst (λ x. Does publish x x (Ok c.in-Ok.replicas.0)) (sym here)
+      onward = λ kept result d. goes_on publish
+          (starting_with false (plan_of plan) (stored_of store) budgets) c.in-Ok.replicas.0
+          (subst (λ x. Does publish x x (Ok c.in-Ok.replicas.0)) (sym here)
           (c.in-Ok.ensures.does
-          (with_lent_tape name store.told store.count (seeded_from 1 3 a)) truth);
+          (with_lent_tape name store.told store.count (seeded_from 1 3 a)) truth))
+          (subst (λ items. Does (starting (plan_of plan) (stored_of store) budgets
+          c.in-Ok.replicas.0 items) (with_crew link nothing_told no_faults name store outfits a)
+          (with_crew link nothing_told no_faults name kept outfits a) result)
+          c.unread-start.ensures.items d);
+      known = λ on. absurd (let e : false ≡ true = on in cc);
     })))

@@ -1,5 +1,5 @@
 -- `read_load`: what the words ask for.
-use Rattle.kr_cmd_messages.proofs.LoadAsked.{load_asked_so, replicas_load_none, size_load_none, usage_no_load}
+use Rattle.kr_cmd_messages.proofs.LoadAsked.{load_asked_so, page_load_none, replicas_load_none, size_load_none, usage_no_load}
 use Rattle.kr_cmd_messages.proofs.load_words.read_load.Goals as goal
 
 pub returns-in-Err-Usage : goal.returns-in-Err-Usage
@@ -13,6 +13,10 @@ returns-in-Err-Replicas c = replicas_load_none c.in-Err-Replicas.field-0
 pub returns-in-Err-Size : goal.returns-in-Err-Size
 returns-in-Err-Size c = size_load_none c.in-Err-Size.field-0 c.in-Err-Size.field-0-is
     c.in-Err-Size.ensures
+
+pub returns-in-Err-Page : goal.returns-in-Err-Page
+returns-in-Err-Page c = page_load_none c.in-Err-Page.field-0 c.in-Err-Page.field-0-is
+    c.in-Err-Page.ensures
 
 pub returns-in-Ok-load_asked : goal.returns-in-Ok-load_asked
 returns-in-Ok-load_asked c = load_asked_so c.in-Ok.words c.in-Ok.ensures

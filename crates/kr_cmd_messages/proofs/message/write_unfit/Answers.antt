@@ -34,7 +34,7 @@ returns-in-Err-write g c =
     says_by (same_line digits c.args.replica verdict c.format-digits.ensures.text)
     (says_behind {b = g.E.Sink.held c.say.new.errors}
     {count = g.E.Sink.count c.say.new.errors} (begin digits) (rest verdict) _
-    c.in-Ok.ensures.ok c.in-Ok.ensures.cause.later (says_cut (verdict_text verdict) (codes "\n") (record {
+    c.in-Ok.ensures.ok c.in-Ok.ensures.cause.once (says_cut (verdict_text verdict) (codes "\n") (record {
       ok = tt;
       err = c.in-Err-write.ensures.err;
       cause = c.in-Err-write.ensures.cause;
@@ -46,6 +46,6 @@ returns g c =
     let digits = c.format-digits.result.now in
     says_by (same_line digits c.args.replica verdict c.format-digits.ensures.text)
     (says_behind (begin digits) (rest verdict) c.write_text.result c.in-Ok.ensures.ok
-    c.in-Ok.ensures.cause.later
+    c.in-Ok.ensures.cause.once
     (says_behind (verdict_text verdict) (codes "\n") c.write_text.result c.in-Ok-write.ensures.ok
-    c.in-Ok-write.ensures.cause.later c.write_text.ensures))
+    c.in-Ok-write.ensures.cause.once c.write_text.ensures))

@@ -3,10 +3,11 @@ use Rattle.std.proofs.Common.{◌≡◌, ◌<◌, ℕ, List, false, sym, subst}
 use Rattle.kr_config.specs.Kept.{Row, rows_of}
 use Rattle.kr_provider.specs.PluginOrder.{plugin_order}
 use Rattle.kr_cmd_steps.specs.Around.{with_world}
-use Rattle.kr_cmd_steps.specs.Commands.{configuration, linking_programs, rewriting, rewriting_on, tape_for}
+use Rattle.kr_cmd_steps.specs.Commands.{configuration, linking_programs, rewriting, rewriting_on, settled_for}
 use Rattle.kr_cmd_steps.specs.Steps.{Steps, and_then}
 use Rattle.kr_cmd_messages.specs.declared.command.Rewriting.{Rewriting}
 use Rattle.kr_cmd_steps.specs.declared.programs.Program.{Program}
+use Rattle.kr_cmd_messages.specs.declared.refusal.Object.TheVariants.{Store}
 use Rattle.kr_cmd_messages.specs.declared.refusal.Outcome.{Outcome}
 use Rattle.kr_cmd_steps.specs.inner.Lent.{with_lent_tape}
 use Rattle.kr_cmd_steps.specs.inner.Phases.{Does}
@@ -14,11 +15,12 @@ use Rattle.kr_cmd_steps.specs.inner.Reporting.{saying}
 use Rattle.kr_cmd_steps.proofs.Goes.{goes_on, stops, by_bytes}
 use Rattle.kr_cmd_steps.proofs.NamedPrograms.{names_in}
 use Rattle.kr_cmd_rewrite.proofs.Said.{saying_tape, saying_world, stopped_by}
-use Rattle.kr_cmd_steps.proofs.Tapes.{not_lent, lends_tape_to, is_out}
+use Rattle.kr_cmd_steps.proofs.Settling.{lends_settled_to}
+use Rattle.kr_cmd_steps.proofs.Tapes.{not_lent, is_out}
 use Rattle.kr_cmd_rewrite.proofs.rewriting.rewrite.Goals as goal
 
 abbrev on_tape : List Row → List Program → (name : List ℕ) → Steps Outcome
-on_tape rows programs name = tape_for name false (rewriting_on name rows programs)
+on_tape rows programs name = settled_for Store name false (rewriting_on name rows programs)
 
 abbrev passed : Rewriting → List Row → List Program → Steps Outcome
 passed words rows programs = on_tape rows programs words.store
@@ -64,8 +66,8 @@ rewrite_on-ended-requires-clause-programs g c κs within = subst (λ p. names_in
     ≡ plugin_order (rows_of c.in-Ok.settings.entries.0)) (sym c.as_slice.ensures)
     c.in-Ok-programs_of.ensures.names
 
-pub close_tape-requires-clause-out : goal.close_tape-requires-clause-out
-close_tape-requires-clause-out g c = λ κs lives. subst (λ t. 0 < t.out c.as_str-name.result.now)
+pub settle_tape-requires-clause-out : goal.settle_tape-requires-clause-out
+settle_tape-requires-clause-out g c = λ κs lives. subst (λ t. 0 < t.out c.as_str-name.result.now)
     (sym c.rewrite_on-ended.ensures.tapes)
     (is_out c.as_str-name.result.now c.in-Ok-open_tape.ensures.lent)
 
@@ -82,15 +84,18 @@ returns g c a t =
     (g.W.Tap.Tape.count c.in-Ok-open_tape.tape)
     (with_world (g.W.World.told c.open_tape.new.world) a) in
     let mid = g.W.World.told c.rewrite_on-ended.new.world in
-    subst (λ b. Does (rewriting words) (with_world (g.W.World.told c.args.world.now) a) b
-    ended.made) (sym (saying_world ended.said (g.W.World.told c.close_tape.new.world) a))
+    let settled = c.settle_tape.result in
+    let new = g.W.World.told c.settle_tape.new.world in
+    subst (λ b. Does (rewriting words) (with_world (g.W.World.told c.args.world.now) a) b settled)
+    (sym (saying_world ended.said new a))
     (goes_on (configuration words.config) (loaded words) rows
     (by_bytes configuration c.as_str.ensures (c.in-Ok.ensures a))
     (goes_on (linking_programs words.options rows) (passed words rows) programs
     (c.in-Ok-programs_of.ensures.does now)
     (by_bytes (on_tape rows programs) c.as_str-name.ensures
-    (lends_tape_to name false a (saying ended.said a) c.in-Ok-open_tape.ensures.lent
-    c.close_tape.ensures
+    (lends_settled_to Store name false mid new (g.W.Tap.Tape.told back) (g.W.Tap.Tape.count back) a
+    (saying ended.said a) (rewriting_on name rows programs) ended.made settled
+    c.in-Ok-open_tape.ensures.lent c.settle_tape.ensures
     (subst (λ b. Does (rewriting_on name rows programs) out b ended.made)
     (saying_tape ended.said name (g.W.Tap.Tape.told back) (g.W.Tap.Tape.count back) mid a)
     (subst (λ p. Does (rewriting_on name rows p) out (saying ended.said (with_lent_tape name

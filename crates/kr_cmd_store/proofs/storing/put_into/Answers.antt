@@ -1,9 +1,12 @@
 -- The store's tape is borrowed for the put, made where it is absent, and comes back.
 use Rattle.std.proofs.Common.{◌<◌, true, sym, subst}
 use Rattle.kr_config.specs.Kept.{rows_of}
-use Rattle.kr_cmd_steps.specs.Commands.{stored_into}
+use Rattle.kr_cmd_steps.specs.Commands.{sealed_into, stored_into, stored_on}
+use Rattle.kr_cmd_steps.specs.Steps.{and_then}
+use Rattle.kr_cmd_messages.specs.declared.refusal.Object.TheVariants.{Store}
 use Rattle.kr_cmd_steps.proofs.Goes.{by_bytes}
-use Rattle.kr_cmd_steps.proofs.Tapes.{not_lent, lends_tape, is_out}
+use Rattle.kr_cmd_steps.proofs.Settling.{lends_settled}
+use Rattle.kr_cmd_steps.proofs.Tapes.{not_lent, is_out}
 use Rattle.kr_cmd_store.proofs.storing.put_into.Goals as goal
 
 pub returns-in-Err : goal.returns-in-Err
@@ -13,13 +16,18 @@ returns-in-Err g c a t =
     (not_lent c.in-Err.ensures.files c.in-Err.ensures.objects a c.as_str-name.result.now true
     c.in-Err.stop c.in-Err.ensures.why c.in-Err.ensures.asked)
 
-pub close_tape-requires-clause-out : goal.close_tape-requires-clause-out
-close_tape-requires-clause-out g c = λ κs lives. subst (λ t. 0 < t.out c.as_str-name.result.now)
+pub settle_tape-requires-clause-out : goal.settle_tape-requires-clause-out
+settle_tape-requires-clause-out g c = λ κs lives. subst (λ t. 0 < t.out c.as_str-name.result.now)
     (sym c.put_on-put.ensures.tapes) (is_out c.as_str-name.result.now c.in-Ok.ensures.lent)
 
 pub returns : goal.returns
 returns g c a t =
     by_bytes (λ name. stored_into c.args.words.now name (rows_of c.args.settings.entries.0)
     c.args.programs.now c.args.bytes) c.as_str-name.ensures
-    (lends_tape c.as_str-name.result.now true a c.in-Ok.ensures.lent c.close_tape.ensures
+    (lends_settled Store c.as_str-name.result.now true (g.W.World.told c.put_on-put.new.world)
+    (g.W.World.told c.settle_tape.new.world) (g.W.Tap.Tape.told c.put_on-put.result.1)
+    (g.W.Tap.Tape.count c.put_on-put.result.1) a (and_then
+    (stored_on Store c.as_str-name.result.now) (sealed_into c.args.words.now
+    c.as_str-name.result.now (rows_of c.args.settings.entries.0) c.args.programs.now c.args.bytes))
+    c.put_on-put.result.0 c.settle_tape.result c.in-Ok.ensures.lent c.settle_tape.ensures
     (c.put_on-put.ensures.made c.as_str-name.result.now a t))

@@ -8,6 +8,6 @@ use Rattle.kr_judge.proofs.IndexSteps.{apart, gone_there}
 use Rattle.kr_judge.proofs.proposal.unmake_proposal.Goals as goal
 
 pub returns-clause-indexed : goal.returns-clause-indexed
-returns-clause-indexed c = gone_there c.args.places.now c.args.pairs.now.items c.take_path-2.new.pairs.items c.args.proposal c.in-Some.own c.requires
+returns-clause-indexed c = gone_there c.args.places.now c.args.pairs.now c.take_path-2.new.self c.args.proposal c.in-Some.own c.requires
     (c.in-Some.ensures ∙ ap (λ p. lookup (is_at (name_cmp p)) c.args.places.now) c.as_str-2.ensures) (apart c.in-Some.own c.args.proposal.place c.if-own-proposal.false)
-    (subst (λ p. IsChangedAt (remove_key (is_at (name_cmp p))) c.args.proposal.place c.args.pairs.now.items c.take_path-2.new.pairs.items) c.as_str-3.ensures c.take_path-2.ensures.taken)
+    (subst (λ p. IsChangedAt (remove_key (is_at (name_cmp p))) c.args.proposal.place c.args.pairs.now c.take_path-2.new.self) c.as_str-3.ensures c.take_path-2.ensures.taken)

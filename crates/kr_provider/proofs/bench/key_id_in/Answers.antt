@@ -1,5 +1,5 @@
 -- `key_id_in`: the plugin of the name alone is asked, and a refusal is its own.
-use Rattle.std.proofs.Common.{◌≡◌, ℕ, List, Err, refl, sym, subst, inl, inr}
+use Rattle.std.proofs.Common.{◌≡◌, ℕ, List, Ok, Err, refl, sym, subst, inl, inr}
 use Rattle.std.specs.Prelude.{◌⊎◌}
 use Rattle.kr_kms.specs.Calls.{Link}
 use Rattle.kr_kms.specs.Health.{TellsKeyId}
@@ -8,7 +8,9 @@ use Rattle.kr_kms.specs.declared.health.SeedNo.TheVariants as seed
 use Rattle.kr_provider.specs.Publishing.{AnswersKeyId, TellsKeyIdOf}
 use Rattle.kr_provider.specs.declared.refusal.PublishNo.{PublishNo}
 use Rattle.kr_provider.specs.declared.refusal.PublishNo.TheVariants.{NoMemory}
-use Rattle.kr_provider.specs.inner.Making.{refusal_at}
+use Rattle.kr_base.proofs.Walks.{talk_so}
+use Rattle.kr_provider.specs.Exchanges.{refusal_at}
+use Rattle.kr_provider.proofs.Makings.{told_or}
 use Rattle.kr_provider.proofs.AskedLists.{asked_alone}
 use Rattle.kr_provider.proofs.bench.key_id_in.Goals as goal
 
@@ -30,13 +32,22 @@ tells {L} link name olds news why refusal (inl e) a =
 pub returns-in-Ok-clause-asked : goal.returns-in-Ok-clause-asked
 returns-in-Ok-clause-asked g c = asked_alone g.L.Kms.link c.args.name.now
     (λ old new. TellsKeyId (g.L.Kms.link old) c.key_id.result (g.L.Kms.link new))
-    c.args.links.now c.key_id.new.self c.key_id.ensures
+    c.args.links.now c.key_id.new.self c.key_id.ensures.told
 
 pub returns-in-Err-clause-told : goal.returns-in-Err-clause-told
 returns-in-Err-clause-told g c = tells g.L.Kms.link c.args.name.now c.args.links.now
-    c.key_id.new.self c.in-Err.why c.refusal_at.result c.refusal_at.ensures c.in-Err.ensures
+    c.key_id.new.self c.in-Err.why c.refusal_at.result
+    (told_or c.args.name.now c.in-Err.why c.refusal_at.result c.refusal_at.ensures) c.in-Err.ensures.told
 
 pub returns-in-Err-clause-asked : goal.returns-in-Err-clause-asked
 returns-in-Err-clause-asked g c = asked_alone g.L.Kms.link c.args.name.now
     (λ old new. TellsKeyId (g.L.Kms.link old) c.key_id.result (g.L.Kms.link new))
-    c.args.links.now c.key_id.new.self c.key_id.ensures
+    c.args.links.now c.key_id.new.self c.key_id.ensures.told
+
+pub returns-in-Ok-clause-exchanged : goal.returns-in-Ok-clause-exchanged
+returns-in-Ok-clause-exchanged g c = talk_so _ _ _ _ _ c.in-Ok.ensures.exchanged (λ es tells.
+    (Ok c.in-Ok.key_id, tells, refl))
+
+pub returns-in-Err-clause-exchanged : goal.returns-in-Err-clause-exchanged
+returns-in-Err-clause-exchanged g c = talk_so _ _ _ _ _ c.in-Err.ensures.exchanged (λ es tells.
+    (Err c.in-Err.why, tells, c.refusal_at.ensures))

@@ -1,4 +1,6 @@
 -- `make_one`: the refusal is that of the plugin of the name.
+use Rattle.std.proofs.Common.{Ok, Err, refl}
+use Rattle.kr_base.proofs.Walks.{talk_so}
 use Rattle.kr_provider.proofs.Makings.{answers_at}
 use Rattle.kr_provider.proofs.making.make_one.Goals as goal
 
@@ -6,3 +8,11 @@ pub returns-in-Err-clause-made : goal.returns-in-Err-clause-made
 returns-in-Err-clause-made g c = answers_at g.L.Kms.truth g.L.Kms.link g.D.Dice.left g.D.Dice.count
     c.args.name.now c.args.links.now c.args.dice.now c.in-Err.why c.refusal_at.result
     c.make_seed.new.self c.make_seed.new.dice c.refusal_at.ensures c.in-Err.ensures.made
+
+pub returns-in-Ok-clause-exchanged : goal.returns-in-Ok-clause-exchanged
+returns-in-Ok-clause-exchanged g c = talk_so _ _ _ _ _ c.in-Ok.ensures.exchanged (λ es makes.
+    (Ok c.in-Ok.row, makes, refl))
+
+pub returns-in-Err-clause-exchanged : goal.returns-in-Err-clause-exchanged
+returns-in-Err-clause-exchanged g c = talk_so _ _ _ _ _ c.in-Err.ensures.exchanged (λ es makes.
+    (Err c.in-Err.why, makes, c.refusal_at.ensures))

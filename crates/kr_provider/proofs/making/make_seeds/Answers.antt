@@ -6,7 +6,10 @@ use Rattle.kr_provider.proofs.AskedLists.{links_stay}
 use Rattle.kr_provider.proofs.Lists.{no_names}
 use Rattle.kr_provider.proofs.Makings.{ComesTo, all_made, asked_next, begins_at, ends, goes_on, within}
 use Rattle.kr_provider.proofs.NameOrder.{count_falls}
+use Rattle.kr_base.specs.Walks.{Talk}
+use Rattle.kr_provider.specs.AskedLinks.{Among}
 use Rattle.kr_provider.proofs.PluginNames.{names_some}
+use Rattle.kr_provider.proofs.SeedTalks.{Completes, talk_begins, talk_ends, talk_goes_on, talk_lacks, talk_stops}
 use Rattle.kr_provider.proofs.making.make_seeds.Goals as goal
 
 pub loop-name-init : goal.loop-name-init
@@ -20,6 +23,11 @@ loop-name-init g c =
       ([], (refl, refl)),
       c.requires.links,
       λ e. (c.new-made.ensures, refl, refl),
+      subst (λ l. Talk (Among g.L.Kms.step) c.args.links.now c.args.links.now
+          (Completes (Among g.L.Kms.step) g.D.Dice.left g.D.Dice.count (plugins_in rows)
+          c.args.dice.now [] l c.args.dice.now)) (sym c.new-made.ensures)
+          (talk_begins (Among g.L.Kms.step) g.D.Dice.left g.D.Dice.count (plugins_in rows)
+          c.args.dice.now c.args.links.now),
     )
 
 pub next_plugin-requires-text-after : goal.next_plugin-requires-text-after
@@ -96,6 +104,14 @@ loop-name-preserved g c =
         ap (λ (l : List (List ℕ)). length l)
             (no_names rows e),
       )),
+      subst (λ l. Talk (Among g.L.Kms.step) c.args.links.now c.make_one.new.links
+          (Completes (Among g.L.Kms.step) g.D.Dice.left g.D.Dice.count (plugins_in rows)
+          c.args.dice.now c.in-Some.name.now l c.make_one.new.dice)) (sym c.in-Ok.ensures.ok)
+          (talk_goes_on (Among g.L.Kms.step) g.D.Dice.left g.D.Dice.count (plugins_in rows)
+          c.args.dice.now c.loop-name.after.now c.loop-name.made.0 c.loop-name.dice
+          c.args.links.now c.loop-name.links c.loop-name.invariant.4 c.in-Some.name.now
+          c.in-Some.ensures c.make_one.new.dice c.make_one.new.links c.in_ok-row.row
+          c.in_ok-row.ensures.exchanged),
     )
 
 pub returns-clause-made : goal.returns-clause-made
@@ -103,3 +119,23 @@ returns-clause-made g c = all_made g.L.Kms.truth g.L.Kms.link g.D.Dice.left g.D.
     (rows_of c.args.settings.now.entries.0) c.args.links.now c.args.dice.now c.loop-name.after.now
     c.loop-name.made.0 c.loop-name.links c.loop-name.dice c.in_default.ensures
     c.loop-name.invariant.0
+
+pub returns-in_err-row-clause-exchanged : goal.returns-in_err-row-clause-exchanged
+returns-in_err-row-clause-exchanged g c = let stop = talk_stops (Among g.L.Kms.step) g.D.Dice.left
+    g.D.Dice.count (plugins_in (rows_of c.args.settings.now.entries.0)) c.args.dice.now
+    c.loop-name.after.now c.loop-name.made.0 c.loop-name.dice c.args.links.now c.loop-name.links
+    c.loop-name.invariant.4 c.in-Some.name.now c.in-Some.ensures c.make_one.new.dice
+    c.make_one.new.links c.in_err-row.field-0.0 c.in_err-row.ensures.exchanged in search (rules, stop)
+
+pub returns-in-Err-clause-exchanged : goal.returns-in-Err-clause-exchanged
+returns-in-Err-clause-exchanged g c = talk_lacks (Among g.L.Kms.step) g.D.Dice.left
+    g.D.Dice.count (plugins_in (rows_of c.args.settings.now.entries.0)) c.args.dice.now
+    c.loop-name.after.now c.loop-name.made.0 c.loop-name.dice c.args.links.now c.loop-name.links
+    c.loop-name.invariant.4 c.in-Some.name.now c.in-Some.ensures c.make_one.new.dice
+    c.make_one.new.links c.in_ok-row.row c.in_ok-row.ensures.exchanged
+
+pub returns-clause-exchanged : goal.returns-clause-exchanged
+returns-clause-exchanged g c = talk_ends (Among g.L.Kms.step) g.D.Dice.left
+    g.D.Dice.count (plugins_in (rows_of c.args.settings.now.entries.0)) c.args.dice.now
+    c.loop-name.after.now c.loop-name.made.0 c.loop-name.dice c.args.links.now c.loop-name.links
+    c.loop-name.invariant.4 c.in_default.ensures

@@ -1,7 +1,11 @@
 -- `publish`: the seeds are those of all plugins that the settings name.
-use Rattle.std.proofs.Common.{subst, true}
+use Rattle.std.proofs.Common.{Ok, Err, [], refl, rules, subst, true}
+use Rattle.kr_base.specs.Walks.{Talk}
+use Rattle.kr_base.proofs.Walks.{talk_so}
 use Rattle.kr_config.specs.Kept.{plugins_in, rows_of}
 use Rattle.kr_config.specs.declared.settings.Settings.{Settings}
+use Rattle.kr_provider.specs.AskedLinks.{Among}
+use Rattle.kr_provider.specs.Exchanges.{MakesSeedsBy, PublishesBy}
 use Rattle.kr_provider.specs.Publishing.{AreSeedsOf}
 use Rattle.kr_provider.proofs.PluginNames.{all_published}
 use Rattle.kr_provider.proofs.published.publish.Goals as goal
@@ -13,3 +17,19 @@ invariant_of-result g c =
     all_published g.L.Kms.truth g.L.Kms.link c.args.links.now
     (rows_of c.args.settings.entries.0) c.in_ok-seeds.seeds.0 c.args.settings.kept
     (subst P c.get.ensures c.in_ok-seeds.ensures.made.1)
+
+pub returns-clause-exchanged : goal.returns-clause-exchanged
+returns-clause-exchanged g c =
+    let P : Settings → Type 0 = λ s. Talk (Among g.L.Kms.step) c.args.links.now
+    c.make_seeds.new.links (MakesSeedsBy g.D.Dice.left g.D.Dice.count
+    (plugins_in (rows_of s.entries.0)) [] c.args.dice.now (Ok c.in_ok-seeds.seeds.0)
+    c.make_seeds.new.dice) in
+    talk_so _ _ _ _ _ (subst P c.get.ensures c.in_ok-seeds.ensures.exchanged) (λ es made.
+    (refl, made))
+
+pub returns-in_err-seeds-clause-exchanged : goal.returns-in_err-seeds-clause-exchanged
+returns-in_err-seeds-clause-exchanged g c =
+    let P : Settings → Type 0 = λ s. Talk (Among g.L.Kms.step) c.args.links.now
+    c.make_seeds.new.links (PublishesBy g.D.Dice.left g.D.Dice.count (rows_of s.entries.0)
+    c.args.dice.now (Err c.in_err-seeds.field-0.0) c.make_seeds.new.dice) in
+    let stop = subst P c.get.ensures c.in_err-seeds.ensures.exchanged in search (rules, stop)

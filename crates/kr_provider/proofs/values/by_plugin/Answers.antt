@@ -1,6 +1,9 @@
 -- `by_plugin`: the answer is that of the value that the plugin reads.
-use Rattle.std.proofs.Common.{refl, sym, subst, Ok, rules}
+use Rattle.std.proofs.Common.{refl, sym, subst, Ok, Err, rules}
+use Rattle.kr_provider.specs.AskedLinks.{Among}
 use Rattle.kr_provider.specs.Unsealing.{UnsealsBy}
+use Rattle.kr_base.proofs.Walks.{talk_so}
+use Rattle.kr_provider.proofs.ReadTalks.{read_object, talk_refused}
 use Rattle.kr_provider.proofs.Cached.{failed_heeds, object_heeds, opened_heeds}
 use Rattle.kr_provider.proofs.Unsealings.{object_fails, object_opens, object_refuses}
 use Rattle.kr_provider.proofs.values.by_plugin.Goals as goal
@@ -50,3 +53,24 @@ returns-clause-cached g c = λ seeds list bytes is_row r.
     c.unseal_object.new.links c.args.name.now c.args.body.now c.args.first r c.args.row.now is_row
     c.in_ok-object.object c.in_ok-object.ensures.is _ c.in_ok-plain.ensures.cached
     c.in_ok-plain.plain _ refl c.is_stale-stale.ensures
+
+pub returns-in_err-object-clause-exchanged : goal.returns-in_err-object-clause-exchanged
+returns-in_err-object-clause-exchanged g c = λ seeds list bytes is_row r.
+    let stop = talk_refused seeds list c.args.path.now bytes c.args.cache.now c.args.name.now
+    c.args.body.now c.args.first r (Among g.L.Kms.step) c.args.links.now
+    c.in_err-object.field-0.0 c.in_err-object.ensures.is in search (rules, stop)
+
+pub returns-in_err-plain-clause-exchanged : goal.returns-in_err-plain-clause-exchanged
+returns-in_err-plain-clause-exchanged g c = λ seeds list bytes is_row r.
+    let stop = talk_so _ _ _ _ _ c.in_err-plain.ensures.exchanged (λ es unseals.
+    read_object seeds list c.args.path.now bytes c.args.cache.now c.args.name.now c.args.body.now
+    c.args.first r c.args.row.now is_row c.in_ok-object.object c.in_ok-object.ensures.is _ refl
+    (Err c.in_err-plain.field-0.0) c.unseal_object.new.cache es unseals) in search (rules, stop)
+
+pub returns-clause-exchanged : goal.returns-clause-exchanged
+returns-clause-exchanged g c = λ seeds list bytes is_row r.
+    talk_so _ _ _ _ _ c.in_ok-plain.ensures.exchanged (λ es unseals.
+    read_object seeds list c.args.path.now bytes c.args.cache.now c.args.name.now c.args.body.now
+    c.args.first r c.args.row.now is_row c.in_ok-object.object c.in_ok-object.ensures.is
+    c.is_stale-stale.result c.is_stale-stale.ensures (Ok c.in_ok-plain.plain)
+    c.unseal_object.new.cache es unseals)

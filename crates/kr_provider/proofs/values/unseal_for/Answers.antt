@@ -5,6 +5,9 @@ use Rattle.kr_provider.specs.Names.{HasAdoptedLinks, names_of}
 use Rattle.kr_config.specs.Kept.{plugins_in}
 use Rattle.kr_provider.specs.Publication.{list_at}
 use Rattle.kr_provider.specs.Unsealing.{HeedsCache}
+use Rattle.kr_base.specs.Walks.{Talk}
+use Rattle.kr_provider.specs.AskedLinks.{Among}
+use Rattle.kr_provider.specs.Exchanges.{ReadsBy}
 use Rattle.kr_provider.proofs.PluginNames.{all_named_by}
 use Rattle.kr_provider.proofs.values.unseal_for.Goals as goal
 
@@ -24,3 +27,18 @@ returns-clause-cached g c = subst (λ o. IfSome o (λ p. HeedsCache c.args.cache
     (subst (λ rows. HeedsCache c.args.cache.now.rows rows c.listed-list.result.now
     c.args.path.now c.args.value c.args.links.now c.unseal_in.result c.unseal_in.new.links)
     c.seeds-seeds.ensures c.unseal_in.ensures.cached))
+
+pub returns-clause-exchanged : goal.returns-clause-exchanged
+returns-clause-exchanged g c =
+    let step = Among g.L.Kms.step in
+    let cache = c.args.cache.now in
+    subst (λ o. IfSome o (λ p. Talk step c.args.links.now c.unseal_in.new.links (ReadsBy
+    p.seeds (list_at p c.args.resource.now) c.args.path.now c.args.value cache
+    c.unseal_in.result c.unseal_in.new.cache))) (sym c.published-published.ensures)
+    (subst (λ l. Talk step c.args.links.now c.unseal_in.new.links (ReadsBy
+    c.published-published.result.now.seeds l c.args.path.now c.args.value cache
+    c.unseal_in.result c.unseal_in.new.cache)) c.listed-list.ensures.list
+    (subst (λ rows. Talk step c.args.links.now c.unseal_in.new.links (ReadsBy
+    rows c.listed-list.result.now c.args.path.now c.args.value cache
+    c.unseal_in.result c.unseal_in.new.cache)) c.seeds-seeds.ensures
+    c.unseal_in.ensures.exchanged))

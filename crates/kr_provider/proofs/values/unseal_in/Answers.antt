@@ -1,5 +1,5 @@
 -- `unseal_in`: the reader is the first whose prefix the value begins with.
-use Rattle.std.proofs.Common.{◌≡◌, ◌-◌, ℕ, List, length, drop, Ok, Err, sym, ap, nat_eq, ◌∙◌}
+use Rattle.std.proofs.Common.{◌≡◌, ◌-◌, ℕ, List, length, drop, Ok, Err, sym, ap, nat_eq, subst, ◌∙◌}
 use Rattle.std.specs.Prelude.{not}
 use Rattle.kr_provider.specs.Envelopes.{unknown}
 use Rattle.kr_provider.specs.Names.{names_of}
@@ -11,6 +11,9 @@ use Rattle.kr_provider.proofs.Cached.{key_heeds, unread_heeds}
 use Rattle.kr_provider.proofs.Keys.{adopted_among}
 use Rattle.kr_provider.proofs.Places.{bare_behind, body_behind, no_plugin, read_by, read_by_plugin, reader_reads, reader_within, unread}
 use Rattle.kr_provider.proofs.PluginNames.{linked, unseeded}
+use Rattle.kr_base.proofs.Walks.{talk_none}
+use Rattle.kr_provider.proofs.OneReading.{IsNoPlugin}
+use Rattle.kr_provider.proofs.ReadTalks.{read_bare}
 use Rattle.kr_provider.proofs.Unsealings.{key_opens, key_refuses, no_reader}
 use Rattle.kr_provider.proofs.values.unseal_in.Goals as goal
 
@@ -68,15 +71,25 @@ returns-in-Ok g c =
     - length c.in-Some-body_of.body.now) c.args.value in
     let there : body ≡ body_by c.index-list-place.result c.args.value =
     body_behind c.index-list-place.result c.as_slice-bytes.result.now c.in-Some-body_of.body.now
-    c.args.value c.as_slice-bytes.ensures c.in-Some-body_of.ensures.1 in record {
-      opened = key_opens g.L.Kms.truth g.L.Kms.link c.args.seeds.now c.args.list.now c.args.path.now
-          c.args.value c.args.links.now c.index-list-place.result body
-          (nat_eq c.in-Some.place 0) c.in-Ok.plain
-          (no_plugin c.index-list-place.result c.in_default-reader.not-Kms)
-          (read_by c.args.list.now c.args.value body c.in-Some.place
-          c.index-list-place.result c.requires.list.some
-          (ap (reader_place c.args.list.now) (sym c.as_slice-bytes.ensures) ∙ sym c.in-Some.ensures)
-          c.index-list-place.is there) (c.in-Ok.ensures unknown);
+    c.args.value c.as_slice-bytes.ensures c.in-Some-body_of.ensures.1 in
+    let reads = read_by c.args.list.now c.args.value body c.in-Some.place
+    c.index-list-place.result c.requires.list.some
+    (ap (reader_place c.args.list.now) (sym c.as_slice-bytes.ensures) ∙ sym c.in-Some.ensures)
+    c.index-list-place.is there in
+    let opens = key_opens g.L.Kms.truth g.L.Kms.link c.args.seeds.now c.args.list.now c.args.path.now
+    c.args.value c.args.links.now c.index-list-place.result body
+    (nat_eq c.in-Some.place 0) c.in-Ok.plain
+    (no_plugin c.index-list-place.result c.in_default-reader.not-Kms)
+    (read_by c.args.list.now c.args.value body c.in-Some.place
+    c.index-list-place.result c.requires.list.some
+    (ap (reader_place c.args.list.now) (sym c.as_slice-bytes.ensures) ∙ sym c.in-Some.ensures)
+    c.index-list-place.is there) (c.in-Ok.ensures unknown) in record {
+      opened = opens;
+      exchanged = talk_none _ _ _ (read_bare c.args.seeds.now c.args.list.now c.args.path.now
+          c.args.value c.args.cache.now g.L.Kms.truth g.L.Kms.link c.args.links.now
+          (Ok (record { plain = c.in-Ok.plain; stale = not (nat_eq c.in-Some.place 0) }))
+          (subst IsNoPlugin (sym reads.reader)
+          (no_plugin c.index-list-place.result c.in_default-reader.not-Kms)) opens);
       kept = c.requires.kept;
       cached = key_heeds c.args.cache.now.rows c.args.seeds.now c.args.list.now c.args.path.now
           c.args.value c.args.links.now c.args.links.now c.index-list-place.result
@@ -95,15 +108,25 @@ returns-in-Err g c =
     - length c.in-Some-body_of.body.now) c.args.value in
     let there : body ≡ body_by c.index-list-place.result c.args.value =
     body_behind c.index-list-place.result c.as_slice-bytes.result.now c.in-Some-body_of.body.now
-    c.args.value c.as_slice-bytes.ensures c.in-Some-body_of.ensures.1 in record {
-      opened = key_refuses g.L.Kms.truth g.L.Kms.link c.args.seeds.now c.args.list.now
-          c.args.path.now c.args.value c.args.links.now c.index-list-place.result
-          body (nat_eq c.in-Some.place 0) c.in-Err.why
-          (no_plugin c.index-list-place.result c.in_default-reader.not-Kms)
-          (read_by c.args.list.now c.args.value body c.in-Some.place
-          c.index-list-place.result c.requires.list.some
-          (ap (reader_place c.args.list.now) (sym c.as_slice-bytes.ensures) ∙ sym c.in-Some.ensures)
-          c.index-list-place.is there) (c.in-Err.ensures unknown);
+    c.args.value c.as_slice-bytes.ensures c.in-Some-body_of.ensures.1 in
+    let reads = read_by c.args.list.now c.args.value body c.in-Some.place
+    c.index-list-place.result c.requires.list.some
+    (ap (reader_place c.args.list.now) (sym c.as_slice-bytes.ensures) ∙ sym c.in-Some.ensures)
+    c.index-list-place.is there in
+    let opens = key_refuses g.L.Kms.truth g.L.Kms.link c.args.seeds.now c.args.list.now
+    c.args.path.now c.args.value c.args.links.now c.index-list-place.result
+    body (nat_eq c.in-Some.place 0) c.in-Err.why
+    (no_plugin c.index-list-place.result c.in_default-reader.not-Kms)
+    (read_by c.args.list.now c.args.value body c.in-Some.place
+    c.index-list-place.result c.requires.list.some
+    (ap (reader_place c.args.list.now) (sym c.as_slice-bytes.ensures) ∙ sym c.in-Some.ensures)
+    c.index-list-place.is there) (c.in-Err.ensures unknown) in record {
+      opened = opens;
+      exchanged = talk_none _ _ _ (read_bare c.args.seeds.now c.args.list.now c.args.path.now
+          c.args.value c.args.cache.now g.L.Kms.truth g.L.Kms.link c.args.links.now
+          (Err c.in-Err.why)
+          (subst IsNoPlugin (sym reads.reader)
+          (no_plugin c.index-list-place.result c.in_default-reader.not-Kms)) opens);
       kept = c.requires.kept;
       cached = key_heeds c.args.cache.now.rows c.args.seeds.now c.args.list.now c.args.path.now
           c.args.value c.args.links.now c.args.links.now c.index-list-place.result
@@ -137,3 +160,23 @@ returns-in-Some-seed_of-clause-cached g c = c.by_plugin.ensures.cached c.args.se
 pub unseal_by-requires-clause-bare : goal.unseal_by-requires-clause-bare
 unseal_by-requires-clause-bare g c = bare_behind c.index-list-place.result
     c.as_slice-bytes.result.now c.in-Some-body_of.body.now c.in-Some-body_of.ensures.1
+
+pub returns-in_default-clause-exchanged : goal.returns-in_default-clause-exchanged
+returns-in_default-clause-exchanged g c = talk_none _ _ _ (read_bare c.args.seeds.now
+    c.args.list.now c.args.path.now c.args.value c.args.cache.now g.L.Kms.truth g.L.Kms.link
+    c.args.links.now (Err (Refused value.NoProvider))
+    (subst IsNoPlugin (sym (unread c.args.list.now c.args.value
+    (ap (reader_place c.args.list.now) (sym c.as_slice-bytes.ensures) ∙ sym c.in_default.ensures))) tt)
+    (returns-in_default-clause-opened g c))
+
+pub returns-in-Some-seed_of-clause-exchanged : goal.returns-in-Some-seed_of-clause-exchanged
+returns-in-Some-seed_of-clause-exchanged g c = c.by_plugin.ensures.exchanged c.args.seeds.now
+    c.args.list.now c.args.value
+    (ap (λ n. seed_of n c.args.seeds.now) (c.as_str-in-Kms.ensures ∙ sym c.as_str.ensures)
+    ∙ c.in-Some-seed_of.ensures)
+    (read_by_plugin c.args.list.now c.args.value c.in-Some-body_of.body.now c.in-Some.place
+    c.index-list-place.result c.in-Kms.name c.as_str-in-Kms.result.now c.requires.list.some
+    (ap (reader_place c.args.list.now) (sym c.as_slice-bytes.ensures) ∙ sym c.in-Some.ensures)
+    c.index-list-place.is
+    (c.in-Some-body_of.ensures.1 ∙ ap (body_by c.index-list-place.result) c.as_slice-bytes.ensures)
+    c.in-Kms.is c.as_str-in-Kms.ensures)

@@ -5,7 +5,10 @@ use Rattle.kr_kms.proofs.Keys.{same_key}
 use Rattle.kr_provider.specs.Envelopes.{seed_key}
 use Rattle.kr_provider.specs.Reading.{source_reading}
 use Rattle.kr_provider.specs.inner.Sources.{Gives}
+use Rattle.kr_base.proofs.Walks.{talk_none, talk_so}
+use Rattle.kr_provider.specs.inner.Sources.{by_published}
 use Rattle.kr_provider.proofs.Cached.{source_lacks, source_serves}
+use Rattle.kr_provider.proofs.ReadTalks.{data_fetched, none_fetched}
 use Rattle.kr_provider.proofs.ObjectSources.{another_seed, seed_taken, source_fails, source_opened}
 use Rattle.kr_provider.proofs.values.unseal_object.Goals as goal
 
@@ -59,3 +62,28 @@ returns-clause-cached g c = λ source is.
           (c.as_slice-2.ensures i) c.args.path.now c.args.object.encrypted)
           c.by_source-2.ensures),
     )
+
+pub returns-then-is_seed_of-clause-exchanged : goal.returns-then-is_seed_of-clause-exchanged
+returns-then-is_seed_of-clause-exchanged g c = talk_none _ _ _ (by_published
+    ((same_key (key_of c.args.row.now) (seed_key c.args.name.now c.args.object)).0
+    (sym c.is_seed_of.ensures ∙ c.if-is_seed_of.true))
+    (subst (λ r. Gives r c.by_source.result) (λ i. source_reading c.args.object.kind
+    (c.as_slice.ensures i) c.args.path.now c.args.object.encrypted) c.by_source.ensures) refl)
+
+pub returns-in_err-source-clause-exchanged : goal.returns-in_err-source-clause-exchanged
+returns-in_err-source-clause-exchanged g c =
+    let stop = talk_so _ _ _ _ _ c.in_err-source.ensures.exchanged (λ es opens.
+    none_fetched c.args.row.now c.args.name.now c.args.object c.args.path.now c.args.cache.now
+    c.open_source.new.cache es
+    (another_seed c.args.row.now c.args.name.now c.args.object c.is_seed_of.result
+    c.is_seed_of.ensures c.if-is_seed_of.false) c.in_err-source.field-0.0 opens) in search (rules, stop)
+
+pub returns-clause-exchanged : goal.returns-clause-exchanged
+returns-clause-exchanged g c = talk_so _ _ _ _ _ c.in_ok-source.ensures.exchanged (λ es opens.
+    data_fetched c.args.row.now c.args.name.now c.args.object c.args.path.now c.args.cache.now
+    c.open_source.new.cache es
+    (another_seed c.args.row.now c.args.name.now c.args.object c.is_seed_of.result
+    c.is_seed_of.ensures c.if-is_seed_of.false) c.in_ok-source.source c.by_source-2.result opens
+    (subst (λ r. Gives r c.by_source-2.result) (λ i. source_reading c.args.object.kind
+    (c.as_slice-2.ensures i) c.args.path.now c.args.object.encrypted)
+    c.by_source-2.ensures))

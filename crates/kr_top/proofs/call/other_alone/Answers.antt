@@ -8,26 +8,22 @@ use Rattle.kr_top.proofs.call.other_alone.Goals as goal
 
 pub returns-in-Ok-Some : goal.returns-in-Ok-Some
 returns-in-Ok-Some g c = (
-  inr (
+  inr (inl (
     c.in-Ok-Some.asked,
     subst (λ o. IsLoadAsked (texts c.args.words.now) (Ok o)) c.in-Ok-Some.field-0-is
         c.in-Ok-Some.ensures,
-  ),
+  )),
   (refl, (refl, refl)),
   (refl, refl),
 )
 
-pub returns-in-Ok-None : goal.returns-in-Ok-None
-returns-in-Ok-None g c = (
-  c.alone.ensures.ran,
-  c.alone.ensures.readings,
-  c.alone.ensures.tapes,
-  inl (
-    c.requires,
+pub unloaded_alone-requires-clause-load : goal.unloaded_alone-requires-clause-load
+unloaded_alone-requires-clause-load g c = λ κs lives.
     subst (λ o. IsLoadAsked (texts c.args.words.now) (Ok o)) c.in-Ok-None.field-0-is
-        c.in-Ok-None.ensures,
-  ),
-)
+    c.in-Ok-None.ensures
+
+pub returns-in-Ok-None : goal.returns-in-Ok-None
+returns-in-Ok-None g c = c.unloaded_alone.ensures
 
 pub returns-in-Err : goal.returns-in-Err
 returns-in-Err g c =

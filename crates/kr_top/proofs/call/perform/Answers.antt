@@ -67,6 +67,12 @@ returns-in-Get g c = silently_by c.silent-in-Get.result (sym c.in-Get.is)
     (g.I.Source.left c.args.input.now)
     (g.I.Source.count c.args.input.now)) refl)
 
+pub returns-in-Verify : goal.returns-in-Verify
+returns-in-Verify g c = silently_by c.silent-in-Verify.result (sym c.in-Verify.is)
+    c.silent-in-Verify.ensures
+    (c.verify.ensures (around g.W.Link.Kms.truth (g.W.World.told c.args.world.now)
+    (g.I.Source.left c.args.input.now) (g.I.Source.count c.args.input.now)) refl)
+
 pub migrate-requires-clause-apart : goal.migrate-requires-clause-apart
 migrate-requires-clause-apart g c = λ κs lives.
     subst (λ k. KeepsRules (Some k)) c.in-Migrate.is c.requires.path

@@ -8,8 +8,8 @@ use Rattle.kr_top.proofs.call.run.Goals as goal
 
 pub returns-in-Ok-Some : goal.returns-in-Ok-Some
 returns-in-Ok-Some g c =
-    fleet_promised g.row.W-Tap.Denot g.W.Link.Kms.truth g.W.Link.Kms.link (texts c.args.words.now)
-    _ _ _ _ _ g.W.Rand.Dice.left g.W.Rand.Dice.count c.in-Ok-Some.asked
+    fleet_promised g.row.W-Tap.Denot g.W.Link.Kms.truth g.W.Link.Kms.link g.W.Rand.Dice.left
+    g.W.Rand.Dice.count (texts c.args.words.now) _ _ _ _ _ c.in-Ok-Some.asked
     (subst (λ o. IsFleetAsked (texts c.args.words.now) (Ok o)) c.in-Ok-Some.field-0-is
     c.in-Ok-Some.ensures)
     (c.run_fleet-status.ensures (around g.W.Link.Kms.truth (g.W.World.told c.args.world.now)
@@ -17,8 +17,8 @@ returns-in-Ok-Some g c =
 
 pub returns-in-Ok-None : goal.returns-in-Ok-None
 returns-in-Ok-None g c =
-    unfleeted g.row.W-Tap.Denot g.W.Link.Kms.truth g.W.Link.Kms.link (texts c.args.words.now)
-    _ _ _ _ _ g.W.Rand.Dice.left g.W.Rand.Dice.count
+    unfleeted g.row.W-Tap.Denot g.W.Link.Kms.truth g.W.Link.Kms.link g.W.Rand.Dice.left
+    g.W.Rand.Dice.count (texts c.args.words.now) _ _ _ _ _
     (subst (λ o. IsFleetAsked (texts c.args.words.now) (Ok o)) c.in-Ok-None.field-0-is
     c.in-Ok-None.ensures)
     c.run_other.ensures

@@ -1,11 +1,12 @@
 -- What the tactic leaves open of `read_words`.
 use Rattle.std.proofs.Common.{◌≡◌, ◌∷◌, ap, sym, subst}
 use Rattle.kr_words.specs.Grammar.{texts, HasFewReplicas}
-use Rattle.kr_words.specs.declared.name.OptionName.TheVariants.{Size}
+use Rattle.kr_words.specs.declared.name.OptionName.TheVariants.{Limit, Size}
 use Rattle.kr_words.specs.Names.{word_of, text_of}
+use Rattle.kr_words.specs.Arguments.{IsWithin}
 use Rattle.kr_words.specs.Rules.{IsCommand}
 use Rattle.kr_words.specs.inner.Spelling.{HasNoSmall, HasNoFewReplicas}
-use Rattle.kr_words.proofs.Meanings.{unspelled, misruled, above, many}
+use Rattle.kr_words.proofs.Meanings.{unspelled, misruled, above, above_page, many}
 use Rattle.kr_words.proofs.read.read_words.Goals as goal
 
 pub returns-in-Err-Usage : goal.returns-in-Err-Usage
@@ -72,4 +73,31 @@ returns-then-not-is_within c =
       subst HasFewReplicas c.as_slice-2.ensures c.if-not-has_few_replicas.ensures,
       above is (subst (λ o. HasNoSmall o (text_of Size) 10000) c.as_slice-3.ensures
           c.if-not-is_within.ensures),
+    )
+
+pub returns-then-not-is_within-2 : goal.returns-then-not-is_within-2
+returns-then-not-is_within-2 c =
+    let verb = c.in-Some-verb_of.verb in
+    let options = c.in-Ok.options.0 in
+    let f = ap texts c.in-Some.ensures.cases.0 in
+    let a = c.as_str.ensures.value in
+    let v = c.in-Some-verb_of.ensures in
+    let front : texts c.args.words.now ≡ word_of verb ∷ texts c.in-Some.rest.now = cc in
+    let is : IsCommand verb options =
+    subst (IsCommand verb) c.as_slice.ensures
+    (c.is_command.ensures.0 c.if-not-is_command.false) in (
+      verb,
+      options,
+      record {
+        rest = texts c.in-Some.rest.now;
+        word = front;
+        spelled =
+            c.in-Ok.ensures.1;
+        command = is;
+      },
+      subst HasFewReplicas c.as_slice-2.ensures c.if-not-has_few_replicas.ensures,
+      subst (λ o. IsWithin o (text_of Size) 10000) c.as_slice-3.ensures
+          c.if-not-is_within.ensures,
+      above_page is (subst (λ o. HasNoSmall o (text_of Limit) 10000) c.as_slice-4.ensures
+          c.if-not-is_within-2.ensures),
     )

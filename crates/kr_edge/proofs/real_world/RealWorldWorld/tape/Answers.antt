@@ -1,5 +1,5 @@
 -- The count of the tape of the name goes out, or a new one.
-use Rattle.std.proofs.Common.{◌≡◌, [], ◌∷◌, ◌++◌, None, Some, sym, ◌∙◌, ap, subst}
+use Rattle.std.proofs.Common.{◌≡◌, [], ◌∷◌, ◌++◌, None, Some, inl, is_some, refl, sym, ◌∙◌, ap, subst}
 use Rattle.std.specs.Prelude.{position}
 use Rattle.std.specs.List.{remove}
 use Rattle.kr_kms.specs.MemWorld.{objects_by, place_of}
@@ -7,6 +7,13 @@ use Rattle.kr_kms.specs.Outside.{HandsOut, same_name}
 use Rattle.kr_edge.specs.RealWorld.{key_of, count_of}
 use Rattle.kr_kms.proofs.Lent.{lent, made, names_decide, none_out}
 use Rattle.kr_edge.proofs.real_world.RealWorldWorld.tape.Goals as goal
+
+pub returns-then-is_some-clause-calls : goal.returns-then-is_some-clause-calls
+returns-then-is_some-clause-calls g c =
+    let name = c.args.name.now in
+    let place = c.name_place.ensures.first
+    ∙ ap (λ l. position (λ o. same_name o name) l) c.out.ensures in
+    inl (ap is_some (sym place) ∙ sym c.is_some.ensures ∙ c.if-is_some.true, refl)
 
 pub returns-in-Ok-lend-clause-ok : goal.returns-in-Ok-lend-clause-ok
 returns-in-Ok-lend-clause-ok g c =
@@ -22,7 +29,7 @@ returns-in-Ok-lend-clause-ok g c =
     }) in
     subst (λ n. HandsOut same_name (objects_by same_name key_of (λ first. None) count_of old)
     (objects_by same_name key_of (λ first. None) count_of c.lend.new.self) name n)
-    (sym c.new.ensures)
+    (sym c.new.ensures.faults)
     (lent same_name key_of (λ first. None) count_of names_decide old c.lend.new.self at name
     (c.in-Ok-lend.key, c.in-Ok-lend.count) place c.in-Ok-lend.ensures.lent gone)
 
@@ -47,7 +54,7 @@ returns-in-Ok-add-clause-ok g c =
     }) in
     subst (λ n. HandsOut same_name (objects_by same_name key_of (λ first. None) count_of old)
     (objects_by same_name key_of (λ first. None) count_of c.add.new.self) name n)
-    (sym c.first.ensures)
+    (sym c.first.ensures.faults)
     (made same_name key_of (λ first. None) count_of names_decide old c.add.new.self name place gone)
 
 pub returns-in-Ok-add-clause-alone : goal.returns-in-Ok-add-clause-alone

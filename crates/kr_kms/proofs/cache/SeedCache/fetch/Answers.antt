@@ -1,13 +1,14 @@
 -- A kept seed, or the link's answer.
-use Rattle.std.proofs.Common.{◌≡◌, ℕ, List, Ok, Err, None, inl, ap, subst, ◌∙◌, rules}
-use Rattle.kr_kms.specs.Cache.{Fetches, seed_at}
+use Rattle.std.proofs.Common.{◌≡◌, ℕ, List, Ok, Err, None, inl, ap, subst, ◌∙◌, [], refl, rules}
+use Rattle.kr_base.proofs.Walks.{talk_none, talk_one}
+use Rattle.kr_kms.specs.Cache.{Fetches, FetchesBy, kept, no_memory, unwrapped, seed_at}
 use Rattle.kr_kms.specs.Calls.{asked_key}
-use Rattle.kr_kms.specs.inner.Keeping.{AreAmongWith}
-use Rattle.kr_kms.proofs.Fetching.{gives_kept, gives_answer, rows_with}
+use Rattle.kr_kms.specs.inner.Keeping.{AreAmongWith, IsPut}
+use Rattle.kr_kms.proofs.Fetching.{gives_kept, gives_answer, rows_with, is_kept}
 use Rattle.kr_kms.proofs.cache.SeedCache.fetch.Goals as goal
 
-pub returns-in-Some : goal.returns-in-Some
-returns-in-Some g c =
+pub returns-in-Some-clause-fetched : goal.returns-in-Some-clause-fetched
+returns-in-Some-clause-fetched g c =
     let link = g.L.Kms.link in
     let old = c.args.link.now in
     let named = λ (name : List ℕ).
@@ -20,8 +21,8 @@ returns-in-Some g c =
     (gives_kept g.L.Kms.truth link old c.args.self.now c.copy_of.new.self c.in-Ok.key
     c.in-Some.kept c.in-Some.ensures.found copied.rows copied.size copied.fits)
 
-pub returns-in-Err : goal.returns-in-Err
-returns-in-Err g c =
+pub returns-in-Err-clause-fetched : goal.returns-in-Err-clause-fetched
+returns-in-Err-clause-fetched g c =
     let link = g.L.Kms.link in
     let old = c.args.link.now in
     let rows = c.args.self.now.rows in
@@ -34,11 +35,11 @@ returns-in-Err g c =
     let copied = c.copy_of.ensures in
     let stop = gives_answer g.L.Kms.truth link old c.unwrap_source.new.self c.args.self.now
     c.copy_of.new.self c.args.key_id.now c.args.annotations.now c.args.source.now
-    (Err c.in-Err.why) none c.in-Err.ensures
+    (Err c.in-Err.why) none c.in-Err.ensures.unwraps
     (λ other seed there. inl (copied.rows other seed there)) copied.size copied.fits in search (rules, stop)
 
-pub returns-in-Ok-unwrap_source : goal.returns-in-Ok-unwrap_source
-returns-in-Ok-unwrap_source g c =
+pub returns-in-Ok-unwrap_source-clause-fetched : goal.returns-in-Ok-unwrap_source-clause-fetched
+returns-in-Ok-unwrap_source-clause-fetched g c =
     let link = g.L.Kms.link in
     let old = c.args.link.now in
     let rows = c.args.self.now.rows in
@@ -53,9 +54,55 @@ returns-in-Ok-unwrap_source g c =
     let copied = c.copy_of.ensures in
     gives_answer g.L.Kms.truth link old c.unwrap_source.new.self c.args.self.now c.keep.new.self
     c.args.key_id.now c.args.annotations.now c.args.source.now (Ok seed) none
-    c.in-Ok-unwrap_source.ensures
+    c.in-Ok-unwrap_source.ensures.unwraps
     (rows_with rows c.copy_of.new.self.rows c.keep.new.self.rows (named (link old).name) seed
     copied.rows
     (subst (λ key. AreAmongWith c.copy_of.new.self.rows key seed c.keep.new.self.rows) same
     kept.rows))
     (kept.size ∙ copied.size) kept.fits
+
+pub returns-in_default-clause-asked : goal.returns-in_default-clause-asked
+returns-in_default-clause-asked g c = talk_none _ _ _ (no_memory refl (search rules))
+
+pub returns-in-Some-clause-asked : goal.returns-in-Some-clause-asked
+returns-in-Some-clause-asked g c =
+    let link = g.L.Kms.link in
+    let old = c.args.link.now in
+    let cache = c.args.self.now in
+    let named = λ (name : List ℕ).
+    asked_key name c.args.key_id.now c.args.annotations.now c.args.source.now in
+    let same : c.in-Ok.key ≡ named (link old).name = ◌∙◌ {b = named c.name.result.now}
+    c.in-Ok.ensures (ap named c.name.ensures) in
+    let found = c.in-Some.ensures.found in
+    talk_none _ _ _ (subst (λ key. FetchesBy key cache c.in-Some.kept c.copy_of.new.self []) same
+    (kept found.0 found.1 found.2 c.in-Some.ensures.used))
+
+pub returns-in-Err-clause-asked : goal.returns-in-Err-clause-asked
+returns-in-Err-clause-asked g c =
+    let link = g.L.Kms.link in
+    let rows = c.args.self.now.rows in
+    let named = λ (name : List ℕ).
+    asked_key name c.args.key_id.now c.args.annotations.now c.args.source.now in
+    let same : c.in-Ok.key ≡ named (link c.args.link.now).name = ◌∙◌
+    {b = named c.name.result.now} c.in-Ok.ensures (ap named c.name.ensures) in
+    let none : seed_at rows (named (link c.args.link.now).name) ≡ None =
+    subst (λ key. seed_at rows key ≡ None) same c.in_default-copy_of.ensures.found in
+    talk_one _ _ _ _ _ (search rules) (unwrapped none c.in_default-copy_of.ensures.used)
+
+pub returns-in-Ok-unwrap_source-clause-asked : goal.returns-in-Ok-unwrap_source-clause-asked
+returns-in-Ok-unwrap_source-clause-asked g c =
+    let link = g.L.Kms.link in
+    let cache = c.args.self.now in
+    let seed = c.in-Ok-unwrap_source.seed in
+    let named = λ (name : List ℕ).
+    asked_key name c.args.key_id.now c.args.annotations.now c.args.source.now in
+    let same : c.in-Ok.key ≡ named (link c.args.link.now).name = ◌∙◌
+    {b = named c.name.result.now} c.in-Ok.ensures (ap named c.name.ensures) in
+    let none : seed_at cache.rows (named (link c.args.link.now).name) ≡ None =
+    subst (λ key. seed_at cache.rows key ≡ None) same c.in_default-copy_of.ensures.found in
+    let put : IsPut cache (named (link c.args.link.now).name) seed c.keep.new.self =
+    subst (λ key. IsPut cache key seed c.keep.new.self) same
+    (subst (λ before. IsPut before c.in-Ok.key seed c.keep.new.self)
+    c.in_default-copy_of.ensures.used c.keep.ensures.put) in
+    talk_one _ _ _ _ _ (search rules) (unwrapped none
+    (is_kept cache (named (link c.args.link.now).name) seed c.keep.new.self none put))

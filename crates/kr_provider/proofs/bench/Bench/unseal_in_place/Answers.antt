@@ -3,6 +3,9 @@ use Rattle.std.proofs.Common.{subst}
 use Rattle.std.specs.Prelude.{IfSome}
 use Rattle.kr_provider.specs.Publication.{list_at}
 use Rattle.kr_provider.specs.Unsealing.{HeedsCache}
+use Rattle.kr_base.specs.Walks.{Talk}
+use Rattle.kr_provider.specs.AskedLinks.{Among}
+use Rattle.kr_provider.specs.Exchanges.{ReadsBy}
 use Rattle.kr_provider.proofs.BenchLinks.{unsealed_stay}
 use Rattle.kr_provider.proofs.bench.Bench.unseal_in_place.Goals as goal
 
@@ -19,3 +22,9 @@ returns-clause-cached g c = subst (λ b. IfSome b.published (λ p. HeedsCache b.
     p.seeds (list_at p c.args.resource.now) c.args.path.now c.args.value b.links
     c.unseal_for.result c.unseal_for.new.links))
     c.self.view_is c.unseal_for.ensures.cached
+
+pub returns-clause-exchanged : goal.returns-clause-exchanged
+returns-clause-exchanged g c = subst (λ b. IfSome b.published (λ p. Talk (Among g.L.Kms.step)
+    b.links c.unseal_for.new.links (ReadsBy p.seeds (list_at p c.args.resource.now)
+    c.args.path.now c.args.value b.cache c.unseal_for.result c.unseal_for.new.cache)))
+    c.self.view_is c.unseal_for.ensures.exchanged

@@ -6,7 +6,11 @@ use Rattle.kr_kms.specs.Calls.{IsSameLink}
 use Rattle.kr_kms.specs.Health.{TellsKeyId}
 use Rattle.kr_provider.specs.AskedLinks.{AsksOne}
 use Rattle.kr_provider.specs.Names.{names_of}
-use Rattle.kr_provider.proofs.AskedLists.{asked_alone, asks_at, distinct_stay}
+use Rattle.kr_base.specs.Walks.{Talk}
+use Rattle.kr_kms.specs.Health.{TellsKeyIdBy}
+use Rattle.kr_provider.specs.AskedLinks.{Among}
+use Rattle.kr_provider.proofs.AskedLists.{asked_alone, asks_at, distinct_stay, place_named}
+use Rattle.kr_provider.proofs.LinkTalks.{talk_among}
 use Rattle.kr_provider.proofs.links.Links.key_id.Goals as goal
 
 pub place_of-at-requires : goal.place_of-at-requires
@@ -28,8 +32,8 @@ invariant_of-self g c =
     c.key_id_of.new.link place c.index_mut.ensures.value refl
     c.key_id_of.ensures.same c.key_id_of.ensures.same)) c.self.invariant
 
-pub returns : goal.returns
-returns g c =
+pub returns-clause-told : goal.returns-clause-told
+returns-clause-told g c =
     let test : g.row.L.Denot → Bool = λ l. bytes_eq (g.L.Kms.link l).name c.args.name.now in
     let asks : g.row.L.Denot → g.row.L.Denot → Type 0 = λ old new. TellsKeyId (g.L.Kms.link old) c.key_id_of.result (g.L.Kms.link new) in
     let place = ap (position test) (sym c.as_slice.ensures.value)
@@ -40,3 +44,20 @@ returns g c =
     (asks_at g.L.Kms.link c.args.name.now asks items news c.place_of-at.result c.index_mut.result.now
     c.key_id_of.new.link place c.index_mut.ensures.value refl
     c.key_id_of.ensures.same c.key_id_of.ensures.told)
+
+pub returns-clause-exchanged : goal.returns-clause-exchanged
+returns-clause-exchanged g c =
+    let step = g.L.Kms.step in
+    let test : g.row.L.Denot → Bool = λ l. bytes_eq (g.L.Kms.link l).name c.args.name.now in
+    let Are = TellsKeyIdBy c.args.name.now c.key_id_of.result in
+    let talks : g.row.L.Denot → g.row.L.Denot → Type 0 = λ old new. Talk step old new Are in
+    let place = ap (position test) (sym c.as_slice.ensures.value) ∙ c.place_of-at.ensures.place in
+    let items = c.self.inside.items.items in
+    let news = slice_set items c.place_of-at.result c.key_id_of.new.link in
+    subst (λ l. Talk (Among step) l news Are) c.self.view_is
+    (talk_among step g.L.Kms.link c.args.name.now Are items news
+    (asks_at g.L.Kms.link c.args.name.now talks items news c.place_of-at.result c.index_mut.result.now
+    c.key_id_of.new.link place c.index_mut.ensures.value refl c.key_id_of.ensures.same
+    (subst (λ n. Talk step c.index_mut.result.now c.key_id_of.new.link (TellsKeyIdBy n c.key_id_of.result))
+    (place_named g.L.Kms.link c.args.name.now items c.place_of-at.result c.index_mut.result.now place
+    c.index_mut.ensures.value) c.key_id_of.ensures.asked)))

@@ -6,7 +6,11 @@ use Rattle.kr_kms.specs.Calls.{IsSameLink}
 use Rattle.kr_kms.specs.Seeds.{MakesSeed}
 use Rattle.kr_provider.specs.AskedLinks.{AsksOne}
 use Rattle.kr_provider.specs.Names.{names_of}
-use Rattle.kr_provider.proofs.AskedLists.{asked_alone, asks_at, distinct_stay}
+use Rattle.kr_base.specs.Walks.{Talk}
+use Rattle.kr_kms.specs.Seeds.{MakesSeedBy}
+use Rattle.kr_provider.specs.AskedLinks.{Among}
+use Rattle.kr_provider.proofs.AskedLists.{asked_alone, asks_at, distinct_stay, place_named}
+use Rattle.kr_provider.proofs.LinkTalks.{talk_among}
 use Rattle.kr_provider.proofs.links.Links.make_seed.Goals as goal
 
 pub place_of-at-requires : goal.place_of-at-requires
@@ -40,3 +44,21 @@ returns-clause-made g c =
     (asks_at g.L.Kms.link c.args.name.now asks items news c.place_of-at.result c.index_mut.result.now
     c.make_seed.new.link place c.index_mut.ensures.value refl
     c.make_seed.ensures.same c.make_seed.ensures.made)
+
+pub returns-clause-exchanged : goal.returns-clause-exchanged
+returns-clause-exchanged g c =
+    let step = g.L.Kms.step in
+    let test : g.row.L.Denot → Bool = λ l. bytes_eq (g.L.Kms.link l).name c.args.name.now in
+    let Are = MakesSeedBy g.D.Dice.left g.D.Dice.count c.args.name.now c.args.dice.now c.make_seed.result c.make_seed.new.dice in
+    let talks : g.row.L.Denot → g.row.L.Denot → Type 0 = λ old new. Talk step old new Are in
+    let place = ap (position test) (sym c.as_slice.ensures.value) ∙ c.place_of-at.ensures.place in
+    let items = c.self.inside.items.items in
+    let news = slice_set items c.place_of-at.result c.make_seed.new.link in
+    subst (λ l. Talk (Among step) l news Are) c.self.view_is
+    (talk_among step g.L.Kms.link c.args.name.now Are items news
+    (asks_at g.L.Kms.link c.args.name.now talks items news c.place_of-at.result c.index_mut.result.now
+    c.make_seed.new.link place c.index_mut.ensures.value refl c.make_seed.ensures.same
+    (subst (λ n. Talk step c.index_mut.result.now c.make_seed.new.link
+    (MakesSeedBy g.D.Dice.left g.D.Dice.count n c.args.dice.now c.make_seed.result c.make_seed.new.dice))
+    (place_named g.L.Kms.link c.args.name.now items c.place_of-at.result c.index_mut.result.now place
+    c.index_mut.ensures.value) c.make_seed.ensures.asked)))

@@ -59,7 +59,7 @@ returns-in-Err-Failed g c =
     (sym c.reserve.ensures.items)
     (fails_at r.format r.rows.0 r.index r.limit r.log log c.args.self.now row c.end-at.result
     c.row_length.result c.self.invariant c.self.view_is c.end-at.ensures
-    (c.row_length.ensures.length (length r.rows.0 + 1)) c.if-needed-self.false w.0.1 w.0.2 w.2 w.3)
+    (c.row_length.ensures.length (length r.rows.0 + 1)) c.if-needed-self.false w.0.1 w.0.2 w.2 w.3 w.4)
 
 pub invariant_of-self-in-Err-NoMemory : goal.invariant_of-self-in-Err-NoMemory
 invariant_of-self-in-Err-NoMemory g c =
@@ -133,4 +133,4 @@ returns g c =
       ap length (c.as_slice-2.ensures ∙ c.in-Ok-make_row.ensures.bytes),
       c.row_length.ensures.length k,
     ))
-    w.0.2 w.2)
+    w.0.2 w.2 w.3)

@@ -1,0 +1,257 @@
+-- The store's tape, which is settled behind the workers before it is back.
+use Rattle.std.proofs.Common.{◌≡◌, ℕ, ◌≤◌, List, Bool, true, false, Option, None, Some, Result, Ok, Err, refl, sym, ◌∙◌, ap, subst, inl, inr, arith}
+use Rattle.std.specs.Option.{option_map}
+use Rattle.std.specs.Prelude.{if◌then◌else◌}
+use Rattle.kr_base.specs.Faults.{Rose}
+use Rattle.kr_base.proofs.Counting.{Rose-later}
+use Rattle.kr_kms.specs.Calls.{Link}
+use Rattle.kr_kms.specs.Outside.{Outside, same_name, with_call}
+use Rattle.kr_kms.specs.Truth.{Truth}
+use Rattle.kr_kms.specs.declared.world.WorldCall.TheVariants.{Settled}
+use Rattle.kr_rollout.specs.Histories.{state_of}
+use Rattle.kr_rollout.specs.Openings.{start_of}
+use Rattle.kr_rollout.specs.declared.opening.Entry.{Entry}
+use Rattle.kr_store.specs.declared.rows.LogRow.{LogRow}
+use Rattle.kr_workers.specs.declared.worker.Worker as fleet_worker
+use Rattle.kr_cmd_steps.specs.Around.{Around, IsHome, with_world}
+use Rattle.kr_cmd_steps.specs.Commands.{tape_for}
+use Rattle.kr_cmd_steps.specs.Steps.{Steps}
+use Rattle.kr_cmd_steps.specs.declared.programs.Program.{Program}
+use Rattle.kr_cmd_fleet.specs.FleetFiles.{FleetPlan}
+use Rattle.kr_cmd_fleet.specs.Fleets.{AreEquipped, Begun, FailsToSettle, HasRows, LeavesRest, RunsFleet, opening_of, settled_behind}
+use Rattle.kr_cmd_fleet.specs.declared.fleet.Record.{Record}
+use Rattle.kr_cmd_messages.specs.declared.refusal.Object.TheVariants.{Store}
+use Rattle.kr_cmd_messages.specs.declared.refusal.Stop.{Stop}
+use Rattle.kr_cmd_messages.specs.declared.refusal.Stop.TheVariants.{Fault}
+use Rattle.kr_cmd_fleet.specs.inner.FleetOutcomes.{LacksSettling, LacksWorkers, LeavesRecord, RunsBy, SettlesBy}
+use Rattle.kr_cmd_steps.specs.inner.Lent.{with_lent_tape}
+use Rattle.kr_cmd_steps.specs.inner.Phases.{Does}
+use Rattle.kr_cmd_steps.specs.inner.Tapes.{LentTape, ReturnedTape, ReturnsSettled, with_settled}
+use Rattle.kr_cmd_steps.proofs.Goes.{goes_on, home_trans}
+use Rattle.kr_cmd_steps.proofs.Loading.{count_here, rose_on, tape_home}
+use Rattle.kr_cmd_steps.proofs.RisingCounts.{counted}
+use Rattle.kr_cmd_steps.proofs.Tapes.{came_back, lent, nothing, own_name}
+
+rose_later : (before now : ℕ) → Rose before now → before ≤ now
+rose_later before now (inl less) = omega (arith, less)
+rose_later before now (inr (x, y)) = omega (arith, x, y)
+
+-- what is home stays so where the world was told that a tape is settled
+pub home_settled : {old new : Around} (store : List ℕ) → IsHome old new
+    → IsHome old (settled_behind store new)
+home_settled store h = record {
+  files = record { file = h.files.file; later = h.files.later };
+  dice = h.dice;
+  tapes = h.tapes;
+  links = h.links;
+  input = h.input;
+}
+
+module _ {T L D : Type 0} (link : L → Link) (left : D → Option (List ℕ)) (count : D → ℕ)
+    (programs : List Program) (store : List ℕ) (around : Around) where
+  equipped : (workers : List (fleet_worker.Worker T L D))
+      → AreEquipped link left count programs around workers
+      → AreEquipped link left count programs (settled_behind store around) workers
+  equipped workers are seat d below = let is = are seat d below in record {
+    names = is.names;
+    links_are = is.links_are;
+    left_is = is.left_is;
+    count_is = is.count_is;
+  }
+
+-- the run of the workers, where the world is told so at its end
+settled_run : {T L D : Type 0} (truth : Truth) (link : L → Link) (left : D → Option (List ℕ))
+    (count : D → ℕ) (store : List ℕ) (begun : Begun) (mid new : Around) (history : List Entry)
+    (ended : List (fleet_worker.Worker T L D))
+    → RunsFleet truth link left count store begun mid new history ended
+    → RunsFleet truth link left count store begun (settled_behind store mid)
+    (settled_behind store new) history ended
+settled_run truth link left count store begun mid new history ended r = record {
+  published = r.published;
+  parts = r.parts;
+  parts_are = r.parts_are;
+  files = r.files;
+  files_are = r.files_are;
+  workers = r.workers;
+  many = r.many;
+  before = equipped link left count begun.plan.programs store mid r.workers r.before;
+  one = r.one;
+  opens = r.opens;
+  bare = r.bare;
+  after = equipped link left count begun.plan.programs store new ended r.after;
+  stored = r.stored;
+  counted = r.counted;
+  rest = record {
+    truth = r.rest.truth;
+    file = r.rest.file;
+    tapes = r.rest.tapes;
+    dice = r.rest.dice;
+    links = r.rest.links;
+    faults = r.rest.faults;
+    asked = ap (with_call (Settled store)) r.rest.asked;
+    input = r.rest.input;
+    said = r.rest.said;
+  };
+}
+
+-- rows that are there stay, as the count goes on
+rows_still : (told : Option (Option (List ℕ))) (begun : Begun) (rows : List LogRow)
+    (before now later : ℕ) → now ≤ later → HasRows told begun rows before now
+    → HasRows told begun rows before later
+rows_still (Some (Some bytes)) begun rows before now later more (file, rest, is, e, inl none) =
+    (file, rest, is, e, inl none)
+rows_still (Some (Some bytes)) begun rows before now later more (file, rest, is, e, inr rose) =
+    (file, rest, is, e, inr (rose_on before now later rose more))
+rows_still (Some None) begun rows before now later more h = absurd h
+rows_still None begun rows before now later more h = tt
+
+module _ (T : Type 0) {L D : Type 0} (truth : Truth) (link : L → Link)
+    (left : D → Option (List ℕ)) (count : D → ℕ) (watched : Bool) (store : List ℕ)
+    (plan : FleetPlan) (steps : Steps Begun) where
+  abbrev Runs : (old new : Around) → Result Record Stop → Type 0
+  Runs old new result = RunsBy T truth link left count watched steps store plan old new result
+
+  -- the tape was settled
+  pub settled_record : (old new : Around) (made : Record)
+      → LeavesRecord T truth link left count false watched steps store plan old new made
+      → LeavesRecord T truth link left count true watched steps store plan old
+      (settled_behind store new) made
+  settled_record old new made l = record {
+    begun = l.begun;
+    plan_is = l.plan_is;
+    mid = l.mid;
+    does = l.does;
+    history = l.history;
+    ended = l.ended;
+    runs = settled_run truth link left count store l.begun l.mid new l.history l.ended l.runs;
+    lines = l.lines;
+    replies = l.replies;
+    items_are = l.items_are;
+    revision_is = l.revision_is;
+    known = l.known;
+    home = home_settled store l.home;
+  }
+
+  -- or it couldn't be
+  unsettled : (old a : Around) (told : Option (List ℕ)) (n later : ℕ) (made : Record) (stop : Stop)
+      → LeavesRecord T truth link left count false watched steps store plan old
+      (with_lent_tape store told n a) made
+      → Rose n later → stop ≡ Fault Store later
+      → LacksSettling T truth link left count steps store old (with_lent_tape store told later a)
+      stop
+  unsettled old a told n later made stop l rose is =
+      let here = count_here store told n a n in
+      let now = count_here store told n a later in
+      let risen = counted (opening_of store l.begun l.mid)
+      (start_of (opening_of store l.begun l.mid)) l.history l.runs.one.legal.runs in
+      record {
+        begun = l.begun;
+        mid = l.mid;
+        does = l.does;
+        fails = record {
+          history = l.history;
+          legal = l.runs.one.legal;
+          stored = rows_still ((with_lent_tape store told n a).world.tapes.told store) l.begun
+              (state_of (opening_of store l.begun l.mid) l.history).rows
+              (l.mid.world.tapes.faults store) ((with_lent_tape store told n a).world.tapes.faults
+              store) ((with_lent_tape store told later a).world.tapes.faults store)
+              (let less = rose_later n later rose in omega (arith, here, now, less)) l.runs.stored;
+          rose = Rose-later _ _ _
+              (omega (arith, risen, l.runs.counted, here))
+              (subst (λ m. Rose n m) (sym now) rose);
+          stops = is ∙ ap (λ m. Fault Store m) (sym now);
+          rest = record {
+            truth = l.runs.rest.truth;
+            file = l.runs.rest.file;
+            tapes = l.runs.rest.tapes;
+            dice = l.runs.rest.dice;
+            links = l.runs.rest.links;
+            faults = l.runs.rest.faults;
+            asked = l.runs.rest.asked;
+            input = l.runs.rest.input;
+            said = l.runs.rest.said;
+          };
+        };
+        home = home_trans l.home (tape_home store told n a later (rose_later n later rose));
+      }
+
+-- the tape is borrowed for it, is settled behind it, and comes back
+module _ (T : Type 0) {L D : Type 0} (truth : Truth) (link : L → Link)
+    (left : D → Option (List ℕ)) (count : D → ℕ) (watched : Bool) (store : List ℕ)
+    (plan : FleetPlan) (steps : Steps Begun) (a : Around) (old out : Outside)
+    (given : Option (List ℕ)) (first : ℕ) (mid new : Outside) (back : Option (List ℕ)) (n : ℕ) where
+  abbrev pub Began : Around
+  Began = with_lent_tape store given first (with_world out a)
+
+  abbrev pub Settles : Around → Result Record Stop → Type 0
+  Settles end result = SettlesBy T truth link left count watched (tape_for store true steps) store
+      plan (with_world old a) end result
+
+  -- behind the borrowing
+  pub borrowed : LentTape store true old out given first → (end : Around) (result : Result Record Stop)
+      → SettlesBy T truth link left count watched steps store plan Began end result
+      → Settles end result
+  borrowed h end (Ok made) l = let d = lent store true _ h a in record {
+    begun = l.begun;
+    plan_is = l.plan_is;
+    mid = l.mid;
+    does = goes_on (tape_for store true nothing) (λ u. steps) tt d l.does;
+    history = l.history;
+    ended = l.ended;
+    runs = l.runs;
+    lines = l.lines;
+    replies = l.replies;
+    items_are = l.items_are;
+    revision_is = l.revision_is;
+    known = l.known;
+    home = home_trans d.home l.home;
+  }
+  borrowed h end (Err stop) (inl e) =
+      inl (goes_on (tape_for store true nothing) (λ u. steps) tt (lent store true _ h a) e)
+  borrowed h end (Err stop) (inr (inl l)) = let d = lent store true _ h a in inr (inl (record {
+    stops = l.stops;
+    begun = l.begun;
+    mid = l.mid;
+    does = goes_on (tape_for store true nothing) (λ u. steps) tt d l.does;
+    none = l.none;
+    home = home_trans d.home l.home;
+  }))
+  borrowed h end (Err stop) (inr (inr l)) = let d = lent store true _ h a in inr (inr (record {
+    begun = l.begun;
+    mid = l.mid;
+    does = goes_on (tape_for store true nothing) (λ u. steps) tt d l.does;
+    fails = l.fails;
+    home = home_trans d.home l.home;
+  }))
+
+  back_so : (result : Result Record Stop) {told : Option (List ℕ)} {m : ℕ} {world : Outside}
+      → LentTape store true old out given first → ReturnedTape store world new told m
+      → SettlesBy T truth link left count watched steps store plan Began
+      (with_lent_tape store told m (with_world world a)) result
+      → Settles (with_world new a) result
+  back_so result h returned s = borrowed h (with_world new a) result
+      (subst (λ b. SettlesBy T truth link left count watched steps store plan Began b result)
+      (came_back store returned a) s)
+
+  pub over_settled : (made result : Result Record Stop) → LentTape store true old out given first
+      → ReturnsSettled store Store mid new back n made result
+      → RunsBy T truth link left count watched steps store plan Began
+      (with_lent_tape store back n (with_world mid a)) made
+      → Settles (with_world new a) result
+  over_settled (Ok m) (Ok x) h (same, returned) r =
+      subst (λ y. Settles (with_world new a) (Ok y)) (sym same)
+      (back_so (Ok m) h returned (settled_record T truth link left count watched store plan steps
+      Began (with_lent_tape store back n (with_world mid a)) m r))
+  over_settled (Ok m) (Err stop) h (later, rose, same, returned) r =
+      back_so (Err stop) h returned (inr (inr (unsettled T truth link left count watched store plan
+      steps Began (with_world mid a) back n later m stop r rose same)))
+  over_settled (Err why) result h (same, returned) r =
+      subst (λ y. Settles (with_world new a) y) (sym same)
+      (back_so (Err why) h returned (by_end r))
+    where
+      by_end : RunsBy T truth link left count watched steps store plan Began
+          (with_lent_tape store back n (with_world mid a)) (Err why)
+          → SettlesBy T truth link left count watched steps store plan Began
+          (with_lent_tape store back n (with_world mid a)) (Err why)
+      by_end (inl e) = inl e
+      by_end (inr l) = inr (inl l)

@@ -1,0 +1,281 @@
+//! What a watch begins with: the live rows of the opening, as the first replica's configuration
+//! reads them.
+ghost use Rattle.std.specs.Prelude.{◌≡◌, ◌≤◌, All, Err, IfOk, IfSome, IsSome, Some, [], length};
+ghost use Rattle.kr_kms.specs.Truth.{TellsOf, key_of};
+ghost use Rattle.kr_provider.specs.Names.{AreDistinct, HasLinks, names_of as plugin_names};
+ghost use Rattle.kr_provider.specs.AskedLinks.{AskedOnly};
+ghost use Rattle.kr_opening.specs.Replicas.{IsFirstIn};
+ghost use Rattle.kr_store.specs.Stores.{IsListing};
+ghost use Rattle.kr_cmd_fleet.specs.FirstItems.{item_with, reading_rows, watching};
+ghost use Rattle.kr_cmd_fleet.specs.inner.Beginnings.{with_first};
+ghost use Rattle.kr_cmd_fleet.specs.inner.Outfits.{AreLater, with_outfits};
+ghost use Rattle.kr_cmd_fleet.specs.inner.Readings.{AreReadOf, HasFirst, IsReadEnd, IsReadable};
+ghost use Rattle.kr_cmd_fleet.specs.inner.Readings.{KnowsItems, NamesALink, ReadsAll, ReadsRow};
+ghost use Rattle.kr_cmd_fleet.specs.inner.Readings.{first_in, items_in, read_in};
+ghost use Rattle.kr_cmd_steps.specs.Around.{Around};
+ghost use Rattle.kr_cmd_steps.specs.inner.Phases.{Does};
+ghost use Rattle.kr_cmd_steps.specs.inner.Tapes.{path_of};
+
+use crate::crew::in_turn;
+use crate::outfit::Outfit;
+use kr_base::{Bytes, Dice, List, NoMemory, Shared, Tape, Text};
+use kr_cmd_messages::{Object, Stop};
+use kr_kms::Kms;
+use kr_provider::{Bench, Links, Published, UnsealNo};
+use kr_store::{Row, Store};
+use kr_watch::Item;
+use std::alloc::Global;
+
+/// How many keys the reading bench holds expanded, and how many unwrapped seeds.
+const PAGES: u32 = 64;
+
+const CACHE: u32 = 64;
+
+/// What a watch begins with.
+#[derive(Drop)]
+pub struct WatchStart {
+    /// The objects of the live rows, in the order of their paths, where they were read.
+    pub items: List<Item>,
+    /// The revision of the opening's last row.
+    pub revision: u64,
+}
+
+impl WatchStart {
+    /// That of a fleet that no one watches.
+    pub fn unread<T: Tape>(alloc: Global, store: &Store<T>) -> WatchStart
+        ensures items { result.items.0 ≡ [] }
+        ensures revision { result.revision ≡ length store.now.rows }
+    {
+        WatchStart {
+            items: List::new(alloc),
+            revision: store.revision(),
+        }
+    }
+}
+
+/// Why a row wasn't read.
+enum ReadNo {
+    /// The plugin of this name failed.
+    PluginFailed { name: Text },
+    /// There was no memory.
+    NoMemory,
+}
+
+/// Reads the live rows by what the first replica published, with the first worker's outfit. Where
+/// no one watches none is read.
+pub(crate) fn read_first<T: Tape, L: Kms, D: Dice>(
+    alloc: Global,
+    watched: bool,
+    store: &Store<T>,
+    replicas: &[Option<Shared<Published>>],
+    outfits: List<Outfit<L, D>>,
+) -> (Result<WatchStart, Stop>, List<Outfit<L, D>>)
+    requires first { IsFirstIn replicas.now }
+    requires some { 1 ≤ length outfits.0 }
+    requires links { HasFirst L.truth L.link outfits.0 replicas.now }
+    ensures does { (a : Around) → a.truth ≡ L.truth
+        → Does (watching watched store.now.rows replicas.now)
+        (with_outfits L.link D.left D.count 0 outfits.0 a)
+        (with_outfits L.link D.left D.count 0 result.1.0 a) (read_in result.0) }
+    ensures known { IfOk result.0 (λ start.
+        KnowsItems watched L.truth store.now.rows replicas.now start.items.0) }
+    ensures revision { IfOk result.0 (λ start. start.revision ≡ length store.now.rows) }
+    ensures later { AreLater L.link D.count outfits.0 result.1.0 }
+{
+    let mut start = WatchStart::unread(alloc, store);
+    if !watched {
+        return (Ok(start), outfits);
+    }
+    let published = first_published(replicas);
+    let rows = match live_rows(alloc, store) {
+        Ok(rows) => rows,
+        Err(NoMemory) => return (Err(Stop::NoMemory), outfits),
+    };
+    let mut outfits = in_turn(outfits);
+    let Some(outfit) = outfits.pop() else {
+        unreachable!();
+    };
+    let (read, outfit) = read_with(alloc, rows.as_slice(), published, outfit);
+    outfits.push_in_room(outfit);
+    let outfits = in_turn(outfits);
+    match read {
+        Ok(items) => {
+            start.items = items;
+            (Ok(start), outfits)
+        }
+        Err(stop) => (Err(stop), outfits),
+    }
+}
+
+/// What the first replica published.
+fn first_published(replicas: &[Option<Shared<Published>>]) -> &Shared<Published>
+    requires { IsFirstIn replicas.now }
+    ensures { first_in replicas.now ≡ Some result.now }
+{
+    match replicas {
+        [Some(published), ..] => published,
+        _ => unreachable!(),
+    }
+}
+
+/// The live rows, in the order of their paths.
+fn live_rows<T: Tape>(alloc: Global, store: &Store<T>) -> Result<List<Shared<Row>>, NoMemory>
+    ensures lists { IfOk result (λ rows. IsListing store.now.rows rows.0) }
+    ensures rules { IfOk result (λ rows. All IsReadable rows.0) }
+{
+    store.known();
+    let mut rows = List::new(alloc);
+    let mut last = None;
+    loop {
+        let row = match store.next_after(path_of(&last)) {
+            Ok(Some(row)) => row,
+            Ok(None) => return Ok(rows),
+            Err(_) => return Err(NoMemory),
+        };
+        let kept = row.share()?;
+        match rows.push(kept) {
+            Ok(()) => {}
+            Err(_) => return Err(NoMemory),
+        }
+        last = Some(row);
+    }
+}
+
+/// The path of the row where the walk is; the empty one at its begin.
+fn path_of(last: &Option<Shared<Row>>) -> &str
+    ensures { result.now ≡ path_of last.now }
+{
+    match last {
+        Some(row) => row.get().path.as_str(),
+        None => "",
+    }
+}
+
+/// Reads the rows by a bench over the outfit, which comes back.
+fn read_with<L: Kms, D: Dice>(
+    alloc: Global,
+    rows: &[Shared<Row>],
+    published: &Shared<Published>,
+    outfit: Outfit<L, D>,
+) -> (Result<List<Item>, Stop>, Outfit<L, D>)
+    requires links { HasLinks (plugin_names L.link outfit.links) published.now.rows }
+    requires opens { All (λ row. TellsOf L.truth (key_of row) row.seed) published.now.seeds }
+    requires rules { All IsReadable rows.now }
+    ensures does { (a : Around) → a.truth ≡ L.truth → Does (reading_rows published.now rows.now [])
+        (with_first L.link outfit.links (D.left outfit.dice) (D.count outfit.dice) a)
+        (with_first L.link result.1.links (D.left outfit.dice) (D.count outfit.dice) a)
+        (items_in result.0) }
+    ensures reads { IfOk result.0 (λ items. AreReadOf L.truth published.now rows.now items.0) }
+    ensures asked { AskedOnly L.link (plugin_names L.link outfit.links) outfit.links
+        result.1.links }
+    ensures dice { result.1.dice ≡ outfit.dice }
+{
+    published.get().known();
+    let Ok(published) = published.share() else {
+        return (Err(Stop::NoMemory), outfit);
+    };
+    let Outfit { links, dice } = outfit;
+    let mut bench = match Bench::new(alloc, links, dice, PAGES, CACHE) {
+        Ok(bench) => bench,
+        Err((_, links, dice)) => return (Err(Stop::NoMemory), Outfit { links, dice }),
+    };
+    let Ok(()) = bench.adopt(published) else {
+        unreachable!();
+    };
+    match read_rows(alloc, rows, &mut bench) {
+        Ok(items) => {
+            let (links, dice) = bench.close();
+            (Ok(items), Outfit { links, dice })
+        }
+        Err(why) => {
+            let (links, dice) = bench.close();
+            let stop = read_stop(why, &links);
+            (Err(stop), Outfit { links, dice })
+        }
+    }
+}
+
+/// Why the rows weren't read, as a command says it.
+fn read_stop<L: Kms>(why: ReadNo, links: &Links<L>) -> Stop
+    requires { NamesALink (plugin_names L.link links.now) why }
+    ensures { IsReadEnd L.link links.now (Err why) (Err result) }
+{
+    match why {
+        ReadNo::PluginFailed { name } => {
+            let count = links.faults(name.as_str());
+            Stop::Fault(Object::Plugin(name), count)
+        }
+        ReadNo::NoMemory => Stop::NoMemory,
+    }
+}
+
+/// Reads the rows, one after another.
+fn read_rows<L: Kms, D: Dice>(
+    alloc: Global,
+    rows: &[Shared<Row>],
+    bench: &mut Bench<L, D>,
+) -> Result<List<Item>, ReadNo>
+    requires adopted { IsSome bench.old.published }
+    requires distinct { AreDistinct L.link bench.old.links }
+    requires opens { IfSome bench.old.published
+        (λ p. All (λ row. TellsOf L.truth (key_of row) row.seed) p.seeds) }
+    requires rules { All IsReadable rows.now }
+    ensures read { IfSome bench.old.published (λ p. ReadsAll L.truth L.link p rows.now
+        bench.old.links result bench.new.links) }
+    ensures kept { bench.new
+        ≡ record bench.old { links = bench.new.links; cache = bench.new.cache } }
+{
+    let mut items = List::new(alloc);
+    for row in rows {
+        let item = match read_row(alloc, row.get(), bench) {
+            Ok(item) => item,
+            Err(why) => return Err(why),
+        };
+        match items.push(item) {
+            Ok(()) => {}
+            Err(_) => return Err(ReadNo::NoMemory),
+        }
+    }
+    Ok(items)
+}
+
+/// The object of a row, with the data that its value reads as.
+fn read_row<L: Kms, D: Dice>(
+    alloc: Global,
+    row: &Row,
+    bench: &mut Bench<L, D>,
+) -> Result<Item, ReadNo>
+    requires adopted { IsSome bench.old.published }
+    requires rules { IsReadable row.now }
+    ensures read { IfSome bench.old.published (λ p. ReadsRow L.truth L.link p row.now
+        bench.old.links result bench.new.links) }
+    ensures kept { bench.new
+        ≡ record bench.old { links = bench.new.links; cache = bench.new.cache } }
+{
+    let resource = row.resource.as_str();
+    let path = row.path.as_str();
+    let plain = match bench.unseal(alloc, resource, path, row.stored.as_slice()) {
+        Ok(opened) => Some(opened.plain),
+        Err(UnsealNo::Refused(_)) => None,
+        Err(UnsealNo::PluginFailed { name }) => return Err(ReadNo::PluginFailed { name }),
+        Err(UnsealNo::NoMemory) => return Err(ReadNo::NoMemory),
+    };
+    match item_of(alloc, row, plain) {
+        Ok(item) => Ok(item),
+        Err(NoMemory) => Err(ReadNo::NoMemory),
+    }
+}
+
+/// The object of a row with these data.
+fn item_of(alloc: Global, row: &Row, plain: Option<Bytes>) -> Result<Item, NoMemory>
+    ensures { IfOk result (λ item. item ≡ item_with row.now plain) }
+{
+    let path = Text::copy(alloc, row.path.as_str())?;
+    let resource = Text::copy(alloc, row.resource.as_str())?;
+    Ok(Item {
+        path,
+        resource,
+        revision: row.revision,
+        plain,
+    })
+}

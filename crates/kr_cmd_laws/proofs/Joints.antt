@@ -1,0 +1,147 @@
+-- Steps that gave something: the first gave something, from which the others went on.
+use Rattle.std.proofs.Common.{◌≡◌, Bool, true, false, refl, ◌∙◌, ap, inl, inr}
+use Rattle.kr_kms.specs.Truth.{Truth}
+use Rattle.kr_cmd_steps.specs.Steps.{Steps, load, take_input, borrow_dice, borrow_tape, read_tape, write_row, keep_rows, settle, draw, borrow_link, ask_status, wrap, unwrap, note, find, refuse, give, and_then, Point, gives, Left, IsAt, Goes}
+
+abbrev pub is_value : {A : Type 0} → Point A → Bool
+is_value (gives x) = true
+is_value point = false
+
+-- nothing else is a value
+pub no_value : {A : Type 0} {x : A} {end left : Left} {here : Point A}
+    → IsAt (gives x) end here left → is_value here ≡ false → ⊥
+no_value at none = absurd (let e : true ≡ false = ap is_value at.0 ∙ none in cc)
+
+abbrev pub value_or : {A : Type 0} → A → Point A → A
+value_or other (gives x) = x
+value_or other point = other
+
+-- the value that is given is this
+pub one_value : {A : Type 0} {x y : A} {end left : Left} → IsAt (gives x) end (gives y) left → x ≡ y
+one_value {x = x} at = ap (value_or x) at.0
+
+module _ {A B : Type 0} (others : A → Steps B) (y : B) (end : Left) where
+  abbrev pub Joint : Steps A → Left → Type 0
+  Joint first left = (x : A) × (mid : Left) × Goes (gives x) mid first left
+      × Goes (gives y) end (others x) mid
+
+  pub joint : (first : Steps A) (left : Left) → Goes (gives y) end (and_then first others) left
+      → Joint first left
+  joint (load name next) left (inl at) = absurd (no_value at refl)
+  joint (load name next) left (inr (inl at)) = absurd (no_value at refl)
+  joint (load name next) left (inr (inr (bytes, agrees, goes))) =
+      let j = joint (next bytes) _ goes in (j.0, j.1, inr (inr (bytes, agrees, j.2)), j.3)
+  joint (take_input limit long next) left (bytes, rest, c, inl (short, at)) =
+      absurd (no_value at refl)
+  joint (take_input limit long next) left (bytes, rest, c, inr (inl (more, at))) =
+      absurd (no_value at refl)
+  joint (take_input limit long next) left (bytes, rest, c, inr (inr (short, e, goes))) =
+      let j = joint (next bytes) _ goes in
+      (j.0, j.1, (bytes, rest, c, inr (inr (short, e, j.2))), j.3)
+  joint (borrow_dice seat next) left (inl at) = absurd (no_value at refl)
+  joint (borrow_dice seat next) left (inr (inl at)) = absurd (no_value at refl)
+  joint (borrow_dice seat next) left (inr (inr goes)) =
+      let j = joint next _ goes in (j.0, j.1, inr (inr j.2), j.3)
+  joint (borrow_tape name make absent next) left (inl at) = absurd (no_value at refl)
+  joint (borrow_tape name make absent next) left (inr (inl at)) = absurd (no_value at refl)
+  joint (borrow_tape name make absent next) left (inr (inr (inl (may, agrees, at)))) =
+      absurd (no_value at refl)
+  joint (borrow_tape name make absent next) left (inr (inr (inr (may, goes)))) =
+      let j = joint next _ goes in (j.0, j.1, inr (inr (inr (may, j.2))), j.3)
+  joint (read_tape object name next) left (inl at) = absurd (no_value at refl)
+  joint (read_tape object name next) left (inr (bytes, agrees, goes)) =
+      let j = joint (next bytes) left goes in (j.0, j.1, inr (bytes, agrees, j.2), j.3)
+  joint (write_row object name store row next) left (inl (told, begins, at)) =
+      absurd (no_value at refl)
+  joint (write_row object name store row next) left (inr (told, holds, goes)) =
+      let j = joint next _ goes in (j.0, j.1, inr (told, holds, j.2), j.3)
+  joint (keep_rows name store next) left (told, count, later, holds, goes) =
+      let j = joint next _ goes in (j.0, j.1, (told, count, later, holds, j.2), j.3)
+  joint (settle object name next) left (inl at) = absurd (no_value at refl)
+  joint (settle object name next) left (inr goes) =
+      let j = joint next _ goes in (j.0, j.1, inr j.2, j.3)
+  joint (draw seat size next) left (inl at) = absurd (no_value at refl)
+  joint (draw seat size next) left (inr (bytes, rest, c, fits, goes)) =
+      let j = joint (next bytes) _ goes in (j.0, j.1, inr (bytes, rest, c, fits, j.2), j.3)
+  joint (borrow_link seat plugin program next) left (inl at) = absurd (no_value at refl)
+  joint (borrow_link seat plugin program next) left (inr (inl at)) = absurd (no_value at refl)
+  joint (borrow_link seat plugin program next) left (inr (inr goes)) =
+      let j = joint next _ goes in (j.0, j.1, inr (inr j.2), j.3)
+  joint (ask_status seat plugin next) left (inl at) = absurd (no_value at refl)
+  joint (ask_status seat plugin next) left (inr (status, agrees, goes)) =
+      let j = joint (next status) left goes in (j.0, j.1, inr (status, agrees, j.2), j.3)
+  joint (wrap seat plugin plain next) left (inl at) = absurd (no_value at refl)
+  joint (wrap seat plugin plain next) left (inr (wrapped, tells, within, goes)) =
+      let j = joint (next wrapped) left goes in
+      (j.0, j.1, inr (wrapped, tells, within, j.2), j.3)
+  joint (unwrap seat key next) left (inl at) = absurd (no_value at refl)
+  joint (unwrap seat key next) left (inr (bytes, tells, goes)) =
+      let j = joint (next bytes) left goes in (j.0, j.1, inr (bytes, tells, j.2), j.3)
+  joint (note text next) left goes =
+      let j = joint next _ goes in (j.0, j.1, j.2, j.3)
+  joint (find D P next) left (inl at) = absurd (no_value at refl)
+  joint (find D P next) left (inr (d, is, goes)) =
+      let j = joint (next d) left goes in (j.0, j.1, inr (d, is, j.2), j.3)
+  joint (refuse why) left at = absurd (no_value at refl)
+  joint (give x) left goes = (x, left, (refl, refl), goes)
+
+-- ---- the plugins' truth stays
+
+module _ {A : Type 0} (point : Point A) (end : Left) where
+  at_truth : {here : Point A} {left : Left} {truth : Truth} → IsAt point end here left
+      → left.truth ≡ truth → end.truth ≡ truth
+  at_truth at same = ap (λ l. l.truth) at.1 ∙ same
+
+  pub one_truth : (steps : Steps A) (left : Left) → Goes point end steps left
+      → end.truth ≡ left.truth
+  one_truth (load name next) left (inl at) = at_truth at refl
+  one_truth (load name next) left (inr (inl at)) = at_truth at refl
+  one_truth (load name next) left (inr (inr (bytes, agrees, goes))) =
+      one_truth (next bytes) _ goes
+  one_truth (take_input limit long next) left (bytes, rest, c, inl (short, at)) =
+      at_truth at refl
+  one_truth (take_input limit long next) left (bytes, rest, c, inr (inl (more, at))) =
+      at_truth at refl
+  one_truth (take_input limit long next) left (bytes, rest, c, inr (inr (short, e, goes))) =
+      one_truth (next bytes) _ goes
+  one_truth (borrow_dice seat next) left (inl at) = at_truth at refl
+  one_truth (borrow_dice seat next) left (inr (inl at)) = at_truth at refl
+  one_truth (borrow_dice seat next) left (inr (inr goes)) = one_truth next _ goes
+  one_truth (borrow_tape name make absent next) left (inl at) = at_truth at refl
+  one_truth (borrow_tape name make absent next) left (inr (inl at)) = at_truth at refl
+  one_truth (borrow_tape name make absent next) left (inr (inr (inl (may, agrees, at)))) =
+      at_truth at refl
+  one_truth (borrow_tape name make absent next) left (inr (inr (inr (may, goes)))) =
+      one_truth next _ goes
+  one_truth (read_tape object name next) left (inl at) = at_truth at refl
+  one_truth (read_tape object name next) left (inr (bytes, agrees, goes)) =
+      one_truth (next bytes) left goes
+  one_truth (write_row object name store row next) left (inl (told, begins, at)) =
+      at_truth at refl
+  one_truth (write_row object name store row next) left (inr (told, holds, goes)) =
+      one_truth next _ goes
+  one_truth (keep_rows name store next) left (told, count, later, holds, goes) =
+      one_truth next _ goes
+  one_truth (settle object name next) left (inl at) = at_truth at refl
+  one_truth (settle object name next) left (inr goes) = one_truth next _ goes
+  one_truth (draw seat size next) left (inl at) = at_truth at refl
+  one_truth (draw seat size next) left (inr (bytes, rest, c, fits, goes)) =
+      one_truth (next bytes) _ goes
+  one_truth (borrow_link seat plugin program next) left (inl at) = at_truth at refl
+  one_truth (borrow_link seat plugin program next) left (inr (inl at)) = at_truth at refl
+  one_truth (borrow_link seat plugin program next) left (inr (inr goes)) =
+      one_truth next _ goes
+  one_truth (ask_status seat plugin next) left (inl at) = at_truth at refl
+  one_truth (ask_status seat plugin next) left (inr (status, agrees, goes)) =
+      one_truth (next status) left goes
+  one_truth (wrap seat plugin plain next) left (inl at) = at_truth at refl
+  one_truth (wrap seat plugin plain next) left (inr (wrapped, tells, within, goes)) =
+      one_truth (next wrapped) left goes
+  one_truth (unwrap seat key next) left (inl at) = at_truth at refl
+  one_truth (unwrap seat key next) left (inr (bytes, tells, goes)) =
+      one_truth (next bytes) left goes
+  one_truth (note text next) left goes = one_truth next _ goes
+  one_truth (find D P next) left (inl at) = at_truth at refl
+  one_truth (find D P next) left (inr (d, is, goes)) = one_truth (next d) left goes
+  one_truth (refuse why) left at = at_truth at refl
+  one_truth (give x) left at = at_truth at refl

@@ -1,0 +1,467 @@
+-- Where `verify` finds no value refused, a rewrite leaves none.
+use Rattle.std.proofs.Common.{◌≡◌, ℕ, ◌+◌, ◌≤◌, zero, suc, Bool, true, false, List, [], ◌∷◌, length, map, Option, None, Some, Result, Ok, Err, Contains, refl, sym, ◌∙◌, ap, subst, inl, inr, arith}
+use Rattle.std.specs.Prelude.{All, ⊤, IsSome, ◌==◌, ◌++◌, cond, nat_lt, if◌then◌else◌}
+use Rattle.std.specs.List.{count_by}
+use Rattle.std.specs.Option.{option_map}
+use Rattle.std.proofs.lemmas.Bool.{eqb-true, le-ltb}
+use Rattle.std.proofs.lemmas.List.Sums.{sum_by-cons}
+use Rattle.std.proofs.lemmas.List.Elements.{All-cons, All-head, All-nil, All-tail}
+use Rattle.kr_base.specs.Limits.{data_limit, store_limit}
+use Rattle.kr_base.specs.Told.{Agrees}
+use Rattle.kr_config.specs.Kept.{Row, plugins_in}
+use Rattle.kr_config.specs.Lists.{list_of}
+use Rattle.kr_config.specs.declared.who.Who.{Who}
+use Rattle.kr_config.specs.declared.who.Who.TheVariants as who
+use Rattle.kr_kms.specs.Truth.{Truth, OpenAll}
+use Rattle.kr_kms.specs.declared.seeds.SeedRow.{SeedRow}
+use Rattle.kr_kms.specs.declared.world.WorldCall.TheVariants.{Tape}
+use Rattle.kr_provider.proofs.PluginNames.{list_named}
+use Rattle.kr_provider.proofs.PluginOrder.{order_has}
+use Rattle.kr_provider.specs.PluginOrder.{plugin_order}
+use Rattle.kr_provider.specs.Publication.{Publication, seed_of}
+use Rattle.kr_provider.specs.Readers.{writer_of}
+use Rattle.kr_provider.specs.Sealing.{draw_size, sealed_by, value_by}
+use Rattle.kr_provider.specs.inner.Scan.{AreNamedIn, HasSeed, IsNamedIn}
+use Rattle.kr_provider.specs.declared.refusal.Opened.{Opened}
+use Rattle.kr_provider.specs.declared.refusal.ValueNo.{ValueNo}
+use Rattle.kr_store.proofs.Listings.{listing_once}
+use Rattle.kr_store.specs.File.{file_bytes}
+use Rattle.kr_store.specs.Stores.{IsListing}
+use Rattle.kr_store.specs.declared.rows.LogRow.{LogRow}
+use Rattle.kr_store.specs.declared.rows.Row as stored
+use Rattle.kr_cmd_messages.specs.Reports.{report_outcome}
+use Rattle.kr_cmd_messages.specs.declared.command.Verification.{Verification}
+use Rattle.kr_cmd_messages.specs.declared.refusal.Done.{Done}
+use Rattle.kr_cmd_messages.specs.declared.refusal.Done.TheVariants.{Blocked, Silent}
+use Rattle.kr_cmd_messages.specs.declared.refusal.Limit.TheVariants as limit
+use Rattle.kr_cmd_messages.specs.declared.refusal.Object.TheVariants.{Store}
+use Rattle.kr_cmd_messages.specs.declared.refusal.Outcome.{Outcome}
+use Rattle.kr_cmd_messages.specs.declared.refusal.Refusal.{Refusal}
+use Rattle.kr_cmd_messages.specs.declared.refusal.Refusal.TheVariants.{Limit}
+use Rattle.kr_cmd_messages.specs.declared.report.Counts.{Counts}
+use Rattle.kr_cmd_steps.specs.Around.{Around, left_of}
+use Rattle.kr_cmd_steps.specs.Commands.{Progress, by_result, configuration, draw_some, driving, freshness, getting, linking_programs, nothing_done, one_rewritten, replacing, resealing, rewriting, rewriting_by, rewriting_live, rewriting_on, row_anew, row_by, row_data, row_steps, settled_for, starting, value_read, value_sealed, within_journal}
+use Rattle.kr_cmd_steps.specs.Configuration.{IsConfiguration}
+use Rattle.kr_cmd_steps.specs.Plugins.{borrow_links, make_seeds}
+use Rattle.kr_cmd_steps.specs.RowFindings.{finding_of, is_refused}
+use Rattle.kr_cmd_steps.specs.Steps.{Goes, Left, Steps, amid, and_then, awaits, borrow_dice, give, gives, refuses, settle, with_asked, with_tape, write_row}
+use Rattle.kr_cmd_steps.specs.StoreFiles.{IsStored, Stored, with_row}
+use Rattle.kr_cmd_steps.specs.declared.finding.Finding.{Finding}
+use Rattle.kr_cmd_steps.specs.declared.programs.Program.{Program}
+use Rattle.kr_cmd_laws.specs.VerifyLaws.{AreSealable, InPairs, IsSealable, RewriteLeavesNone, lookup_as, rewriting_as}
+use Rattle.kr_cmd_laws.proofs.Joints.{joint, no_value, one_truth, one_value}
+use Rattle.kr_cmd_laws.proofs.Listed.{one_stored}
+use Rattle.kr_cmd_laws.proofs.OnePoint.{one_file, one_tape}
+use Rattle.kr_cmd_laws.proofs.Settled.{one_configuration}
+use Rattle.kr_cmd_laws.proofs.TrueReadings.{AreMade, IsTrueReading, read_again, seed_there, seeds_made, value_true}
+use Rattle.kr_cmd_laws.proofs.VerifiedGets.{Comes, Found, IsConfigured, configured, found, linked, said_of}
+
+-- ---- data that a provider seals
+
+sealed_some : (seeds : List SeedRow) (w : Who) (path plain drawn : List ℕ)
+    → HasSeed seeds w → IsSealable w plain → IsSome (value_by seeds w path plain drawn)
+sealed_some seeds who.Identity path plain drawn has may =
+    subst (λ q. IsSome (if q then None else Some plain)) (sym (may.1 refl)) refl
+sealed_some seeds (who.Aescbc name secret) path plain drawn has may = refl
+sealed_some seeds (who.Aesgcm name secret) path plain drawn has may = refl
+sealed_some seeds (who.Kms name) path plain drawn has may = mapped _ (seed_of name seeds) has
+  where
+    mapped : (f : SeedRow → List ℕ) (o : Option SeedRow) → IsSome o → IsSome (option_map f o)
+    mapped f None has = absurd cc
+    mapped f (Some row) has = refl
+
+within : (plain : List ℕ) → length plain ≤ data_limit → nat_lt data_limit (length plain) ≡ false
+within plain short = le-ltb data_limit (length plain) (omega (arith, short))
+
+is_sealed : (seeds : List SeedRow) (w : Who) (path plain drawn : List ℕ)
+    → HasSeed seeds w → IsSealable w plain → IsSome (sealed_by seeds w path plain drawn)
+is_sealed seeds w path plain drawn has may =
+    subst (λ q. IsSome (if q then None else value_by seeds w path plain drawn))
+    (sym (within plain may.0)) (sealed_some seeds w path plain drawn has may)
+
+drawn_some : (size : ℕ) (sealed : List ℕ → Option (List ℕ)) (value : Option (List ℕ))
+    (end left : Left) → ((drawn : List ℕ) → IsSome (sealed drawn))
+    → Goes (gives value) end (draw_some size (λ d. give (sealed d))) left → IsSome value
+drawn_some zero sealed value end left each at =
+    subst (λ o. IsSome o) (sym (one_value at)) (each [])
+drawn_some (suc more) sealed value end left each (inl at) = absurd (no_value at refl)
+drawn_some (suc more) sealed value end left each (inr (bytes, rest, c, fits, at)) =
+    subst (λ o. IsSome o) (sym (one_value at)) (each bytes)
+
+value_some : (seeds : List SeedRow) (w : Who) (path plain : List ℕ) (value : Option (List ℕ))
+    (end left : Left) → HasSeed seeds w → IsSealable w plain
+    → Goes (gives value) end (value_sealed seeds w path plain) left → IsSome value
+value_some seeds w path plain value end left has may (inl at) = absurd (no_value at refl)
+value_some seeds w path plain value end left has may (inr (u, v, goes)) =
+    drawn_some (draw_size w) (sealed_by seeds w path plain) value end left
+    (λ drawn. is_sealed seeds w path plain drawn has may) goes
+
+-- ---- a row
+
+-- its value reads as data that are sealed, whatever was published
+pub record IsKept (truth : Truth) (p : Publication) (row : stored.Row) : Type 0 where
+  pub opened : Opened
+  pub truly : IsTrueReading truth.opens (list_of p.rows row.resource) row.path row.stored
+      (Ok opened)
+  pub may : IsSealable (writer_of (list_of p.rows row.resource)) opened.plain
+
+module _ (truth : Truth) (told : truth.told ≡ true) (name : List ℕ) (p : Publication)
+    (open_all : OpenAll truth.opens p.seeds)
+    (seeded : (resource : List ℕ) → HasSeed p.seeds (writer_of (list_of p.rows resource)))
+  where
+    module _ (row : stored.Row) (at : Progress) (done : Progress) (end : Left) where
+      abbrev Leaves : Type 0
+      Leaves = done.counts.left ≡ at.counts.left
+
+      abbrev New : List ℕ → LogRow
+      New value = row_anew at.store.format p row value
+
+      added : (value : List ℕ) (large : Bool) (left : Left)
+          → Goes (gives done) end (and_then (and_then
+          (by_result
+          (if large then Err (Limit limit.Store) else Ok (with_row (New value) at.store)))
+          (λ grown. write_row Store name at.store (New value) (give grown)))
+          (λ grown. give (one_rewritten (New value) at))) left → Leaves
+      added value true left e = absurd (no_value e refl)
+      added value false left (inl (told, begins, e)) = absurd (no_value e refl)
+      added value false left (inr (told, holds, e)) =
+          ap (λ (x : Progress). x.counts.left) (one_value e)
+
+      replaced : (value : Option (List ℕ)) (left : Left) → IsSome value
+          → Goes (gives done) end (replacing name p row at value) left → Leaves
+      replaced None left some goes = absurd cc
+      replaced (Some value) left some (inl e) = absurd (no_value e refl)
+      replaced (Some value) left some (inr (u, v, goes)) = added value (nat_lt store_limit
+          (length (file_bytes at.store.format (at.store.rows ++ New value ∷ [])))) left goes
+
+      resealed : (plain : List ℕ) (left : Left)
+          → IsSealable (writer_of (list_of p.rows row.resource)) plain → (long : Bool)
+          → nat_lt data_limit (length plain) ≡ long
+          → Goes (gives done) end (resealing long name p row plain at) left → Leaves
+      resealed plain left may true is goes =
+          absurd (let e : true ≡ false = sym is ∙ within plain may.0 in cc)
+      resealed plain left may false is goes = so (joint (replacing name p row at) done end
+          (value_sealed p.seeds (writer_of (list_of p.rows row.resource)) row.path plain) left goes)
+        where
+          so : (value : Option (List ℕ)) × (mid : Left) × Goes (gives value) mid
+              (value_sealed p.seeds (writer_of (list_of p.rows row.resource)) row.path plain) left
+              × Goes (gives done) end (replacing name p row at value) mid → Leaves
+          so (value, mid, sealed, goes) = replaced value mid (value_some p.seeds
+              (writer_of (list_of p.rows row.resource)) row.path plain value mid left
+              (seeded row.resource) may sealed) goes
+
+      by_data : (plain : List ℕ) (stale : Bool) (left : Left)
+          → IsSealable (writer_of (list_of p.rows row.resource)) plain
+          → Goes (gives done) end (row_data name p row at plain stale) left → Leaves
+      by_data plain false left may e = ap (λ (x : Progress). x.counts.left) (one_value e)
+      by_data plain true left may (inl e) = absurd (no_value e refl)
+      by_data plain true left may (inr (u, v, goes)) =
+          resealed plain left may (nat_lt data_limit (length plain)) refl goes
+
+      by_again : (read : Result Opened ValueNo) (left : Left) (again : Opened) → read ≡ Ok again
+          → IsSealable (writer_of (list_of p.rows row.resource)) again.plain
+          → Goes (gives done) end (row_by name p row at read) left → Leaves
+      by_again read left again is may goes = by_data again.plain again.stale left may
+          (subst (λ r. Goes (gives done) end (row_by name p row at r) left) is goes)
+
+      row_leaves : (left : Left) → left.truth ≡ truth → IsKept truth p row
+          → Goes (gives done) end (row_steps name p row at) left → Leaves
+      row_leaves left same k goes = so (joint (row_by name p row at) done end
+          (value_read p.seeds (list_of p.rows row.resource) row.path row.stored) left goes)
+        where
+          so : (read : Result Opened ValueNo) × (mid : Left) × Goes (gives read) mid
+              (value_read p.seeds (list_of p.rows row.resource) row.path row.stored) left
+              × Goes (gives done) end (row_by name p row at read) mid → Leaves
+          so (read, mid, value, goes) =
+              let r = read_again truth.opens (list_of p.rows row.resource) row.path row.stored
+              k.opened
+              read k.truly (value_true truth told p.seeds open_all mid left same read
+              (list_of p.rows row.resource) row.path row.stored value) in
+              by_again read mid r.0 r.1
+              (subst (IsSealable (writer_of (list_of p.rows row.resource)))
+              (sym r.2) k.may) goes
+
+    -- ---- all rows
+
+    -- nothing more is left than before
+    abbrev pub IsReported : Outcome → ℕ → Type 0
+    IsReported made before =
+        (counts : Counts) × (made ≡ report_outcome counts) × (counts.left ≡ before)
+
+    row_behind : (row : stored.Row) (live : List stored.Row) (at : Progress) (made : Outcome)
+        (end : Left)
+        → ((done : Progress) (next : Left) → next.truth ≡ truth
+        → Goes (gives made) end (driving name p live done) next → IsReported made done.counts.left)
+        → IsKept truth p row → (mid : Left) → mid.truth ≡ truth
+        → (done : Progress) × (next : Left) × Goes (gives done) next (row_steps name p row at) mid
+        × Goes (gives made) end (driving name p live done) next
+        → IsReported made at.counts.left
+    row_behind row live at made end onward kept mid there (done, next, first, goes) =
+        let r = onward done next
+        (one_truth (gives done) next (row_steps name p row at) mid first ∙ there) goes in
+        (r.0, r.1, r.2 ∙ row_leaves row at done next mid there kept first)
+
+    pub drive_leaves : (live : List stored.Row) → All (IsKept truth p) live → (at : Progress)
+        (made : Outcome) (end left : Left) → left.truth ≡ truth
+        → Goes (gives made) end (driving name p live at) left → IsReported made at.counts.left
+    drive_leaves [] all at made end left same (told, count, later, holds, inl e) =
+        absurd (no_value e refl)
+    drive_leaves [] all at made end left same (told, count, later, holds, inr (u, v, e)) =
+        (at.counts, one_value e, refl)
+    drive_leaves (row ∷ live) all at made end left same (told, count, later, holds, goes) =
+        row_behind row live at made end
+        (λ done next there g. drive_leaves live (All-tail (IsKept truth p) row live all) done made
+        end
+        next there g) (All-head (IsKept truth p) row live all) _ same
+        (joint (driving name p live) made end (row_steps name p row at) _ goes)
+
+-- ---- what the drive begins with
+
+has_seed : (rows : List Row) (seeds : List SeedRow) (w : Who)
+    → map (λ row. row.name) seeds ≡ plugin_order rows → IsNamedIn (plugins_in rows) w
+    → HasSeed seeds w
+has_seed rows seeds who.Identity names named = tt
+has_seed rows seeds (who.Aescbc name secret) names named = tt
+has_seed rows seeds (who.Aesgcm name secret) names named = tt
+has_seed rows seeds (who.Kms name) names named = seed_there seeds name
+    (subst (λ l. Contains l name) (sym names) ((order_has (plugins_in rows) name).1 named))
+
+has_seeds : (rows : List Row) (seeds : List SeedRow) (list : List Who)
+    → map (λ row. row.name) seeds ≡ plugin_order rows → AreNamedIn (plugins_in rows) list
+    → HasSeed seeds (writer_of list)
+has_seeds rows seeds [] names named = tt
+has_seeds rows seeds (w ∷ list) names named = has_seed rows seeds w names named.0
+
+abbrev is_blocked : Done → Bool
+is_blocked Blocked = true
+is_blocked done = false
+
+none_refused : (n : ℕ) → (if n == 0 then Silent else Blocked) ≡ Silent → n ≡ 0
+none_refused n e = by_test (n == 0) refl e
+  where
+    by_test : (q : Bool) → (n == 0) ≡ q → (if q then Silent else Blocked) ≡ Silent → n ≡ 0
+    by_test true is e = eqb-true n 0 is
+    by_test false is e = absurd (let x : true ≡ false = ap is_blocked e in cc)
+
+-- none of the first, and none of the others
+none_first : (finding : Finding) (findings : List Finding)
+    → count_by is_refused (finding ∷ findings) ≡ 0
+    → (is_refused finding ≡ false) × (count_by is_refused findings ≡ 0)
+none_first finding findings none = by_test (is_refused finding)
+    (sym (sum_by-cons (λ x. cond (is_refused x) 1 0) finding findings) ∙ none)
+  where
+    by_test : (q : Bool) → cond q 1 0 + count_by is_refused findings ≡ 0
+        → (q ≡ false) × (count_by is_refused findings ≡ 0)
+    by_test true e = absurd (omega (arith, e))
+    by_test false e = (refl, omega (arith, e))
+
+module _ (words : Verification) (old : Around) (made : Outcome) (f : Found words old made)
+    (told : old.truth.told ≡ true) (sealable : AreSealable words old) (seeds : List SeedRow) where
+  abbrev published : Publication
+  published = record { rows = f.rows; seeds = seeds }
+
+  abbrev Kept : stored.Row → Type 0
+  Kept row = IsKept old.truth published row
+
+  abbrev Come : stored.Row → Finding → Type 0
+  Come row finding = Comes old.truth f.rows (λ row. getting (lookup_as words row.path))
+      (left_of old)
+      row finding
+
+  kept_row : (row : stored.Row) (finding : Finding) → Contains f.live row
+      → (c : Come row finding) → (read : Result Opened ValueNo) → c.read ≡ read
+      → is_refused finding ≡ false → Kept row
+  kept_row row finding there c (Err why) is some =
+      absurd (let e : true ≡ false = ap is_refused (sym (c.is ∙ ap finding_of is)) ∙ some in cc)
+  kept_row row finding there c (Ok opened) is some = record {
+    opened = opened;
+    truly = subst
+        (IsTrueReading old.truth.opens (list_of f.rows row.resource) row.path row.stored) is
+        (c.truly told);
+    may = sealable f.file f.rows f.live row
+        (record { bytes = opened.plain; done = freshness opened.stale }) f.told f.means f.are_live
+        there (
+          c.other,
+          subst (λ r. Goes (said_of r) c.other (getting (lookup_as words row.path))
+              (left_of old)) is c.goes,
+        );
+  }
+
+  all_kept : (live : List stored.Row) (findings : List Finding)
+      → ((row : stored.Row) → Contains live row → Contains f.live row)
+      → count_by is_refused findings ≡ 0 → InPairs Come live findings → All Kept live
+  all_kept [] [] sub none p = All-nil Kept
+  all_kept [] (finding ∷ findings) sub none p = absurd p
+  all_kept (row ∷ live) [] sub none p = absurd p
+  all_kept (row ∷ live) (finding ∷ findings) sub none p =
+      let n = none_first finding findings none in
+      All-cons Kept row live
+      (kept_row row finding (sub row (0, omega arith, refl)) p.0 p.0.read refl n.0)
+      (all_kept live findings (λ r c. sub r (suc c.0, omega (arith, c.1), c.2)) n.1 p.1)
+
+-- ---- from the beginning
+
+module _ (words : Verification) (old : Around) (made : Outcome) (f : Found words old made)
+    (told : old.truth.told ≡ true) (file_told : IsSome (old.world.file words.config))
+    (tape_told : IsSome (old.world.tapes.told words.store)) (sealable : AreSealable words old)
+    (silent : made.done ≡ Silent) (done : Outcome) (end : Left) where
+  abbrev IsNoneLeft : Type 0
+  IsNoneLeft = (counts : Counts) × (done ≡ report_outcome counts) × (counts.left ≡ 0)
+
+  no_refusal : count_by is_refused f.findings ≡ 0
+  no_refusal = none_refused (count_by is_refused f.findings)
+      (ap (λ (m : Outcome). m.done) (sym f.made_is) ∙ silent)
+
+  module _ (programs : List Program) (base : Stored) where
+    abbrev behind_seeds : List SeedRow → Steps Outcome
+    behind_seeds seeds = and_then (starting base.rows f.rows) (λ u.
+        driving words.store (record { rows = f.rows; seeds = seeds }) f.live (nothing_done base))
+
+    at_start : (seeds : List SeedRow) (mid : Left) → mid.truth ≡ old.truth
+        → AreMade old.truth (plugin_order f.rows) seeds
+        → Goes (gives done) end (behind_seeds seeds) mid → IsNoneLeft
+    at_start seeds mid same are (inl e) = absurd (no_value e refl)
+    at_start seeds mid same are (inr (Err why, none, e)) = absurd (no_value e refl)
+    at_start seeds mid same are (inr (Ok u, may, goes)) = drive_leaves old.truth told words.store
+        (record { rows = f.rows; seeds = seeds }) (are.open_all told)
+        (λ resource. has_seeds f.rows seeds (list_of f.rows resource) are.names
+        (list_named f.rows resource)) f.live
+        (all_kept words old made f told sealable seeds f.live f.findings (λ row c. c) no_refusal
+        f.comes) (nothing_done base) done end mid same goes
+
+    at_seeds : (left : Left) → left.truth ≡ old.truth
+        → Goes (gives done) end (rewriting_by words.store f.rows base f.live) left → IsNoneLeft
+    at_seeds left same (inl e) = absurd (no_value e refl)
+    at_seeds left same (inr (u, v, goes)) =
+        so (joint behind_seeds done end (make_seeds (plugin_order f.rows)) left goes)
+      where
+        so : (seeds : List SeedRow) × (mid : Left)
+            × Goes (gives seeds) mid (make_seeds (plugin_order f.rows)) left
+            × Goes (gives done) end (behind_seeds seeds) mid → IsNoneLeft
+        so (seeds, mid, first, goes) = at_start seeds mid
+            (one_truth (gives seeds) mid (make_seeds (plugin_order f.rows)) left first ∙ same)
+            (seeds_made old.truth (plugin_order f.rows) seeds mid left same first) goes
+
+    at_links : (links : List Program) (left : Left) → left.truth ≡ old.truth
+        → Goes (gives done) end (borrow_links links (rewriting_by words.store f.rows base f.live))
+        left
+        → IsNoneLeft
+    at_links [] left same goes = at_seeds left same goes
+    at_links (program ∷ links) left same (inl e) = absurd (no_value e refl)
+    at_links (program ∷ links) left same (inr (inl e)) = absurd (no_value e refl)
+    at_links (program ∷ links) left same (inr (inr goes)) = at_links links _ same goes
+
+    at_room : (room : Result ⊤ Refusal) (left : Left) → left.truth ≡ old.truth
+        → Goes (gives done) end (and_then (by_result room) (λ u.
+        borrow_dice 0 (borrow_links programs (rewriting_by words.store f.rows base f.live)))) left
+        → IsNoneLeft
+    at_room (Err why) left same e = absurd (no_value e refl)
+    at_room (Ok u) left same (inl e) = absurd (no_value e refl)
+    at_room (Ok u) left same (inr (inl e)) = absurd (no_value e refl)
+    at_room (Ok u) left same (inr (inr goes)) = at_links programs _ same goes
+
+  -- the live rows are those that were verified
+  same_rows : (bytes : List ℕ) (base : Stored) (listing : List stored.Row)
+      → Agrees (old.world.tapes.told words.store) (Some bytes) → IsStored bytes (Ok base)
+      → IsListing base.rows listing → listing ≡ f.live
+  same_rows bytes base listing agrees is are =
+      let l = f.are_live in
+      let bytes_are : l.bytes ≡ bytes = one_tape (old.world.tapes.told words.store) bytes l.bytes
+      tape_told agrees l.held in
+      let same : Ok base ≡ Ok l.store = one_stored bytes (Ok base) (Ok l.store) is
+      (subst (λ b. IsStored b (Ok l.store)) bytes_are l.read) in
+      let base_is : base ≡ l.store = cc in
+      listing_once l.store.rows listing f.live
+      (subst (λ (s : Stored). IsListing s.rows listing) base_is are) l.listing
+
+  on_tape : (programs : List Program) (lent : Left) → lent.truth ≡ old.truth
+      → lent.tapes ≡ old.world.tapes.told
+      → Goes (gives done) end (rewriting_on words.store f.rows programs) lent → IsNoneLeft
+  on_tape programs lent same tapes (inl e) = absurd (no_value e refl)
+  on_tape programs lent same tapes (inr (bytes, agrees, inl e)) = absurd (no_value e refl)
+  on_tape programs lent same tapes (inr (bytes, agrees, inr (Err why, is, e))) =
+      absurd (no_value e refl)
+  on_tape programs lent same tapes (inr (bytes, agrees, inr (Ok base, is, inl e))) =
+      absurd (no_value e refl)
+  on_tape programs lent same tapes
+      (inr (bytes, agrees, inr (Ok base, is, inr (listing, are, goes)))) =
+      at_room programs base (within_journal f.live) lent same
+      (subst (λ l. Goes (gives done) end (rewriting_live words.store f.rows programs base l) lent)
+      (same_rows bytes base listing
+      (subst (λ (t : List ℕ → Option (Option (List ℕ))). Agrees (t words.store) (Some bytes)) tapes
+      agrees) is are) goes)
+
+module _ (words : Verification) (old : Around) (made : Outcome) (f : Found words old made)
+    (told : old.truth.told ≡ true) (file_told : IsSome (old.world.file words.config))
+    (tape_told : IsSome (old.world.tapes.told words.store)) (sealable : AreSealable words old)
+    (silent : made.done ≡ Silent) (done : Outcome) (end : Left) where
+  abbrev LeftNone : Outcome → Type 0
+  LeftNone x = (counts : Counts) × (x ≡ report_outcome counts) × (counts.left ≡ 0)
+
+  -- the tape is settled behind it
+  settled_so : (programs : List Program) (lent : Left) → lent.truth ≡ old.truth
+      → lent.tapes ≡ old.world.tapes.told
+      → (x : Outcome) × (mid : Left)
+      × Goes (gives x) mid (rewriting_on words.store f.rows programs) lent
+      × Goes (gives done) end (settle Store words.store (give x)) mid
+      → LeftNone done
+  settled_so programs lent same tapes (x, mid, goes, inl e) = absurd (no_value e refl)
+  settled_so programs lent same tapes (x, mid, goes, inr e) = subst LeftNone (sym (one_value e))
+      (on_tape words old made f told file_told tape_told sealable silent x mid programs lent same
+      tapes goes)
+
+  at_tape : (programs : List Program) (mid : Left) → mid.truth ≡ old.truth
+      → mid.tapes ≡ old.world.tapes.told
+      → Goes (gives done) end
+      (settled_for Store words.store false (rewriting_on words.store f.rows programs)) mid
+      → LeftNone done
+  at_tape programs mid same tapes (inl e) = absurd (no_value e refl)
+  at_tape programs mid same tapes (inr (inl e)) = absurd (no_value e refl)
+  at_tape programs mid same tapes (inr (inr (inl (never, agrees, e)))) = absurd (no_value e refl)
+  at_tape programs mid same tapes (inr (inr (inr (may, goes)))) =
+      let lent : Left = with_tape false words.store (with_asked (Tape words.store false) mid) in
+      settled_so programs lent same tapes
+      (joint (λ x. settle Store words.store (give x)) done end
+      (rewriting_on words.store f.rows programs) lent goes)
+
+  abbrev behind_files : List Row → List Program → Steps Outcome
+  behind_files rows programs =
+      settled_for Store words.store false (rewriting_on words.store rows programs)
+
+  with_programs : (rows : List Row) (first : Left) → IsConfigured words old rows first
+      → (programs : List Program) × (second : Left)
+      × Goes (gives programs) second (linking_programs words.options rows) first
+      × Goes (gives done) end (behind_files rows programs) second
+      → LeftNone done
+  with_programs rows first read (programs, second, is_linked, goes) =
+      let file_is : f.file ≡ read.file = one_file (old.world.file words.config) read.file f.file
+      file_told read.told f.told in
+      let one : Ok rows ≡ Ok f.rows = one_configuration words.config read.file (Ok rows) (Ok f.rows)
+      read.means (subst (λ x. IsConfiguration words.config x (Ok f.rows)) file_is f.means) in
+      let rows_are : rows ≡ f.rows = cc in
+      let same : second ≡ first = linked words old rows programs first second is_linked in
+      at_tape programs second (ap (λ (l : Left). l.truth) same ∙ read.truth)
+      (ap (λ (l : Left). l.tapes) same ∙ read.tapes)
+      (subst (λ r. Goes (gives done) end (behind_files r programs) second) rows_are goes)
+
+  with_rows : (rows : List Row) × (first : Left)
+      × Goes (gives rows) first (configuration words.config) (left_of old)
+      × Goes (gives done) end (and_then (linking_programs words.options rows) (behind_files rows))
+      first
+      → LeftNone done
+  with_rows (rows, first, is_read, goes) = with_programs rows first
+      (configured words old rows first is_read)
+      (joint (behind_files rows) done end (linking_programs words.options rows) first goes)
+
+  pub leaves_none : Goes (gives done) end (rewriting (rewriting_as words)) (left_of old)
+      → LeftNone done
+  leaves_none goes = with_rows (joint (λ rows. and_then (linking_programs words.options rows)
+      (behind_files rows)) done end (configuration words.config) (left_of old) goes)
+
+pub none_left : RewriteLeavesNone
+none_left words old made (gives done) told file tape sealable (first, verify) silent (end, goes) =
+    leaves_none words old made (found words old made first verify) told file tape sealable silent
+    done end goes
+none_left words old made (refuses why) told file tape sealable verify silent come = tt
+none_left words old made (awaits call) told file tape sealable verify silent come = tt
+none_left words old made amid told file tape sealable verify silent come = tt

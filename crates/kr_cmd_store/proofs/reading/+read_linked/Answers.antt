@@ -1,0 +1,96 @@
+-- `read_linked`: one more link is borrowed for what follows.
+use Rattle.std.proofs.Common.{◌≡◌, ◌++◌, subst, sym, ap, ◌∙◌}
+use Rattle.kr_config.specs.Kept.{rows_of}
+use Rattle.kr_provider.specs.Names.{names_of}
+use Rattle.kr_provider.specs.PluginOrder.{plugin_order}
+use Rattle.kr_cmd_steps.specs.Around.{with_world}
+use Rattle.kr_cmd_steps.specs.Commands.{row_findings, telling_findings, verifying_by}
+use Rattle.kr_cmd_steps.specs.Plugins.{make_seeds}
+use Rattle.kr_cmd_steps.specs.Steps.{and_then}
+use Rattle.kr_cmd_steps.proofs.Linked.{all_back, at_end, at_first, borrows, is_new, is_out, none_added, none_borrowed, same_last, some_named}
+use Rattle.kr_cmd_steps.proofs.NamedPrograms.{names_in}
+use Rattle.kr_cmd_store.proofs.reading.+read_linked.Goals as goal
+
+pub returns-in_default-clause-does : goal.returns-in_default-clause-does
+returns-in_default-clause-does g t c = λ a truth.
+    at_end (verifying_by (rows_of c.args.settings.entries.0) c.args.rows.now) c.args.programs.now
+    c.in_default.ensures
+    (c.read_by.ensures.does (with_world (g.W.World.told c.args.world.now) a) truth)
+
+pub returns-in-Err-clause-does : goal.returns-in-Err-clause-does
+returns-in-Err-clause-does g t c = λ a truth.
+    at_first (verifying_by (rows_of c.args.settings.entries.0) c.args.rows.now) c.args.programs.now
+    c.in-Some.program.now c.in-Some.more.now c.as_str.result.now c.as_str-2.result.now
+    c.in-Some.ensures c.as_str.ensures c.as_str-2.ensures
+    (none_borrowed g.W.Link.Kms.link a c.args.links (g.W.Rand.Dice.left c.args.dice)
+    (g.W.Rand.Dice.count c.args.dice) c.in-Err.ensures.files
+    c.in-Err.ensures.objects
+    c.in-Err.stop c.in-Err.ensures.why c.in-Err.ensures.asked)
+
+pub add-requires : goal.add-requires
+add-requires g t c = is_new g.W.Link.Kms.link (rows_of c.args.settings.entries.0) c.args.links
+    c.in-Some.program.now c.in-Some.more.now
+    (subst (λ p. names_of g.W.Link.Kms.link c.args.links ++ names_in p
+    ≡ plugin_order (rows_of c.args.settings.entries.0)) c.in-Some.ensures c.requires.programs)
+    c.in-Ok.link (ap (λ l. l.name) c.in-Ok.ensures.lent.link_is ∙ c.as_str.ensures)
+
+pub returns-in-Err-add-clause-does : goal.returns-in-Err-add-clause-does
+returns-in-Err-add-clause-does g t c = λ a truth.
+    let rows = rows_of c.args.settings.entries.0 in
+    at_first (verifying_by rows c.args.rows.now)
+    c.args.programs.now
+    c.in-Some.program.now c.in-Some.more.now c.as_str.result.now c.as_str-2.result.now
+    c.in-Some.ensures c.as_str.ensures c.as_str-2.ensures
+    (none_added g.W.Link.Kms.link a (and_then (make_seeds (plugin_order rows))
+    (λ seeds.
+    and_then (row_findings (record { rows = rows; seeds = seeds }) c.args.rows.now)
+    (telling_findings c.args.rows.now)))
+    c.in-Some.more.now c.args.links c.add.new.self c.in-Ok.link
+    c.in-Err-add.link (g.W.Rand.Dice.left c.args.dice) (g.W.Rand.Dice.count c.args.dice)
+    c.in-Ok.ensures.lent c.close_link.ensures c.in-Err-add.ensures.err
+    c.in-Err-add.ensures.returned)
+
+pub take_last-link-requires : goal.take_last-link-requires
+take_last-link-requires g t c = λ none. some_named g.W.Link.Kms.link c.args.links c.in-Ok.link
+    (ap (names_of g.W.Link.Kms.link) (sym c.in-Ok-add.ensures.ok)
+    ∙ sym c.read_linked-told.ensures.names ∙ none)
+
+pub close_link-requires-2-clause-out : goal.close_link-requires-2-clause-out
+close_link-requires-2-clause-out g t c κs within =
+    let link = g.W.Link.Kms.link in
+    let last = same_last link c.take_last-link.new.links c.args.links c.take_last-link.result
+    c.in-Ok.link (ap (names_of link) (sym c.take_last-link.ensures)
+    ∙ c.read_linked-told.ensures.names ∙ ap (names_of link) c.in-Ok-add.ensures.ok) in
+    is_out c.in-Ok.ensures.lent.out (g.W.World.told c.read_linked-told.new.world).links
+    (link c.take_last-link.result).name c.read_linked-told.ensures.out
+    (last.1 ∙ ap (λ l. l.name) c.in-Ok.ensures.lent.link_is)
+
+pub returns-clause-does : goal.returns-clause-does
+returns-clause-does g t c = λ a truth.
+    at_first (verifying_by (rows_of c.args.settings.entries.0) c.args.rows.now) c.args.programs.now
+    c.in-Some.program.now c.in-Some.more.now c.as_str.result.now c.as_str-2.result.now
+    c.in-Some.ensures c.as_str.ensures c.as_str-2.ensures
+    (borrows g.W.Link.Kms.link a c.args.links c.add.new.self c.take_last-link.new.links
+    c.read_linked-told.result.1 c.in-Ok.link c.take_last-link.result
+    (g.W.Rand.Dice.left c.args.dice) (g.W.Rand.Dice.left c.read_linked-told.result.2)
+    (g.W.Rand.Dice.count c.args.dice) (g.W.Rand.Dice.count c.read_linked-told.result.2)
+    c.in-Ok.ensures.lent c.close_link-2.ensures c.in-Ok-add.ensures.ok c.take_last-link.ensures
+    (c.read_linked-told.ensures.does a truth))
+
+pub returns-clause-out : goal.returns-clause-out
+returns-clause-out g t c =
+    let link = g.W.Link.Kms.link in
+    let last = same_last link c.take_last-link.new.links c.args.links c.take_last-link.result
+    c.in-Ok.link (ap (names_of link) (sym c.take_last-link.ensures)
+    ∙ c.read_linked-told.ensures.names ∙ ap (names_of link) c.in-Ok-add.ensures.ok) in
+    all_back c.in-Ok.ensures.lent.out (g.W.World.told c.read_linked-told.new.world).links
+    (g.W.World.told c.close_link-2.new.world).links (link c.take_last-link.result).name
+    c.read_linked-told.ensures.out c.close_link-2.ensures.home
+    (last.1 ∙ ap (λ l. l.name) c.in-Ok.ensures.lent.link_is)
+
+pub returns-clause-names : goal.returns-clause-names
+returns-clause-names g t c =
+    let link = g.W.Link.Kms.link in
+    (same_last link c.take_last-link.new.links c.args.links c.take_last-link.result
+    c.in-Ok.link (ap (names_of link) (sym c.take_last-link.ensures)
+    ∙ c.read_linked-told.ensures.names ∙ ap (names_of link) c.in-Ok-add.ensures.ok)).0

@@ -1,0 +1,98 @@
+//! `verify`: configuration, programs of its plugins, store, its live rows, random source, links,
+//! publish, unseal each row.
+ghost use Rattle.std.specs.Prelude.{◌≡◌, All, IfOk, None, false};
+ghost use Rattle.std.specs.List.{last_or};
+ghost use Rattle.kr_cmd_steps.specs.Around.{Around, with_world};
+ghost use Rattle.kr_cmd_steps.specs.Commands.{live_on, tape_for, verifying};
+ghost use Rattle.kr_cmd_steps.specs.inner.Lent.{Name, with_lent_tape};
+ghost use Rattle.kr_cmd_steps.specs.inner.Phases.{Does};
+ghost use Rattle.kr_cmd_steps.specs.inner.Tapes.{path_of};
+ghost use Rattle.kr_cmd_store.specs.inner.Verifying.{IsWithin, ListsRows, rows_listed};
+
+use crate::reading::read_by_links;
+use kr_base::{List, Shared, Tape};
+use kr_cmd_messages::{Object, Outcome, Stop, Verification};
+use kr_cmd_steps::{close_tape, configure, load_store, open_tape, programs_of};
+use kr_kms::World;
+use kr_store::{Row, Store};
+use std::alloc::Global;
+
+/// Tells what each value of a store reads as. The store's tape is back before a plugin is asked.
+pub fn verify<W: World>(alloc: Global, words: &Verification, world: &mut W) -> Result<Outcome, Stop>
+    ensures { (a : Around) → a.truth ≡ W.Link.truth → Does (verifying words.now)
+        (with_world (W.told world.old) a) (with_world (W.told world.new) a) result }
+{
+    let settings = match configure(alloc, world, words.config.as_str()) {
+        Ok(settings) => settings,
+        Err(stop) => return Err(stop),
+    };
+    let programs = match programs_of(alloc, &words.options, &settings) {
+        Ok(programs) => programs,
+        Err(stop) => return Err(stop),
+    };
+    let rows = match find_rows(alloc, world, words.store.as_str()) {
+        Ok(rows) => rows,
+        Err(stop) => return Err(stop),
+    };
+    read_by_links(alloc, settings, programs.as_slice(), rows.as_slice(), world)
+}
+
+/// The live rows of the store in a file, by their paths.
+fn find_rows<W: World>(alloc: Global, world: &mut W, name: &str) -> Result<List<Shared<Row>>, Stop>
+    ensures does { (a : Around) → Does (tape_for name.now false (live_on name.now))
+        (with_world (W.told world.old) a) (with_world (W.told world.new) a) (rows_listed result) }
+    ensures within { IfOk result (λ rows. All IsWithin rows.0) }
+{
+    let tape = match open_tape(alloc, world, name, false) {
+        Ok(tape) => tape,
+        Err(stop) => return Err(stop),
+    };
+    let (rows, tape) = rows_on(alloc, tape);
+    close_tape(world, name, tape);
+    rows
+}
+
+/// The live rows of the store on a tape, which comes back.
+fn rows_on<T: Tape>(alloc: Global, tape: T) -> (Result<List<Shared<Row>>, Stop>, T)
+    ensures does { (name : Name) (a : Around) → Does (live_on name)
+        (with_lent_tape name (T.told tape) (T.count tape) a)
+        (with_lent_tape name (T.told result.1) (T.count result.1) a) (rows_listed result.0) }
+    ensures within { IfOk result.0 (λ rows. All IsWithin rows.0) }
+{
+    let store = match load_store(alloc, tape, Object::Store) {
+        Ok(store) => store,
+        Err((stop, tape)) => return (Err(stop), tape),
+    };
+    let rows = live_rows(alloc, &store);
+    (rows, store.close())
+}
+
+/// The live rows of a store, by their paths. They are shared with it, not copied.
+fn live_rows<T: Tape>(alloc: Global, store: &Store<T>) -> Result<List<Shared<Row>>, Stop>
+    ensures listing { ListsRows store.now.rows (rows_listed result) }
+    ensures within { IfOk result (λ rows. All IsWithin rows.0) }
+{
+    store.known();
+    let mut rows = List::new(alloc);
+    loop {
+        let row = match store.next_after(path_behind(rows.as_slice())) {
+            Ok(Some(row)) => row,
+            Ok(None) => return Ok(rows),
+            Err(_) => return Err(Stop::NoMemory),
+        };
+        match rows.push(row) {
+            Ok(()) => {}
+            Err(_) => return Err(Stop::NoMemory),
+        }
+    }
+}
+
+/// The path of the last of some rows; the empty one where there is none.
+fn path_behind(rows: &[Shared<Row>]) -> &str
+    ensures { result.now ≡ path_of (last_or None rows.now) }
+{
+    match rows.last() {
+        Some(row) => row.get().path.as_str(),
+        None => "",
+    }
+}

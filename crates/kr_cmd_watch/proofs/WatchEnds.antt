@@ -1,0 +1,287 @@
+-- How a call ends that a watch was asked of, from its plan on.
+use Rattle.std.specs.Prelude.{◌⊎◌, IfSome, map}
+use Rattle.std.proofs.Common.{◌≡◌, ℕ, ◌<◌, ◌≤◌, true, false, List, [], ◌∷◌, length, get_or, Option, None, Some, Result, Ok, Err, refl, sym, ◌∙◌, ap, subst, inl, inr, arith}
+use Rattle.std.proofs.lemmas.List.Elements.{All-head}
+use Rattle.std.specs.Prelude.{All}
+use Rattle.kr_kms.specs.Calls.{Link}
+use Rattle.kr_kms.specs.Truth.{OpenAll, Opens, Truth}
+use Rattle.kr_provider.specs.Publication.{Publication, names_plugin}
+use Rattle.kr_opening.specs.Replicas.{generations_from}
+use Rattle.kr_opening.specs.declared.generation.Generation.{Generation}
+use Rattle.kr_rollout.specs.Histories.{IsLegal}
+use Rattle.kr_rollout.specs.declared.line.Line.{Line}
+use Rattle.kr_rollout.specs.declared.opening.Entry.{Entry}
+use Rattle.kr_rollout.specs.declared.opening.Opening.{Opening}
+use Rattle.kr_history.specs.Honesty.{SeedsOpen}
+use Rattle.kr_history.proofs.NoNames.{no_names_no_plugin}
+use Rattle.kr_watch.specs.Changes.{changes_above, changes_in, earlier_ones, revision_after}
+use Rattle.kr_watch.specs.Laws.{AreLiveItems}
+use Rattle.kr_watch.specs.Shown.{IsShown, IsShownSince}
+use Rattle.kr_watch.specs.Watches.{Follows, WatchState, newest_of}
+use Rattle.kr_watch.specs.declared.item.Item.{Item}
+use Rattle.kr_watch.proofs.ChangeLaws.{newest_is_last, none_is_missing}
+use Rattle.kr_watch.proofs.ShownLaws.{shown_since_is_shown}
+use Rattle.kr_workers.specs.Endings.{ending_of}
+use Rattle.kr_workers.specs.declared.ending.Ending.{Ending}
+use Rattle.kr_workers.specs.declared.worker.Worker as fleet_worker
+use Rattle.kr_cmd_messages.specs.Receipts.{Receipt}
+use Rattle.kr_cmd_messages.specs.declared.refusal.Stop.{Stop}
+use Rattle.kr_cmd_messages.specs.declared.refusal.Stop.TheVariants.{Words, Refused, Fault, NoMemory}
+use Rattle.kr_cmd_messages.specs.declared.watch_words.WatchWords.{WatchWords}
+use Rattle.kr_cmd_steps.specs.Around.{Around, left_of}
+use Rattle.kr_cmd_steps.specs.Ran.{IsIdle}
+use Rattle.kr_cmd_steps.specs.declared.programs.Program.{Program}
+use Rattle.kr_cmd_steps.specs.inner.Phases.{Does}
+use Rattle.kr_cmd_steps.specs.inner.ProgramNames.{names_in}
+use Rattle.kr_cmd_steps.proofs.Goes.{goes_on, home_trans, stays_refl, stops}
+use Rattle.kr_cmd_fleet.specs.FleetFiles.{FleetPlan, planning}
+use Rattle.kr_cmd_fleet.specs.Fleets.{Begun, opening_of, over_store}
+use Rattle.kr_cmd_fleet.specs.declared.fleet.Record.{Record}
+use Rattle.kr_cmd_fleet.specs.inner.FleetOutcomes.{LacksSettling, LacksWorkers, LeavesRecord}
+use Rattle.kr_cmd_fleet.specs.inner.Readings.{AreFirstItems}
+use Rattle.kr_cmd_watch.specs.WatchTexts.{ahead_text, changes_text, gone_text}
+use Rattle.kr_cmd_watch.specs.Watchings.{AreShown, DidWatch, Shows, ShowsHistory, WritesWatch, keep, refused_at_least}
+use Rattle.kr_cmd_watch.specs.inner.Followings.{AreOf, AreOfOne, IsText, ShowsState}
+use Rattle.kr_cmd_watch.proofs.FirstShown.{first_bare, first_live, first_told}
+use Rattle.kr_cmd_watch.proofs.SeededItems.{legal_front}
+
+-- ---- what is shown
+
+module _ (truth : Truth) (begun : Begun) (o : Opening) (history : List Entry)
+    (legal : IsLegal o history) (watch : WatchState) (f : Follows begun.items o history watch) where
+  same_oldest : watch.keep ≡ keep
+      → watch.oldest ≡ revision_after (length o.rows) (earlier_ones keep (changes_in history))
+  same_oldest kept = f.dropped
+      ∙ ap (λ k. revision_after (length o.rows) (earlier_ones k (changes_in history))) kept
+
+  same_newest : newest_of watch ≡ revision_after (length o.rows) (changes_in history)
+  same_newest = newest_is_last begun.items o history watch f
+
+  pub shows_so : watch.keep ≡ keep → (since : Option ℕ) (words : WatchWords) (ended : Ending)
+      (text : List ℕ) (told : Ending) → ShowsState since words watch ended text told
+      → Shows since words (length o.rows) history watch.items ended text told
+  shows_so kept None words ended text told s = s
+  shows_so kept (Some revision) words ended text told (inl (below, is, end)) =
+      let e = same_oldest kept in
+      inl (omega (arith, below, e), is ∙ ap gone_text e, end)
+  shows_so kept (Some revision) words ended text told (inr (inl (above, is, end))) =
+      let e = same_newest in
+      inr (inl (omega (arith, above, e), is ∙ ap ahead_text e, end))
+  shows_so kept (Some revision) words ended text told (inr (inr (old, new, is, end))) =
+      let e = same_oldest kept in
+      let g = same_newest in
+      inr (inr (
+        omega (arith, old, e),
+        omega (arith, new, g),
+        is ∙ ap changes_text
+            (none_is_missing begun.items o history watch revision legal f old),
+        end,
+      ))
+
+  module _ (first : AreFirstItems truth o.rows o.replicas begun.items) where
+    seeds_open : (opens : Opens)
+        → All (λ replica. IfSome replica (SeedsOpen opens)) o.replicas
+        → OpenAll opens first.first.seeds
+    seeds_open opens all = All-head (λ replica. IfSome replica (SeedsOpen opens))
+        (Some first.first) first.others
+        (subst (All (λ replica. IfSome replica (SeedsOpen opens))) first.replicas_are all)
+
+    none_named : o.names ≡ [] → names_plugin first.first.rows ≡ false
+    none_named none = subst (λ (rs : List (Option Publication)). (k : ℕ) (d : Generation)
+        → k < length (generations_from 0 rs)
+        → names_plugin (get_or (generations_from 0 rs) k d).published.rows ≡ false)
+        first.replicas_are
+        (no_names_no_plugin o [] (legal_front o history 0 legal) none) 0
+        (record { replica = 0; published = first.first }) (omega arith)
+
+    pub are_shown : (truth.told ≡ true
+        → All (λ replica. IfSome replica (SeedsOpen truth.opens)) o.replicas)
+        → (begun.plan.programs ≡ [] → o.names ≡ [])
+        → AreShown truth begun o history watch.items
+    are_shown opens names = record {
+      since = f.shown;
+      told = λ told. shown_since_is_shown truth.opens o history begun.items watch.items
+          (first_told truth o begun.items first told
+          (seeds_open truth.opens (opens told))) f.shown;
+      bare = λ none any. shown_since_is_shown any o history begun.items watch.items
+          (first_bare truth o begun.items first (none_named (names none)) any) f.shown;
+    }
+
+-- what was written of one thing is written of another that follows
+pub writes_so : (P Q : List ℕ → Ending → Type 0) (output : Receipt) (result : Result Ending Stop)
+    → ((text : List ℕ) (told : Ending) → P text told → Q text told)
+    → WritesWatch P output result → WritesWatch Q output result
+writes_so P Q output (Ok told) h (text, is, written) = (text, h text told is, written)
+writes_so P Q output (Err (Fault object n)) h ((text, told, is, front), same, rose, now) =
+    ((text, told, h text told is, front), same, rose, now)
+writes_so P Q output (Err NoMemory) h w = w
+writes_so P Q output (Err (Words why)) h w = absurd w
+writes_so P Q output (Err (Refused why)) h w = absurd w
+
+-- ---- the call
+
+module _ (T : Type 0) {L D : Type 0} (truth : Truth) (link : L → Link)
+    (left : D → Option (List ℕ)) (count : D → ℕ) (words : WatchWords) where
+  -- the plan wasn't made
+  pub watch_unplanned : (old new : Around) (file : List ℕ) → file ≡ words.fleet.file
+      → (stop : Stop) (output : Receipt)
+      → Does (planning file words.fleet.options) old new (Err stop) → IsIdle output
+      → DidWatch T truth link left count words old new output (Err stop)
+  watch_unplanned old new file is stop output d idle =
+      let all = stops (planning words.fleet.file words.fleet.options)
+      (over_store true words.fleet.store) stop
+      (subst (λ f. Does (planning f words.fleet.options) old new (Err stop)) is d) in
+      record {
+        home = all.home;
+        did = inl (inl (all.ends (left_of old) (stays_refl old)), idle);
+      }
+
+  module _ (plan : FleetPlan) (old now new : Around) (file : List ℕ)
+      (is : file ≡ words.fleet.file)
+      (planned : Does (planning file words.fleet.options) old now (Ok plan)) (store : List ℕ)
+      (is_store : store ≡ words.fleet.store) where
+    d : Does (planning words.fleet.file words.fleet.options) old now (Ok plan)
+    d = subst (λ f. Does (planning f words.fleet.options) old now (Ok plan)) is planned
+
+    -- the steps behind it ended the command, or want of memory did
+    pub watch_stopped : (stop : Stop) (output : Receipt)
+        → Does (over_store true store plan) now new (Err stop)
+        ⊎ LacksWorkers T truth link left count (over_store true store plan) store now new stop
+        ⊎ LacksSettling T truth link left count (over_store true store plan) store now new stop
+        → IsIdle output → DidWatch T truth link left count words old new output (Err stop)
+    watch_stopped stop output (inl e) idle =
+        let all = goes_on (planning words.fleet.file words.fleet.options)
+        (over_store true words.fleet.store) plan d
+        (subst (λ s. Does (over_store true s plan) now new (Err stop)) is_store e) in
+        record {
+          home = all.home;
+          did = inl (inl (all.ends (left_of old) (stays_refl old)), idle);
+        }
+    watch_stopped stop output (inr (inl lacking)) idle =
+        let l = subst (λ s. LacksWorkers T truth link left count (over_store true s plan) s now new
+        stop) is_store lacking in
+        let all = goes_on (planning words.fleet.file words.fleet.options)
+        (over_store true words.fleet.store) plan d l.does in
+        record {
+          home = home_trans d.home l.home;
+          did = inl (
+            inr (inl (
+              l.stops,
+              (l.mid, l.begun, all.ends (left_of old) (stays_refl old), l.none, all.home),
+            )),
+            idle,
+          );
+        }
+    watch_stopped stop output (inr (inr lacking)) idle =
+        let l = subst (λ s. LacksSettling T truth link left count (over_store true s plan) s now new
+        stop) is_store lacking in
+        let all = goes_on (planning words.fleet.file words.fleet.options)
+        (over_store true words.fleet.store) plan d l.does in
+        record {
+          home = home_trans d.home l.home;
+          did = inl (
+            inr (inr (
+              l.mid,
+              l.begun,
+              all.ends (left_of old) (stays_refl old),
+              l.fails,
+              all.home,
+            )),
+            idle,
+          );
+        }
+
+    -- the workers ran, and left this record
+    module _ (made : Record)
+        (left_so : LeavesRecord T truth link left count true true (over_store true store plan) store
+        plan now new made) where
+      l : LeavesRecord T truth link left count true true (over_store true words.fleet.store plan)
+          words.fleet.store plan now new made
+      l = subst (λ s. LeavesRecord T truth link left count true true (over_store true s plan) s plan
+          now new made) is_store left_so
+
+      abbrev Opened : Opening
+      Opened = opening_of words.fleet.store l.begun l.mid
+
+      first : AreFirstItems truth Opened.rows Opened.replicas l.begun.items
+      first = l.known refl
+
+      are_of : AreOf made.start.items.0 made.start.revision made.lines.0 Opened l.history
+      are_of = record {
+        legal = l.runs.one.legal;
+        lines_are = l.lines;
+        revision_is = l.revision_is;
+        live = subst (AreLiveItems Opened) (sym l.items_are)
+            (first_live truth Opened l.begun.items first);
+      }
+
+      handed : (lines : List Line) → lines ≡ made.lines.0
+          → AreOf made.start.items.0 made.start.revision lines Opened l.history
+      handed lines same = subst (λ ls. AreOf made.start.items.0 made.start.revision ls Opened
+          l.history) (sym same) are_of
+
+      pub are_of_one : (lines : List Line) → lines ≡ made.lines.0
+          → AreOfOne made.start.items.0 made.start.revision lines
+      are_of_one lines same = (Opened, l.history, handed lines same)
+
+      ended_so : ending_of made.replies.0
+          ≡ ending_of (map (λ (w : fleet_worker.Worker T L D). w.told) l.ended)
+      ended_so = ap ending_of l.replies
+
+      starts : (output : Receipt) (result : Result Ending Stop)
+          → WritesWatch (ShowsHistory truth words l.begun Opened l.history
+          (ending_of (map (λ (w : fleet_worker.Worker T L D). w.told) l.ended))) output result
+          → DidWatch T truth link left count words old new output result
+      starts output result w =
+          let all = goes_on (planning words.fleet.file words.fleet.options)
+          (over_store true words.fleet.store) plan d l.does in
+          record {
+            home = home_trans d.home l.home;
+            did = inr (record {
+              begun = l.begun;
+              mid = l.mid;
+              reaches = all.ends (left_of old) (stays_refl old);
+              since = all.home;
+              history = l.history;
+              ended = l.ended;
+              runs = l.runs;
+              writes = w;
+            });
+          }
+
+      -- and memory lacked for what is shown
+      pub watch_lacks : (output : Receipt) → IsIdle output
+          → DidWatch T truth link left count words old new output (Err NoMemory)
+      watch_lacks output idle = starts output (Err NoMemory) idle
+
+      -- and what a watch showed was written
+      pub watch_wrote : (lines : List Line) → lines ≡ made.lines.0 → (watch : WatchState)
+          → watch.keep ≡ keep → ((o : Opening) (history : List Entry)
+          → AreOf made.start.items.0 made.start.revision lines o history
+          → Follows made.start.items.0 o history watch) → (ended : Ending)
+          → ended ≡ ending_of made.replies.0 → (text : List ℕ) (told : Ending)
+          → ShowsState words.since words watch ended text told → (output : Receipt)
+          (result : Result Ending Stop) → WritesWatch (IsText text told) output result
+          → DidWatch T truth link left count words old new output result
+      watch_wrote lines same watch kept follows ended end text told shows output result w =
+          let f = subst (λ items. Follows items Opened l.history watch) l.items_are
+          (follows Opened l.history (handed lines same)) in
+          let legal = l.runs.one.legal in
+          let has : ShowsHistory truth words l.begun Opened l.history
+          (ending_of (map (λ (x : fleet_worker.Worker T L D). x.told) l.ended)) text told = (
+            watch.items,
+            are_shown truth l.begun Opened l.history legal watch f first
+                (λ t. (l.runs.opens t).opening) (λ none. ap names_in none),
+            shows_so truth l.begun Opened l.history legal watch f kept words.since words
+                (ending_of (map (λ (x : fleet_worker.Worker T L D). x.told) l.ended)) text told
+                (subst (λ e. ShowsState words.since words watch e text told)
+                (end ∙ ended_so) shows),
+          ) in
+          starts output result (writes_so (IsText text told)
+          (ShowsHistory truth words l.begun Opened l.history
+          (ending_of (map (λ (x : fleet_worker.Worker T L D). x.told) l.ended))) output result
+          (λ other end_of same. subst (λ x. ShowsHistory truth words l.begun Opened l.history
+          (ending_of (map (λ (y : fleet_worker.Worker T L D). y.told) l.ended)) x end_of)
+          (sym same.0) (subst (λ x. ShowsHistory truth words l.begun Opened l.history
+          (ending_of (map (λ (y : fleet_worker.Worker T L D). y.told) l.ended)) text x)
+          (sym same.1) has)) w)

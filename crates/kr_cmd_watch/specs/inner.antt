@@ -1,0 +1,2 @@
+-- The definitions of inner contracts.
+pub mod Followings

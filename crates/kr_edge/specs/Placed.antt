@@ -1,0 +1,33 @@
+-- A file that is read and written at places, call by call. What it doesn't tell stays untold.
+use Rattle.std.specs.Prelude.{◌≡◌, ℕ, ◌-◌, ◌≤◌, ◌⊎◌, List, ◌++◌, length, take, drop, replicate, Option, IfSome, Result, Ok, Err}
+use Rattle.std.specs.Option.{option_map}
+use Rattle.kr_base.specs.Tapes.{KeepsFront, with_bytes_at}
+use Rattle.kr_edge.specs.declared.placed.PlacedNo.{PlacedNo}
+use Rattle.kr_edge.specs.declared.placed.PlacedNo.TheVariants.{Interrupted, Failed}
+
+-- n of the bytes from the place on stand at the front of the buffer; none only where there are none,
+-- or it has no room
+pub record IsReadAt (bytes : List ℕ) (at n : ℕ) (into : List ℕ) : Type 0 where
+  pub within : n ≤ length bytes - at
+  pub read : take n into ≡ take n (drop at bytes)
+  pub end : n ≡ 0 → (length into ≡ 0) ⊎ (length bytes ≤ at)
+
+abbrev pub ReadsSome : Option (List ℕ) → ℕ → ℕ → List ℕ → Type 0
+ReadsSome told at n into = IfSome told (λ bytes. IsReadAt bytes at n into)
+
+-- a front of the bytes was written at the place. A write that was interrupted wrote nothing; after
+-- another fault only what stands before the place is known
+abbrev pub WritesSome : Option (List ℕ) → Option (List ℕ) → ℕ → List ℕ → Result ℕ PlacedNo → Type 0
+WritesSome old new at bytes (Ok n) =
+    new ≡ option_map (λ held. with_bytes_at held at (take n bytes)) old
+WritesSome old new at bytes (Err Interrupted) = new ≡ old
+WritesSome old new at bytes (Err Failed) = KeepsFront old new at
+
+-- the bytes up to the length, and zeros behind them where they are fewer
+abbrev pub with_length : ℕ → List ℕ → List ℕ
+with_length len bytes = take len bytes ++ replicate (len - length bytes) 0
+
+-- the file has the length; after a fault only the bytes before it are known
+abbrev pub SetsLength : {T E : Type 0} → Option (List ℕ) → Option (List ℕ) → ℕ → Result T E → Type 0
+SetsLength old new len (Ok done) = new ≡ option_map (with_length len) old
+SetsLength old new len (Err why) = KeepsFront old new len

@@ -1,0 +1,113 @@
+-- By which calls of the system a store is opened and a program started, and why not.
+use Rattle.std.specs.Prelude.{◌≡◌, ℕ, ◌⊎◌, Bool, true, false, List, [], ◌∷◌, Option, None, Some, Result, Ok, Err, ⊤, codes}
+use Rattle.std.specs.Fs.{new_options, with_read, with_write, with_create_new}
+use Rattle.std.specs.Path.{path_parent}
+use Rattle.std.specs.declared.fs.options.OpenOptions.{OpenOptions}
+use Rattle.kr_kms.specs.declared.world.FileNo.{FileNo}
+use Rattle.kr_kms.specs.declared.world.FileNo.TheVariants as file
+use Rattle.kr_edge.specs.SystemCalls.{noted, with_note}
+use Rattle.kr_edge.specs.declared.system.Found.{Found}
+use Rattle.kr_edge.specs.declared.system.Found.TheVariants.{Absent, Empty, Filled, Other, Failed}
+use Rattle.kr_edge.specs.declared.system.OpenNo.{OpenNo}
+use Rattle.kr_edge.specs.declared.system.OpenNo.TheVariants as why
+use Rattle.kr_edge.specs.declared.system.StartNo.{StartNo}
+use Rattle.kr_edge.specs.declared.system.StartNo.TheVariants as no
+use Rattle.kr_edge.specs.declared.system.SystemCall.{SystemCall}
+use Rattle.kr_edge.specs.declared.system.SystemCall.TheVariants.{Look, Open, Lock, LookAt, SyncFolder, Start}
+
+-- the folder of a file: what stands before its name, or the one that this process is in
+abbrev pub named_folder : Option (List ℕ) → List ℕ
+named_folder None = codes "."
+named_folder (Some []) = codes "."
+named_folder (Some (byte ∷ bytes)) = byte ∷ bytes
+
+abbrev pub folder_of : List ℕ → List ℕ
+folder_of name = named_folder (path_parent name)
+
+-- a plain file that is there is opened as it is, to be read and written; where there is none it may
+-- be made, and must be new then
+abbrev pub options_for : (make : Bool) → Found → Option OpenOptions
+options_for make Empty = Some (with_write (with_read new_options true) true)
+options_for make Filled = Some (with_write (with_read new_options true) true)
+options_for true Absent =
+    Some (with_create_new (with_write (with_read new_options true) true) true)
+options_for make found = None
+
+-- the options, or why it can't be opened
+abbrev pub ChoosesOptions : (make : Bool) → Found → Result OpenOptions OpenNo → Type 0
+ChoosesOptions make found (Ok options) = options_for make found ≡ Some options
+ChoosesOptions make found (Err why.Absent) = (found ≡ Absent) × (make ≡ false)
+ChoosesOptions make found (Err why.Failed) = (found ≡ Other) ⊎ (found ≡ Failed)
+
+-- the file was looked at behind its lock, or it is locked already
+abbrev pub LooksLocked : Option (List SystemCall) → Option (List SystemCall) → Option Found → Type 0
+LooksLocked old new (Some at) = new ≡ noted (Lock true ∷ LookAt at ∷ []) old
+LooksLocked old new None = new ≡ with_note (Lock false) old
+
+-- the folder of an empty store, which may be new, is synced where one may be made; one that has
+-- bytes needs no more calls, and what isn't a plain file is no store
+abbrev pub folder_calls : (name : List ℕ) → (make : Bool) → Found → Option (List SystemCall)
+folder_calls name make Filled = Some []
+folder_calls name true Empty = Some (SyncFolder (folder_of name) true ∷ [])
+folder_calls name false Empty = Some []
+folder_calls name make found = None
+
+-- its name was looked at; it was opened, of mode 600 where it is new; it was locked before it was
+-- looked at
+abbrev pub OpensBy : (name : List ℕ) → (make : Bool) → List SystemCall → Type 0
+OpensBy name make calls = (found at : Found) × (options : OpenOptions) × (last : List SystemCall)
+    × (options_for make found ≡ Some options) × (folder_calls name make at ≡ Some last)
+    × (calls ≡ Look name found ∷ Open name options 0o600 true ∷ Lock true ∷ LookAt at ∷ last)
+
+-- what the last call answered is a reason to open no store
+abbrev pub Refuses : SystemCall → Type 0
+Refuses (Look name found) = (found ≡ Other) ⊎ (found ≡ Failed)
+Refuses (Open name options mode opened) = opened ≡ false
+Refuses (Lock locked) = locked ≡ false
+Refuses (LookAt found) = (found ≡ Absent) ⊎ (found ≡ Other) ⊎ (found ≡ Failed)
+Refuses (SyncFolder folder synced) = synced ≡ false
+Refuses call = ⊥
+
+abbrev pub OpensStore : {F : Type 0} → (name : List ℕ) → (make : Bool)
+    → Option (List SystemCall) → Option (List SystemCall) → Result F OpenNo → Type 0
+OpensStore name make old new (Ok file) =
+    (calls : List SystemCall) × OpensBy name make calls × (new ≡ noted calls old)
+OpensStore name make old new (Err why.Absent) =
+    (make ≡ false) × (new ≡ noted (Look name Absent ∷ []) old)
+OpensStore name make old new (Err why.Failed) =
+    (calls : List SystemCall) × (last : SystemCall) × Refuses last
+    × (new ≡ with_note last (noted calls old))
+
+-- the program was started, and nothing else; or why not. Where there was no memory, perhaps not even
+-- that was tried
+abbrev pub Starts : {C : Type 0} → (program : List ℕ)
+    → Option (List SystemCall) → Option (List SystemCall) → Result C StartNo → Type 0
+Starts program old new (Ok child) = new ≡ with_note (Start program true) old
+Starts program old new (Err no.Failed) = new ≡ with_note (Start program false) old
+Starts program old new (Err no.NoMemory) =
+    (new ≡ old) ⊎ (new ≡ with_note (Start program false) old)
+
+-- ---- what a world lends
+
+-- the store of a tape was opened; or why there is no tape: one of the name is out, so nothing was
+-- asked, or its store was refused, or memory lacked
+abbrev pub LendsStore : {F : Type 0} → (name : List ℕ) → (make : Bool) → (IsOut : Type 0)
+    → Option (List SystemCall) → Option (List SystemCall) → Result F FileNo → Type 0
+LendsStore {F} name make IsOut old new (Ok tape) = OpensStore {F = F} name make old new (Ok tape)
+LendsStore {F} name make IsOut old new (Err file.Absent) =
+    OpensStore {F = F} name make old new (Err why.Absent)
+LendsStore {F} name make IsOut old new (Err file.TooLong) = ⊥
+LendsStore {F} name make IsOut old new (Err file.Failed) =
+    (IsOut × (new ≡ old)) ⊎ OpensStore {F = F} name make old new (Err why.Failed)
+LendsStore {F} name make IsOut old new (Err file.NoMemory) = ⊤
+
+-- the program of a link was started; or it wasn't, or has no pipe, or memory lacked
+abbrev pub LendsLink : {L : Type 0} → (program : List ℕ)
+    → Option (List SystemCall) → Option (List SystemCall) → Result L FileNo → Type 0
+LendsLink program old new (Ok link) = new ≡ with_note (Start program true) old
+LendsLink program old new (Err file.Absent) = ⊥
+LendsLink program old new (Err file.TooLong) = ⊥
+LendsLink program old new (Err file.Failed) =
+    (new ≡ with_note (Start program false) old) ⊎ (new ≡ with_note (Start program true) old)
+LendsLink program old new (Err file.NoMemory) = (new ≡ old)
+    ⊎ (new ≡ with_note (Start program false) old) ⊎ (new ≡ with_note (Start program true) old)

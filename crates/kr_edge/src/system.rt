@@ -1,0 +1,137 @@
+//! The calls of the system by which files are opened and programs started.
+ghost use Rattle.std.specs.Prelude.{◌≡◌, ℕ, List, Option, is_ok, is_some};
+ghost use Rattle.std.specs.Process.{command_program};
+ghost use Rattle.kr_edge.specs.Opened.{Opens};
+ghost use Rattle.kr_edge.specs.SystemCalls.{IsBare, with_note};
+
+use crate::placed::DiskFile;
+use kr_base::Text;
+use std::fs::OpenOptions;
+use std::io::Read;
+use std::process::{Child, Command, SystemProcess};
+
+/// Why a file wasn't opened.
+#[derive(Clone, Copy, Debug, PartialEq, Eq)]
+pub enum OpenNo {
+    /// There is no file of that name.
+    Absent,
+    /// It failed.
+    Failed,
+}
+
+/// Why a program wasn't started.
+#[derive(Clone, Copy, Debug, PartialEq, Eq)]
+pub enum StartNo {
+    /// It failed.
+    Failed,
+    /// There was no memory for it.
+    NoMemory,
+}
+
+/// What a name leads to, or what an open file is.
+#[derive(Clone, Copy, Debug, PartialEq, Eq)]
+pub enum Found {
+    /// Nothing.
+    Absent,
+    /// A plain file without bytes.
+    Empty,
+    /// A plain file with bytes.
+    Filled,
+    /// A folder, a device, or what else is no plain file.
+    Other,
+    /// It can't be told.
+    Failed,
+}
+
+/// A call of the system, and what it answered.
+#[derive(Drop)]
+pub enum SystemCall {
+    /// The file of a name was to be opened, to be read.
+    Read(Text),
+    /// It was asked what a name leads to.
+    Look {
+        name: Text,
+        found: Found,
+    },
+    /// The file of a name was to be opened by these options, one that is made with this mode.
+    Open {
+        name: Text,
+        options: OpenOptions,
+        mode: u32,
+        opened: bool,
+    },
+    /// A lock that no other open of the file holds was asked for, on what was opened last.
+    Lock {
+        locked: bool,
+    },
+    /// It was asked what the file is that was opened last.
+    LookAt {
+        found: Found,
+    },
+    /// The names in a folder were to be synced.
+    SyncFolder {
+        folder: Text,
+        synced: bool,
+    },
+    /// A program was to be started, by its name alone.
+    Start {
+        program: Text,
+        started: bool,
+    },
+}
+
+/// What opens files and starts programs. It may tell the files that it opens to be read, and the
+/// calls that were made.
+pub trait System {
+    ghost use Rattle.kr_edge.specs.declared.system.SystemCall.{SystemCall};
+
+    /// A file that is open to be read.
+    type File: Read + Drop;
+
+    // A file by its name: none where it isn't told; else absent, or its bytes.
+    ghost told: { Self → List ℕ → Option (Option (List ℕ)) };
+
+    // The calls so far, one behind another, where it tells them.
+    ghost calls: { Self → Option (List SystemCall) };
+
+    /// Opens the file of that name to be read, from its first byte.
+    fn read(&mut self, name: &str) -> Result<Self::File, OpenNo>
+        ensures bytes { Opens Self.File.remaining (told self.old name.now) result }
+        ensures noted { calls self.new ≡ with_note (SystemCall.Read name.now) (calls self.old) }
+        ensures same { told self.new ≡ told self.old };
+
+    /// What the name leads to.
+    fn look(&mut self, name: &str) -> Found
+        ensures noted { calls self.new
+            ≡ with_note (SystemCall.Look name.now result) (calls self.old) }
+        ensures same { told self.new ≡ told self.old };
+
+    /// Opens the file of that name by the options, one that is made with this mode.
+    fn open(&mut self, name: &str, options: &mut OpenOptions, mode: u32) -> Option<DiskFile>
+        ensures noted { calls self.new ≡ with_note
+            (SystemCall.Open name.now options.old mode (is_some result)) (calls self.old) }
+        ensures same { told self.new ≡ told self.old };
+
+    /// Takes the lock of the file that was opened last, unless another open of it holds one.
+    fn lock(&mut self, file: &DiskFile) -> bool
+        ensures noted { calls self.new ≡ with_note (SystemCall.Lock result) (calls self.old) }
+        ensures same { told self.new ≡ told self.old };
+
+    /// What the file is that was opened last.
+    fn look_at(&mut self, file: &DiskFile) -> Found
+        ensures noted { calls self.new ≡ with_note (SystemCall.LookAt result) (calls self.old) }
+        ensures same { told self.new ≡ told self.old };
+
+    /// Lets the names in the folder stand on the device.
+    fn sync_folder(&mut self, folder: &str) -> bool
+        ensures noted { calls self.new
+            ≡ with_note (SystemCall.SyncFolder folder.now result) (calls self.old) }
+        ensures same { told self.new ≡ told self.old };
+
+    /// Starts a program by its name alone.
+    fn start(&mut self, command: &mut Command) -> Result<Child<SystemProcess>, StartNo>
+        requires { IsBare command.old }
+        ensures noted { calls self.new ≡ with_note
+            (SystemCall.Start (command_program command.old) (is_ok result)) (calls self.old) }
+        ensures same { told self.new ≡ told self.old };
+}

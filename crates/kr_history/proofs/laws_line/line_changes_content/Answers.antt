@@ -1,0 +1,5 @@
+use Rattle.kr_history.proofs.LineChanges.{line_changes_content}
+use Rattle.kr_history.proofs.laws_line.line_changes_content.Goals as goal
+
+pub returns : goal.returns
+returns c = line_changes_content

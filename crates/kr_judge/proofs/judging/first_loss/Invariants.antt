@@ -1,6 +1,0 @@
-use Rattle.kr_config.specs.Kept.{rows_of}
-use Rattle.kr_judge.proofs.Walks.{AreLost}
-use Rattle.kr_judge.proofs.judging.first_loss.Given as goal
-
-abbrev pub invariant-loop-number : goal.invariant-loop-number
-invariant-loop-number l = AreLost l.writer l.replica (rows_of l.settings.entries.0) l.generations.generations l.number-index

@@ -1,0 +1,35 @@
+-- What one link of a list was asked, the list was.
+use Rattle.std.proofs.Common.{ℕ, List, [], ◌∷◌, ◌++◌, refl, sym, ap, subst}
+use Rattle.kr_base.specs.Walks.{Walk, Talk}
+use Rattle.kr_kms.specs.Calls.{Link}
+use Rattle.kr_provider.specs.AskedLinks.{Among, AsksOne}
+
+module _ {L E : Type 0} (step : L → E → L → Type 0) where
+  walk_among : (front behind : List L) (old : L) (es : List E) (new : L) → Walk step old es new
+      → Walk (Among step) (front ++ old ∷ behind) es (front ++ new ∷ behind)
+  walk_among front behind old [] new w = ap (λ (l : L). front ++ l ∷ behind) w
+  walk_among front behind old (e ∷ es) new (mid, s, w) = (
+    front ++ mid ∷ behind,
+    record {
+      front = front;
+      behind = behind;
+      old = old;
+      new = mid;
+      olds_are = refl;
+      news_are = refl;
+      steps = s;
+    },
+    walk_among front behind mid es new w,
+  )
+
+  pub talk_among : (link : L → Link) (name : List ℕ) (Are : List E → Type 0) (xs ys : List L)
+      → AsksOne link name (λ old new. Talk step old new Are) xs ys → Talk (Among step) xs ys Are
+  talk_among link name Are xs ys a =
+      let at : Talk (Among step) (a.front ++ a.old ∷ a.behind) (a.front ++ a.new ∷ a.behind) Are = record {
+        steps = a.asks.steps;
+        walk = walk_among a.front a.behind a.old a.asks.steps a.new a.asks.walk;
+        are = a.asks.are;
+      } in
+      let P : List L → Type 0 = λ l. Talk (Among step) l ys Are in
+      let Q : List L → Type 0 = λ l. Talk (Among step) (a.front ++ a.old ∷ a.behind) l Are in
+      subst P (sym a.olds_are) (subst Q (sym a.news_are) at)

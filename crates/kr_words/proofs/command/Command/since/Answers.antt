@@ -1,0 +1,18 @@
+-- What the tactic leaves open of `since`.
+use Rattle.std.proofs.Common.{ℕ, ◌^◌, ◌≤◌, List, MatchOption, subst}
+use Rattle.kr_words.specs.declared.name.OptionName.TheVariants.{Since}
+use Rattle.kr_words.specs.Names.{text_of}
+use Rattle.kr_words.specs.Arguments.{IsNumberAt}
+use Rattle.kr_words.proofs.Given.{since_given}
+use Rattle.kr_words.proofs.command.Command.since.Goals as goal
+
+pub returns-clause-given : goal.returns-clause-given
+returns-clause-given c = λ command some.
+    let options = c.args.self.now.options.0 in
+    since_given c.args.self.now.verb options c.number_at.result command some
+    (subst (λ (o : List (List ℕ × List ℕ)).
+    MatchOption c.number_at.result ((n : ℕ) → IsNumberAt o (text_of Since) n → 2 ^ 64 ≤ n)
+    (λ n. IsNumberAt o (text_of Since) n)) c.as_slice.ensures
+    (subst (λ (name : List ℕ). MatchOption c.number_at.result
+    ((n : ℕ) → IsNumberAt c.as_slice.result.now name n → 2 ^ 64 ≤ n)
+    (λ n. IsNumberAt c.as_slice.result.now name n)) c.text.ensures c.number_at.ensures))
