@@ -8,6 +8,8 @@ from commands import COMMANDS, OPTIONS, REPEATED
 from reference import configuration, words as grammar
 
 BY_NAME = {command.name: command for command in COMMANDS}
+# The commands that only read the store of --store.
+READ_STORE = ("list", "get", "verify", "judge", "migrate")
 
 
 class Call:
@@ -15,9 +17,10 @@ class Call:
 
     def __init__(self, words):
         words = list(words)
-        if words and (words[0].endswith("kmsrest") or words[0] in ("$", "sudo")):
+        while words and (words[0].endswith("kmsrest") or words[0] in ("$", "sudo")):
             words = words[1:]
-        self.words, self.command, self.options = words, words[0] if words else "", {}
+        # (a bridge is called by its file's name)
+        self.words, self.command, self.options = words, words[0].rsplit("/", 1)[-1] if words else "", {}
         rest = words[1:]
         while rest:
             word = rest.pop(0)
@@ -31,6 +34,8 @@ class Call:
     def configurations(self):
         """The names of the configurations with what each is to the call."""
         found = [(name, "--config") for name in self.options.get("config", ())]
+        if self.command == "plan":
+            found += [(name, f"--{option}") for option in ("from", "to") for name in self.options.get(option, ())]
         found += [(name, f"--replica, API server {number}") for number, name in enumerate(self.options.get("replica", ()))]
         for value in self.options.get("reload", ()):
             number, _, name = value.partition("=")
@@ -42,8 +47,13 @@ class Call:
     def files(self):
         """All files that the call opens, with what each is to it."""
         found = self.configurations()
-        found += [(name, f"--{option}") for option in ("file", "store", "to") for name in self.options.get(option, ())]
+        options = ("file", "store") if self.command == "plan" else ("file", "store", "to")
+        found += [(name, f"--{option}") for option in options for name in self.options.get(option, ())]
         return found
+
+    def writes(self, what):
+        """Whether the call writes the store of --store or --to."""
+        return what == "--to" or self.command not in READ_STORE
 
     def plugins(self):
         return [tuple(value.partition("=")[::2]) for value in self.options.get("plugin", ())]

@@ -28,7 +28,31 @@ OWN_WORDS = {
     "--help": "this page",
     "--version": "the version",
     "--build [WORD..]": "prove and build the program where that is due, then do the words",
-    "explain 'LINE' [WORD..]": "what a line that kmsrest wrote means for the call with these words, and what to do",
+    "explain 'LINE' [WORD..]": "what a line that kmsrest or a bridge wrote means for the call with these words, and what to do",
+}
+
+
+# A page for each of them, by its name without dashes: a usage line, what it says, and an example.
+OWN_PAGES = {
+    "help": ("kmsrest help [COMMAND]", "The commands, or one of them with its options, what it reads, writes and answers, and an example.", ("./kmsrest help judge",)),
+    "version": ("kmsrest --version", "The version, as the file VERSION has it.", ("./kmsrest --version",)),
+    "build": (
+        "kmsrest --build [WORD..]",
+        "Proves and builds the program where that is due, which takes about an hour on four processors where nothing is proved yet, "
+        "and then does the words. It needs `rt` of the kit on the path (README.md, 'Build'). Where the program is said to be older than its sources, "
+        "and only their times are newer, as behind a checkout or a copy: touch crates/kmsrest/out/kmsrest.",
+        ("./kmsrest --build check --config examples/identity.yaml",),
+    ),
+    "explain": (
+        "kmsrest explain 'LINE' [WORD..]",
+        "What a line means that kmsrest or a bridge printed, on either stream, and what to do. With the words of that call behind it, it looks at the "
+        "files that they name: the line in a configuration, the row in a store, the file of an API server. It only reads, prints no secret, and "
+        "ends with 2 where it doesn't know the line. A bridge's call begins with the bridge's name.",
+        (
+            "./kmsrest explain 'drops-writer 1 secrets aescbc:key1' judge --replica new.yaml --replica both.yaml",
+            "./kmsrest explain 'changed 2' bridges/store-to-etcd",
+        ),
+    ),
 }
 
 
@@ -243,5 +267,5 @@ STATUSES = {
     4: "a file, a stream, the store or a plugin failed",
     5: "want of memory",
     6: "a limit is passed",
-    70: "the script: the program isn't built and wasn't built now",
+    70: "the script: the program isn't built, or is older than its sources, and wasn't built now",
 }

@@ -6,7 +6,7 @@ _kmsrest() {
     return
   fi
   if [ "${COMP_WORDS[1]}" = help ]; then
-    mapfile -t COMPREPLY < <(compgen -W 'check encrypt decrypt inspect put get verify list judge plan rewrite migrate fleet watch gen' -- "$word")
+    mapfile -t COMPREPLY < <(compgen -W 'check encrypt decrypt inspect put get verify list judge plan rewrite migrate fleet watch gen help version build explain' -- "$word")
     return
   fi
   case $before in

@@ -19,19 +19,21 @@ def is_read_only(path):
         return False
 
 
-def holder_of(path):
-    """The process that has the store open and locked, as the system lists locks, or None. Nothing is locked for that."""
+def holder_of(path, writes):
+    """The process whose lock keeps out one that reads the store, or that writes it, as the system lists locks; or None. Calls
+    that only read go side by side. Nothing is locked for that."""
     found = os.stat(path)
     place = f"{os.major(found.st_dev):02x}:{os.minor(found.st_dev):02x}:{found.st_ino}"
     try:
         lines = Path("/proc/locks").read_text(encoding="utf-8").splitlines()
     except OSError:
         return None
-    return next((words[4] for words in map(str.split, lines) if words[1] == "FLOCK" and words[5] == place), None)
+    locks = [words for words in map(str.split, lines) if words[1] == "FLOCK" and words[5] == place]
+    return next((words[4] for words in locks if writes or words[3] == "WRITE"), None)
 
 
-def file_fault(name, is_store=False):
-    """What is wrong with a file that is to be read, or with a store, which is opened for writing too; or None."""
+def file_fault(name, is_store=False, writes=False):
+    """What is wrong with a file that is to be read, or with a store, which a call may write; or None."""
     path, folder = Path(name), Path(name).parent
     try:
         found = path.stat()
@@ -53,12 +55,13 @@ def file_fault(name, is_store=False):
         return "a device, a pipe or a socket", "a store is a plain file"
     if not os.access(path, os.R_OK):
         return "there is no right to read it", f"it has mode {stat.filemode(found.st_mode)} and owner {found.st_uid}; run as its owner"
-    if is_store and is_read_only(path):
-        return "it is on a read-only file system", "copy it to another place; a store is opened for writing also where it is only read"
-    if is_store and not os.access(path, os.W_OK):
-        return "there is no right to write it", "a store is opened for writing also where it is only read; run as its owner, or copy it"
-    if is_store and holder_of(path):
-        return f"process {holder_of(path)} has it open", "wait for that one"
+    if writes and is_read_only(path):
+        return "it is on a read-only file system", "copy it to another place; this call writes the store"
+    if writes and not os.access(path, os.W_OK):
+        return "there is no right to write it", "this call writes the store: run as its owner, or copy it"
+    holder = is_store and holder_of(path, writes)
+    if holder:
+        return f"process {holder} has it open" + ("" if writes else " to write it"), "wait for that one"
     return None
 
 
@@ -108,6 +111,40 @@ def rows_before(name, place):
         return len(store.read(Path(name).read_bytes()[:place])[1])
     except (OSError, store.Broken):
         return None
+
+
+def head_of(name):
+    """The first bytes of a file; none where it can't be read."""
+    try:
+        return Path(name).read_bytes()[:8]
+    except OSError:
+        return b""
+
+
+def breach_of(name):
+    """What breaks a store now, a code and a place; `()` where it is whole, None where it can't be read."""
+    try:
+        store.read(Path(name).read_bytes())
+    except store.Broken as no:
+        return no.code, no.place
+    except OSError:
+        return None
+    return ()
+
+
+def fitting(call, number, resource, provider):
+    """A file of the call that reads by the provider, and writes by one that all API servers but this one read; or None."""
+    others = [name for at, name in enumerate(call.options.get("replica", ())) if at != number]
+    reads = {name: [provider_text(one) for one in providers_in(name, resource)] for name in [*others, *(name for name, _ in call.configurations())]}
+    for name, readers in reads.items():
+        if provider in readers and all(readers[0] in reads[other] for other in others):
+            return name
+    return None
+
+
+def providers_in(name, resource):
+    entries = entries_of(name)
+    return [] if entries is None else configuration.list_for(entries, resource)
 
 
 def rows_of(name):

@@ -22,7 +22,7 @@ CODES = {
     38: ("two providers of an entry have one kind and one name", "give a key another name, or delete one"),
     40: ("a file that the words name isn't there", "name it from the current folder"),
     41: ("the store's first bytes are those of no store", "is it another file? A store begins KRSTORE1 or KRSTORE2"),
-    42: ("the store ends in the midst of a row: a program was killed while it wrote, or the file was cut", "copy the file, then cut it there: truncate -s PLACE FILE; a store that came out of etcd is imported anew"),
+    42: ("the store ends in the midst of a row: a program was killed while it wrote, or the file was cut", "a store that came out of etcd: remove it and its map, and import anew; another one: copy the file, then cut it there, truncate -s PLACE FILE"),
     43: ("the store has a row that breaks its format", "restore it from a copy; all rows before that byte are whole"),
     44: ("a configuration names a KMS plugin to which no program was given", "add --plugin NAME=PROGRAM"),
     45: ("a plugin says that it isn't well: its version isn't v2, its healthz isn't ok, or its key_id is empty or too long", "look at the plugin and its key service"),
@@ -83,6 +83,22 @@ CLASH = "two secrets of one name: for {0} both configurations have {1}, with ano
 VERDICTS = {
     "pass": ("nothing that is stored, and nothing that an API server writes, would become unreadable", "go on"),
     "drops-stored": ("the new configuration doesn't read what is stored at {0} by {1}", "rewrite first, by a configuration that writes with another key; or leave {1} in the new configuration"),
-    "drops-writer": ("configuration {0}, which an API server has now, writes {1} by {2}, and the new one doesn't read that", "give that API server first a configuration that writes by another key; or leave {2} in the new configuration"),
-    "unread": ("configuration {0}, which an API server has now, doesn't read what the new one would write to {1} by {2}", "add {2} to that API server's configuration first, not as the first"),
+    "drops-writer": ("{0} writes {1} by {2}, and the new file doesn't read that", "give it first a file that writes by another key; or leave {2} in the new one"),
+    "unread": ("{0} doesn't read what the new file would write to {1} by {2}", "give it first a file that reads {2}, and writes as it does now"),
+}
+
+# Of 49: {0} is the API server that has the file already; {1} and on is what the verdict names.
+TOO_EARLY = {
+    "drops-stored": (
+        "{0} has a file already that doesn't read what is stored at {1} by {2}: that key was taken away there too early, or not given yet",
+        "{0} gets at once a file that reads {2} too, and writes by a key that all others read",
+    ),
+    "drops-writer": (
+        "{1} writes {2} by {3}, and {0} has a file already that doesn't read that: that key was taken away there too early, or not given yet",
+        "{0} gets at once a file that reads {3} too, and writes by a key that all others read",
+    ),
+    "unread": (
+        "{0} has a file already that writes {2} by {3}, and {1} doesn't read that: the key came first there too early",
+        "{0} gets at once a file that reads {3} and writes by a key that {1} reads; {1} gets one that reads {3}, since {0} may have stored by it",
+    ),
 }

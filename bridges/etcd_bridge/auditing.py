@@ -17,7 +17,7 @@ from .errors import visible
 from .keys import KeyValue
 from .places import Places
 from .programs import run_program
-from .sources import Source, source_of
+from .sources import Source, judge_prefix, source_of
 
 METRIC = "kmsrest_stored_values"
 HELP = "Values stored in etcd, by resource, by the provider that sealed them, and of plugins by key id."
@@ -135,10 +135,12 @@ def work(arguments: list[str]) -> int:
     words, places = parsed(arguments)
     with source_of(words) as source:
         counts = counted(source, places, words)
+        if not counts:
+            judge_prefix(source, words.prefix)
         for line in OUTPUTS[words.output](counts, source.revision):
             print(line)
     return 0 if judged(counts, words.still) else 1
 
 
 def main(arguments: list[str]) -> int:
-    return run_program("etcd-audit", lambda: work(arguments), no_answer=3)
+    return run_program("etcd-audit", lambda: work(arguments), no_answer=3, writes=False)

@@ -14,10 +14,11 @@ from .common_words import add_reading, add_sources, count, places_of, resource
 from .errors import Refused, visible
 from .keys import KeyValue
 from .maps import MapRow, digest
+from .new_files import NewFiles
 from .opening import Configuration
 from .places import Places
 from .programs import run_program
-from .sources import Source, source_of
+from .sources import Source, judge_prefix, source_of
 from .store_parts import HALF, StoreParts, Target
 
 MOST_PATH = 1024
@@ -114,6 +115,8 @@ class Import:
                 for found in page:
                     self.take(found)
         self.troubles.judge()
+        if not self.rows and not self.left_out:
+            judge_prefix(self.source, self.words.prefix)
 
     def take(self, found: KeyValue) -> None:
         name = self.places.resource_of(found.key)
@@ -148,7 +151,7 @@ class Import:
         print("left-out", len(self.left_out))
         print("revision", self.source.revision)
         if not self.rows:
-            print(f"etcd-to-store: no key below {self.words.prefix} was copied", file=sys.stderr)
+            print("etcd-to-store: keys stand there, and none is of a resource that was asked for", file=sys.stderr)
         if self.words.part is not None:
             for part in self.parts.parts:
                 print("part", part.name, part.count, part.size)
@@ -171,15 +174,16 @@ def work(arguments: list[str]) -> int:
     words, places = parsed(arguments)
     configuration = Configuration.read(words.config) if words.config else None
     target = Target(words.store, words.map, not words.heads, 1 if configuration is None else 2, words.part)
-    parts = StoreParts(target, words.prefix)
+    files = NewFiles()
     try:
+        parts = StoreParts(target, words.prefix, files)
         with source_of(words) as source:
             made = Import(words, places, configuration, source, parts)
             made.run()
             parts.keep(source)
             made.tell()
     finally:
-        parts.drop()
+        files.drop()
     return 0
 
 

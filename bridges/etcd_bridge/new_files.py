@@ -3,7 +3,7 @@
 import contextlib
 import errno
 import os
-import tempfile
+import secrets
 from pathlib import Path
 from typing import BinaryIO
 
@@ -16,20 +16,21 @@ class NewFiles:
     """Files that are written under other names, and get their own once all are whole."""
 
     def __init__(self):
-        self.made: list[tuple[Path, Path, BinaryIO]] = []
+        self.made: list[tuple[Path, Path, BinaryIO | None]] = []
 
     def open(self, name: str) -> BinaryIO:
         """A new file, to be written; its name must be free."""
         target = Path(name)
         if target.exists() or target.is_symlink():
             raise Refused(f"{name} is there already, and nothing is written over")
+        draft = target.parent / f".{target.name}.{secrets.token_hex(4)}"
+        # (known before it is there, so that one who is ended in between leaves none)
+        self.made.append((target, draft, None))
         try:
-            number, draft = tempfile.mkstemp(prefix=f".{target.name}.", dir=target.parent)
+            file = os.fdopen(os.open(draft, os.O_WRONLY | os.O_CREAT | os.O_EXCL | os.O_CLOEXEC, MODE), "wb")
         except OSError as no:
             raise Refused(f"{name}: {no.strerror}") from None
-        os.fchmod(number, MODE)
-        file = os.fdopen(number, "wb")
-        self.made.append((target, Path(draft), file))
+        self.made[-1] = (target, draft, file)
         return file
 
     def keep(self) -> None:
@@ -55,6 +56,7 @@ class NewFiles:
         """The drafts go."""
         for _target, draft, file in self.made:
             with contextlib.suppress(OSError):
-                file.close()
+                if file is not None:
+                    file.close()
             draft.unlink(missing_ok=True)
         self.made = []

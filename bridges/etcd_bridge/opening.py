@@ -7,6 +7,7 @@ from collections.abc import Iterable
 
 from reference import configuration, plugins
 from reference.outside import MOST_CONFIG
+from reference.store import tag
 from reference.values import Refused as ValueRefused
 from reference.values import check_of, reader_of, unseal
 
@@ -62,7 +63,9 @@ class Configuration:
         """The provider that reads a value of the resource."""
         provider = reader_of(self.providers(resource), value)
         if provider is None:
-            raise Refused(f"no provider of {resource} reads the value")
+            who = tag(value).decode()
+            how = "stored in the clear" if who == "plain" else f"sealed by {who}"
+            raise Refused(f"no provider of {resource} reads the value, {how}")
         return provider
 
     def data_of(self, resource: str, path: bytes, value: bytes) -> bytes:

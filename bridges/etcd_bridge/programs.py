@@ -15,9 +15,9 @@ def end_by_signal(number: int, _frame: object) -> None:
     sys.exit(128 + number)
 
 
-def run_program(name: str, work: Callable[[], int], no_answer: int = 1) -> int:
+def run_program(name: str, work: Callable[[], int], no_answer: int = 1, writes: bool = True) -> int:
     """The status of a program's work; `no_answer` is that where etcd gives none. What is refused, is so before anything is
-    written."""
+    written, which is told of a program that writes."""
     signal.signal(signal.SIGTERM, end_by_signal)
     try:
         status = work()
@@ -26,7 +26,7 @@ def run_program(name: str, work: Callable[[], int], no_answer: int = 1) -> int:
     except BridgeError as no:
         for line in str(no).splitlines():
             print(f"{name}: {line}", file=sys.stderr)
-        if isinstance(no, Refused):
+        if isinstance(no, Refused) and writes:
             print(f"{name}: nothing was written", file=sys.stderr)
         return no_answer if isinstance(no, NoAnswer) else 1
     except KeyboardInterrupt:

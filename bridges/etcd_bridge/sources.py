@@ -12,13 +12,15 @@ from collections.abc import Iterable, Iterator
 from pathlib import Path
 from typing import Protocol
 
-from .errors import NoAnswer, Refused
+from .errors import NoAnswer, Refused, visible
 from .etcd import Etcd, connect
 from .etcdctl_json import answer_of, keys_and_values
-from .keys import KeyRange, KeyValue
+from .keys import KeyRange, KeyValue, below, prefixed
 
 # Seconds in which an etcd over a snapshot must answer.
 PATIENCE = 60
+# All keys that a person can type.
+PRINTABLE = KeyRange(b"!", b"\x7f")
 
 
 class Source(Protocol):
@@ -140,6 +142,19 @@ def wait_for(child: subprocess.Popen, folder: str) -> Etcd:
         time.sleep(0.05)
     with open(os.path.join(folder, "log"), encoding="utf-8", errors="replace") as log:
         raise Refused("etcd doesn't serve the snapshot's copy: " + "".join(log.readlines()[-3:]).strip())
+
+
+def judge_prefix(source: Source, prefix: str) -> None:
+    """Refuses where no key stands below a prefix, since a wrong one would pass for an etcd without objects. (It is asked where
+    nothing was read, which may also be that a resource has no objects.)"""
+    if any(page for page in source.pages(prefixed(below(prefix)), 1)):
+        return
+    beside = ""
+    # (who may read the prefix alone isn't told of other keys)
+    with contextlib.suppress(NoAnswer):
+        other = next((page[0].key for page in source.pages(PRINTABLE, 1) if page), None)
+        beside = ", nor elsewhere" if other is None else f", and the first key is {visible(other)}"
+    raise Refused(f"no key stands below {below(prefix).decode()}{beside}: --prefix names the API server's --etcd-prefix")
 
 
 def source_of(words: argparse.Namespace) -> contextlib.AbstractContextManager[Source]:

@@ -53,9 +53,9 @@ class Part:
 class StoreParts:
     """The parts of a store. The first is begun before its source is asked, so that a name that is taken is told at once."""
 
-    def __init__(self, target: Target, prefix: str):
+    def __init__(self, target: Target, prefix: str, files: NewFiles):
         self.target, self.prefix = target, prefix
-        self.files, self.parts = NewFiles(), []
+        self.files, self.parts = files, []
         self.begin()
 
     def begin(self) -> Part:
@@ -95,7 +95,3 @@ class StoreParts:
         """The files get their names."""
         self.end(source)
         self.files.keep()
-
-    def drop(self) -> None:
-        """What has no name of its own yet goes."""
-        self.files.drop()

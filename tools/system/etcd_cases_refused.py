@@ -1,7 +1,7 @@
 """What the bridges refuse, and what they count."""
 import json
 
-from etcd_bench import NEW, Bench, numbers
+from etcd_bench import AUDIT, LAST, NEW, Bench, numbers
 from etcd_server import kmsrest
 from etcd_values import KEY1, KEY2, aescbc, an_object
 
@@ -70,10 +70,33 @@ def imports(bench: Bench) -> None:
     done = bench.imported("except", *words, "--resource", "gadgets=gadgets", *left)
     bench.expect("--except leaves some", (0, count - 2), (done.status, numbers(done)["rows"]))
     pairs = (("--heads", "--map=m"), ("--json=a", "--snapshot=b"))
+    done = bench.imported("lacking", "--prefix", prefix, "--only", "secrets", "--config", LAST)
+    why = f"{prefix}/secrets/d/s: no provider of secrets reads the value, sealed by aescbc:key1"
+    bench.expect("a key that the configuration lacks is named", (1, True), (done.status, why in done.errors))
     usages = [*pairs, ("--only", "gadgets"), ("--part", "0"), ("--resource", "x")]
     found = [bench.imported("usage", *words, *usage).status for usage in usages]
     bench.expect("wrong words are status 2", [2] * len(usages), found)
+    nobody(bench)
     bench.expect("nothing is left of what was refused", [], [path.name for path in bench.folder.glob(".*")])
+
+
+def nobody(bench: Bench) -> None:
+    """A prefix below which no key stands is refused, since it would pass for an etcd without objects; a resource without objects
+    isn't."""
+    for way in ({}, {"ETCDCTL": "etcdctl"}):
+        words = ("--prefix", "/nobody")
+        done = bench.imported("nobody", *words, **way)
+        why = "no key stands below /nobody/, and the first key is /"
+        found = (done.status, bench.at("nobody").exists(), why in done.errors, "nothing was written" in done.errors)
+        bench.expect(f"an import of a prefix without keys is refused {way}", (1, False, True, True), found)
+        done = bench.etcd.bridge(AUDIT, *words, "--still", "aescbc:key1", **way)
+        found = (done.status, done.output, why in done.errors, "nothing was written" in done.errors)
+        bench.expect(f"an audit of it too {way}", (1, b"", True, False), found)
+    words = ("--prefix", "/imports", "--only", "pods")
+    done = bench.imported("pods", *words)
+    found = (done.status, numbers(done)["rows"], "none is of a resource" in done.errors)
+    bench.expect("a resource without objects is no refusal", (0, 0, True), found)
+    bench.expect("nor of an audit", (0, b""), (bench.etcd.bridge(AUDIT, *words).status, bench.etcd.bridge(AUDIT, *words).output))
 
 
 def left_out(bench: Bench) -> None:

@@ -15,6 +15,8 @@ BRIDGES = TOP / "bridges"
 # Seconds in which a call must end, and an etcd must answer.
 CALL, PATIENCE = 600, 60
 PEER = "http://localhost:2"
+# What the bridges have printed, each line with its program.
+TOLD: set[tuple[str, str]] = set()
 
 
 @dataclass(frozen=True)
@@ -116,7 +118,9 @@ class EtcdServer:
 
     def bridge(self, name: str, *words: object, **environment: str) -> Ended:
         """Calls one of the bridges on this etcd."""
-        return call([BRIDGES / name, *words], env={**self.environment, **environment}, timeout=CALL)
+        done = call([BRIDGES / name, *words], env={**self.environment, **environment}, timeout=CALL)
+        TOLD.update((name, line) for text in (done.output.decode(errors="replace"), done.errors) for line in text.splitlines())
+        return done
 
 
 def escaped(value: bytes) -> str:

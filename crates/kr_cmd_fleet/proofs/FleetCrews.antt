@@ -2,7 +2,7 @@
 -- they did.
 use Rattle.kr_base.specs.Faults.{Rose}
 use Rattle.std.proofs.Common.{◌≡◌, ◌≢◌, ℕ, ◌+◌, ◌<◌, ◌≤◌, Bool, false, List, [], ◌∷◌, ◌++◌, length, map, get_or, Option, None, Some, Result, Ok, Err, refl, sym, ◌∙◌, ap, subst, inr, arith, ◌⊎◌, true, inl}
-use Rattle.std.specs.Prelude.{IfSome, sum, if◌then◌else◌}
+use Rattle.std.specs.Prelude.{All, IfSome, sum, if◌then◌else◌}
 use Rattle.std.specs.List.{IsDistinct}
 use Rattle.std.specs.Option.{option_map}
 use Rattle.std.specs.Str.{bytes_eq}
@@ -10,6 +10,7 @@ use Rattle.std.proofs.lemmas.List.{get_or-map, length-map}
 use Rattle.std.proofs.lemmas.List.Elements.{All-nil}
 use Rattle.kr_base.specs.Limits.{store_limit}
 use Rattle.kr_kms.specs.Calls.{Link}
+use Rattle.kr_kms.specs.Exchanges.{Exchange}
 use Rattle.kr_kms.specs.Outside.{Objects, same_name, same_seat}
 use Rattle.kr_kms.specs.Truth.{Truth}
 use Rattle.kr_kms.proofs.Lent.{names_decide, seats_decide}
@@ -220,24 +221,26 @@ module _ {L D : Type 0} (link : L → Link) (left : D → Option (List ℕ)) (co
       ∙ links_beyond (seat + 1) outfits x other plugin (omega (arith, past))
 
 -- what the workers had comes back as it was, or later
-pub ran_back : {T L D : Type 0} (truth : Truth) (link : L → Link) (left : D → Option (List ℕ))
+pub ran_back : {T L D : Type 0} (truth : Truth) (link : L → Link) (step : L → Exchange → L → Type 0)
+    (left : D → Option (List ℕ))
     (count : D → ℕ) (plan : Plan) (budgets : List ℕ) (olds outs : List (Outfit L D))
     → AreLater link count olds outs → (o : Opening) (start : WatchStart)
     (workers : List (Worker T L D)) → outfits_of workers ≡ outs → (kept : Kept)
     (back : List (Outfit L D)) (result : Result Record Stop)
-    → RunsCrew truth link left count plan budgets o start workers result kept back
+    → RunsCrew truth link step left count plan budgets o start workers result kept back
     → AreLater link count olds back
-ran_back truth link left count plan budgets olds outs later o start workers are kept back
+ran_back truth link step left count plan budgets olds outs later o start workers are kept back
     (Ok made) r =
     later_trans link left count olds outs back later
     (subst (λ os. AreLater link count os back) are r.later)
-ran_back truth link left count plan budgets olds outs later o start workers are kept back
+ran_back truth link step left count plan budgets olds outs later o start workers are kept back
     (Err stop) r =
     subst (λ os. AreLater link count olds os) (sym (r.outfits_are ∙ are)) later
 
 -- ---- up to the workers, and with them
 
-module _ {L D : Type 0} (truth : Truth) (link : L → Link) (left : D → Option (List ℕ))
+module _ {L D : Type 0} (truth : Truth) (link : L → Link) (step : L → Exchange → L → Type 0)
+    (left : D → Option (List ℕ))
     (count : D → ℕ) (watched : Bool) (plan : Plan) (whole : IsWholePlan (plan_of plan))
     (budgets : List ℕ) (name : List ℕ) (a : Around) (store : Kept) where
   -- these outfits and the store's tape stand as if they were at home
@@ -327,7 +330,8 @@ module _ {L D : Type 0} (truth : Truth) (link : L → Link) (left : D → Option
               ∙ sym (ap (λ (t : Tapes). t.told other)
               (outfits_tapes link left count 0 outs (Over_now store)));
           dice = λ seat past.
-              dice_beyond link left count 0 back (Over_now kept) seat (omega (arith, past, back_many))
+              dice_beyond link left count 0 back (Over_now kept) seat
+              (omega (arith, past, back_many))
               ∙ sym (dice_beyond link left count 0 outs (Over_now store) seat
               (omega (arith, past, outs_many)));
           links = λ seat plugin past.
@@ -364,11 +368,11 @@ module _ {L D : Type 0} (truth : Truth) (link : L → Link) (left : D → Option
     -- memory lacked for the workers
     pub unhired : (T : Type 0) → (kept : Kept) → KeepsStore o o.rows kept
         → (back : List (Outfit L D)) → back ≡ outs
-        → LacksWorkers T truth link left count Next name (With olds store) (With back kept)
+        → LacksWorkers T truth link step left count Next name (With olds store) (With back kept)
         NoMemory
     unhired T kept k back are =
         let same = later_refl link left count outs in
-        subst (λ os. LacksWorkers T truth link left count Next name (With olds store)
+        subst (λ os. LacksWorkers T truth link step left count Next name (With olds store)
         (With os kept) NoMemory) (sym are) (record {
           stops = refl;
           begun = begun;
@@ -388,16 +392,17 @@ module _ {L D : Type 0} (truth : Truth) (link : L → Link) (left : D → Option
         })
 
     module _ {T : Type 0} (workers : List (Worker T L D)) (are : outfits_of workers ≡ outs)
-        (many : length workers ≡ length plan.script.workers.0) (kept : Kept)
+        (many : length workers ≡ length plan.script.workers.0)
+        (cold : All (λ (w : Worker T L D). w.bench.cache.rows ≡ []) workers) (kept : Kept)
         (back : List (Outfit L D)) where
       further_on : (made : Record)
-          → WorkersRan truth link left count plan budgets o start workers made kept back
+          → WorkersRan truth link step left count plan budgets o start workers made kept back
           → AreLater link count outs back
       further_on made r = subst (λ os. AreLater link count os back) are r.later
 
       runs : (made : Record)
-          → (r : WorkersRan truth link left count plan budgets o start workers made kept back)
-          → RunsFleet truth link left count name begun Mid (With back kept) r.history r.ended
+          → (r : WorkersRan truth link step left count plan budgets o start workers made kept back)
+          → RunsFleet truth link step left count name begun Mid (With back kept) r.history r.ended
       runs made r =
           let names = names_in plan.programs in
           let back_named = later_named link left count names outs back (further_on made r)
@@ -410,9 +415,10 @@ module _ {L D : Type 0} (truth : Truth) (link : L → Link) (left : D → Option
             files_are = refl;
             workers = workers;
             many = many;
+            cold = cold;
             before = workers_equipped link left count plan.programs distinct workers outs
                 (sym are) outs_named (Over_now store);
-            one = subst (λ p. IsOneHistory truth link left count plan.files.0 r.history p
+            one = subst (λ p. IsOneHistory truth link step left count plan.files.0 r.history p
                 plan.script.workers.0 budgets workers r.ended) opening_is r.one;
             opens = λ told. record {
               opening = published_open truth (named plan.files.0) told plan.script.replicas.0
@@ -436,8 +442,9 @@ module _ {L D : Type 0} (truth : Truth) (link : L → Link) (left : D → Option
           }
 
       pub ran_with : (result : Result Record Stop)
-          → RunsCrew truth link left count plan budgets o start workers result kept back
-          → RunsWith link left count T truth watched Next name (plan_of plan) outs (With olds store)
+          → RunsCrew truth link step left count plan budgets o start workers result kept back
+          → RunsWith link left count T truth step watched Next name (plan_of plan) outs
+          (With olds store)
           (With back kept) result
       unfolding runs
       ran_with (Ok made) r = record {
@@ -458,6 +465,6 @@ module _ {L D : Type 0} (truth : Truth) (link : L → Link) (left : D → Option
         };
         outfits_are = are;
       }
-      ran_with (Err stop) r = inr (subst (λ s. LacksWorkers T truth link left count Next name
+      ran_with (Err stop) r = inr (subst (λ s. LacksWorkers T truth link step left count Next name
           (With olds store) (With back kept) s) (sym r.stops)
           (unhired T kept r.kept back (r.outfits_are ∙ are)))

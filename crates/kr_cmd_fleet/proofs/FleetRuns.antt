@@ -5,6 +5,7 @@ use Rattle.std.specs.Prelude.{Bool, false, true, sum, count_by}
 use Rattle.std.proofs.lemmas.List.Sums.{sum_by-cons}
 use Rattle.kr_kms.specs.Outside.{Outside}
 use Rattle.kr_kms.specs.Calls.{Link}
+use Rattle.kr_kms.specs.Exchanges.{Exchange}
 use Rattle.kr_kms.specs.Truth.{Truth}
 use Rattle.kr_rollout.specs.declared.opening.Entry.{Entry}
 use Rattle.kr_script.specs.Fleets.{worker_of}
@@ -44,12 +45,13 @@ use Rattle.kr_cmd_fleet.specs.inner.Workings.{Outfits, RunsWith}
 use Rattle.kr_cmd_steps.proofs.Goes.{goes_on, home_refl, home_trans, reach, stays_refl, stops}
 
 module _ (T : Type 0) {L D : Type 0} (truth : Truth) (link : L → Link)
+    (step : L → Exchange → L → Type 0)
     (left : D → Option (List ℕ)) (count : D → ℕ) (words : FleetWords) where
   -- the plan wasn't made
   pub unplanned : (old new : Around) (file : List ℕ) → file ≡ words.file → (stop : Stop)
       (output : Receipt) → Does (planning file words.options) old new (Err stop)
       → IsIdle output
-      → DidFleet T truth link left count words old new output (Err stop)
+      → DidFleet T truth link step left count words old new output (Err stop)
   unplanned old new file is stop output d idle =
       let all = stops (planning words.file words.options) (over_store false words.store) stop
       (subst (λ f. Does (planning f words.options) old new (Err stop)) is d) in
@@ -67,9 +69,10 @@ module _ (T : Type 0) {L D : Type 0} (truth : Truth) (link : L → Link)
     -- the steps behind it ended the command, or want of memory did, or the store couldn't be settled
     pub stopped : (stop : Stop) (output : Receipt)
         → Does (over_store false store plan) now new (Err stop)
-        ⊎ LacksWorkers T truth link left count (over_store false store plan) store now new stop
-        ⊎ LacksSettling T truth link left count (over_store false store plan) store now new stop
-        → IsIdle output → DidFleet T truth link left count words old new output (Err stop)
+        ⊎ LacksWorkers T truth link step left count (over_store false store plan) store now new stop
+        ⊎ LacksSettling T truth link step left count
+        (over_store false store plan) store now new stop
+        → IsIdle output → DidFleet T truth link step left count words old new output (Err stop)
     stopped stop output (inl e) idle =
         let all = goes_on (planning words.file words.options) (over_store false words.store) plan d
         (subst (λ s. Does (over_store false s plan) now new (Err stop)) is_store e) in
@@ -78,7 +81,8 @@ module _ (T : Type 0) {L D : Type 0} (truth : Truth) (link : L → Link)
           did = inl (inl (all.ends (left_of old) (stays_refl old)), idle);
         }
     stopped stop output (inr (inl lacking)) idle =
-        let l = subst (λ s. LacksWorkers T truth link left count (over_store false s plan) s now new
+        let l = subst (λ s. LacksWorkers T truth link step left count (over_store false s plan) s
+        now new
         stop) is_store lacking in
         let all =
         goes_on (planning words.file words.options) (over_store false words.store) plan d l.does in
@@ -93,7 +97,8 @@ module _ (T : Type 0) {L D : Type 0} (truth : Truth) (link : L → Link)
           );
         }
     stopped stop output (inr (inr lacking)) idle =
-        let l = subst (λ s. LacksSettling T truth link left count (over_store false s plan) s now new
+        let l = subst (λ s. LacksSettling T truth link step left count (over_store false s plan) s
+        now new
         stop) is_store lacking in
         let all =
         goes_on (planning words.file words.options) (over_store false words.store) plan d l.does in
@@ -113,12 +118,14 @@ module _ (T : Type 0) {L D : Type 0} (truth : Truth) (link : L → Link)
 
     -- the workers ran
     pub ran : (made : Record) (output : Receipt) (result : Result Ending Stop)
-        → LeavesRecord T truth link left count true false (over_store false store plan) store plan now new made
+        → LeavesRecord T truth link step left count true false
+        (over_store false store plan) store plan now new made
         → WritesFleet (fleet_output plan.fleet made.lines.0 made.replies.0)
         (ending_of made.replies.0) output result
-        → DidFleet T truth link left count words old new output result
+        → DidFleet T truth link step left count words old new output result
     ran made output result left_so w =
-        let l = subst (λ s. LeavesRecord T truth link left count true false (over_store false s plan) s plan now
+        let l = subst (λ s. LeavesRecord T truth link step left count true false
+        (over_store false s plan) s plan now
         new made) is_store left_so in
         let all =
         goes_on (planning words.file words.options) (over_store false words.store) plan d l.does in
@@ -146,11 +153,12 @@ module _ (T : Type 0) {L D : Type 0} (truth : Truth) (link : L → Link)
 -- ---- phases up to the workers
 
 module _ (T : Type 0) {L D : Type 0} (truth : Truth) (link : L → Link)
+    (step : L → Exchange → L → Type 0)
     (left : D → Option (List ℕ)) (count : D → ℕ) (watched : Bool) (store : List ℕ)
     (plan : FleetPlan) where
   abbrev pub Runs : Steps Begun → (old new : Around) → Result Record Stop → Type 0
   Runs steps old new result =
-      RunsBy T truth link left count watched steps store plan old new result
+      RunsBy T truth link step left count watched steps store plan old new result
 
   module _ {A : Type 0} (first : Steps A) (others : A → Steps Begun) where
     -- the first steps gave something, and the fleet ran by the others
@@ -198,13 +206,15 @@ module _ (T : Type 0) {L D : Type 0} (truth : Truth) (link : L → Link)
 
 -- what is known of the workers beside, left out
 pub runs_with : (T : Type 0) {L D : Type 0} (truth : Truth) (link : L → Link)
+    (step : L → Exchange → L → Type 0)
     (left : D → Option (List ℕ)) (count : D → ℕ) (watched : Bool) (store : List ℕ)
     (plan : FleetPlan) (steps : Steps Begun) (outfits : Outfits L D) (old new : Around)
     (result : Result Record Stop)
-    → RunsWith link left count T truth watched steps store plan outfits old new result
-    → RunsBy T truth link left count watched steps store plan old new result
-runs_with T truth link left count watched store plan steps outfits old new (Ok made) r = r.leaves
-runs_with T truth link left count watched store plan steps outfits old new (Err stop) r = r
+    → RunsWith link left count T truth step watched steps store plan outfits old new result
+    → RunsBy T truth link step left count watched steps store plan old new result
+runs_with T truth link step left count watched store plan steps outfits old new
+    (Ok made) r = r.leaves
+runs_with T truth link step left count watched store plan steps outfits old new (Err stop) r = r
 
 -- ---- budgets
 
@@ -293,13 +303,15 @@ one_fleet words a b p q =
     ∙ ap (λ s. fleet_words b.file s a.options) (inside store)
     ∙ ap (fleet_words b.file b.store) same
 
-pub for_asked : {T L D : Type 0} {truth : Truth} {link : L → Link} {left : D → Option (List ℕ)}
+pub for_asked : {T L D : Type 0} {truth : Truth} {link : L → Link}
+    {step : L → Exchange → L → Type 0} {left : D → Option (List ℕ)}
     {count : D → ℕ} {a b : FleetWords} {old new : Around} {output errors : Receipt} {status : ℕ}
-    → a ≡ b → RanFleet T truth link left count a old new output errors status
-    → RanFleet T truth link left count b old new output errors status
-for_asked {T} {truth = truth} {link = link} {left = left} {count = count} {old = old} {new = new}
+    → a ≡ b → RanFleet T truth link step left count a old new output errors status
+    → RanFleet T truth link step left count b old new output errors status
+for_asked {T} {truth = truth} {link = link} {step = step} {left = left} {count = count} {old = old}
+    {new = new}
     {output = output} {errors = errors} {status = status} e r =
-    subst (λ w. RanFleet T truth link left count w old new output errors status) e r
+    subst (λ w. RanFleet T truth link step left count w old new output errors status) e r
 
 -- ---- the words stop the call
 
@@ -321,10 +333,11 @@ alone_or_memory words (Fault object count) h errors status t = absurd h
 alone_or_memory words NoMemory h errors status t = inr t
 
 module _ (T : Type 0) {L D : Type 0} (truth : Truth) (link : L → Link)
+    (step : L → Exchange → L → Type 0)
     (left : D → Option (List ℕ)) (count : D → ℕ) where
   pub unread : (words : List (List ℕ)) (asked : FleetWords) → AsksFleet words asked
       → (stop : Stop) → IsFleetAsked words (Err stop) → (a : Around) (output : Receipt)
-      → IsIdle output → DidFleet T truth link left count asked a a output (Err stop)
+      → IsIdle output → DidFleet T truth link step left count asked a a output (Err stop)
   unread words asked asks (Words why) h a output idle = absurd (h.1 asked asks)
   unread words asked asks (Refused why) h a output idle = absurd h
   unread words asked asks (Fault object n) h a output idle = absurd h

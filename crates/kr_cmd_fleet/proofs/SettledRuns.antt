@@ -5,9 +5,11 @@ use Rattle.std.specs.Prelude.{if◌then◌else◌}
 use Rattle.kr_base.specs.Faults.{Rose}
 use Rattle.kr_base.proofs.Counting.{Rose-later}
 use Rattle.kr_kms.specs.Calls.{Link}
+use Rattle.kr_kms.specs.Exchanges.{Exchange}
 use Rattle.kr_kms.specs.Outside.{Outside, same_name, with_call}
 use Rattle.kr_kms.specs.Truth.{Truth}
 use Rattle.kr_kms.specs.declared.world.WorldCall.TheVariants.{Settled}
+use Rattle.kr_kms.specs.declared.world.Access.TheVariants.{ToMake}
 use Rattle.kr_rollout.specs.Histories.{state_of}
 use Rattle.kr_rollout.specs.Openings.{start_of}
 use Rattle.kr_rollout.specs.declared.opening.Entry.{Entry}
@@ -60,13 +62,14 @@ module _ {T L D : Type 0} (link : L → Link) (left : D → Option (List ℕ)) (
   }
 
 -- the run of the workers, where the world is told so at its end
-settled_run : {T L D : Type 0} (truth : Truth) (link : L → Link) (left : D → Option (List ℕ))
+settled_run : {T L D : Type 0} (truth : Truth) (link : L → Link) (step : L → Exchange → L → Type 0)
+    (left : D → Option (List ℕ))
     (count : D → ℕ) (store : List ℕ) (begun : Begun) (mid new : Around) (history : List Entry)
     (ended : List (fleet_worker.Worker T L D))
-    → RunsFleet truth link left count store begun mid new history ended
-    → RunsFleet truth link left count store begun (settled_behind store mid)
+    → RunsFleet truth link step left count store begun mid new history ended
+    → RunsFleet truth link step left count store begun (settled_behind store mid)
     (settled_behind store new) history ended
-settled_run truth link left count store begun mid new history ended r = record {
+settled_run truth link step left count store begun mid new history ended r = record {
   published = r.published;
   parts = r.parts;
   parts_are = r.parts_are;
@@ -74,6 +77,7 @@ settled_run truth link left count store begun mid new history ended r = record {
   files_are = r.files_are;
   workers = r.workers;
   many = r.many;
+  cold = r.cold;
   before = equipped link left count begun.plan.programs store mid r.workers r.before;
   one = r.one;
   opens = r.opens;
@@ -106,15 +110,16 @@ rows_still (Some None) begun rows before now later more h = absurd h
 rows_still None begun rows before now later more h = tt
 
 module _ (T : Type 0) {L D : Type 0} (truth : Truth) (link : L → Link)
+    (step : L → Exchange → L → Type 0)
     (left : D → Option (List ℕ)) (count : D → ℕ) (watched : Bool) (store : List ℕ)
     (plan : FleetPlan) (steps : Steps Begun) where
   abbrev Runs : (old new : Around) → Result Record Stop → Type 0
-  Runs old new result = RunsBy T truth link left count watched steps store plan old new result
+  Runs old new result = RunsBy T truth link step left count watched steps store plan old new result
 
   -- the tape was settled
   pub settled_record : (old new : Around) (made : Record)
-      → LeavesRecord T truth link left count false watched steps store plan old new made
-      → LeavesRecord T truth link left count true watched steps store plan old
+      → LeavesRecord T truth link step left count false watched steps store plan old new made
+      → LeavesRecord T truth link step left count true watched steps store plan old
       (settled_behind store new) made
   settled_record old new made l = record {
     begun = l.begun;
@@ -123,7 +128,7 @@ module _ (T : Type 0) {L D : Type 0} (truth : Truth) (link : L → Link)
     does = l.does;
     history = l.history;
     ended = l.ended;
-    runs = settled_run truth link left count store l.begun l.mid new l.history l.ended l.runs;
+    runs = settled_run truth link step left count store l.begun l.mid new l.history l.ended l.runs;
     lines = l.lines;
     replies = l.replies;
     items_are = l.items_are;
@@ -134,10 +139,11 @@ module _ (T : Type 0) {L D : Type 0} (truth : Truth) (link : L → Link)
 
   -- or it couldn't be
   unsettled : (old a : Around) (told : Option (List ℕ)) (n later : ℕ) (made : Record) (stop : Stop)
-      → LeavesRecord T truth link left count false watched steps store plan old
+      → LeavesRecord T truth link step left count false watched steps store plan old
       (with_lent_tape store told n a) made
       → Rose n later → stop ≡ Fault Store later
-      → LacksSettling T truth link left count steps store old (with_lent_tape store told later a)
+      → LacksSettling T truth link step left count steps store old
+      (with_lent_tape store told later a)
       stop
   unsettled old a told n later made stop l rose is =
       let here = count_here store told n a n in
@@ -177,6 +183,7 @@ module _ (T : Type 0) {L D : Type 0} (truth : Truth) (link : L → Link)
 
 -- the tape is borrowed for it, is settled behind it, and comes back
 module _ (T : Type 0) {L D : Type 0} (truth : Truth) (link : L → Link)
+    (step : L → Exchange → L → Type 0)
     (left : D → Option (List ℕ)) (count : D → ℕ) (watched : Bool) (store : List ℕ)
     (plan : FleetPlan) (steps : Steps Begun) (a : Around) (old out : Outside)
     (given : Option (List ℕ)) (first : ℕ) (mid new : Outside) (back : Option (List ℕ)) (n : ℕ) where
@@ -184,18 +191,20 @@ module _ (T : Type 0) {L D : Type 0} (truth : Truth) (link : L → Link)
   Began = with_lent_tape store given first (with_world out a)
 
   abbrev pub Settles : Around → Result Record Stop → Type 0
-  Settles end result = SettlesBy T truth link left count watched (tape_for store true steps) store
+  Settles end result = SettlesBy T truth link step left count watched
+      (tape_for store ToMake steps) store
       plan (with_world old a) end result
 
   -- behind the borrowing
-  pub borrowed : LentTape store true old out given first → (end : Around) (result : Result Record Stop)
-      → SettlesBy T truth link left count watched steps store plan Began end result
+  pub borrowed : LentTape store ToMake old out given first → (end : Around)
+      (result : Result Record Stop)
+      → SettlesBy T truth link step left count watched steps store plan Began end result
       → Settles end result
-  borrowed h end (Ok made) l = let d = lent store true _ h a in record {
+  borrowed h end (Ok made) l = let d = lent store ToMake _ h a in record {
     begun = l.begun;
     plan_is = l.plan_is;
     mid = l.mid;
-    does = goes_on (tape_for store true nothing) (λ u. steps) tt d l.does;
+    does = goes_on (tape_for store ToMake nothing) (λ u. steps) tt d l.does;
     history = l.history;
     ended = l.ended;
     runs = l.runs;
@@ -207,51 +216,53 @@ module _ (T : Type 0) {L D : Type 0} (truth : Truth) (link : L → Link)
     home = home_trans d.home l.home;
   }
   borrowed h end (Err stop) (inl e) =
-      inl (goes_on (tape_for store true nothing) (λ u. steps) tt (lent store true _ h a) e)
-  borrowed h end (Err stop) (inr (inl l)) = let d = lent store true _ h a in inr (inl (record {
+      inl (goes_on (tape_for store ToMake nothing) (λ u. steps) tt (lent store ToMake _ h a) e)
+  borrowed h end (Err stop) (inr (inl l)) = let d = lent store ToMake _ h a in inr (inl (record {
     stops = l.stops;
     begun = l.begun;
     mid = l.mid;
-    does = goes_on (tape_for store true nothing) (λ u. steps) tt d l.does;
+    does = goes_on (tape_for store ToMake nothing) (λ u. steps) tt d l.does;
     none = l.none;
     home = home_trans d.home l.home;
   }))
-  borrowed h end (Err stop) (inr (inr l)) = let d = lent store true _ h a in inr (inr (record {
+  borrowed h end (Err stop) (inr (inr l)) = let d = lent store ToMake _ h a in inr (inr (record {
     begun = l.begun;
     mid = l.mid;
-    does = goes_on (tape_for store true nothing) (λ u. steps) tt d l.does;
+    does = goes_on (tape_for store ToMake nothing) (λ u. steps) tt d l.does;
     fails = l.fails;
     home = home_trans d.home l.home;
   }))
 
   back_so : (result : Result Record Stop) {told : Option (List ℕ)} {m : ℕ} {world : Outside}
-      → LentTape store true old out given first → ReturnedTape store world new told m
-      → SettlesBy T truth link left count watched steps store plan Began
+      → LentTape store ToMake old out given first → ReturnedTape store world new told m
+      → SettlesBy T truth link step left count watched steps store plan Began
       (with_lent_tape store told m (with_world world a)) result
       → Settles (with_world new a) result
   back_so result h returned s = borrowed h (with_world new a) result
-      (subst (λ b. SettlesBy T truth link left count watched steps store plan Began b result)
+      (subst (λ b. SettlesBy T truth link step left count watched steps store plan Began b result)
       (came_back store returned a) s)
 
-  pub over_settled : (made result : Result Record Stop) → LentTape store true old out given first
+  pub over_settled : (made result : Result Record Stop) → LentTape store ToMake old out given first
       → ReturnsSettled store Store mid new back n made result
-      → RunsBy T truth link left count watched steps store plan Began
+      → RunsBy T truth link step left count watched steps store plan Began
       (with_lent_tape store back n (with_world mid a)) made
       → Settles (with_world new a) result
   over_settled (Ok m) (Ok x) h (same, returned) r =
       subst (λ y. Settles (with_world new a) (Ok y)) (sym same)
-      (back_so (Ok m) h returned (settled_record T truth link left count watched store plan steps
+      (back_so (Ok m) h returned (settled_record T truth link step left count watched store plan
+      steps
       Began (with_lent_tape store back n (with_world mid a)) m r))
   over_settled (Ok m) (Err stop) h (later, rose, same, returned) r =
-      back_so (Err stop) h returned (inr (inr (unsettled T truth link left count watched store plan
+      back_so (Err stop) h returned (inr
+      (inr (unsettled T truth link step left count watched store plan
       steps Began (with_world mid a) back n later m stop r rose same)))
   over_settled (Err why) result h (same, returned) r =
       subst (λ y. Settles (with_world new a) y) (sym same)
       (back_so (Err why) h returned (by_end r))
     where
-      by_end : RunsBy T truth link left count watched steps store plan Began
+      by_end : RunsBy T truth link step left count watched steps store plan Began
           (with_lent_tape store back n (with_world mid a)) (Err why)
-          → SettlesBy T truth link left count watched steps store plan Began
+          → SettlesBy T truth link step left count watched steps store plan Began
           (with_lent_tape store back n (with_world mid a)) (Err why)
       by_end (inl e) = inl e
       by_end (inr l) = inr (inl l)

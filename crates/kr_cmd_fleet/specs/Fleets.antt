@@ -7,9 +7,11 @@ use Rattle.kr_base.specs.Limits.{store_limit, journal_limit}
 use Rattle.kr_base.specs.Streams.{AppendsFront}
 use Rattle.kr_config.specs.Kept.{Row}
 use Rattle.kr_kms.specs.Calls.{Link}
+use Rattle.kr_kms.specs.Exchanges.{Exchange}
 use Rattle.kr_kms.specs.Outside.{link_at, with_call}
 use Rattle.kr_kms.specs.declared.world.WorldCall.TheVariants.{Settled}
 use Rattle.kr_kms.specs.Truth.{Opens, Truth}
+use Rattle.kr_kms.specs.declared.world.Access.TheVariants.{ToMake}
 use Rattle.kr_provider.specs.Names.{names_of}
 use Rattle.kr_provider.specs.PluginOrder.{plugin_order}
 use Rattle.kr_provider.specs.Publication.{Publication}
@@ -160,7 +162,7 @@ beginning watched plan stored =
 -- a fleet by its plan, over the store of this name
 abbrev pub over_store : (watched : Bool) → (store : List ℕ) → FleetPlan → Steps Begun
 over_store watched store plan =
-    tape_for store true (and_then (stored_on Store store) (beginning watched plan))
+    tape_for store ToMake (and_then (stored_on Store store) (beginning watched plan))
 
 abbrev pub steps_of_fleet : (watched : Bool) → FleetWords → Steps Begun
 steps_of_fleet watched words =
@@ -232,11 +234,13 @@ pub record LeavesRest (store : List ℕ) (seats : ℕ) (mid new : Around) : Type
 
 -- One history: that of a core which began with the store's rows and what the replicas published,
 -- in order the settings of their files, a gap for one that isn't in. It is legal, honest (without a
--- program for a plugin whatever sources open to), with the lines of each worker and nothing else.
+-- program for a plugin whatever sources open to), with the lines of each worker, whose bench kept
+-- no seed when it began, and with nothing else.
 -- What it says of the replies follows: the headline, and the law `replies_are_true` of kr_workers.
 -- The store has the opening's rows and the written entries', and its count is that of the last
 -- line; what the workers had is back.
 pub record RunsFleet {T L D : Type 0} (truth : Truth) (link : L → Link)
+    (step : L → Exchange → L → Type 0)
     (left : D → Option (List ℕ)) (count : D → ℕ) (store : List ℕ) (begun : Begun)
     (mid new : Around) (history : List Entry) (ended : List (fleet_worker.Worker T L D))
     : Type 0 where
@@ -248,8 +252,9 @@ pub record RunsFleet {T L D : Type 0} (truth : Truth) (link : L → Link)
   pub files_are : map named_rows files ≡ begun.plan.files
   pub workers : List (fleet_worker.Worker T L D)
   pub many : length workers ≡ length parts
+  pub cold : All (λ (worker : fleet_worker.Worker T L D). worker.bench.cache.rows ≡ []) workers
   pub before : AreEquipped link left count begun.plan.programs mid workers
-  pub one : IsOneHistory truth link left count files history (opening_of store begun mid) parts
+  pub one : IsOneHistory truth link step left count files history (opening_of store begun mid) parts
       begun.budgets workers ended
   pub opens : truth.told ≡ true → IsHonest truth.opens (opening_of store begun mid) []
   pub bare : begun.plan.programs ≡ [] → (any : Opens)
@@ -320,6 +325,7 @@ WritesFleet text ending output (Err NoMemory) = AppendsFront output.old output.n
 WritesFleet text ending output (Err why) = ⊥
 
 module _ (T : Type 0) {L D : Type 0} (truth : Truth) (link : L → Link)
+    (step : L → Exchange → L → Type 0)
     (left : D → Option (List ℕ)) (count : D → ℕ) where
   -- the workers were started, and what they stored is settled
   pub record Starts (words : FleetWords) (old new : Around) (output : Receipt)
@@ -330,7 +336,7 @@ module _ (T : Type 0) {L D : Type 0} (truth : Truth) (link : L → Link)
     pub since : IsHome old mid
     pub history : List Entry
     pub ended : List (fleet_worker.Worker T L D)
-    pub runs : RunsFleet truth link left count words.store begun
+    pub runs : RunsFleet truth link step left count words.store begun
         (settled_behind words.store mid) new history ended
     pub writes : WritesFleet (text_of begun.plan.fleet history ended)
         (ending_of (map (λ (w : fleet_worker.Worker T L D). w.told) ended)) output result
@@ -353,10 +359,11 @@ TellsFleet (Err stop) errors status = Tells (line_of (Err stop)) (stop_status (E
 
 -- what a call of `run` did for a fleet
 pub record RanFleet (T : Type 0) {L D : Type 0} (truth : Truth) (link : L → Link)
+    (step : L → Exchange → L → Type 0)
     (left : D → Option (List ℕ)) (count : D → ℕ) (words : FleetWords) (old new : Around)
     (output errors : Receipt) (status : ℕ) : Type 0 where
   pub result : Result Ending Stop
-  pub did : DidFleet T truth link left count words old new output result
+  pub did : DidFleet T truth link step left count words old new output result
   pub tells : TellsFleet result errors status
   pub written : output.old_faults ≤ output.new_faults
   pub told : errors.old_faults ≤ errors.new_faults
@@ -367,7 +374,7 @@ abbrev pub RanAlone : (words : List (List ℕ)) → (old new : Around) → (outp
     → Option ℕ → Type 0
 RanAlone words old new output errors (Some status) =
     Ran words old new output errors status × Readings words old new output errors status
-    × AreLeft words old new status × (AskAlone words
+    × AreLeft words old new output status × (AskAlone words
     ⊎ Tells (line_of (Err NoMemory)) (stop_status (Err NoMemory)) errors status)
 RanAlone words old new output errors None =
     (((asked : FleetWords) × AsksFleet words asked) ⊎ ((asked : LoadWords) × AsksLoad words asked)

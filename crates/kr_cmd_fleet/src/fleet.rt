@@ -39,7 +39,7 @@ use crate::watch_start::{WatchStart, read_first};
 use kr_base::{Dice, List, NoMemory, Shared, Sink, Tape, Text};
 use kr_cmd_messages::{FleetWords, Limit, Object, Refusal, Stop};
 use kr_cmd_steps::{load_store, names_of, open_tape, publish_by, settle_tape, start_stop};
-use kr_kms::{Kms, World};
+use kr_kms::{Access, Kms, World};
 use kr_provider::{Links, Published};
 use kr_rollout::{Core, Line};
 use kr_script::{Script, Told, WriteNo, write_fleet};
@@ -71,7 +71,7 @@ pub fn fleet<R: Threads + Wait + Sync, W: World, O: Sink>(
     output: &mut O,
 ) -> Result<Ending, Stop>
     ensures did { (a : Around) → a.truth ≡ W.Link.truth
-        → DidFleet W.Tap W.Link.truth W.Link.link W.Rand.left W.Rand.count words.now
+        → DidFleet W.Tap W.Link.truth W.Link.link W.Link.step W.Rand.left W.Rand.count words.now
         (with_world (W.told world.old) a) (with_world (W.told world.new) a)
         (receipt (O.held output.old) (O.held output.new) (O.count output.old) (O.count output.new))
         result }
@@ -99,11 +99,11 @@ pub fn fleet_by<R: Threads + Wait + Sync, W: World>(
 ) -> Result<Record, Stop>
     requires plan { IsWholePlan (plan_of plan.now) }
     ensures { (a : Around) → a.truth ≡ W.Link.truth
-        → SettlesBy W.Tap W.Link.truth W.Link.link W.Rand.left W.Rand.count watched
+        → SettlesBy W.Tap W.Link.truth W.Link.link W.Link.step W.Rand.left W.Rand.count watched
         (over_store watched store.now (plan_of plan.now)) store.now (plan_of plan.now)
         (with_world (W.told world.old) a) (with_world (W.told world.new) a) result }
 {
-    let tape = match open_tape(alloc, world, store, true) {
+    let tape = match open_tape(alloc, world, store, Access::ToMake) {
         Ok(tape) => tape,
         Err(stop) => return Err(stop),
     };
@@ -122,7 +122,7 @@ fn fleet_on<R: Threads + Wait + Sync, W: World>(
 ) -> (Result<Record, Stop>, W::Tap)
     requires plan { IsWholePlan (plan_of plan.now) }
     ensures made { (name : Name) (a : Around) → a.truth ≡ W.Link.truth
-        → RunsBy W.Tap W.Link.truth W.Link.link W.Rand.left W.Rand.count watched
+        → RunsBy W.Tap W.Link.truth W.Link.link W.Link.step W.Rand.left W.Rand.count watched
         (and_then (stored_on Object.Store name) (beginning watched (plan_of plan.now))) name
         (plan_of plan.now)
         (with_lent_tape name (W.Tap.told tape) (W.Tap.count tape)
@@ -170,7 +170,7 @@ fn fleet_with<R: Threads + Wait + Sync, W: World>(
     requires store { (store.limit ≡ store_limit) × (store.torn ≡ false) }
     requires plan { IsWholePlan (plan_of plan.now) }
     ensures made { (name : Name) (a : Around) → a.truth ≡ W.Link.truth
-        → RunsBy W.Tap W.Link.truth W.Link.link W.Rand.left W.Rand.count watched
+        → RunsBy W.Tap W.Link.truth W.Link.link W.Link.step W.Rand.left W.Rand.count watched
         (equipping_all watched (plan_of plan.now) (stored_of store) budgets.now.entries.items) name
         (plan_of plan.now)
         (with_lent_tape name store.told store.count (with_world (W.told world.old) a))
@@ -214,7 +214,7 @@ fn begin<R: Threads + Wait + Sync, T: Tape + Send, L: Kms + Send, D: Dice + Send
     requires seats { length outfits.0 ≡ length plan.now.script.workers.0 }
     requires named { AreNamed L.link (names_in plan.now.programs) outfits.0 }
     ensures made { (name : Name) (a : Around) → a.truth ≡ L.truth
-        → RunsBy T L.truth L.link D.left D.count watched
+        → RunsBy T L.truth L.link L.step D.left D.count watched
         (launching watched (plan_of plan.now) (stored_of store) budgets.now.entries.items) name
         (plan_of plan.now)
         (with_outfits L.link D.left D.count 0 outfits.0
@@ -263,7 +263,7 @@ pub fn work_with<R: Threads + Wait + Sync, T: Tape + Send, L: Kms + Send, D: Dic
         → a.truth ≡ L.truth
         → IsPublished L.link D.left D.count L.truth watched plan.now budgets.now.entries.items name
         store a olds outfits.0 replicas.0 start.items.0
-        → RunsWith L.link D.left D.count T L.truth watched
+        → RunsWith L.link D.left D.count T L.truth L.step watched
         (launching watched (plan_of plan.now) (stored_of store) budgets.now.entries.items) name
         (plan_of plan.now) outfits.0 (with_crew L.link D.left D.count name store olds a)
         (with_crew L.link D.left D.count name result.1 result.2.0 a) result.0 }
@@ -303,7 +303,7 @@ fn run_crew<R: Threads + Wait + Sync, T: Tape + Send, L: Kms + Send, D: Dice + S
         crew.workers.items }
     requires named { AreNamed L.link (names_in plan.now.programs)
         (outfits_of crew.workers.items) }
-    ensures ran { RunsCrew L.truth L.link D.left D.count plan.now budgets.now.entries.items
+    ensures ran { RunsCrew L.truth L.link L.step D.left D.count plan.now budgets.now.entries.items
         core.opening start crew.workers.items result.0 result.1 result.2.0 }
 {
     let mut crew = crew;

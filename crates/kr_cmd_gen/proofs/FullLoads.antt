@@ -15,6 +15,7 @@ use Rattle.kr_config.specs.declared.pattern.Pattern.{Pattern}
 use Rattle.kr_config.specs.declared.pattern.Pattern.TheVariants.{Exact}
 use Rattle.kr_config.specs.declared.who.Who.TheVariants.{Identity}
 use Rattle.kr_kms.specs.Calls.{Link}
+use Rattle.kr_kms.specs.Exchanges.{Exchange}
 use Rattle.kr_kms.specs.Outside.{same_seat}
 use Rattle.kr_kms.specs.Truth.{Truth}
 use Rattle.kr_judge.specs.Fits.{ReadsWriter}
@@ -222,11 +223,12 @@ Source = SeededDice ChaCha
 
 -- they are those of the load
 pub load_run : (T : Type 0) → {L : Type 0} → (truth : Truth) (link : L → Link)
+    (step : L → Exchange → L → Type 0)
     (words : LoadWords) (old new : Around) (output : Receipt) (result : Result Ending Stop)
-    → (s : StartsLoad T truth link words old new output result)
-    → IsLoadRun truth link nothing_told no_faults words.seed words.size s.runs.files s.history
+    → (s : StartsLoad T truth link step words old new output result)
+    → IsLoadRun truth link step nothing_told no_faults words.seed words.size s.runs.files s.history
     (opening_of words.store s.begun s.mid) s.runs.parts s.begun.budgets s.runs.workers s.ended
-load_run T truth link words old new output result s = record {
+load_run T truth link step words old new output result s = record {
   parts_are = s.runs.parts_are ∙ ap (λ (p : FleetPlan). p.fleet.workers) s.plan_is;
   files_are = s.runs.files_are ∙ ap (λ (p : FleetPlan). p.files) s.plan_is;
   opens = s.runs.published
@@ -236,15 +238,18 @@ load_run T truth link words old new output result s = record {
 
 -- so each put that was done has its row
 pub keeps_puts : (T : Type 0) → {L : Type 0} → (truth : Truth) (link : L → Link)
+    (step : L → Exchange → L → Type 0)
     (words : LoadWords) (old new : Around) (output : Receipt) (result : Result Ending Stop)
-    → (s : StartsLoad T truth link words old new output result)
-    → KeepsPuts T truth link words old new output result s
-keeps_puts T truth link words old new output result s = puts_are_kept T truth link nothing_told
+    → (s : StartsLoad T truth link step words old new output result)
+    → KeepsPuts T truth link step words old new output result s
+keeps_puts T truth link step words old new output result s = puts_are_kept T truth link step
+    nothing_told
     no_faults words.seed words.size s.runs.files s.history (opening_of words.store s.begun s.mid)
     s.runs.parts s.begun.budgets s.runs.workers s.ended
-    (load_run T truth link words old new output result s)
+    (load_run T truth link step words old new output result s)
 
-module _ (T : Type 0) {L : Type 0} (truth : Truth) (link : L → Link) (words : LoadWords)
+module _ (T : Type 0) {L : Type 0} (truth : Truth) (link : L → Link)
+    (step : L → Exchange → L → Type 0) (words : LoadWords)
     (old new : Around) (output errors : Receipt) (small : words.size ≤ 10000)
     (blank : IsBlank words old)
     (none : NoneRose old new output errors) where
@@ -265,7 +270,7 @@ module _ (T : Type 0) {L : Type 0} (truth : Truth) (link : L → Link) (words : 
   calls (asking seat plugin) rose = none.calls (asking seat plugin) rose
 
   module _ (result : Result Ending Stop)
-      (s : StartsLoad T truth link words old new output result) where
+      (s : StartsLoad T truth link step words old new output result) where
     rows_none : s.begun.stored.rows ≡ []
     rows_none = allowed BeginsBlank (gives s.begun) s.reaches.end (load_steps words)
         (left_of (with_streams old)) (walks_blank words small old blank) s.reaches.goes
@@ -297,16 +302,16 @@ module _ (T : Type 0) {L : Type 0} (truth : Truth) (link : L → Link) (words : 
 
     full_run : (ending_of_load told_by ≡ ending.Memory)
         ⊎ AreFull words.seed words.size told_by
-    full_run = loads_are_full T truth link nothing_told no_faults words.seed words.size
+    full_run = loads_are_full T truth link step nothing_told no_faults words.seed words.size
         s.runs.files s.history (opening_of words.store s.begun s.mid) s.runs.parts
         s.begun.budgets s.runs.workers s.ended
-        (load_run T truth link words old new output result s) blank_run
+        (load_run T truth link step words old new output result s) blank_run
 
   abbrev Ends : ℕ → Type 0
   Ends status = IsFullLoad words output errors status
 
   ended_so : (status : ℕ) (e : Ending)
-      → (s : StartsLoad T truth link words old new output (Ok e)) → IsIdle errors
+      → (s : StartsLoad T truth link step words old new output (Ok e)) → IsIdle errors
       → status ≡ status_of e → Ends status
   ended_so status e s idle is = by (full_run (Ok e) s)
     where
@@ -331,7 +336,7 @@ module _ (T : Type 0) {L : Type 0} (truth : Truth) (link : L → Link) (words : 
 
   stopped_so : (status : ℕ) (stop : Stop) → status ≡ stop_status (Err stop)
       → StopsBefore (load_steps words) words.store (with_streams old) (with_streams new) output
-      (Err stop) ⊎ StartsLoad T truth link words old new output (Err stop) → Ends status
+      (Err stop) ⊎ StartsLoad T truth link step words old new output (Err stop) → Ends status
   stopped_so status (Words why) is (inl (inl ends, idle)) = absurd ends
   stopped_so status (Words why) is (inl (inr (inl (e, lacking)), idle)) = absurd cc
   stopped_so status (Words why) is (inl (inr (inr (mid, begun, reaches, fails, home)), idle)) =
@@ -356,13 +361,13 @@ module _ (T : Type 0) {L : Type 0} (truth : Truth) (link : L → Link) (words : 
 
   by_result_so : (status : ℕ) (result : Result Ending Stop)
       → StopsBefore (load_steps words) words.store (with_streams old) (with_streams new) output
-      result ⊎ StartsLoad T truth link words old new output result
+      result ⊎ StartsLoad T truth link step words old new output result
       → TellsFleet result errors status → Ends status
   by_result_so status (Ok e) (inl stops) tells = absurd stops
   by_result_so status (Ok e) (inr s) tells = ended_so status e s tells.1 tells.0
   by_result_so status (Err stop) did (inl tells) = stopped_so status stop tells.0 did
   by_result_so status (Err stop) did (inr tells) = absurd (none.told tells.1)
 
-  pub full_load : (status : ℕ) → RanLoad T truth link words old new output errors status
+  pub full_load : (status : ℕ) → RanLoad T truth link step words old new output errors status
       → IsFullLoad words output errors status
   full_load status ran = by_result_so status ran.result ran.did.did ran.tells

@@ -1,15 +1,18 @@
 -- A load over a store: its workers' random sources stand as if they were those of their seats.
 use Rattle.std.proofs.Common.{◌≡◌, ℕ, ◌+◌, ◌<◌, List, [], ◌∷◌, ◌++◌, length, get_or, Option, None, Result, Ok, Err, refl, sym, ◌∙◌, ap, subst, inl, inr, arith}
-use Rattle.std.specs.Prelude.{All, Bool, false, true, ◌⊎◌}
+use Rattle.std.specs.Prelude.{All, false, true, ◌⊎◌}
 use Rattle.std.proofs.lemmas.List.{get_or_append_left, length-append, length-map}
 use Rattle.std.proofs.lemmas.List.Elements.{All-append, All-cons, All-head, All-nil, All-tail}
 use Rattle.std.proofs.Math.ListN.{get_or-map}
 use Rattle.std.proofs.Math.Seq.{get_or-append_seam}
 use Rattle.kr_base.specs.declared.seeded_dice.SeededDice.{SeededDice}
 use Rattle.kr_kms.specs.Calls.{Link}
+use Rattle.kr_kms.specs.Exchanges.{Exchange}
 use Rattle.kr_kms.specs.Outside.{KeepsFiles, KeepsObjects, Outside, with_call}
 use Rattle.kr_kms.specs.Truth.{Truth}
 use Rattle.kr_kms.specs.declared.world.WorldCall.TheVariants.{Settled, Tape}
+use Rattle.kr_kms.specs.declared.world.Access.{Access}
+use Rattle.kr_kms.specs.declared.world.Access.TheVariants.{ToMake}
 use Rattle.kr_workload.specs.Streams.{stream}
 use Rattle.kr_provider.specs.AskedLinks.{AskedOnly}
 use Rattle.kr_provider.specs.Names.{names_of}
@@ -159,15 +162,17 @@ seeded_by {T} {L} seed outfits workers are generated seat d lt =
 
 -- ---- what a load over a store gives
 
-module _ (T : Type 0) {L : Type 0} (truth : Truth) (link : L → Link) (seed : ℕ)
+module _ (T : Type 0) {L : Type 0} (truth : Truth) (link : L → Link)
+    (step : L → Exchange → L → Type 0) (seed : ℕ)
     (store : List ℕ) (plan : FleetPlan) where
   abbrev pub Runs : Steps Begun → (old new : Around) → Result Record Stop → Type 0
-  Runs steps old new result = RunsLoad T truth link seed steps store plan old new result
+  Runs steps old new result = RunsLoad T truth link step seed steps store plan old new result
 
   -- the workers, by their outfits
   pub runs_crew : (steps : Steps Begun) (outfits : Outfits L Source) (old new : Around)
       → AreGenerated seed outfits → (result : Result Record Stop)
-      → RunsWith link nothing_told no_faults T truth false steps store plan outfits old new result
+      → RunsWith link nothing_told no_faults T truth step false steps store plan outfits old new
+      result
       → Runs steps old new result
   runs_crew steps outfits old new generated (Ok made) r = record {
     leaves = r.leaves;
@@ -182,17 +187,19 @@ module _ (T : Type 0) {L : Type 0} (truth : Truth) (link : L → Link) (seed : �
         → Runs (and_then first others) old new result
     unfolding before
     load_before x old mid new d (Ok made) l = record {
-      leaves = before T truth link nothing_told no_faults false store plan first others x new d (Ok made)
+      leaves = before T truth link step nothing_told no_faults false store plan first others x new d
+          (Ok made)
           l.leaves;
       sources = l.sources;
     }
     load_before x old mid new d (Err stop) l =
-        before T truth link nothing_told no_faults false store plan first others x new d (Err stop) l
+        before T truth link step nothing_told no_faults false store plan first others x new d
+        (Err stop) l
 
     pub load_ends : (old new : Around) (stop : Stop) → Does first old new (Err stop)
         → Runs (and_then first others) old new (Err stop)
     load_ends old new stop d =
-        ends_before T truth link nothing_told no_faults false store plan first others stop d
+        ends_before T truth link step nothing_told no_faults false store plan first others stop d
 
   -- the same between two surroundings that are these
   pub runs_same : (steps : Steps Begun) (old old' new new' : Around)
@@ -212,18 +219,18 @@ module _ (T : Type 0) {L : Type 0} (truth : Truth) (link : L → Link) (seed : �
 
 -- ---- the store's tape
 
-no_tape_seeded : (old new : Outside) (name : List ℕ) (make : Bool) (stop : Stop)
-    → NoTape old new name make stop
-    → NoTape (seeded_world old) (seeded_world new) name make stop
-no_tape_seeded old new name make (Words why) n = n
-no_tape_seeded old new name make (Refused why) n = n
-no_tape_seeded old new name make (Fault object count) n = n
-no_tape_seeded old new name make NoMemory n = n
+no_tape_seeded : (old new : Outside) (name : List ℕ) (access : Access) (stop : Stop)
+    → NoTape old new name access stop
+    → NoTape (seeded_world old) (seeded_world new) name access stop
+no_tape_seeded old new name access (Words why) n = n
+no_tape_seeded old new name access (Refused why) n = n
+no_tape_seeded old new name access (Fault object count) n = n
+no_tape_seeded old new name access NoMemory n = n
 
 module _ {old new : Outside} where
-  lent_seeded : {name : List ℕ} {make : _} {told : Option (List ℕ)} {count : ℕ}
-      → LentTape name make old new told count
-      → LentTape name make (seeded_world old) (seeded_world new) told count
+  lent_seeded : {name : List ℕ} {access : _} {told : Option (List ℕ)} {count : ℕ}
+      → LentTape name access old new told count
+      → LentTape name access (seeded_world old) (seeded_world new) told count
   lent_seeded h = record {
     out = h.out;
     tape = h.tape;
@@ -248,16 +255,16 @@ module _ {old new : Outside} where
 
   -- no tape was handed out
   pub untaped : (name : List ℕ) (steps : Steps Begun) (a : Around) (stop : Stop)
-      → KeepsFiles old new → KeepsObjects old new → NoTape old new name true stop
-      → AskedUnless old.asked new.asked (Tape name true) stop
-      → Does (tape_for name true steps) (with_streams (with_world old a))
+      → KeepsFiles old new → KeepsObjects old new → NoTape old new name ToMake stop
+      → AskedUnless old.asked new.asked (Tape name ToMake) stop
+      → Does (tape_for name ToMake steps) (with_streams (with_world old a))
       (with_streams (with_world new a)) (Err stop)
   untaped name steps a stop files objects n asked =
       not_lent (record { file = files.file; later = files.later }) (record {
         dice = ap (seeded_dice 0 4) objects.dice;
         tapes = objects.tapes;
         links = objects.links;
-      }) a name true stop (no_tape_seeded old new name true stop n) asked
+      }) a name ToMake stop (no_tape_seeded old new name ToMake stop n) asked
 
 -- workers are equipped as before where the world is told that a tape is settled
 module _ {T L : Type 0} (link : L → Link) (programs : List Program) (store : List ℕ)
@@ -272,32 +279,35 @@ module _ {T L : Type 0} (link : L → Link) (programs : List Program) (store : L
     count_is = is.count_is;
   }
 
-module _ (T : Type 0) {L : Type 0} (truth : Truth) (link : L → Link) (seed : ℕ)
+module _ (T : Type 0) {L : Type 0} (truth : Truth) (link : L → Link)
+    (step : L → Exchange → L → Type 0) (seed : ℕ)
     (store : List ℕ) (plan : FleetPlan) (steps : Steps Begun) (a : Around) where
   abbrev Settles : (old new : Around) → Result Record Stop → Type 0
   Settles old new result =
-      SettlesLoad T truth link seed (tape_for store true steps) store plan old new result
+      SettlesLoad T truth link step seed (tape_for store ToMake steps) store plan old new result
 
   -- the tape is borrowed for the load, is settled behind it, and comes back
   pub load_over_tape : {old out : Outside} {given : Option (List ℕ)} {first : ℕ} (new : Outside)
       (back : Option (List ℕ)) (n : ℕ) (made result : Result Record Stop)
-      → LentTape store true old out given first
+      → LentTape store ToMake old out given first
       → ReturnsSettled store Store out new back n made result
-      → Runs T truth link seed store plan steps
+      → Runs T truth link step seed store plan steps
       (with_lent_tape store given first (with_streams (with_world out a)))
       (with_lent_tape store back n (with_streams (with_world out a))) made
       → Settles (with_streams (with_world old a)) (with_streams (with_world new a)) result
   load_over_tape {old} {out} {given} {first} new back n (Ok m) (Ok x) h (same, returned) r =
-      subst (λ y. Settles (with_streams (with_world old a)) (with_streams (with_world new a)) (Ok y))
+      subst (λ y. Settles (with_streams (with_world old a)) (with_streams (with_world new a))
+      (Ok y))
       (sym same)
-      (subst (λ b. LeavesLoad T truth link seed true (tape_for store true steps) store plan
+      (subst (λ b. LeavesLoad T truth link step seed true (tape_for store ToMake steps) store plan
       (with_streams (with_world old a)) b m)
-      (came_back store (back_seeded {old = with_settled store out} {new = new} returned) a) (record {
-        leaves = let l = r.leaves in let d = lent store true _ (lent_seeded h) a in record {
+      (came_back store (back_seeded {old = with_settled store out} {new = new} returned) a)
+      (record {
+        leaves = let l = r.leaves in let d = lent store ToMake _ (lent_seeded h) a in record {
           begun = l.begun;
           plan_is = l.plan_is;
           mid = l.mid;
-          does = goes_on (tape_for store true nothing) (λ u. steps) tt d l.does;
+          does = goes_on (tape_for store ToMake nothing) (λ u. steps) tt d l.does;
           history = l.history;
           ended = l.ended;
           runs = record {
@@ -312,8 +322,10 @@ module _ (T : Type 0) {L : Type 0} (truth : Truth) (link : L → Link) (seed : �
             one = l.runs.one;
             opens = l.runs.opens;
             bare = l.runs.bare;
+            cold = l.runs.cold;
             after = equipped link l.begun.plan.programs store
-                (with_lent_tape store back n (with_streams (with_world out a))) l.ended l.runs.after;
+                (with_lent_tape store back n (with_streams (with_world out a))) l.ended
+                l.runs.after;
             stored = l.runs.stored;
             counted = l.runs.counted;
             rest = record {
@@ -337,21 +349,26 @@ module _ (T : Type 0) {L : Type 0} (truth : Truth) (link : L → Link) (seed : �
         };
         sources = r.sources;
       }))
-  load_over_tape {old} {out} {given} {first} new back n (Ok m) (Err stop) h (later, rose, same, returned) r =
-      over_settled T truth link nothing_told no_faults false store plan steps a (seeded_world old)
-      (seeded_world out) given first (seeded_world out) (seeded_world new) back n (Ok m) (Err stop) (lent_seeded h)
+  load_over_tape {old} {out} {given} {first} new back n (Ok m) (Err stop) h
+      (later, rose, same, returned) r =
+      over_settled T truth link step nothing_told no_faults false store plan steps a
+      (seeded_world old)
+      (seeded_world out) given first (seeded_world out) (seeded_world new) back n (Ok m) (Err stop)
+      (lent_seeded h)
       (later, rose, same, back_seeded returned) r.leaves
   load_over_tape {old} {out} {given} {first} new back n (Err why) result h (same, returned) r =
       subst (λ y. Settles (with_streams (with_world old a)) (with_streams (with_world new a)) y)
       (sym same)
-      (over_settled T truth link nothing_told no_faults false store plan steps a (seeded_world old)
-      (seeded_world out) given first (seeded_world out) (seeded_world new) back n (Err why) (Err why) (lent_seeded h)
+      (over_settled T truth link step nothing_told no_faults false store plan steps a
+      (seeded_world old)
+      (seeded_world out) given first (seeded_world out) (seeded_world new) back n (Err why)
+      (Err why) (lent_seeded h)
       (refl, back_seeded returned) r)
 
 -- of the world nothing but the tape was used
 pub others_stay : {old out : Outside} {name : List ℕ} {given : Option (List ℕ)} {first : ℕ}
     (new : Outside) (back : Option (List ℕ)) (n : ℕ) (made result : Result Record Stop)
-    → LentTape name true old out given first
+    → LentTape name ToMake old out given first
     → ReturnsSettled name Store out new back n made result → LeavesOthers old new
 others_stay new back n (Ok m) (Ok x) h (same, returned) =
     record { dice = returned.dice ∙ h.dice; links = returned.links ∙ h.links }

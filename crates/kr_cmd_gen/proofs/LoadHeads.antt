@@ -3,6 +3,7 @@ use Rattle.std.specs.Prelude.{◌⊎◌, map}
 use Rattle.std.proofs.Common.{ℕ, List, Result, Ok, Err, inl, inr, ap, ◌∙◌}
 use Rattle.kr_base.specs.declared.seeded_dice.SeededDice.{SeededDice}
 use Rattle.kr_kms.specs.Calls.{Link}
+use Rattle.kr_kms.specs.Exchanges.{Exchange}
 use Rattle.kr_kms.specs.Truth.{Truth}
 use Rattle.kr_script.specs.Fleets.{Worker}
 use Rattle.kr_workers.specs.Endings.{status_of as status_of_replies}
@@ -39,11 +40,12 @@ prints words workers replies output errors status (Err NoMemory) w t = inr (w, t
 prints words workers replies output errors status (Err (Words why)) w t = absurd w
 prints words workers replies output errors status (Err (Refused why)) w t = absurd w
 
-module _ (T : Type 0) {L : Type 0} (truth : Truth) (link : L → Link) (words : LoadWords)
+module _ (T : Type 0) {L : Type 0} (truth : Truth) (link : L → Link)
+    (step : L → Exchange → L → Type 0) (words : LoadWords)
     (old new : Around) (output errors : Receipt) (status : ℕ) where
-  started : (result : Result Ending Stop) → StartsLoad T truth link words old new output result
+  started : (result : Result Ending Stop) → StartsLoad T truth link step words old new output result
       → TellsFleet result errors status
-      → StartsLoadWorkers T truth link words old new output errors status
+      → StartsLoadWorkers T truth link step words old new output errors status
   started result s tells = record {
     begun = s.begun;
     plan_is = s.plan_is;
@@ -52,7 +54,7 @@ module _ (T : Type 0) {L : Type 0} (truth : Truth) (link : L → Link) (words : 
     since = s.since;
     history = s.history;
     ended = s.ended;
-    has = workers_headline truth link nothing_told no_faults words.store s.begun
+    has = workers_headline truth link step nothing_told no_faults words.store s.begun
         (settled_behind words.store s.mid) (with_streams new) s.history s.ended s.runs;
     prints = prints words s.begun.plan.fleet.workers
         (map (λ (w : fleet_worker.Worker T L (SeededDice ChaCha)). w.told) s.ended) output errors
@@ -62,15 +64,16 @@ module _ (T : Type 0) {L : Type 0} (truth : Truth) (link : L → Link) (words : 
   either : (result : Result Ending Stop)
       → StopsBefore (load_steps words) words.store (with_streams old) (with_streams new) output
       result
-      ⊎ StartsLoad T truth link words old new output result
+      ⊎ StartsLoad T truth link step words old new output result
       → TellsFleet result errors status
-      → LoadHeadline T truth link words old new output errors status
+      → LoadHeadline T truth link step words old new output errors status
   either (Ok ending) (inl stops) tells = absurd stops
   either (Err stop) (inl stops) tells =
       inl (record { stop = stop; stops = stops; tells = tells })
   either result (inr began) tells = inr (started result began tells)
 
 pub load_headline : (T : Type 0) → {L : Type 0} → (truth : Truth) (link : L → Link)
-    → LoadsHaveHeadlines T truth link
-load_headline T truth link words old new output errors status ran =
-    either T truth link words old new output errors status ran.result ran.did.did ran.tells
+    (step : L → Exchange → L → Type 0)
+    → LoadsHaveHeadlines T truth link step
+load_headline T truth link step words old new output errors status ran =
+    either T truth link step words old new output errors status ran.result ran.did.did ran.tells

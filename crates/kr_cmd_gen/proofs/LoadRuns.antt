@@ -3,6 +3,7 @@ use Rattle.std.proofs.Common.{◌≡◌, ℕ, List, map, Result, Ok, Err, refl, 
 use Rattle.std.specs.Prelude.{◌⊎◌}
 use Rattle.kr_base.specs.declared.seeded_dice.SeededDice.{SeededDice}
 use Rattle.kr_kms.specs.Calls.{Link}
+use Rattle.kr_kms.specs.Exchanges.{Exchange}
 use Rattle.kr_kms.specs.Truth.{Truth}
 use Rattle.kr_workers.specs.declared.ending.Ending.{Ending}
 use Rattle.kr_workers.specs.declared.worker.Worker as fleet_worker
@@ -47,18 +48,20 @@ no_load_or_memory words none NoMemory h errors status t = inr t
 
 -- ---- a load
 
-pub for_load : {T L : Type 0} {truth : Truth} {link : L → Link} {a b : LoadWords}
+pub for_load : {T L : Type 0} {truth : Truth} {link : L → Link}
+    {step : L → Exchange → L → Type 0} {a b : LoadWords}
     {old new : Around} {output errors : Receipt} {status : ℕ} → a ≡ b
-    → RanLoad T truth link a old new output errors status
-    → RanLoad T truth link b old new output errors status
-for_load {T} {truth = truth} {link = link} {old = old} {new = new} {output = output}
+    → RanLoad T truth link step a old new output errors status
+    → RanLoad T truth link step b old new output errors status
+for_load {T} {truth = truth} {link = link} {step = step} {old = old} {new = new} {output = output}
     {errors = errors} {status = status} e r =
-    subst (λ w. RanLoad T truth link w old new output errors status) e r
+    subst (λ w. RanLoad T truth link step w old new output errors status) e r
 
-module _ (T : Type 0) {L : Type 0} (truth : Truth) (link : L → Link) where
+module _ (T : Type 0) {L : Type 0} (truth : Truth) (link : L → Link)
+    (step : L → Exchange → L → Type 0) where
   -- memory lacked before anything was done
   pub unbegun : (asked : LoadWords) (a : Around) (output : Receipt) → IsIdle output
-      → DidLoad T truth link asked a a output (Err NoMemory)
+      → DidLoad T truth link step asked a a output (Err NoMemory)
   unbegun asked a output idle = record {
     home = home_refl a;
     others = record { dice = refl; links = refl };
@@ -71,7 +74,7 @@ module _ (T : Type 0) {L : Type 0} (truth : Truth) (link : L → Link) where
 
   pub load_unread : (words : List (List ℕ)) (asked : LoadWords) → AsksLoad words asked
       → (stop : Stop) → IsLoadAsked words (Err stop) → (a : Around) (output : Receipt)
-      → IsIdle output → DidLoad T truth link asked a a output (Err stop)
+      → IsIdle output → DidLoad T truth link step asked a a output (Err stop)
   load_unread words asked asks (Words why) h a output idle = absurd (h.1 asked asks)
   load_unread words asked asks (Refused why) h a output idle = absurd h
   load_unread words asked asks (Fault object n) h a output idle = absurd h
@@ -80,7 +83,7 @@ module _ (T : Type 0) {L : Type 0} (truth : Truth) (link : L → Link) where
   -- the same where the words were read as a fleet's
   pub fleet_unread : (words : List (List ℕ)) (asked : LoadWords) → AsksLoad words asked
       → (stop : Stop) → IsFleetAsked words (Err stop) → (a : Around) (output : Receipt)
-      → IsIdle output → DidLoad T truth link asked a a output (Err stop)
+      → IsIdle output → DidLoad T truth link step asked a a output (Err stop)
   fleet_unread words asked asks (Words why) h a output idle = absurd (h.2 asked asks)
   fleet_unread words asked asks (Refused why) h a output idle = absurd h
   fleet_unread words asked asks (Fault object n) h a output idle = absurd h
@@ -90,9 +93,9 @@ module _ (T : Type 0) {L : Type 0} (truth : Truth) (link : L → Link) where
       (old new : Around) where
     -- the steps behind the plan ended the command, or want of memory did
     pub load_stopped : (stop : Stop) (output : Receipt) → LeavesOthers old.world new.world
-        → SettlesLoad T truth link asked.seed (load_over asked.store plan) asked.store plan
+        → SettlesLoad T truth link step asked.seed (load_over asked.store plan) asked.store plan
         (with_streams old) (with_streams new) (Err stop)
-        → IsIdle output → DidLoad T truth link asked old new output (Err stop)
+        → IsIdle output → DidLoad T truth link step asked old new output (Err stop)
     load_stopped stop output others (inl e) idle =
         let d = subst (λ p. Does (load_over asked.store p) (with_streams old) (with_streams new)
         (Err stop)) is e in
@@ -145,10 +148,10 @@ module _ (T : Type 0) {L : Type 0} (truth : Truth) (link : L → Link) where
     -- the workers ran
     pub load_ran : (made : Record) (output : Receipt) (result : Result Ending Stop)
         → LeavesOthers old.world new.world
-        → SettlesLoad T truth link asked.seed (load_over asked.store plan) asked.store plan
+        → SettlesLoad T truth link step asked.seed (load_over asked.store plan) asked.store plan
         (with_streams old) (with_streams new) (Ok made)
         → WritesLoad asked plan.fleet.workers made.replies.0 output result
-        → DidLoad T truth link asked old new output result
+        → DidLoad T truth link step asked old new output result
     load_ran made output result others r w =
         let l = r.leaves in
         let d = subst (λ p. Does (load_over asked.store p) (with_streams old) l.mid (Ok l.begun)) is

@@ -1,12 +1,14 @@
 -- `gen`: the steps up to its workers, and what a call did once they were started.
-use Rattle.std.specs.Prelude.{◌≡◌, ℕ, suc, zero, ◌+◌, ◌≤◌, ◌⊎◌, false, true, List, [], map, Option, None, Result, Ok, Err}
+use Rattle.std.specs.Prelude.{◌≡◌, ℕ, suc, zero, ◌+◌, ◌≤◌, ◌⊎◌, false, List, [], map, Option, None, Result, Ok, Err}
 use Rattle.std.specs.Io.KnownBytes.{Appends, Keeps}
 use Rattle.kr_base.specs.Faults.{Rose}
 use Rattle.kr_base.specs.Streams.{AppendsFront}
 use Rattle.kr_base.specs.declared.seeded_dice.SeededDice.{SeededDice}
 use Rattle.kr_kms.specs.Calls.{Link}
+use Rattle.kr_kms.specs.Exchanges.{Exchange}
 use Rattle.kr_kms.specs.Outside.{Objects, Outside, same_seat}
 use Rattle.kr_kms.specs.Truth.{Truth}
+use Rattle.kr_kms.specs.declared.world.Access.TheVariants.{ToMake}
 use Rattle.kr_workload.specs.Endings.{ending_of_load}
 use Rattle.kr_workload.specs.Loads.{configurations, load_fleet}
 use Rattle.kr_workload.specs.Summaries.{IsSummary, Replies}
@@ -43,7 +45,7 @@ load_beginning plan stored =
 
 abbrev pub load_over : (store : List ℕ) → FleetPlan → Steps Begun
 load_over store plan =
-    tape_for store true (and_then (stored_on Store store) (load_beginning plan))
+    tape_for store ToMake (and_then (stored_on Store store) (load_beginning plan))
 
 -- of the world just the store's tape is borrowed
 abbrev pub load_steps : LoadWords → Steps Begun
@@ -93,7 +95,8 @@ nothing_told dice = None
 abbrev pub no_faults : SeededDice ChaCha → ℕ
 no_faults dice = 0
 
-module _ (T : Type 0) {L : Type 0} (truth : Truth) (link : L → Link) where
+module _ (T : Type 0) {L : Type 0} (truth : Truth) (link : L → Link)
+    (step : L → Exchange → L → Type 0) where
   -- the workers were started, and what they stored is settled; from what each of them draws isn't
   -- said here, since its source tells nothing
   pub record StartsLoad (words : LoadWords) (old new : Around) (output : Receipt)
@@ -105,7 +108,7 @@ module _ (T : Type 0) {L : Type 0} (truth : Truth) (link : L → Link) where
     pub since : IsHome (with_streams old) mid
     pub history : List Entry
     pub ended : List (fleet_worker.Worker T L (SeededDice ChaCha))
-    pub runs : RunsFleet truth link nothing_told no_faults words.store begun
+    pub runs : RunsFleet truth link step nothing_told no_faults words.store begun
         (settled_behind words.store mid) (with_streams new) history ended
     pub writes : WritesLoad words begun.plan.fleet.workers
         (map (λ (w : fleet_worker.Worker T L (SeededDice ChaCha)). w.told) ended) output result
@@ -121,10 +124,11 @@ module _ (T : Type 0) {L : Type 0} (truth : Truth) (link : L → Link) where
 
 -- what a call of `run` did for a load
 pub record RanLoad (T : Type 0) {L : Type 0} (truth : Truth) (link : L → Link)
+    (step : L → Exchange → L → Type 0)
     (words : LoadWords) (old new : Around) (output errors : Receipt) (status : ℕ)
     : Type 0 where
   pub result : Result Ending Stop
-  pub did : DidLoad T truth link words old new output result
+  pub did : DidLoad T truth link step words old new output result
   pub tells : TellsFleet result errors status
   pub written : output.old_faults ≤ output.new_faults
   pub told : errors.old_faults ≤ errors.new_faults

@@ -1,6 +1,7 @@
 -- What follows from the relation of a load.
 use Rattle.std.specs.Prelude.{ℕ, ◌≤◌}
 use Rattle.kr_kms.specs.Calls.{Link}
+use Rattle.kr_kms.specs.Exchanges.{Exchange}
 use Rattle.kr_kms.specs.Truth.{Truth}
 use Rattle.kr_cmd_steps.specs.Around.{Around}
 use Rattle.kr_cmd_gen.specs.GeneratedLoads.{RanLoad}
@@ -10,14 +11,16 @@ use Rattle.kr_cmd_messages.specs.Receipts.{Receipt}
 use Rattle.kr_cmd_messages.specs.declared.load_words.LoadWords.{LoadWords}
 
 -- the size of a load is within its limit
-abbrev pub LoadsAreRead : (T : Type 0) → {L : Type 0} → Truth → (L → Link) → Type 0
-LoadsAreRead T truth link = (words : LoadWords) (old new : Around)
+abbrev pub LoadsAreRead : (T : Type 0) → {L : Type 0} → Truth → (L → Link)
+    → (L → Exchange → L → Type 0) → Type 0
+LoadsAreRead T truth link step = (words : LoadWords) (old new : Around)
     (output errors : Receipt) (status : ℕ) → words.size ≤ 10000
-    → RanLoad T truth link words old new output errors status
-    → LoadReadings T truth link words old new output errors status
+    → RanLoad T truth link step words old new output errors status
+    → LoadReadings T truth link step words old new output errors status
 
-abbrev pub LoadsHaveHeadlines : (T : Type 0) → {L : Type 0} → Truth → (L → Link) → Type 0
-LoadsHaveHeadlines T truth link = (words : LoadWords) (old new : Around)
+abbrev pub LoadsHaveHeadlines : (T : Type 0) → {L : Type 0} → Truth → (L → Link)
+    → (L → Exchange → L → Type 0) → Type 0
+LoadsHaveHeadlines T truth link step = (words : LoadWords) (old new : Around)
     (output errors : Receipt) (status : ℕ)
-    → RanLoad T truth link words old new output errors status
-    → LoadHeadline T truth link words old new output errors status
+    → RanLoad T truth link step words old new output errors status
+    → LoadHeadline T truth link step words old new output errors status

@@ -7,6 +7,7 @@ use Rattle.kr_base.specs.Faults.{Rose}
 use Rattle.kr_base.specs.Streams.{AppendsFront}
 use Rattle.kr_base.specs.declared.seeded_dice.SeededDice.{SeededDice}
 use Rattle.kr_kms.specs.Calls.{Link}
+use Rattle.kr_kms.specs.Exchanges.{Exchange}
 use Rattle.kr_kms.specs.Truth.{Truth}
 use Rattle.kr_rollout.specs.declared.opening.Entry.{Entry}
 use Rattle.kr_script.specs.Fleets.{Worker}
@@ -38,7 +39,8 @@ PrintsSummary words workers replies output errors status =
     × TellsStop (Fault Output output.new_faults) errors status)))
     ⊎ (Keeps output.old output.new × TellsStop NoMemory errors status)
 
-module _ (T : Type 0) {L : Type 0} (truth : Truth) (link : L → Link) (words : LoadWords)
+module _ (T : Type 0) {L : Type 0} (truth : Truth) (link : L → Link)
+    (step : L → Exchange → L → Type 0) (words : LoadWords)
     (old new : Around) (output errors : Receipt) (status : ℕ) where
   -- the workers of the load that the seed and the size decide were started, each with a random
   -- source that tells nothing and never fails
@@ -50,7 +52,7 @@ module _ (T : Type 0) {L : Type 0} (truth : Truth) (link : L → Link) (words : 
     pub since : IsHome (with_streams old) mid
     pub history : List Entry
     pub ended : List (fleet_worker.Worker T L (SeededDice ChaCha))
-    pub has : WorkersHeadline truth link nothing_told no_faults words.store begun
+    pub has : WorkersHeadline truth link step nothing_told no_faults words.store begun
         (settled_behind words.store mid) (with_streams new) history ended
     pub prints : PrintsSummary words begun.plan.fleet.workers
         (map (λ (w : fleet_worker.Worker T L (SeededDice ChaCha)). w.told) ended) output errors

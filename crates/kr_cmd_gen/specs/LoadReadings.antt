@@ -1,6 +1,7 @@
 -- What follows from a load's relation for readers: what its status comes from.
 use Rattle.std.specs.Prelude.{ℕ, IsSome, Result}
 use Rattle.kr_kms.specs.Calls.{Link}
+use Rattle.kr_kms.specs.Exchanges.{Exchange}
 use Rattle.kr_kms.specs.Truth.{Truth}
 use Rattle.kr_workers.specs.declared.ending.Ending.{Ending}
 use Rattle.kr_cmd_steps.specs.Around.{Around}
@@ -15,10 +16,11 @@ use Rattle.kr_cmd_messages.specs.declared.refusal.Stop.{Stop}
 abbrev pub TellsTape : LoadWords → Around → Type 0
 TellsTape words old = IsSome (old.world.tapes.told words.store)
 
-module _ (T : Type 0) {L : Type 0} (truth : Truth) (link : L → Link) (words : LoadWords)
+module _ (T : Type 0) {L : Type 0} (truth : Truth) (link : L → Link)
+    (step : L → Exchange → L → Type 0) (words : LoadWords)
     (old new : Around) (output errors : Receipt) where
   abbrev pub HasStarted : Result Ending Stop → Type 0
-  HasStarted result = StartsLoad T truth link words old new output result
+  HasStarted result = StartsLoad T truth link step words old new output result
 
   pub record LoadReadings (status : ℕ) : Type 0 where
     pub causes : Causes (load_steps words) HasStarted (with_streams old) (with_streams new)
@@ -29,4 +31,4 @@ module _ (T : Type 0) {L : Type 0} (truth : Truth) (link : L → Link) (words : 
         → IsFullLoad words output errors status
     -- each put that was done has its row, a sealing of its data by a configuration of the load
     pub kept : (result : Result Ending Stop) → (s : HasStarted result)
-        → KeepsPuts T truth link words old new output result s
+        → KeepsPuts T truth link step words old new output result s

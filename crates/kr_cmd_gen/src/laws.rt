@@ -5,10 +5,10 @@ use kr_kms::World;
 
 /// What readers take from the relation of a load.
 pub fn loads_are_read<W: World>()
-    ensures { LoadsAreRead W.Tap W.Link.truth W.Link.link }
+    ensures { LoadsAreRead W.Tap W.Link.truth W.Link.link W.Link.step }
 {}
 
 /// What a load did has the headline.
 pub fn loads_have_headlines<W: World>()
-    ensures { LoadsHaveHeadlines W.Tap W.Link.truth W.Link.link }
+    ensures { LoadsHaveHeadlines W.Tap W.Link.truth W.Link.link W.Link.step }
 {}

@@ -22,7 +22,7 @@ use kr_cmd_fleet::fleet::{Record, budget_stop, publish_each, work_with};
 use kr_cmd_fleet::{Outfit, Plan, WatchStart};
 use kr_cmd_messages::{LoadWords, Object, Stop};
 use kr_cmd_steps::{Programs, load_store, open_tape, settle_tape};
-use kr_kms::{Kms, World};
+use kr_kms::{Access, Kms, World};
 use kr_provider::{Links, Published};
 use kr_script::WriteNo;
 use kr_store::Store;
@@ -42,7 +42,7 @@ pub fn load<R: Threads + Wait + Sync, W: World, O: Sink>(
     output: &mut O,
 ) -> Result<Ending, Stop>
     ensures did { (a : Around) → a.truth ≡ W.Link.truth
-        → DidLoad W.Tap W.Link.truth W.Link.link words.now
+        → DidLoad W.Tap W.Link.truth W.Link.link W.Link.step words.now
         (with_world (W.told world.old) a) (with_world (W.told world.new) a)
         (receipt (O.held output.old) (O.held output.new) (O.count output.old) (O.count output.new))
         result }
@@ -82,14 +82,14 @@ fn load_by<R: Threads + Wait + Sync, W: World>(
 ) -> Result<Record, Stop>
     requires plan { IsLoadPlan plan.now }
     ensures runs { (a : Around) → a.truth ≡ W.Link.truth
-        → SettlesLoad W.Tap W.Link.truth W.Link.link words.now.seed
+        → SettlesLoad W.Tap W.Link.truth W.Link.link W.Link.step words.now.seed
         (load_over words.now.store (plan_of plan.now)) words.now.store (plan_of plan.now)
         (with_streams (with_world (W.told world.old) a))
         (with_streams (with_world (W.told world.new) a)) result }
     ensures others { LeavesOthers (W.told world.old) (W.told world.new) }
 {
     let store = words.store.as_str();
-    let tape = match open_tape(alloc, world, store, true) {
+    let tape = match open_tape(alloc, world, store, Access::ToMake) {
         Ok(tape) => tape,
         Err(stop) => return Err(stop),
     };
@@ -107,7 +107,7 @@ fn load_on<R: Threads + Wait + Sync, T: Tape + Send, L: Kms + Send>(
 ) -> (Result<Record, Stop>, T)
     requires plan { IsLoadPlan plan.now }
     ensures { (name : Name) (a : Around) → a.truth ≡ L.truth
-        → RunsLoad T L.truth L.link seed
+        → RunsLoad T L.truth L.link L.step seed
         (and_then (stored_on Object.Store name) (load_beginning (plan_of plan.now))) name
         (plan_of plan.now) (with_lent_tape name (T.told tape) (T.count tape) (with_streams a))
         (with_lent_tape name (T.told result.1) (T.count result.1) (with_streams a)) result.0 }
@@ -140,7 +140,7 @@ fn load_with<R: Threads + Wait + Sync, T: Tape + Send, L: Kms + Send>(
     requires store { (store.limit ≡ store_limit) × (store.torn ≡ false) }
     requires plan { IsLoadPlan plan.now }
     ensures { (name : Name) (a : Around) → a.truth ≡ L.truth
-        → RunsLoad T L.truth L.link seed
+        → RunsLoad T L.truth L.link L.step seed
         (launching false (plan_of plan.now) (stored_of store) budgets.now.entries.items) name
         (plan_of plan.now) (with_lent_tape name store.told store.count (with_streams a))
         (with_lent_tape name result.1.told result.1.count (with_streams a)) result.0 }

@@ -1,7 +1,7 @@
 -- Steps behind others: where the others came to, and how they went on from there.
 use Rattle.std.proofs.Common.{◌≡◌, ◌⊎◌, ℕ, List, Option, refl, sym, ◌∙◌, ap, subst, inl, inr}
-use Rattle.std.specs.Prelude.{Bool}
 use Rattle.kr_kms.specs.declared.world.WorldCall.TheVariants.{File, Link, RandomSource, Settled, Tape}
+use Rattle.kr_kms.specs.declared.world.Access.{Access}
 use Rattle.kr_cmd_steps.specs.Afterwards.{IsSettledLast}
 use Rattle.kr_cmd_steps.specs.Commands.{settled_for}
 use Rattle.kr_cmd_steps.specs.Steps.{Steps, load, take_input, borrow_dice, borrow_tape, read_tape, write_row, keep_rows, settle, draw, borrow_link, ask_status, wrap, unwrap, note, find, refuse, give, and_then, Point, awaits, amid, refuses, gives, Left, Goes, loading, reading, opening, lending, scanning, writing, settling, drawing, linking, asking, with_asked, with_input, with_told}
@@ -39,16 +39,16 @@ module _ {A B : Type 0} (others : A → Steps B) (p : Point B) (end : Left) wher
       (awaits (opening seat), with_asked (RandomSource seat) left, inr (inl (refl, refl)), at)
   parted (borrow_dice seat next) left (inr (inr goes)) =
       let r = parted next _ goes in (r.0, r.1, inr (inr r.2), r.3)
-  parted (borrow_tape name make absent next) left (inl at) = (amid, left, inl (refl, refl), at)
-  parted (borrow_tape name make absent next) left (inr (inl at)) =
-      (awaits (lending name), with_asked (Tape name make) left, inr (inl (refl, refl)), at)
-  parted (borrow_tape name make absent next) left (inr (inr (inl (may, agrees, at)))) = (
+  parted (borrow_tape name access absent next) left (inl at) = (amid, left, inl (refl, refl), at)
+  parted (borrow_tape name access absent next) left (inr (inl at)) =
+      (awaits (lending name), with_asked (Tape name access) left, inr (inl (refl, refl)), at)
+  parted (borrow_tape name access absent next) left (inr (inr (inl (may, agrees, at)))) = (
     refuses absent,
-    with_asked (Tape name make) left,
+    with_asked (Tape name access) left,
     inr (inr (inl (may, agrees, (refl, refl)))),
     at,
   )
-  parted (borrow_tape name make absent next) left (inr (inr (inr (may, goes)))) =
+  parted (borrow_tape name access absent next) left (inr (inr (inr (may, goes)))) =
       let r = parted next _ goes in (r.0, r.1, inr (inr (inr (may, r.2))), r.3)
   parted (read_tape object name next) left (inl at) =
       (awaits (scanning object name), left, inl (refl, refl), at)
@@ -117,16 +117,16 @@ went_on {A} {B} others x end first left goes =
     by_point (gives y) mid f = (y, mid, f)
 
 -- a tape that is borrowed for them was settled
-pub settled_last : {A : Type 0} (object : Object) (name : List ℕ) (make : Bool) (next : Steps A)
-    (x : A) (end left : Left) → Goes (gives x) end (settled_for object name make next) left
+pub settled_last : {A : Type 0} (object : Object) (name : List ℕ) (access : Access) (next : Steps A)
+    (x : A) (end left : Left) → Goes (gives x) end (settled_for object name access next) left
     → IsSettledLast name end.asked
-settled_last object name make next x end left (inl at) =
+settled_last object name access next x end left (inl at) =
     absurd (let e : gives x ≡ amid = at.0 in cc)
-settled_last object name make next x end left (inr (inl at)) =
+settled_last object name access next x end left (inr (inl at)) =
     absurd (let e : gives x ≡ awaits (lending name) = at.0 in cc)
-settled_last object name make next x end left (inr (inr (inl (may, agrees, at)))) =
+settled_last object name access next x end left (inr (inr (inl (may, agrees, at)))) =
     absurd (let e : gives x ≡ refuses _ = at.0 in cc)
-settled_last {A} object name make next x end left (inr (inr (inr (may, goes)))) =
+settled_last {A} object name access next x end left (inr (inr (inr (may, goes)))) =
     let behind = went_on (λ made. settle object name (give made)) x end next _ goes in
     by_settling behind.0 behind.1 behind.2
   where

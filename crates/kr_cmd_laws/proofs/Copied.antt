@@ -8,6 +8,7 @@ use Rattle.kr_base.specs.Told.{Agrees}
 use Rattle.kr_config.specs.Kept.{Row}
 use Rattle.kr_kms.specs.Outside.{same_name}
 use Rattle.kr_kms.specs.declared.world.WorldCall.TheVariants.{File, Tape}
+use Rattle.kr_kms.specs.declared.world.Access.TheVariants.{ToRead, ToMake}
 use Rattle.kr_store.specs.File.{file_bytes}
 use Rattle.kr_store.specs.declared.format.Format.TheVariants.{Two}
 use Rattle.kr_store.specs.declared.rows.LogRow.{LogRow}
@@ -330,7 +331,7 @@ module _ (words : Migration) (p : Point Outcome) (end left : Left) where
       absurd (let t : true ≡ false = never in cc)
   at_tape file rows bytes source configured means held read mid e
       (inr (inr (inr (may, goes)))) =
-      let out : Left = with_tape true words.to (with_asked (Tape words.to true) mid) in
+      let out : Left = with_tape true words.to (with_asked (Tape words.to ToMake) mid) in
       let r = parted settling_it p end
       (and_then (target_on words.to) (copied_into words.to rows source)) out goes in
       settled_on r.0 r.1 (at_target words r.0 r.1 left file rows bytes source configured means held
@@ -386,5 +387,5 @@ module _ (words : Migration) (p : Point Outcome) (end left : Left) where
   ))) =
       at_tape file rows bytes source agrees is held
       (old_of bytes source read.0 read.1 read.2)
-      (with_tape false words.store (with_asked (Tape words.store false)
+      (with_tape false words.store (with_asked (Tape words.store ToRead)
       (with_asked (File words.config) left))) refl goes

@@ -9,6 +9,7 @@ use Rattle.kr_cmd_messages.specs.declared.command.Command.{Command}
 use Rattle.kr_cmd_messages.specs.declared.refusal.Stop.{Stop}
 use Rattle.kr_cmd_messages.specs.declared.refusal.Done.{Done}
 use Rattle.kr_cmd_messages.specs.declared.refusal.Outcome.{Outcome}
+use Rattle.kr_cmd_steps.proofs.Ends.{decided_stop}
 use Rattle.kr_cmd_laws.proofs.OnePoint.{one_point}
 use Rattle.kr_cmd_laws.proofs.SettledCommands.{settled}
 use Rattle.kr_cmd_messages.proofs.OneCommand.{one_command}
@@ -20,8 +21,10 @@ pub same_end : {words : List (List ℕ)} {old new : Around} {command : Command} 
     (point : Point Outcome) (m n : Result Done Stop)
     → Asks words command → IsTelling command old → WouldCome command old point
     → Comes words old new q → end_at point ≡ Some m → end_at q ≡ Some n → m ≡ n
-same_end {words} {old} {new} {command} {q} point m n asks tells would (said, comes) =
-    let goes = subst (λ c. Goes q comes.reaches.end (steps c) (left_of old))
-    (one_command comes.asks asks) comes.reaches.goes in
-    one_point point q would.0 comes.reaches.end (steps command) (steps command) (left_of old)
-    (left_of old) (settled command old tells) would.1 goes m n
+same_end {words} {old} {new} {command} {q} point m n asks tells would (said, comes) at decides =
+    let r = comes.reaches in
+    let goes = subst (λ c. Goes q r.end (steps c) (left_of old)) (one_command comes.asks asks)
+    (subst (λ p. Goes p r.end (steps comes.command) (left_of old))
+    (decided_stop comes.command r.stop q r.end r.last n decides r.closes) r.goes) in
+    one_point point q would.0 r.end (steps command) (steps command) (left_of old)
+    (left_of old) (settled command old tells) would.1 goes m n at decides

@@ -7,6 +7,7 @@ use Rattle.std.proofs.lemmas.Option.{get_or_from_slice_get, slice_get_within}
 use Rattle.kr_base.specs.Faults.{Rose}
 use Rattle.kr_base.proofs.Counting.{Rose-later}
 use Rattle.kr_kms.specs.Calls.{Link}
+use Rattle.kr_kms.specs.Exchanges.{Exchange}
 use Rattle.kr_kms.specs.Health.{breach_in}
 use Rattle.kr_kms.specs.Outside.{link_at}
 use Rattle.kr_kms.specs.Truth.{Truth}
@@ -90,6 +91,7 @@ name_there link links it (k, below, is) = (
 )
 
 module _ (T : Type 0) {L D : Type 0} (truth : Truth) (link : L → Link)
+    (step : L → Exchange → L → Type 0)
     (left : D → Option (List ℕ)) (count : D → ℕ) (words : FleetWords) (old : Around)
     (ready : IsReady words old) (new : Around) (output errors : Receipt)
     (none : NoneRose old new output errors) where
@@ -109,7 +111,7 @@ module _ (T : Type 0) {L D : Type 0} (truth : Truth) (link : L → Link)
       (begins : BeginsWell words old ready begun end)
       (links : mid.world.links.told ≡ old.world.links.told)
       (history : List Entry) (ended : List (Worker T L D))
-      (runs : RunsFleet truth link left count words.store begun mid new history ended) where
+      (runs : RunsFleet truth link step left count words.store begun mid new history ended) where
     many_are : length runs.workers ≡ length ready.fleet.workers
     many_are = runs.many ∙ sym (length-map runs.parts worker_of)
         ∙ ap length (runs.parts_are ∙ ap (λ (f : Fleet). f.workers) begins.fleet_is)
@@ -205,9 +207,9 @@ module _ (T : Type 0) {L D : Type 0} (truth : Truth) (link : L → Link)
             sym t.2 ∙ ap breach_in same ∙ has.has.2 in cc)
 
   abbrev Completed : ℕ → Type 0
-  Completed status = IsCompleted T truth link left count words old new output errors status
+  Completed status = IsCompleted T truth link step left count words old new output errors status
 
-  module _ (e : Ending) (s : Starts T truth link left count words old new output (Ok e))
+  module _ (e : Ending) (s : Starts T truth link step left count words old new output (Ok e))
       (idle : IsIdle errors) where
     begins : BeginsWell words old ready s.begun s.reaches.end
     begins = allowed (BeginsWell words old ready) (gives s.begun) s.reaches.end
@@ -218,13 +220,13 @@ module _ (T : Type 0) {L D : Type 0} (truth : Truth) (link : L → Link)
 
     rests : RestsOn link count s.history s.runs.workers s.ended e
     rests = subst (RestsOn link count s.history s.runs.workers s.ended) (sym s.writes.0)
-        (histories_tell T truth link left count s.runs.files s.history
+        (histories_tell T truth link step left count s.runs.files s.history
         (opening_of words.store s.begun s.mid) s.runs.parts s.begun.budgets s.runs.workers s.ended
         s.runs.one).rests
 
   -- the workers ran
   ended_so : (status : ℕ) (e : Ending)
-      → Starts T truth link left count words old new output (Ok e) → IsIdle errors
+      → Starts T truth link step left count words old new output (Ok e) → IsIdle errors
       → status ≡ status_of e → Completed status
   ended_so status ending.Done s idle is = inl (is, (s, idle))
   ended_so status ending.Refused s idle is = inr (inl (is, (s, idle)))
@@ -239,13 +241,14 @@ module _ (T : Type 0) {L D : Type 0} (truth : Truth) (link : L → Link)
       (begins ending.Fault s idle) (links ending.Fault s idle) s.history s.ended s.runs
       (rests ending.Fault s idle))
   ended_so status ending.Unhealthy s idle is = absurd (no_illness s.begun
-      (settled_behind words.store s.mid) (home_settled words.store s.since) s.reaches.end (begins ending.Unhealthy s idle) (links ending.Unhealthy s idle) s.history
+      (settled_behind words.store s.mid) (home_settled words.store s.since) s.reaches.end
+      (begins ending.Unhealthy s idle) (links ending.Unhealthy s idle) s.history
       s.ended s.runs (rests ending.Unhealthy s idle))
 
   -- they didn't
   stopped_so : (status : ℕ) (stop : Stop) → status ≡ stop_status (Err stop)
       → StopsBefore (fleet_steps words) words.store old new output (Err stop)
-      ⊎ Starts T truth link left count words old new output (Err stop) → Completed status
+      ⊎ Starts T truth link step left count words old new output (Err stop) → Completed status
   stopped_so status (Words why) is (inl (inl ends, idle)) = absurd ends
   stopped_so status (Words why) is (inl (inr (inl (e, lacking)), idle)) = absurd cc
   stopped_so status (Words why) is (inl (inr (inr (mid, begun, reaches, fails, home)), idle)) =
@@ -269,12 +272,12 @@ module _ (T : Type 0) {L D : Type 0} (truth : Truth) (link : L → Link)
   stopped_so status NoMemory is did = inr (inr (inr is))
 
   pub completed : (status : ℕ)
-      → RanFleet T truth link left count words old new output errors status → Completed status
+      → RanFleet T truth link step left count words old new output errors status → Completed status
   completed status ran = by ran.result ran.did.did ran.tells
     where
       by : (result : Result Ending Stop)
           → StopsBefore (fleet_steps words) words.store old new output result
-          ⊎ Starts T truth link left count words old new output result
+          ⊎ Starts T truth link step left count words old new output result
           → TellsFleet result errors status → Completed status
       by (Ok e) (inl never) tells = absurd never
       by (Ok e) (inr s) tells = ended_so status e s tells.1 tells.0

@@ -1,6 +1,7 @@
 -- What readers take from the relation of a fleet.
 use Rattle.std.proofs.Common.{ℕ, List, Option, Result, Err}
 use Rattle.kr_kms.specs.Calls.{Link}
+use Rattle.kr_kms.specs.Exchanges.{Exchange}
 use Rattle.kr_kms.specs.Truth.{Truth}
 use Rattle.kr_workers.specs.declared.ending.Ending.{Ending}
 use Rattle.kr_cmd_steps.specs.Around.{Around}
@@ -16,10 +17,11 @@ use Rattle.kr_cmd_laws.proofs.FleetEndings.{completed}
 use Rattle.kr_cmd_laws.proofs.FleetSettled.{settled_fleet}
 
 module _ (T : Type 0) {L D : Type 0} (truth : Truth) (link : L → Link)
+    (step : L → Exchange → L → Type 0)
     (left : D → Option (List ℕ)) (count : D → ℕ) (words : FleetWords) (old new : Around)
     (output errors : Receipt) where
   abbrev Began : Result Ending Stop → Type 0
-  Began result = HasStarted T truth link left count words old new output errors result
+  Began result = HasStarted T truth link step left count words old new output errors result
 
   breaks : (stop : Stop) → Began (Err stop) → BreaksOff output stop
   breaks (Words why) s = absurd s.writes
@@ -28,12 +30,12 @@ module _ (T : Type 0) {L D : Type 0} (truth : Truth) (link : L → Link)
   breaks NoMemory s = tt
 
   pub fleet_readings : (status : ℕ)
-      → RanFleet T truth link left count words old new output errors status
-      → FleetReadings T truth link left count words old new output errors status
+      → RanFleet T truth link step left count words old new output errors status
+      → FleetReadings T truth link step left count words old new output errors status
   fleet_readings status ran = record {
     causes = causes (fleet_steps words) words.store Began old new output errors
         (λ e s. (s.begun, (s.reaches.end, s.reaches.goes))) breaks (IsFleetTold words old)
         (settled_fleet words old) status ran.result ran.did.home ran.did.did ran.tells;
     complete = λ ready none.
-        completed T truth link left count words old ready new output errors none status ran;
+        completed T truth link step left count words old ready new output errors none status ran;
   }

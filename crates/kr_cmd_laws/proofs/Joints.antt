@@ -42,11 +42,11 @@ module _ {A B : Type 0} (others : A → Steps B) (y : B) (end : Left) where
   joint (borrow_dice seat next) left (inr (inl at)) = absurd (no_value at refl)
   joint (borrow_dice seat next) left (inr (inr goes)) =
       let j = joint next _ goes in (j.0, j.1, inr (inr j.2), j.3)
-  joint (borrow_tape name make absent next) left (inl at) = absurd (no_value at refl)
-  joint (borrow_tape name make absent next) left (inr (inl at)) = absurd (no_value at refl)
-  joint (borrow_tape name make absent next) left (inr (inr (inl (may, agrees, at)))) =
+  joint (borrow_tape name access absent next) left (inl at) = absurd (no_value at refl)
+  joint (borrow_tape name access absent next) left (inr (inl at)) = absurd (no_value at refl)
+  joint (borrow_tape name access absent next) left (inr (inr (inl (may, agrees, at)))) =
       absurd (no_value at refl)
-  joint (borrow_tape name make absent next) left (inr (inr (inr (may, goes)))) =
+  joint (borrow_tape name access absent next) left (inr (inr (inr (may, goes)))) =
       let j = joint next _ goes in (j.0, j.1, inr (inr (inr (may, j.2))), j.3)
   joint (read_tape object name next) left (inl at) = absurd (no_value at refl)
   joint (read_tape object name next) left (inr (bytes, agrees, goes)) =
@@ -107,11 +107,11 @@ module _ {A : Type 0} (point : Point A) (end : Left) where
   one_truth (borrow_dice seat next) left (inl at) = at_truth at refl
   one_truth (borrow_dice seat next) left (inr (inl at)) = at_truth at refl
   one_truth (borrow_dice seat next) left (inr (inr goes)) = one_truth next _ goes
-  one_truth (borrow_tape name make absent next) left (inl at) = at_truth at refl
-  one_truth (borrow_tape name make absent next) left (inr (inl at)) = at_truth at refl
-  one_truth (borrow_tape name make absent next) left (inr (inr (inl (may, agrees, at)))) =
+  one_truth (borrow_tape name access absent next) left (inl at) = at_truth at refl
+  one_truth (borrow_tape name access absent next) left (inr (inl at)) = at_truth at refl
+  one_truth (borrow_tape name access absent next) left (inr (inr (inl (may, agrees, at)))) =
       at_truth at refl
-  one_truth (borrow_tape name make absent next) left (inr (inr (inr (may, goes)))) =
+  one_truth (borrow_tape name access absent next) left (inr (inr (inr (may, goes)))) =
       one_truth next _ goes
   one_truth (read_tape object name next) left (inl at) = at_truth at refl
   one_truth (read_tape object name next) left (inr (bytes, agrees, goes)) =

@@ -10,6 +10,7 @@ use Rattle.kr_config.specs.Kept.{Row}
 use Rattle.kr_config.specs.Lists.{list_of}
 use Rattle.kr_kms.specs.Outside.{same_name}
 use Rattle.kr_kms.specs.declared.seeds.SeedRow.{SeedRow}
+use Rattle.kr_kms.specs.declared.world.Access.TheVariants.{ToWrite}
 use Rattle.kr_provider.specs.PluginOrder.{plugin_order}
 use Rattle.kr_provider.specs.Publication.{Publication}
 use Rattle.kr_provider.specs.Readers.{writer_of}
@@ -386,7 +387,7 @@ module _ (words : Rewriting) (point : Point Outcome) (end left : Left) where
 
   at_tape : (rows : List Row) (programs : List Program) (mid : Left) → IsKept mid left
       → Goes point end
-      (settled_for Store words.store false (rewriting_on words.store rows programs)) mid
+      (settled_for Store words.store ToWrite (rewriting_on words.store rows programs)) mid
       → Kept words point end left
   at_tape rows programs mid same (inl e) = untouched words point end left same tt e
   at_tape rows programs mid same (inr (inl e)) = untouched words point end left same tt e
@@ -398,12 +399,12 @@ module _ (words : Rewriting) (point : Point Outcome) (end left : Left) where
 
   pub rows_kept : Goes point end (rewriting words) left → Kept words point end left
   rows_kept goes = elim (halves (λ rows. and_then (linking_programs words.options rows)
-      (λ programs. settled_for Store words.store false (rewriting_on words.store rows programs)))
+      (λ programs. settled_for Store words.store ToWrite (rewriting_on words.store rows programs)))
       point end
       (configuration words.config) left (configuration_reads words.config) goes) [
         | inl e ↦ ended words point end left left (refl, refl) e
         | inr first ↦ elim (halves (λ programs.
-            settled_for Store words.store false (rewriting_on words.store first.0 programs)) point end
+            settled_for Store words.store ToWrite (rewriting_on words.store first.0 programs)) point end
             (linking_programs words.options first.0) first.1
             (λ u. result_reads (programs_of words.options (plugin_order first.0))) first.3) [
               | inl e ↦ ended words point end left first.1 first.2 e

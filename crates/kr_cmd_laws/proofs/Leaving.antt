@@ -1,13 +1,13 @@
 -- What is left of the tapes, by where the steps of a command come to.
 use Rattle.std.proofs.Common.{◌≡◌, ◌≢◌, ℕ, List, [], ◌∷◌, ◌++◌, Bool, true, false, Option, Some, Result, Ok, Err, refl, sym, ◌∙◌, ap, subst, inl, inr, arith}
-use Rattle.std.specs.Prelude.{◌⊎◌, nat_lt, length, if◌then◌else◌}
+use Rattle.std.specs.Prelude.{◌⊎◌, ◌≤◌, nat_lt, length, if◌then◌else◌}
 use Rattle.std.specs.Option.{option_map}
 use Rattle.kr_base.specs.Limits.{store_limit}
 use Rattle.kr_base.specs.Told.{Agrees}
 use Rattle.kr_base.specs.Faults.{Rose}
 use Rattle.kr_config.specs.Kept.{Row}
 use Rattle.kr_config.specs.Lists.{list_of}
-use Rattle.kr_kms.specs.Outside.{same_name}
+use Rattle.kr_kms.specs.Outside.{Outside, same_name}
 use Rattle.kr_provider.specs.PluginOrder.{plugin_order}
 use Rattle.kr_provider.specs.Readers.{writer_of}
 use Rattle.kr_opening.specs.Checks.{store_check}
@@ -15,12 +15,13 @@ use Rattle.kr_store.specs.File.{file_bytes}
 use Rattle.kr_store.specs.Rows.{check_in}
 use Rattle.kr_store.specs.declared.rows.LogRow.{LogRow}
 use Rattle.kr_kms.specs.declared.world.WorldCall.TheVariants.{Tape}
+use Rattle.kr_kms.specs.declared.world.Access.TheVariants.{ToRead, ToWrite, ToMake}
 use Rattle.kr_cmd_steps.specs.Afterwards.{AreLeft, IsSettledLast, IsUngrown, LeavesTapes, OneMore, OthersStay, Settles, StillBegins, ToldTape, new_store}
 use Rattle.kr_cmd_steps.specs.Around.{Around, with_what_is_said, Ends, MayLack, Reaches, faults_at, left_of}
 use Rattle.kr_cmd_steps.specs.Commands.{adding, bench_steps, by_result, configuration, copied_into, input_of, linking_programs, migrating, migrating_into, new_row, putting, revision_line, rewriting, rewriting_on, sealed_into, settled_for, silently, source_on, steps, stored_into, stored_on, tape_for, target_on}
 use Rattle.kr_cmd_steps.specs.Plugins.{programs_of}
 use Rattle.kr_cmd_messages.specs.Message.{line_of, status_of, status_of_done}
-use Rattle.kr_cmd_steps.specs.Ran.{Answers, StopsAtOnce, Writes}
+use Rattle.kr_cmd_steps.specs.Ran.{Answers, Closes, EndsAll, IsIdle, IsStop, ReachesEnd, Reports, ReportsOf, SaysNothing, StopsAtOnce, Writes}
 use Rattle.kr_cmd_messages.specs.Receipts.{Receipt, Tells}
 use Rattle.kr_cmd_steps.specs.Steps.{write_row, give, and_then, or_empty, tapes_with, with_asked, with_tape, Call, lending, settle, settling, writing, Steps, Point, awaits, amid, refuses, gives, Left, IsAt, Goes}
 use Rattle.kr_cmd_steps.specs.StoreFiles.{BeginsWith, HoldsRows, Stored, IsStored, with_row}
@@ -40,13 +41,14 @@ use Rattle.kr_cmd_messages.specs.declared.refusal.Done.{Done}
 use Rattle.kr_cmd_messages.specs.declared.refusal.Outcome.{Outcome}
 use Rattle.kr_cmd_messages.specs.declared.refusal.Stop.{Stop}
 use Rattle.kr_cmd_messages.specs.declared.refusal.Stop.TheVariants.{Words, Refused, Fault, NoMemory}
+use Rattle.kr_cmd_steps.proofs.Ends.{plain_ends, value_end}
 use Rattle.kr_cmd_steps.proofs.Goes.{Further}
 use Rattle.kr_cmd_laws.proofs.Behind.{parted, settled_last, went_on}
 use Rattle.kr_cmd_laws.proofs.Copied.{IsMigrated, Migrates, migrate_leaves}
 use Rattle.kr_cmd_steps.proofs.Points.{IsShort, IsThrough, IsTorn}
 use Rattle.kr_cmd_laws.proofs.ReadOnly.{IsReader, command_reads, configuration_reads, leaves_tapes, others_stay, result_reads, work_reads}
 use Rattle.kr_cmd_laws.proofs.Readings.{status_in}
-use Rattle.kr_cmd_laws.proofs.KeptRows.{MayDrive, keeps_rows, rows_kept}
+use Rattle.kr_cmd_laws.proofs.KeptRows.{keeps_rows, rows_kept}
 use Rattle.kr_cmd_laws.proofs.OneTape.{rewriting_is_on}
 use Rattle.kr_cmd_laws.proofs.Parts.{parts}
 use Rattle.kr_cmd_steps.proofs.Tapes.{own_name}
@@ -171,7 +173,7 @@ module _ (words : Conversion) (store : List ℕ) (p : Point Outcome) (end left :
 
   on_tape : (rows : List Row) (programs : List Program) (plain : List ℕ) (mid : Left)
       → mid.tapes ≡ left.tapes → Goes p end (putting_on rows programs plain)
-      (with_tape true store (with_asked (Tape store true) mid)) → Grown
+      (with_tape true store (with_asked (Tape store ToMake) mid)) → Grown
   on_tape rows programs plain mid e (inl at) =
       made (at_end at tt (ap (tapes_with true store) e))
   on_tape rows programs plain mid e (inr (bytes, agrees, inl at)) =
@@ -183,7 +185,7 @@ module _ (words : Conversion) (store : List ℕ) (p : Point Outcome) (end left :
       (adding Store store read (new_row read.format words rows sealed.bytes))
       (λ grown. give (silently (revision_line grown)))) p end
       (bench_steps programs Encrypt words.resource words.path rows plain)
-      (with_tape true store (with_asked (Tape store true) mid))
+      (with_tape true store (with_asked (Tape store ToMake) mid))
       (work_reads programs Encrypt words.resource words.path rows plain) goes) [
         | inl at ↦ made (at.0, at.1 ∙ ap (tapes_with true store) e)
         | inr more ↦ at_row rows bytes read
@@ -440,6 +442,18 @@ module _ (words : Migration) (old new : Around) (status : ℕ) where
 
 -- ---- rewrite
 
+abbrev call_of : (other : Call) → Point Outcome → Call
+call_of other (awaits call) = call
+call_of other amid = other
+call_of other (refuses why) = other
+call_of other (gives x) = other
+
+abbrev Awaits : Call → Point Outcome
+Awaits call = awaits call
+
+awaited : (call here : Call) → Awaits call ≡ Awaits here → call ≡ here
+awaited call here p = ap (call_of call) p
+
 module _ (words : Rewriting) (old new : Around) (status : ℕ) where
   abbrev Stay : Type 0
   Stay = LeavesTapes (Rewrite words) status old.world new.world
@@ -452,42 +466,69 @@ module _ (words : Rewriting) (old new : Around) (status : ℕ) where
 
   -- no row, where the steps came short, and the status isn't 0; a write failed only where the
   -- tape's count rose
-  by_point : (point : Point Outcome) (r : Reaches (rewriting words) (left_of old) new point)
-      → (IsShort point → status ≢ 0) → (IsTorn Store words.store point → Rose before now)
-      → MayDrive words.store point r.end (left_of old) → Stay
-  by_point point r some torn kept = (
-    subst (λ t. OthersStay words.store old.world.tapes.told t) (sym r.stays.tapes)
-        (others_stay point r.end (rewriting words) (left_of old) words.store
-        (rewriting_is_on words) r.goes),
-    elim kept [
+  by_point : (point : Point Outcome) (end : Left) → Goes point end (rewriting words) (left_of old)
+      → new.world.tapes.told ≡ end.tapes → end.counts words.store ≤ now
+      → (IsShort point → status ≢ 0) → (IsTorn Store words.store point → Rose before now) → Stay
+  by_point point end goes tapes_are more some torn = (
+    subst (λ t. OthersStay words.store old.world.tapes.told t) (sym tapes_are)
+        (others_stay point end (rewriting words) (left_of old) words.store
+        (rewriting_is_on words) goes),
+    elim (rows_kept words point end (left_of old) goes) [
       | inl none ↦ inl (
         some none.0,
-        ap (λ (t : List ℕ → ToldTape). t words.store) (r.stays.tapes ∙ none.1),
+        ap (λ (t : List ℕ → ToldTape). t words.store) (tapes_are ∙ none.1),
       )
-      | inr drove ↦ inr (keeps_rows words.store point r.end (left_of old)
+      | inr drove ↦ inr (keeps_rows words.store point end (left_of old)
           (new.world.tapes.told words.store) now drove
-          (ap (λ (t : List ℕ → ToldTape). t words.store) r.stays.tapes)
-          (r.stays.counts words.store) torn)
+          (ap (λ (t : List ℕ → ToldTape). t words.store) tapes_are) more torn)
     ],
   )
 
-  at_point : (point : Point Outcome) → Reaches (rewriting words) (left_of old) new point
+  -- a report that couldn't be settled: the status isn't 0 and the count rose
+  abbrev IsLost : Point Outcome → Type 0
+  IsLost point =
+      point ≡ awaits (settling Store words.store) → (status ≢ 0) × Rose before now
+
+  at_point : (point : Point Outcome) → ReachesEnd (Rewrite words) (left_of old) new point
       → (IsShort point → status ≢ 0) → (IsTorn Store words.store point → Rose before now)
-      → Stay
-  at_point point r some torn =
-      by_point point r some torn (rows_kept words point r.end (left_of old) r.goes)
+      → IsLost point → Stay
+  at_point point r some torn lost = by_close r.closes
+    where
+      by_close : Closes (Rewrite words) r.stop r.end point r.last → Stay
+      by_close (inl (s, (p, e))) = by_point r.stop r.end r.goes
+          (r.stays.tapes ∙ ap (λ l. l.tapes) e)
+          (subst (λ l. l.counts words.store ≤ now) e (r.stays.counts words.store))
+          (λ short. some (subst IsShort (sym p) short))
+          (λ write. torn (subst (IsTorn Store words.store) (sym p) write))
+      by_close (inr (stops, (name, is, inl (p, e)))) = by_point r.stop r.end r.goes
+          (r.stays.tapes ∙ ap (λ l. l.tapes) e)
+          (subst (λ l. l.counts words.store ≤ now) e (r.stays.counts words.store))
+          (λ short. some (subst IsShort (sym p) short))
+          (λ write. torn (subst (IsTorn Store words.store) (sym p) write))
+      by_close (inr (stops, (name, is, inr (p, e)))) =
+          let gone = lost (p ∙ ap (λ n. awaits (settling Store n)) is) in
+          by_point r.stop r.end r.goes (r.stays.tapes ∙ ap (λ l. l.tapes) e)
+          (subst (λ l. l.counts words.store ≤ now) e (r.stays.counts words.store))
+          (λ short. gone.0) (λ write. gone.1)
 
   rewrite_left : (made : Result Outcome Stop)
-      → Ends (rewriting words) (left_of old) old new made → Fits made status → Stay
+      → EndsAll (Rewrite words) (left_of old) old new made → Fits made status → Stay
   rewrite_left (Ok x) r s = at_point (gives x) r (λ e. absurd e) (λ e. absurd e)
+      (λ p. absurd (let e : gives x ≡ awaits (settling Store words.store) = p in cc))
   rewrite_left (Err (Words why)) r s = absurd r
   rewrite_left (Err (Refused why)) r s = at_point (refuses why) r (λ u. s) (λ e. absurd e)
+      (λ p. absurd (let e : refuses why ≡ awaits (settling Store words.store) = p in cc))
   rewrite_left (Err (Fault object count)) (call, r, f) s = at_point (awaits call) r
       (λ u zero_is. omega (arith, s, zero_is))
       (λ is. subst (λ c. Rose (faults_at c old) (faults_at c new)) is f.1)
+      (λ p. (
+        λ zero_is. omega (arith, s, zero_is),
+        subst (λ c. Rose (faults_at c old) (faults_at c new)) (awaited call (settling Store words.store) p) f.1,
+      ))
   rewrite_left (Err NoMemory) (inl (call, may, r)) s = at_point (awaits call) r (λ u. s)
-      (λ is. absurd (subst MayLack is may))
+      (λ is. absurd (subst MayLack is may)) (λ p. absurd (subst MayLack (awaited call (settling Store words.store) p) may))
   rewrite_left (Err NoMemory) (inr r) s = at_point amid r (λ u. s) (λ e. absurd e)
+      (λ p. absurd (let e : amid ≡ awaits (settling Store words.store) = p in cc))
 
 -- ---- commands
 
@@ -509,26 +550,32 @@ module _ (command : Command) (is : IsReader command) (old : Around) where
   reader_left new (Err NoMemory) (inr r) = reaches_left r
 
 ends_left : (command : Command) (old new : Around) (status : ℕ) (made : Result Outcome Stop)
-    → Ends (steps command) (left_of old) old new made → Fits made status
+    → EndsAll command (left_of old) old new made → Fits made status
     → LeavesTapes command status old.world new.world
 ends_left (Convert words) old new status made r s =
-    reader_left (Convert words) tt old new made r
+    reader_left (Convert words) tt old new made (plain_ends (Convert words) (λ name is. is) (left_of old) old new made r)
 ends_left (Check config resource) old new status made r s =
-    reader_left (Check config resource) tt old new made r
-ends_left Inspect old new status made r s = reader_left Inspect tt old new made r
+    reader_left (Check config resource) tt old new made (plain_ends (Check config resource) (λ name is. is) (left_of old) old new made r)
+ends_left Inspect old new status made r s =
+    reader_left Inspect tt old new made (plain_ends Inspect (λ name is. is) (left_of old) old new made r)
 ends_left (Put words store) old new status made r s =
-    put_left words store old new status made r s
-ends_left (Get words) old new status made r s = reader_left (Get words) tt old new made r
-ends_left (Verify words) old new status made r s = reader_left (Verify words) tt old new made r
+    put_left words store old new status made (plain_ends (Put words store) (λ name is. is) (left_of old) old new made r) s
+ends_left (Get words) old new status made r s =
+    reader_left (Get words) tt old new made (plain_ends (Get words) (λ name is. is) (left_of old) old new made r)
+ends_left (Verify words) old new status made r s =
+    reader_left (Verify words) tt old new made (plain_ends (Verify words) (λ name is. is) (left_of old) old new made r)
 ends_left (Migrate words) old new status made r s =
-    migrate_left words old new status made r s
-ends_left (Rows store) old new status made r s = reader_left (Rows store) tt old new made r
-ends_left (Judge words) old new status made r s = reader_left (Judge words) tt old new made r
-ends_left (Plan words) old new status made r s = reader_left (Plan words) tt old new made r
+    migrate_left words old new status made (plain_ends (Migrate words) (λ name is. is) (left_of old) old new made r) s
+ends_left (Rows store) old new status made r s =
+    reader_left (Rows store) tt old new made (plain_ends (Rows store) (λ name is. is) (left_of old) old new made r)
+ends_left (Judge words) old new status made r s =
+    reader_left (Judge words) tt old new made (plain_ends (Judge words) (λ name is. is) (left_of old) old new made r)
+ends_left (Plan words) old new status made r s =
+    reader_left (Plan words) tt old new made (plain_ends (Plan words) (λ name is. is) (left_of old) old new made r)
 ends_left (Rewrite words) old new status made r s =
     rewrite_left words old new status made r s
 
--- ---- at status 0 what was written is settled
+-- ---- at status 0, and wherever anything was printed, what was written is settled
 
 module _ (new : Around) (x : Outcome) where
   put_settles : (words : Conversion) (store : List ℕ) (end left : Left)
@@ -542,19 +589,19 @@ module _ (new : Around) (x : Outcome) where
       rows.1 rows.2 in
       let bytes = went_on (stored_into words store rows.0 programs.0) x end (input_of Encrypt)
       programs.1 programs.2 in
-      settled_last Store store true (and_then (stored_on Store store)
+      settled_last Store store ToMake (and_then (stored_on Store store)
       (sealed_into words store rows.0 programs.0 bytes.0)) x end bytes.1 bytes.2
 
   migrate_settles : (words : Migration) (end left : Left)
       → Goes (gives x) end (migrating words) left → IsSettledLast words.to end.asked
   migrate_settles words end left goes =
-      let rows = went_on (λ rows. tape_for words.store false
+      let rows = went_on (λ rows. tape_for words.store ToRead
       (and_then (source_on words.store) (migrating_into words.to rows))) x end
       (configuration words.config) left goes in
       by_tape rows.0 rows.1 rows.2
     where
       by_tape : (rows : List Row) (mid : Left)
-          → Goes (gives x) end (tape_for words.store false
+          → Goes (gives x) end (tape_for words.store ToRead
           (and_then (source_on words.store) (migrating_into words.to rows))) mid
           → IsSettledLast words.to end.asked
       by_tape rows mid (inl at) = absurd (let e : gives x ≡ amid = at.0 in cc)
@@ -564,19 +611,19 @@ module _ (new : Around) (x : Outcome) where
           absurd (let e : gives x ≡ refuses _ = at.0 in cc)
       by_tape rows mid (inr (inr (inr (may, goes)))) =
           let source = went_on (migrating_into words.to rows) x end (source_on words.store) _ goes in
-          settled_last Target words.to true (and_then (target_on words.to)
+          settled_last Target words.to ToMake (and_then (target_on words.to)
           (copied_into words.to rows source.0)) x end source.1 source.2
 
   rewrite_settles : (words : Rewriting) (end left : Left)
       → Goes (gives x) end (rewriting words) left → IsSettledLast words.store end.asked
   rewrite_settles words end left goes =
       let rows = went_on (λ rows. and_then (linking_programs words.options rows)
-      (λ programs. settled_for Store words.store false
+      (λ programs. settled_for Store words.store ToWrite
       (rewriting_on words.store rows programs))) x end (configuration words.config) left goes in
-      let programs = went_on (λ programs. settled_for Store words.store false
+      let programs = went_on (λ programs. settled_for Store words.store ToWrite
       (rewriting_on words.store rows.0 programs)) x end
       (linking_programs words.options rows.0) rows.1 rows.2 in
-      settled_last Store words.store false (rewriting_on words.store rows.0 programs.0) x end
+      settled_last Store words.store ToWrite (rewriting_on words.store rows.0 programs.0) x end
       programs.1 programs.2
 
   value_settles : (command : Command) (left : Left) → Reaches (steps command) left new (gives x)
@@ -597,14 +644,73 @@ module _ (new : Around) (x : Outcome) where
   value_settles (Plan words) left r = tt
 
 settles_so : (command : Command) (old new : Around) (status : ℕ) (made : Result Outcome Stop)
-    → Ends (steps command) (left_of old) old new made → Fits made status → status ≡ 0
+    → EndsAll command (left_of old) old new made → Fits made status → status ≡ 0
     → Settles command new.world
-settles_so command old new status (Ok x) r s zero_is = value_settles new x command (left_of old) r
+settles_so command old new status (Ok x) r s zero_is =
+    value_settles new x command (left_of old) (value_end r)
 settles_so command old new status (Err (Words why)) r s zero_is = absurd r
 settles_so command old new status (Err (Refused why)) r s zero_is = absurd (s zero_is)
 settles_so command old new status (Err (Fault object count)) r s zero_is =
     absurd (omega (arith, s, zero_is))
 settles_so command old new status (Err NoMemory) r s zero_is = absurd (s zero_is)
+
+-- the tape of a report is the one that its command writes
+report_settles : (command : Command) (name : List ℕ) (world : Outside) → ReportsOf command name
+    → IsSettledLast name world.asked → Settles command world
+report_settles (Rewrite words) name world is settled =
+    subst (λ n. IsSettledLast n world.asked) is settled
+report_settles (Convert words) name world is settled = absurd is
+report_settles (Check config resource) name world is settled = absurd is
+report_settles Inspect name world is settled = absurd is
+report_settles (Put words store) name world is settled = absurd is
+report_settles (Get words) name world is settled = absurd is
+report_settles (Verify words) name world is settled = absurd is
+report_settles (Migrate words) name world is settled = absurd is
+report_settles (Rows store) name world is settled = absurd is
+report_settles (Judge words) name world is settled = absurd is
+report_settles (Plan words) name world is settled = absurd is
+
+nothing_said : (stop : Point Outcome) (end : Left) → IsStop stop → SaysNothing stop end
+    → end.said ≡ []
+nothing_said (awaits call) end stops none = none
+nothing_said amid end stops none = none
+nothing_said (refuses why) end stops none = none
+nothing_said (gives x) end stops none = absurd stops
+
+-- what a command says where it stops is settled, or it's nothing
+module _ (command : Command) (old new : Around) where
+  said_at : (point : Point Outcome) → IsStop point
+      → ReachesEnd command (left_of old) new point → (new.said ≡ []) ⊎ Settles command new.world
+  said_at point stops r = by_close r.closes
+    where
+      by_close : Closes command r.stop r.end point r.last
+          → (new.said ≡ []) ⊎ Settles command new.world
+      by_close (inl (none, (p, e))) = inl (r.stays.said ∙ ap (λ l. l.said) e
+          ∙ nothing_said r.stop r.end (subst IsStop p stops) none)
+      by_close (inr (stopped, (name, is, inl (p, e)))) = inr (report_settles command name new.world is
+          (r.end.asked, r.stays.asked ∙ ap (λ l. l.asked) e))
+      by_close (inr (stopped, (name, is, inr (p, e)))) =
+          inl (r.stays.said ∙ ap (λ l. l.said) e)
+
+  said_settled : (stop : Stop) → EndsAll command (left_of old) old new (Err stop)
+      → (new.said ≡ []) ⊎ Settles command new.world
+  said_settled (Words why) r = absurd r
+  said_settled (Refused why) r = said_at (refuses why) tt r
+  said_settled (Fault object count) (call, r, f) = said_at (awaits call) tt r
+  said_settled NoMemory (inl (call, may, r)) = said_at (awaits call) tt r
+  said_settled NoMemory (inr r) = said_at amid tt r
+
+printed_settled : (command : Command) (old new : Around) (said : List ℕ) (output : Receipt)
+    (made : Result Outcome Stop) (result : Result Done Stop)
+    → EndsAll command (left_of old) old (with_what_is_said said new) made
+    → Writes said output made result → IsIdle output ⊎ Settles command new.world
+printed_settled command old new said output (Ok x) result r w =
+    inr (value_settles (with_what_is_said said new) x command (left_of old) (value_end r))
+printed_settled command old new said output (Err stop) result r w =
+    elim (said_settled command old (with_what_is_said said new) stop r) [
+      | inl none ↦ inl (subst (λ text. Reports text output) none w.1)
+      | inr settled ↦ inr settled
+    ]
 
 -- ---- statuses
 
@@ -657,10 +763,12 @@ is_status errors status result (inr t) = inr t.0
 
 pub tapes_left : (words : List (List ℕ)) (old new : Around) (output errors : Receipt) (status : ℕ)
     (result : Result Done Stop) → Answers words old new output result
-    → Tells (line_of result) (status_of result) errors status → AreLeft words old new status
+    → Tells (line_of result) (status_of result) errors status
+    → AreLeft words old new output status
 tapes_left words old new output errors status result (inl (stops, same)) t = inl (
   stopped words status result stops (is_status errors status result t),
   ap (λ (a : Around). a.world.tapes.told) same.0,
+  same.1,
 )
 tapes_left words old new output errors status result (inr (said, made, did, w)) t = inr (
   did.command,
@@ -669,4 +777,5 @@ tapes_left words old new output errors status result (inr (said, made, did, w)) 
       (fits_made said output status made result w (is_status errors status result t)),
   settles_so did.command old (with_what_is_said said new) status made did.ends
       (fits_made said output status made result w (is_status errors status result t)),
+  printed_settled did.command old new said output made result did.ends w,
 )

@@ -9,6 +9,7 @@ use Rattle.kr_cmd_steps.specs.Steps.{Steps, load, take_input, borrow_dice, borro
 use Rattle.kr_kms.specs.Limits.{IsWithinLimits}
 use Rattle.kr_kms.specs.declared.plugin.Status.{Status}
 use Rattle.kr_kms.specs.declared.plugin.Wrapped.{Wrapped}
+use Rattle.kr_kms.specs.Outside.{makes}
 use Rattle.kr_cmd_steps.specs.Ran.{end_at}
 use Rattle.kr_cmd_messages.specs.declared.refusal.Stop.{Stop}
 use Rattle.kr_cmd_messages.specs.declared.refusal.Stop.TheVariants.{Refused}
@@ -45,11 +46,11 @@ IsSettled (take_input limit long next) (take_input most much more) left right =
     (with_input rest left) (with_input rest right))
 IsSettled (borrow_dice seat next) (borrow_dice other more) left right =
     IsSettled next more (with_asked (RandomSource seat) left) (with_asked (RandomSource other) right)
-IsSettled (borrow_tape name make absent next) (borrow_tape other also cause more) left right =
-    IsSome (left.tapes name) × (right.tapes other ≡ left.tapes name) × (also ≡ make)
+IsSettled (borrow_tape name access absent next) (borrow_tape other also cause more) left right =
+    IsSome (left.tapes name) × (right.tapes other ≡ left.tapes name) × (also ≡ access)
     × (cause ≡ absent)
-    × IsSettled next more (with_tape make name (with_asked (Tape name make) left))
-    (with_tape also other (with_asked (Tape other also) right))
+    × IsSettled next more (with_tape (makes access) name (with_asked (Tape name access) left))
+    (with_tape (makes also) other (with_asked (Tape other also) right))
 IsSettled (read_tape object name next) (read_tape thing other more) left right =
     IsSome (left.tapes name) × (right.tapes other ≡ left.tapes name)
     × ((bytes : List ℕ) → IsSettled (next bytes) (more bytes) left right)
@@ -178,29 +179,30 @@ module _ (p q : Point Outcome) (end last : Left) where
   one_point (borrow_dice seat next) (borrow_dice other more) left right s (inr (inr g))
       (inr (inr k)) =
       one_point next more _ _ s g k
-  one_point (borrow_tape name make absent next) (borrow_tape other also cause more) left right s
+  one_point (borrow_tape name access absent next) (borrow_tape other also cause more) left right s
       (inl e) k =
       no_first p q _ refl e.0
-  one_point (borrow_tape name make absent next) (borrow_tape other also cause more) left right s
+  one_point (borrow_tape name access absent next) (borrow_tape other also cause more) left right s
       (inr (inl e)) k =
       no_first p q _ refl e.0
-  one_point (borrow_tape name make absent next) (borrow_tape other also cause more) left right s
+  one_point (borrow_tape name access absent next) (borrow_tape other also cause more) left right s
       (inr (inr g)) (inl f) =
       no_second p q _ refl f.0
-  one_point (borrow_tape name make absent next) (borrow_tape other also cause more) left right s
+  one_point (borrow_tape name access absent next) (borrow_tape other also cause more) left right s
       (inr (inr g)) (inr (inl f)) =
       no_second p q _ refl f.0
-  one_point (borrow_tape name make absent next) (borrow_tape other also cause more) left right s
+  one_point (borrow_tape name access absent next) (borrow_tape other also cause more) left right s
       (inr (inr (inl (asked, x, e)))) (inr (inr (inl (none, y, f)))) =
       alike_at (refuses absent) (refuses cause) (ap (λ w. Some (Err (Refused w))) (sym s.3)) e.0 f.0
-  one_point (borrow_tape name make absent next) (borrow_tape other also cause more) left right s
+  one_point (borrow_tape name access absent next) (borrow_tape other also cause more) left right s
       (inr (inr (inl (asked, x, e)))) (inr (inr (inr (may, k)))) =
-      absurd (no_tape (left.tapes name) make also s.0 x (λ n. may (s.1 ∙ n)) s.2 asked)
-  one_point (borrow_tape name make absent next) (borrow_tape other also cause more) left right s
+      absurd (no_tape (left.tapes name) (makes access) (makes also) s.0 x (λ n. may (s.1 ∙ n))
+      (ap makes s.2) asked)
+  one_point (borrow_tape name access absent next) (borrow_tape other also cause more) left right s
       (inr (inr (inr (may, g)))) (inr (inr (inl (asked, y, f)))) =
-      absurd (no_tape (left.tapes name) also make s.0 (subst (λ t. Agrees t None) s.1 y) may
-      (sym s.2) asked)
-  one_point (borrow_tape name make absent next) (borrow_tape other also cause more) left right s
+      absurd (no_tape (left.tapes name) (makes also) (makes access) s.0
+      (subst (λ t. Agrees t None) s.1 y) may (ap makes (sym s.2)) asked)
+  one_point (borrow_tape name access absent next) (borrow_tape other also cause more) left right s
       (inr (inr (inr (may, g)))) (inr (inr (inr (can, k)))) =
       one_point next more _ _ s.4 g k
   one_point (read_tape object name next) (read_tape thing other more) left right s (inl e) k =

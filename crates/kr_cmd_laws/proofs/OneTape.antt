@@ -1,6 +1,7 @@
 -- The steps of a rewrite write one tape alone.
 use Rattle.std.proofs.Common.{◌≡◌, ℕ, List, [], ◌∷◌, Bool, true, false, Option, None, Some, Result, Ok, Err, refl}
 use Rattle.std.specs.Prelude.{nat_lt, length}
+use Rattle.kr_kms.specs.declared.world.Access.TheVariants.{ToWrite}
 use Rattle.kr_base.specs.Limits.{data_limit}
 use Rattle.kr_config.specs.Kept.{Row}
 use Rattle.kr_config.specs.Lists.{list_of}
@@ -91,9 +92,9 @@ rewriting_is_on words =
     let name = words.store in
     let behind = λ (made : Outcome). settle Store name (give made) in
     read_then name (λ rows. and_then (linking_programs words.options rows) (λ programs.
-    settled_for Store name false (rewriting_on name rows programs)))
+    settled_for Store name ToWrite (rewriting_on name rows programs)))
     (λ rows. read_then name
-    (λ programs. settled_for Store name false (rewriting_on name rows programs))
+    (λ programs. settled_for Store name ToWrite (rewriting_on name rows programs))
     (λ programs. (
       refl,
       on_then name behind (λ made. tt) (rewriting_on name rows programs) (λ bytes read. read_then name (λ store. find (List stored.Row) (IsListing store.rows)

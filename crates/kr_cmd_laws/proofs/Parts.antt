@@ -1,5 +1,6 @@
 -- Steps behind others that only read: the first end them, or the others go on over the same tapes.
-use Rattle.std.proofs.Common.{◌≡◌, ◌⊎◌, true, false, refl, sym, ap, subst, inl, inr}
+use Rattle.std.proofs.Common.{◌≡◌, ◌⊎◌, refl, sym, ap, subst, inl, inr}
+use Rattle.kr_kms.specs.declared.world.Access.TheVariants.{ToRead, ToWrite, ToMake}
 use Rattle.kr_cmd_steps.specs.Steps.{Steps, load, take_input, borrow_dice, borrow_tape, read_tape, write_row, keep_rows, settle, draw, borrow_link, ask_status, wrap, unwrap, note, find, refuse, give, and_then, Point, Left, IsAt, Goes}
 use Rattle.kr_cmd_steps.proofs.Points.{IsShort}
 use Rattle.kr_cmd_laws.proofs.ReadOnly.{IsReadOnly}
@@ -36,13 +37,13 @@ module _ {A B : Type 0} (others : A → Steps B) (p : Point B) (end : Left) wher
   halves (borrow_dice seat next) left r (inl at) = inl (ends_at at tt)
   halves (borrow_dice seat next) left r (inr (inl at)) = inl (ends_at at tt)
   halves (borrow_dice seat next) left r (inr (inr goes)) = halves next _ r goes
-  halves (borrow_tape name make absent next) left r (inl at) = inl (ends_at at tt)
-  halves (borrow_tape name make absent next) left r (inr (inl at)) = inl (ends_at at tt)
-  halves (borrow_tape name make absent next) left r (inr (inr (inl (may, agrees, at)))) =
+  halves (borrow_tape name access absent next) left r (inl at) = inl (ends_at at tt)
+  halves (borrow_tape name access absent next) left r (inr (inl at)) = inl (ends_at at tt)
+  halves (borrow_tape name access absent next) left r (inr (inr (inl (may, agrees, at)))) =
       inl (ends_at at tt)
-  halves (borrow_tape name true absent next) left r (inr (inr (inr (may, goes)))) =
-      absurd (let t : true ≡ false = r.0 in cc)
-  halves (borrow_tape name false absent next) left r (inr (inr (inr (may, goes)))) =
+  halves (borrow_tape name ToMake absent next) left r (inr (inr (inr (may, goes)))) = absurd r.0
+  halves (borrow_tape name ToWrite absent next) left r (inr (inr (inr (may, goes)))) = absurd r.0
+  halves (borrow_tape name ToRead absent next) left r (inr (inr (inr (may, goes)))) =
       halves next _ r.1 goes
   halves (read_tape object name next) left r (inl at) = inl (ends_at at tt)
   halves (read_tape object name next) left r (inr (bytes, agrees, goes)) =

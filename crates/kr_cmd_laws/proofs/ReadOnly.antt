@@ -1,5 +1,5 @@
 -- Steps that write no tape leave all tapes, and steps that write one leave every other.
-use Rattle.std.proofs.Common.{◌≡◌, ℕ, zero, suc, List, [], ◌∷◌, ◌++◌, Bool, true, false, Option, None, Some, Result, Ok, Err, refl, ◌∙◌, ap, inl, inr}
+use Rattle.std.proofs.Common.{◌≡◌, ℕ, zero, suc, List, [], ◌∷◌, ◌++◌, Bool, false, Option, None, Some, Result, Ok, Err, ◌∙◌, ap, inl, inr}
 use Rattle.kr_config.specs.Kept.{Row}
 use Rattle.kr_config.specs.Lists.{list_of}
 use Rattle.kr_store.specs.Rows.{live}
@@ -27,6 +27,8 @@ use Rattle.kr_provider.specs.declared.refusal.ValueNo.{ValueNo}
 use Rattle.std.specs.Prelude.{if◌then◌else◌}
 use Rattle.std.specs.Option.{option_map}
 use Rattle.kr_kms.specs.Outside.{same_name}
+use Rattle.kr_kms.specs.declared.world.Access.{Access}
+use Rattle.kr_kms.specs.declared.world.Access.TheVariants.{ToRead, ToWrite, ToMake}
 use Rattle.kr_cmd_steps.specs.Afterwards.{OthersStay}
 use Rattle.kr_cmd_steps.specs.Check.{listing}
 use Rattle.kr_cmd_steps.specs.Commands.{by_result, configuration, configurations, judgement_on, judging_at, judging_by, telling, bench_steps, draw_some, input_of, linking_programs, opening, published_source, reading_given, data_steps, live_on, row_finding, row_findings, telling_findings, value_read, value_sealed, value_with, verifying_by, verifying_with, row_found, row_on, show, silently, source_steps, steps, stored_on, tape_for, value_steps, with_memory, working, working_by}
@@ -48,12 +50,18 @@ use Rattle.kr_cmd_steps.specs.declared.programs.Program.{Program}
 use Rattle.kr_cmd_messages.specs.declared.refusal.Outcome.{Outcome}
 use Rattle.kr_cmd_messages.specs.declared.refusal.Refusal.{Refusal}
 
--- no tape is made, and only tapes of these names are written
+-- no tape is asked to be made, and only those of these names to be written
+abbrev pub MayAsk : (May : List ℕ → Type 0) → (name : List ℕ) → Access → Type 0
+MayAsk May name ToRead = Unit {0}
+MayAsk May name ToWrite = May name
+MayAsk May name ToMake = ⊥
+
+-- no tape is made, and only tapes of these names are written; the others are asked to be read alone
 abbrev pub Writes : {A : Type 0} → (May : List ℕ → Type 0) → Steps A → Type 0
 Writes May (load name next) = (bytes : Option (List ℕ)) → Writes May (next bytes)
 Writes May (take_input limit long next) = (bytes : List ℕ) → Writes May (next bytes)
 Writes May (borrow_dice seat next) = Writes May next
-Writes May (borrow_tape name make absent next) = (make ≡ false) × Writes May next
+Writes May (borrow_tape name access absent next) = MayAsk May name access × Writes May next
 Writes May (read_tape object name next) = (bytes : List ℕ) → Writes May (next bytes)
 Writes May (write_row object name store row next) = May name × Writes May next
 Writes May (keep_rows name store next) = May name × Writes May next
@@ -104,12 +112,13 @@ module _ {A : Type 0} (May : List ℕ → Type 0) (p : Point A) (end : Left) (ot
   stays (borrow_dice seat next) left r (inl at) = at_end at
   stays (borrow_dice seat next) left r (inr (inl at)) = at_end at
   stays (borrow_dice seat next) left r (inr (inr goes)) = stays next _ r goes
-  stays (borrow_tape name make absent next) left r (inl at) = at_end at
-  stays (borrow_tape name make absent next) left r (inr (inl at)) = at_end at
-  stays (borrow_tape name make absent next) left r (inr (inr (inl (may, agrees, at)))) = at_end at
-  stays (borrow_tape name true absent next) left r (inr (inr (inr (may, goes)))) =
-      absurd (let t : true ≡ false = r.0 in cc)
-  stays (borrow_tape name false absent next) left r (inr (inr (inr (may, goes)))) =
+  stays (borrow_tape name access absent next) left r (inl at) = at_end at
+  stays (borrow_tape name access absent next) left r (inr (inl at)) = at_end at
+  stays (borrow_tape name access absent next) left r (inr (inr (inl (may, agrees, at)))) = at_end at
+  stays (borrow_tape name ToMake absent next) left r (inr (inr (inr (may, goes)))) = absurd r.0
+  stays (borrow_tape name ToWrite absent next) left r (inr (inr (inr (may, goes)))) =
+      stays next _ r.1 goes
+  stays (borrow_tape name ToRead absent next) left r (inr (inr (inr (may, goes)))) =
       stays next _ r.1 goes
   stays (read_tape object name next) left r (inl at) = at_end at
   stays (read_tape object name next) left r (inr (bytes, agrees, goes)) =
@@ -162,7 +171,9 @@ module _ (May More : List ℕ → Type 0) (wider : (name : List ℕ) → May nam
   both_write (load name next) r = λ bytes. both_write (next bytes) (r bytes)
   both_write (take_input limit long next) r = λ bytes. both_write (next bytes) (r bytes)
   both_write (borrow_dice seat next) r = both_write next r
-  both_write (borrow_tape name make absent next) r = (r.0, both_write next r.1)
+  both_write (borrow_tape name ToRead absent next) r = (tt, both_write next r.1)
+  both_write (borrow_tape name ToWrite absent next) r = (wider name r.0, both_write next r.1)
+  both_write (borrow_tape name ToMake absent next) r = absurd r.0
   both_write (read_tape object name next) r = λ bytes. both_write (next bytes) (r bytes)
   both_write (write_row object name store row next) r = (wider name r.0, both_write next r.1)
   both_write (keep_rows name store next) r = (wider name r.0, both_write next r.1)
@@ -360,9 +371,9 @@ judging_reads options stored =
 
 store_reads : (store : List ℕ) (next : Stored → Steps Outcome)
     → ((held : Stored) → IsReadOnly (next held))
-    → IsReadOnly (tape_for store false (and_then (stored_on Store store) next))
+    → IsReadOnly (tape_for store ToRead (and_then (stored_on Store store) next))
 store_reads store next r =
-    (refl, λ bytes read. both_read next r (by_result read) (result_reads read))
+    (tt, λ bytes read. both_read next r (by_result read) (result_reads read))
 
 pub command_reads : (command : Command) → IsReader command → IsReadOnly (steps command)
 command_reads (Convert words) r = both_read
@@ -390,26 +401,26 @@ command_reads (Migrate words) r = absurd r
 command_reads (Rewrite words) r = absurd r
 command_reads (Get words) r = both_read
     (λ rows. and_then (linking_programs words.options rows) (λ programs.
-    and_then (tape_for words.store false (row_on words.store words.path)) (λ row.
+    and_then (tape_for words.store ToRead (row_on words.store words.path)) (λ row.
     bench_steps programs Decrypt row.resource words.path rows row.stored)))
     (λ rows. both_read (λ programs.
-    and_then (tape_for words.store false (row_on words.store words.path)) (λ row.
+    and_then (tape_for words.store ToRead (row_on words.store words.path)) (λ row.
     bench_steps programs Decrypt row.resource words.path rows row.stored))
     (λ programs. both_read (λ row.
     bench_steps programs Decrypt row.resource words.path rows row.stored)
     (λ row. work_reads programs Decrypt row.resource words.path rows row.stored)
-    (tape_for words.store false (row_on words.store words.path))
-    (refl, row_reads words.store words.path))
+    (tape_for words.store ToRead (row_on words.store words.path))
+    (tt, row_reads words.store words.path))
     (linking_programs words.options rows) (programs_read words.options rows))
     (configuration words.config) (configuration_reads words.config)
 command_reads (Verify words) r = both_read
     (λ rows. and_then (linking_programs words.options rows) (λ programs.
-    and_then (tape_for words.store false (live_on words.store)) (verifying_with programs rows)))
+    and_then (tape_for words.store ToRead (live_on words.store)) (verifying_with programs rows)))
     (λ rows. both_read (λ programs.
-    and_then (tape_for words.store false (live_on words.store)) (verifying_with programs rows))
+    and_then (tape_for words.store ToRead (live_on words.store)) (verifying_with programs rows))
     (λ programs. both_read (verifying_with programs rows) (findings_read programs rows)
-    (tape_for words.store false (live_on words.store)) (
-      refl,
+    (tape_for words.store ToRead (live_on words.store)) (
+      tt,
       λ bytes read. both_read (λ held. find (List stored.Row) (IsListing held.rows) give)
           (λ held live. tt) (by_result read) (result_reads read),
     ))

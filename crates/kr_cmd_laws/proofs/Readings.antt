@@ -6,12 +6,11 @@ use Rattle.kr_base.specs.Streams.{AppendsFront}
 use Rattle.kr_kms.specs.Outside.{file_faults}
 use Rattle.kr_config.specs.declared.refusal.ConfigNo.{ConfigNo}
 use Rattle.kr_config.specs.declared.refusal.ConfigNo.TheVariants as config
-use Rattle.kr_cmd_steps.specs.Around.{Around, with_what_is_said, left_of, IsHome, IsFault, MayLack, faults_at, count_at, Reaches}
+use Rattle.kr_cmd_steps.specs.Around.{Around, with_what_is_said, left_of, IsHome, IsFault, MayLack, faults_at, count_at}
 use Rattle.kr_cmd_messages.specs.Command.{Asks, AskBadly}
-use Rattle.kr_cmd_steps.specs.Commands.{steps}
 use Rattle.kr_cmd_messages.specs.Message.{status_of, status_of_done, status_of_configuration, status_of_refusal, line_of, fault_line}
 use Rattle.kr_cmd_steps.specs.Steps.{Call, loading, reading, opening, lending, scanning, writing, settling, drawing, object_of, Point, awaits, amid, refuses, gives, linking, asking}
-use Rattle.kr_cmd_steps.specs.Ran.{IsIdle, Reports, IsUntouched, StopsAtOnce, Did, Comes, ComesSaying, ComesReporting, Writes, Answers, FailsAt, FailsToWrite, Readings}
+use Rattle.kr_cmd_steps.specs.Ran.{IsIdle, Reports, IsUntouched, StopsAtOnce, Did, Comes, ComesSaying, ComesReporting, Writes, Answers, FailsAt, FailsToWrite, ReachesEnd, Readings}
 use Rattle.kr_cmd_messages.specs.Receipts.{Receipt, Tells}
 use Rattle.kr_cmd_messages.specs.declared.command.Command.{Command}
 use Rattle.kr_cmd_messages.specs.declared.refusal.BadWords.{BadWords}
@@ -252,7 +251,7 @@ module _ (words : List (List ℕ)) (old new : Around) (output errors : Receipt) 
     Now = with_what_is_said said new
 
     comes : {made : Result Outcome Stop} {point : Point Outcome} (did : Did words old Now made)
-        → Reaches (steps did.command) (left_of old) Now point → ComesSaying words old new said point
+        → ReachesEnd did.command (left_of old) Now point → ComesSaying words old new said point
     comes did r = record {
       command = did.command;
       asks = did.asks;
@@ -292,8 +291,8 @@ module _ (words : List (List ℕ)) (old new : Around) (output errors : Receipt) 
     stopped NoMemory did = ended did.ends
       where
         ended : ((call : Call) × MayLack call
-            × Reaches (steps did.command) (left_of old) (Now said) (awaits call))
-            ⊎ Reaches (steps did.command) (left_of old) (Now said) amid
+            × ReachesEnd did.command (left_of old) (Now said) (awaits call))
+            ⊎ ReachesEnd did.command (left_of old) (Now said) amid
             → (point : Point Outcome) × ComesSaying words old new said point
         ended (inl (call, may, r)) = (awaits call, comes said did r)
         ended (inr r) = (amid, comes said did r)

@@ -1,7 +1,11 @@
 -- The headline of a call, from the relation of a fleet.
 use Rattle.std.specs.Prelude.{◌⊎◌, true, All, IfSome, map}
-use Rattle.std.proofs.Common.{◌≡◌, ℕ, List, [], Option, Result, Ok, Err, inl, inr, ap, refl, sym, subst, ◌∙◌}
+use Rattle.std.proofs.Common.{◌≡◌, ℕ, ◌<◌, ◌≤◌, List, [], length, get_or, Option, Result, Ok, Err, inl, inr, ap, refl, sym, subst, ◌∙◌, arith}
+use Rattle.std.proofs.lemmas.Bool.{cases_lt}
+use Rattle.std.proofs.lemmas.Option.{slice_get-get_or}
 use Rattle.kr_kms.specs.Calls.{Link}
+use Rattle.kr_kms.specs.Cache.{AreOpenBy}
+use Rattle.kr_kms.specs.Exchanges.{AgreeAll, Exchange}
 use Rattle.kr_kms.specs.Truth.{Opens, Truth}
 use Rattle.kr_history.specs.Honesty.{SeedsOpen}
 use Rattle.kr_rollout.specs.Histories.{state_of}
@@ -10,11 +14,15 @@ use Rattle.kr_rollout.specs.declared.opening.Entry.{Entry}
 use Rattle.kr_store.specs.Rows.{live}
 use Rattle.kr_workers.specs.Endings.{ending_of, status_of as status_of_replies}
 use Rattle.kr_workers.specs.declared.ending.Ending.{Ending}
+use Rattle.kr_workers.specs.Heard.{Heard}
 use Rattle.kr_workers.specs.declared.worker.Worker as fleet_worker
-use Rattle.kr_headline.specs.Fleets.{AreKnown}
+use Rattle.kr_headline.specs.Consequences.{LinksAgree}
+use Rattle.kr_headline.specs.Fleets.{AreKnown, FleetHeadline}
+use Rattle.kr_headline.proofs.Agreeing.{all_agree}
 use Rattle.kr_headline.proofs.Answering.{start_alike}
 use Rattle.kr_headline.proofs.Contents.{object_of}
 use Rattle.kr_headline.proofs.Headlines.{fleet_headline}
+use Rattle.kr_headline.proofs.Seats.{first_in}
 use Rattle.kr_headline.proofs.Standing.{faults_are, latest_is, stands_alike}
 use Rattle.kr_cmd_messages.specs.Receipts.{Receipt}
 use Rattle.kr_cmd_messages.specs.declared.fleet_words.FleetWords.{FleetWords}
@@ -30,10 +38,11 @@ use Rattle.kr_cmd_laws.specs.RunHeadlines.{LeavesStore, Prints, RunHeadline, Sta
 
 -- ---- the workers
 
-module _ {T L D : Type 0} (truth : Truth) (link : L → Link) (left : D → Option (List ℕ))
+module _ {T L D : Type 0} (truth : Truth) (link : L → Link) (step : L → Exchange → L → Type 0)
+    (left : D → Option (List ℕ))
     (count : D → ℕ) (store : List ℕ) (begun : Begun) (mid new : Around) (history : List Entry)
     (ended : List (fleet_worker.Worker T L D))
-    (r : RunsFleet truth link left count store begun mid new history ended) where
+    (r : RunsFleet truth link step left count store begun mid new history ended) where
   left_so : LeavesStore store begun mid new history
   left_so = let o = opening_of store begun mid in record {
     rows = (state_of o history).rows;
@@ -45,19 +54,52 @@ module _ {T L D : Type 0} (truth : Truth) (link : L → Link) (left : D → Opti
     failed = r.counted ∙ sym (faults_are (start_of o) history);
   }
 
-  known : (opens : Opens)
-      → (begun.plan.programs ≡ []) ⊎ ((truth.told ≡ true) × (truth.opens ≡ opens))
-      → AreKnown truth opens (opening_of store begun mid)
+  headline : FleetHeadline link step count r.workers ended r.files (opening_of store begun mid)
+      r.parts history
+  headline = fleet_headline T truth link step left count r.files history
+      (opening_of store begun mid) r.parts begun.budgets r.workers ended r.one
+
+  -- no bench had kept a seed
+  none_kept : (worker : ℕ) → (headline.heard worker).kept ≡ []
+  none_kept worker = by (cases_lt worker (length r.parts))
+    where
+      by : (worker < length r.parts) ⊎ (length r.parts ≤ worker)
+          → (headline.heard worker).kept ≡ []
+      by (inl within) =
+          let in_old : worker < length r.workers = omega (arith, within, headline.whole) in
+          let in_new : worker < length ended = omega (arith, within, headline.many) in
+          let before = first_in r.workers worker in_old in
+          let after = first_in ended worker in_new in
+          (headline.was_heard worker (get_or r.workers worker before) (get_or ended worker after)
+          (slice_get-get_or r.workers worker before in_old)
+          (slice_get-get_or ended worker after in_new)).kept ∙ r.cold worker before in_old
+      by (inr past) = ap (λ (it : Heard). it.kept) (headline.no_more worker past)
+
+  none_open : (opens : Opens) (worker : ℕ) → AreOpenBy opens (headline.heard worker).kept
+  none_open opens worker = subst (AreOpenBy opens) (sym (none_kept worker))
+      (λ key seed there. absurd (omega (arith, there.1)))
+
+  known : (opens : Opens) → (begun.plan.programs ≡ [])
+      ⊎ (((worker : ℕ) → AgreeAll opens (headline.heard worker).exchanges)
+      × All (λ replica. IfSome replica (SeedsOpen opens)) begun.replicas)
+      → AreKnown headline.heard opens (opening_of store begun mid)
   known opens (inl none) =
       inl (ap (λ ps. map (λ (program : Program). program.plugin) ps) none)
-  known opens (inr (told, is)) = inr (
-    told,
-    is,
-    subst (λ (os : Opens). All (λ replica. IfSome replica (SeedsOpen os)) begun.replicas) is
-        (r.opens told).opening,
+  known opens (inr (agree, seeds)) = inr (
+    λ worker. record { kept = none_open opens worker; answers = agree worker },
+    seeds,
   )
 
-  pub workers_headline : WorkersHeadline truth link left count store begun mid new history ended
+  told_known : truth.told ≡ true → LinksAgree step truth.opens
+      → AreKnown headline.heard truth.opens (opening_of store begun mid)
+  told_known told agree = inr (
+    all_agree link step count r.workers ended r.files (opening_of store begun mid) r.parts history
+        headline truth.opens agree (none_open truth.opens),
+    (r.opens told).opening,
+  )
+
+  pub workers_headline : WorkersHeadline truth link step left count store begun mid new history
+      ended
   workers_headline = record {
     parts = r.parts;
     parts_are = r.parts_are;
@@ -66,9 +108,9 @@ module _ {T L D : Type 0} (truth : Truth) (link : L → Link) (left : D → Opti
     workers = r.workers;
     before = r.before;
     after = r.after;
-    headline = fleet_headline T truth link left count r.files history
-        (opening_of store begun mid) r.parts begun.budgets r.workers ended r.one;
+    headline = headline;
     known = known;
+    told = told_known;
     stored = left_so;
   }
 
@@ -96,12 +138,13 @@ prints text ending output errors status (Err (Words why)) w t = absurd w
 prints text ending output errors status (Err (Refused why)) w t = absurd w
 
 module _ (T : Type 0) {L D : Type 0} (truth : Truth) (link : L → Link)
+    (step : L → Exchange → L → Type 0)
     (left : D → Option (List ℕ)) (count : D → ℕ) (words : FleetWords) (old new : Around)
     (output errors : Receipt) (status : ℕ) where
   started : (result : Result Ending Stop)
-      → Starts T truth link left count words old new output result
+      → Starts T truth link step left count words old new output result
       → TellsFleet result errors status
-      → StartsWorkers T truth link left count words old new output errors status
+      → StartsWorkers T truth link step left count words old new output errors status
   started result s tells = record {
     begun = s.begun;
     mid = s.mid;
@@ -109,7 +152,7 @@ module _ (T : Type 0) {L D : Type 0} (truth : Truth) (link : L → Link)
     since = s.since;
     history = s.history;
     ended = s.ended;
-    has = workers_headline truth link left count words.store s.begun
+    has = workers_headline truth link step left count words.store s.begun
         (settled_behind words.store s.mid) new s.history s.ended s.runs;
     prints = prints (text_of s.begun.plan.fleet s.history s.ended)
         (ending_of (map (λ (w : fleet_worker.Worker T L D). w.told) s.ended)) output errors status
@@ -118,16 +161,17 @@ module _ (T : Type 0) {L D : Type 0} (truth : Truth) (link : L → Link)
 
   either : (result : Result Ending Stop)
       → StopsBefore (fleet_steps words) words.store old new output result
-      ⊎ Starts T truth link left count words old new output result
+      ⊎ Starts T truth link step left count words old new output result
       → TellsFleet result errors status
-      → RunHeadline T truth link left count words old new output errors status
+      → RunHeadline T truth link step left count words old new output errors status
   either (Ok ending) (inl stops) tells = absurd stops
   either (Err stop) (inl stops) tells =
       inl (record { stop = stop; stops = stops; tells = tells })
   either result (inr began) tells = inr (started result began tells)
 
 pub runs_have_headlines : (T : Type 0) → {L D : Type 0} → (truth : Truth) (link : L → Link)
-    (left : D → Option (List ℕ)) (count : D → ℕ) → RunsHaveHeadlines T truth link left count
-runs_have_headlines T truth link left count words old new output errors status ran =
-    either T truth link left count words old new output errors status ran.result ran.did.did
+    (step : L → Exchange → L → Type 0)
+    (left : D → Option (List ℕ)) (count : D → ℕ) → RunsHaveHeadlines T truth link step left count
+runs_have_headlines T truth link step left count words old new output errors status ran =
+    either T truth link step left count words old new output errors status ran.result ran.did.did
     ran.tells

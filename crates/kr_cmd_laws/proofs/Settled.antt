@@ -46,6 +46,9 @@ use Rattle.kr_store.specs.declared.rows.Row as stored
 use Rattle.kr_cmd_steps.specs.Configuration.{IsConfiguration}
 use Rattle.kr_cmd_steps.specs.Inspect.{Inspects, ShowsBody, ShowsObject}
 use Rattle.kr_kms.specs.declared.plugin.Status.{Status}
+use Rattle.kr_kms.specs.Outside.{makes}
+use Rattle.kr_kms.specs.declared.world.Access.{Access}
+use Rattle.kr_kms.specs.declared.world.Access.TheVariants.{ToRead, ToWrite, ToMake}
 use Rattle.kr_cmd_steps.specs.Plugins.{borrow_links, borrow_links_of, make_seeds, programs_of, seed_row, unless_breach, wrap_seed}
 use Rattle.kr_cmd_steps.specs.Steps.{Steps, load, take_input, borrow_dice, borrow_tape, read_tape, write_row, keep_rows, settle, draw, borrow_link, ask_status, wrap, unwrap, note, find, refuse, give, and_then, Left, with_asked, with_dice, with_tape, or_empty, tapes_with}
 use Rattle.kr_cmd_steps.specs.StoreFiles.{Stored, with_row}
@@ -86,15 +89,23 @@ settled_by left right a b next e s =
     subst (λ r. IsSettled (and_then (by_result a) next) (and_then (by_result r) next) left right) e
     (settled_result left right a next s)
 
--- a store that is read is one thing
-pub settled_stored : (name : List ℕ) (next : Stored → Steps Outcome) (left : Left)
-    → IsSome (left.tapes name)
+-- a store that is there and read is one thing, whatever its tape is asked for
+pub settled_stored : (access : Access) → makes access ≡ false → (name : List ℕ)
+    (next : Stored → Steps Outcome) (left : Left) → IsSome (left.tapes name)
     → ((store : Stored) → IsSettled (next store) (next store)
-    (with_tape false name (with_asked (Tape name false) left))
-    (with_tape false name (with_asked (Tape name false) left)))
-    → IsSettled (tape_for name false (and_then (stored_on Store name) next))
-    (tape_for name false (and_then (stored_on Store name) next)) left left
-settled_stored name next left told s = (
+    (with_tape false name (with_asked (Tape name access) left))
+    (with_tape false name (with_asked (Tape name access) left)))
+    → IsSettled (tape_for name access (and_then (stored_on Store name) next))
+    (tape_for name access (and_then (stored_on Store name) next)) left left
+settled_stored ToMake there name next left told s = absurd (let no : true ≡ false = there in cc)
+settled_stored ToRead there name next left told s = (
+  told,
+  refl,
+  refl,
+  refl,
+  (told, refl, λ bytes a b x y. settled_by _ _ a b next (one_stored bytes a b x y) s),
+)
+settled_stored ToWrite there name next left told s = (
   told,
   refl,
   refl,
@@ -370,7 +381,7 @@ module _ (what : Object) (name : List ℕ) where
   )
   settled_closing (borrow_dice seat next) (borrow_dice other more) left right s =
       settled_closing next more _ _ s
-  settled_closing (borrow_tape path make absent next) (borrow_tape other also cause more) left right
+  settled_closing (borrow_tape path access absent next) (borrow_tape other also cause more) left right
       s = (s.0, s.1, s.2, s.3, settled_closing next more _ _ s.4)
   settled_closing (read_tape one path next) (read_tape thing other more) left right s =
       (s.0, s.1, λ bytes. settled_closing (next bytes) (more bytes) left right (s.2 bytes))
@@ -422,8 +433,8 @@ regroup (load name next) f g = λ i. load name (λ bytes. regroup (next bytes) f
 regroup (take_input limit long next) f g =
     λ i. take_input limit long (λ bytes. regroup (next bytes) f g i)
 regroup (borrow_dice seat next) f g = λ i. borrow_dice seat (regroup next f g i)
-regroup (borrow_tape name make absent next) f g =
-    λ i. borrow_tape name make absent (regroup next f g i)
+regroup (borrow_tape name access absent next) f g =
+    λ i. borrow_tape name access absent (regroup next f g i)
 regroup (read_tape object name next) f g =
     λ i. read_tape object name (λ bytes. regroup (next bytes) f g i)
 regroup (write_row object name store row next) f g =
@@ -605,7 +616,7 @@ read_so words rows programs row =
     bench_steps programs Decrypt row.resource words.path rows row.stored
 
 abbrev looked_up : Lookup → List Row → List Program → Steps Outcome
-looked_up words rows programs = and_then (tape_for words.store false
+looked_up words rows programs = and_then (tape_for words.store ToRead
     (row_on words.store words.path)) (read_so words rows programs)
 
 settled_row : (old : Around) (words : Lookup) (rows : List Row) (programs : List Program)

@@ -1,5 +1,6 @@
 -- What each command's steps find is one thing, and what they draw decides nothing but the value.
 use Rattle.std.proofs.Common.{refl, sym, ◌∙◌}
+use Rattle.kr_kms.specs.declared.world.Access.TheVariants.{ToRead}
 use Rattle.kr_cmd_steps.specs.Around.{Around, left_of}
 use Rattle.kr_cmd_steps.specs.Commands.{judging_by, show, steps}
 use Rattle.kr_cmd_steps.specs.RowLines.{ShowsRows}
@@ -28,10 +29,10 @@ settled (Put words store) old tells = settled_putting old words store tells
 settled (Get words) old tells = settled_getting old words tells
 settled (Verify words) old tells = settled_verifying old words tells
 settled (Migrate words) old tells = settled_migrating old words tells
-settled (Rows store) old told = settled_stored store (λ stored. show (ShowsRows stored.rows))
+settled (Rows store) old told = settled_stored ToRead refl store (λ stored. show (ShowsRows stored.rows))
     (left_of old) told
     (λ stored. λ c d h k. settled_by _ _ c d _ (one_shown stored.rows c d h k) (λ text. refl))
-settled (Judge words) old (tape, names, file) = settled_stored words.store
+settled (Judge words) old (tape, names, file) = settled_stored ToRead refl words.store
     (λ stored. judging_by words.options stored.rows) (left_of old) tape
     (λ stored. settled_judging words.options stored.rows _ names file)
 settled (Plan words) old (told, told_to) = (

@@ -4,6 +4,7 @@ use Rattle.std.specs.Prelude.{IsSome, nat_lt, if◌then◌else◌}
 use Rattle.kr_base.specs.Limits.{store_limit}
 use Rattle.kr_config.specs.Kept.{Row}
 use Rattle.kr_kms.specs.declared.world.WorldCall.TheVariants.{File, Tape}
+use Rattle.kr_kms.specs.declared.world.Access.TheVariants.{ToRead, ToMake}
 use Rattle.kr_store.specs.File.{file_bytes}
 use Rattle.kr_store.specs.declared.rows.LogRow.{LogRow}
 use Rattle.kr_cmd_steps.specs.Around.{Around, left_of}
@@ -61,7 +62,7 @@ settled_copying name line (row ∷ rows) store left right = λ s t u v. by_limit
 pub settled_migrating : (old : Around) (words : Migration) → IsTelling (Migrate words) old
     → IsSettled (migrating words) (migrating words) (left_of old) (left_of old)
 settled_migrating old words (file, tape, target) = settled_configuration old words.config
-    (λ rows. tape_for words.store false
+    (λ rows. tape_for words.store ToRead
     (and_then (source_on words.store) (migrating_into words.to rows))) file
     (λ file rows is agrees. (
       tape,
@@ -77,11 +78,11 @@ settled_migrating old words (file, tape, target) = settled_configuration old wor
     ))
   where
     source_out : Left
-    source_out = with_tape false words.store (with_asked (Tape words.store false)
+    source_out = with_tape false words.store (with_asked (Tape words.store ToRead)
         (with_asked (File words.config) (left_of old)))
 
     both_out : Left
-    both_out = with_tape true words.to (with_asked (Tape words.to true) source_out)
+    both_out = with_tape true words.to (with_asked (Tape words.to ToMake) source_out)
 
     there : IsSome (tapes_with true words.to old.world.tapes.told words.to)
     there = subst (λ q. IsSome (if q then or_empty (old.world.tapes.told words.to)

@@ -6,6 +6,7 @@ use Rattle.kr_config.specs.Kept.{Row}
 use Rattle.kr_config.specs.Lists.{list_of}
 use Rattle.kr_kms.specs.declared.seeds.SeedRow.{SeedRow}
 use Rattle.kr_kms.specs.declared.world.WorldCall.TheVariants.{File, Tape}
+use Rattle.kr_kms.specs.declared.world.Access.TheVariants.{ToWrite}
 use Rattle.kr_provider.specs.PluginOrder.{in_order, plugin_order}
 use Rattle.kr_provider.specs.Publication.{Publication, names_plugin}
 use Rattle.kr_provider.specs.Reading.{Reading, data_of, refused, unopened}
@@ -255,7 +256,7 @@ settled_rewriting old words (file, tape, plugins) = settled_configuration old wo
     (λ rows. and_then (linking_programs words.options rows) (passed rows)) file
     (λ file rows is agrees. λ u v h k. settled_result configured configured
     (programs_of words.options (plugin_order rows)) (passed rows)
-    (λ programs. let held = settled_stored words.store (listed rows programs) configured tape
+    (λ programs. let held = settled_stored ToWrite refl words.store (listed rows programs) configured tape
     (λ store. λ live other c d.
     subst (λ o. IsSettled (rewriting_live words.store rows programs store live)
     (rewriting_live words.store rows programs store o) lent lent)
@@ -275,11 +276,11 @@ settled_rewriting old words (file, tape, plugins) = settled_configuration old wo
     configured = with_asked (File words.config) (left_of old)
 
     lent : Left
-    lent = with_tape false words.store (with_asked (Tape words.store false) configured)
+    lent = with_tape false words.store (with_asked (Tape words.store ToWrite) configured)
 
     passed : List Row → List Program → Steps Outcome
     passed rows programs =
-        settled_for Store words.store false (rewriting_on words.store rows programs)
+        settled_for Store words.store ToWrite (rewriting_on words.store rows programs)
 
     listed : List Row → List Program → Stored → Steps Outcome
     listed rows programs store =

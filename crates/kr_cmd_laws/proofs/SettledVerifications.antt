@@ -4,6 +4,7 @@ use Rattle.kr_config.specs.Kept.{Row}
 use Rattle.kr_config.specs.Lists.{list_of}
 use Rattle.kr_kms.specs.declared.seeds.SeedRow.{SeedRow}
 use Rattle.kr_kms.specs.declared.world.WorldCall.TheVariants.{File, Tape}
+use Rattle.kr_kms.specs.declared.world.Access.TheVariants.{ToRead}
 use Rattle.kr_provider.specs.PluginOrder.{in_order, plugin_order}
 use Rattle.kr_provider.specs.Publication.{Publication, names_plugin}
 use Rattle.kr_provider.specs.Reading.{Reading, data_of, refused, unopened}
@@ -133,8 +134,8 @@ settled_verifying old words (file, tape, plugins) = settled_configuration old wo
     read_in = with_asked (File words.config) (left_of old)
 
     lent : Left
-    lent = with_tape false words.store (with_asked (Tape words.store false) read_in)
+    lent = with_tape false words.store (with_asked (Tape words.store ToRead) read_in)
 
     passed : List Row → List Program → Steps Outcome
-    passed rows programs = and_then (tape_for words.store false (live_on words.store))
+    passed rows programs = and_then (tape_for words.store ToRead (live_on words.store))
         (verifying_with programs rows)

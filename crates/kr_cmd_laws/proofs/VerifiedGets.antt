@@ -12,6 +12,7 @@ use Rattle.kr_kms.specs.Truth.{Truth}
 use Rattle.kr_kms.specs.declared.seeds.SeedKey.{SeedKey}
 use Rattle.kr_kms.specs.declared.seeds.SeedRow.{SeedRow}
 use Rattle.kr_kms.specs.declared.world.WorldCall.TheVariants.{Tape}
+use Rattle.kr_kms.specs.declared.world.Access.TheVariants.{ToRead}
 use Rattle.kr_provider.specs.Envelopes.{seed_key}
 use Rattle.kr_provider.specs.PluginOrder.{plugin_order}
 use Rattle.kr_provider.specs.Publication.{Publication, seed_of}
@@ -39,6 +40,7 @@ use Rattle.kr_cmd_steps.specs.Steps.{Goes, Left, Point, Steps, and_then, give, g
 use Rattle.kr_cmd_steps.specs.StoreFiles.{Stored}
 use Rattle.kr_cmd_steps.specs.declared.finding.Finding.{Finding}
 use Rattle.kr_cmd_steps.specs.declared.programs.Program.{Program}
+use Rattle.kr_cmd_steps.proofs.Ends.{value_end}
 use Rattle.kr_cmd_steps.proofs.Goes.{further}
 use Rattle.kr_cmd_laws.specs.VerifyLaws.{AreLive, InPairs, IsGot, IsVerified, VerifiedRuns, lookup_as}
 use Rattle.kr_cmd_laws.proofs.TrueReadings.{IsTrueReading, seeds_made, value_true}
@@ -392,14 +394,14 @@ module _ (words : Verification) (old : Around) (made : Outcome) (end : Left) whe
 
   abbrev looked_up : List Row → List Program → List ℕ → Steps Outcome
   looked_up rows programs path =
-      and_then (tape_for words.store false (row_on words.store path)) (read_so rows programs path)
+      and_then (tape_for words.store ToRead (row_on words.store path)) (read_so rows programs path)
 
   abbrev loaded : List Row → List ℕ → Steps Outcome
   loaded rows path =
       and_then (linking_programs words.options rows) (λ programs. looked_up rows programs path)
 
   abbrev listed : List Row → List Program → Steps Outcome
-  listed rows programs = and_then (tape_for words.store false (live_on words.store))
+  listed rows programs = and_then (tape_for words.store ToRead (live_on words.store))
       (verifying_with programs rows)
 
   abbrev IsThere : Stored → stored.Row → Type 0
@@ -420,7 +422,7 @@ module _ (words : Verification) (old : Around) (made : Outcome) (end : Left) whe
         (configuration words.config) (left_of old) is_read
 
     abbrev lent : Left
-    lent = with_tape false words.store (with_asked (Tape words.store false) second)
+    lent = with_tape false words.store (with_asked (Tape words.store ToRead) second)
 
     by_tape : Goes (gives made) end (listed rows programs) second → Found words old made
     by_tape (inl at) = absurd (no_value at refl)
@@ -517,7 +519,7 @@ pub verified_run : VerifiedRuns
 verified_run words asked old new output errors status asks
     (made, (said, comes), status_is, appends, line) =
     let is : comes.command ≡ Verify asked = one_command comes.asks asks in
-    let r = comes.reaches in (
+    let r = value_end comes.reaches in (
       made,
       verified asked old made (found asked old made r.end
           (subst (λ c. Goes (gives made) r.end (steps c) (left_of old)) is r.goes)),

@@ -15,6 +15,7 @@ use Rattle.kr_config.specs.declared.who.Who.TheVariants as who
 use Rattle.kr_kms.specs.Truth.{Truth, OpenAll}
 use Rattle.kr_kms.specs.declared.seeds.SeedRow.{SeedRow}
 use Rattle.kr_kms.specs.declared.world.WorldCall.TheVariants.{Tape}
+use Rattle.kr_kms.specs.declared.world.Access.TheVariants.{ToWrite}
 use Rattle.kr_provider.proofs.PluginNames.{list_named}
 use Rattle.kr_provider.proofs.PluginOrder.{order_has}
 use Rattle.kr_provider.specs.PluginOrder.{plugin_order}
@@ -413,20 +414,20 @@ module _ (words : Verification) (old : Around) (made : Outcome) (f : Found words
   at_tape : (programs : List Program) (mid : Left) → mid.truth ≡ old.truth
       → mid.tapes ≡ old.world.tapes.told
       → Goes (gives done) end
-      (settled_for Store words.store false (rewriting_on words.store f.rows programs)) mid
+      (settled_for Store words.store ToWrite (rewriting_on words.store f.rows programs)) mid
       → LeftNone done
   at_tape programs mid same tapes (inl e) = absurd (no_value e refl)
   at_tape programs mid same tapes (inr (inl e)) = absurd (no_value e refl)
   at_tape programs mid same tapes (inr (inr (inl (never, agrees, e)))) = absurd (no_value e refl)
   at_tape programs mid same tapes (inr (inr (inr (may, goes)))) =
-      let lent : Left = with_tape false words.store (with_asked (Tape words.store false) mid) in
+      let lent : Left = with_tape false words.store (with_asked (Tape words.store ToWrite) mid) in
       settled_so programs lent same tapes
       (joint (λ x. settle Store words.store (give x)) done end
       (rewriting_on words.store f.rows programs) lent goes)
 
   abbrev behind_files : List Row → List Program → Steps Outcome
   behind_files rows programs =
-      settled_for Store words.store false (rewriting_on words.store rows programs)
+      settled_for Store words.store ToWrite (rewriting_on words.store rows programs)
 
   with_programs : (rows : List Row) (first : Left) → IsConfigured words old rows first
       → (programs : List Program) × (second : Left)

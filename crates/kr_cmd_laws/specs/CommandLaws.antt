@@ -12,4 +12,4 @@ CommandsAreRead = (words : List (List ℕ)) (old new : Around) (output errors : 
 
 abbrev pub TapesAreLeft : Type 0
 TapesAreLeft = (words : List (List ℕ)) (old new : Around) (output errors : Receipt)
-    (status : ℕ) → Ran words old new output errors status → AreLeft words old new status
+    (status : ℕ) → Ran words old new output errors status → AreLeft words old new output status

@@ -1,6 +1,7 @@
 -- The headline follows from the relation of a fleet.
 use Rattle.std.specs.Prelude.{ℕ, List, Option}
 use Rattle.kr_kms.specs.Calls.{Link}
+use Rattle.kr_kms.specs.Exchanges.{Exchange}
 use Rattle.kr_kms.specs.Truth.{Truth}
 use Rattle.kr_cmd_steps.specs.Around.{Around}
 use Rattle.kr_cmd_messages.specs.Receipts.{Receipt}
@@ -9,8 +10,9 @@ use Rattle.kr_cmd_fleet.specs.Fleets.{RanFleet}
 use Rattle.kr_cmd_laws.specs.RunHeadlines.{RunHeadline}
 
 abbrev pub RunsHaveHeadlines : (T : Type 0) → {L D : Type 0} → Truth → (L → Link)
+    → (L → Exchange → L → Type 0)
     → (D → Option (List ℕ)) → (D → ℕ) → Type 0
-RunsHaveHeadlines T truth link left count = (words : FleetWords) (old new : Around)
+RunsHaveHeadlines T truth link step left count = (words : FleetWords) (old new : Around)
     (output errors : Receipt) (status : ℕ)
-    → RanFleet T truth link left count words old new output errors status
-    → RunHeadline T truth link left count words old new output errors status
+    → RanFleet T truth link step left count words old new output errors status
+    → RunHeadline T truth link step left count words old new output errors status

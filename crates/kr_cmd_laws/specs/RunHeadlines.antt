@@ -1,13 +1,15 @@
 -- What a call of `run` says of a fleet, for its operator: the headline, over just what was printed.
 -- Begin at `RunHeadline`, the last definition of this page; the sentence itself is `Headline` of
 -- kr_headline.
-use Rattle.std.specs.Prelude.{◌≡◌, ◌⊎◌, ℕ, true, List, [], fold, length, map, Option, None, Err}
+use Rattle.std.specs.Prelude.{◌≡◌, ◌⊎◌, ℕ, true, List, [], fold, length, map, All, Option, None, IfSome, Err}
 use Rattle.std.specs.Io.KnownBytes.{Appends}
 use Rattle.std.specs.Option.{option_map}
 use Rattle.kr_base.specs.Faults.{Rose}
 use Rattle.kr_base.specs.Streams.{AppendsFront}
 use Rattle.kr_kms.specs.Calls.{Link}
+use Rattle.kr_kms.specs.Exchanges.{AgreeAll, Exchange}
 use Rattle.kr_kms.specs.Truth.{Opens, Truth}
+use Rattle.kr_history.specs.Honesty.{SeedsOpen}
 use Rattle.kr_rollout.specs.Histories.{state_of}
 use Rattle.kr_rollout.specs.declared.opening.Entry.{Entry}
 use Rattle.kr_script.specs.Fleets.{worker_of}
@@ -19,6 +21,7 @@ use Rattle.kr_workers.specs.Endings.{ending_of, status_of as status_of_replies}
 use Rattle.kr_workers.specs.declared.ending.Ending.{Ending}
 use Rattle.kr_workers.specs.declared.files.SettingsFile.{SettingsFile}
 use Rattle.kr_workers.specs.declared.worker.Worker as fleet_worker
+use Rattle.kr_headline.specs.Consequences.{LinksAgree}
 use Rattle.kr_headline.specs.Fleets.{AreKnown, FleetHeadline}
 use Rattle.kr_headline.specs.Headline.{Object, object_after, revision_after}
 use Rattle.kr_cmd_messages.specs.Message.{line_of, status_of}
@@ -63,9 +66,12 @@ pub record LeavesStore (store : List ℕ) (begun : Begun) (mid new : Around) (hi
 
 -- Their run has the headline, from the store's rows and the replicas' configurations on. Each
 -- worker had the random source and the links of its seat, and these are back: so a count that rose
--- while a line was done is the world's. Of plugins nothing is supposed where none has a program,
--- nor where the links tell their truth. And the store is left so
+-- while a line was done is the world's. Of plugins nothing is supposed where none has a program.
+-- Else it holds by each truth that agrees with all that they answered the workers, and by which the
+-- seeds that the replicas published open; by the truth that links tell, where each of their steps
+-- is answered as it has it, that is so. And the store is left so
 pub record WorkersHeadline {T L D : Type 0} (truth : Truth) (link : L → Link)
+    (step : L → Exchange → L → Type 0)
     (left : D → Option (List ℕ)) (count : D → ℕ) (store : List ℕ) (begun : Begun)
     (mid new : Around) (history : List Entry) (ended : List (fleet_worker.Worker T L D))
     : Type 0 where
@@ -76,11 +82,14 @@ pub record WorkersHeadline {T L D : Type 0} (truth : Truth) (link : L → Link)
   pub workers : List (fleet_worker.Worker T L D)
   pub before : AreEquipped link left count begun.plan.programs mid workers
   pub after : AreEquipped link left count begun.plan.programs new ended
-  pub headline : FleetHeadline link count workers ended truth files (opening_of store begun mid)
+  pub headline : FleetHeadline link step count workers ended files (opening_of store begun mid)
       parts history
-  pub known : (opens : Opens)
-      → (begun.plan.programs ≡ []) ⊎ ((truth.told ≡ true) × (truth.opens ≡ opens))
-      → AreKnown truth opens (opening_of store begun mid)
+  pub known : (opens : Opens) → (begun.plan.programs ≡ [])
+      ⊎ (((worker : ℕ) → AgreeAll opens (headline.heard worker).exchanges)
+      × All (λ replica. IfSome replica (SeedsOpen opens)) begun.replicas)
+      → AreKnown headline.heard opens (opening_of store begun mid)
+  pub told : truth.told ≡ true → LinksAgree step truth.opens
+      → AreKnown headline.heard truth.opens (opening_of store begun mid)
   pub stored : LeavesStore store begun mid new history
 
 -- ---- the call
@@ -107,6 +116,7 @@ pub record StartsNobody (steps : Steps Begun) (store : List ℕ) (old new : Arou
   pub tells : TellsStop stop errors status
 
 module _ (T : Type 0) {L D : Type 0} (truth : Truth) (link : L → Link)
+    (step : L → Exchange → L → Type 0)
     (left : D → Option (List ℕ)) (count : D → ℕ) (words : FleetWords) (old new : Around)
     (output errors : Receipt) (status : ℕ) where
   -- the workers were started, from what the steps up to them came to, and what they stored is
@@ -118,7 +128,7 @@ module _ (T : Type 0) {L D : Type 0} (truth : Truth) (link : L → Link)
     pub since : IsHome old mid
     pub history : List Entry
     pub ended : List (fleet_worker.Worker T L D)
-    pub has : WorkersHeadline truth link left count words.store begun
+    pub has : WorkersHeadline truth link step left count words.store begun
         (settled_behind words.store mid) new history ended
     pub prints : Prints (text_of begun.plan.fleet history ended)
         (ending_of (map (λ (w : fleet_worker.Worker T L D). w.told) ended)) output errors status

@@ -5,5 +5,6 @@ use kr_kms::World;
 
 /// What a fleet printed has the headline.
 pub fn runs_have_headlines<W: World>()
-    ensures { RunsHaveHeadlines W.Tap W.Link.truth W.Link.link W.Rand.left W.Rand.count }
+    ensures { RunsHaveHeadlines W.Tap W.Link.truth W.Link.link W.Link.step W.Rand.left
+        W.Rand.count }
 {}

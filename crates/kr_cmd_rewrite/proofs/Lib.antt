@@ -1,4 +1,5 @@
 -- The lemmas that the answers cite.
+pub mod Closing
 pub mod CutShorts
 pub mod DriveEnds
 pub mod DriveSteps

@@ -1,5 +1,5 @@
 -- A command that reports: what is said at its end, whatever is lent meanwhile.
-use Rattle.std.proofs.Common.{◌≡◌, ℕ, ◌+◌, ◌*◌, ◌<◌, ◌≤◌, List, length, Option, None, Some, Result, Ok, Err, refl, sym, ap, subst, inl, inr, arith}
+use Rattle.std.proofs.Common.{◌≡◌, ℕ, ◌+◌, ◌*◌, ◌<◌, ◌≤◌, List, [], length, Option, None, Some, Result, Ok, Err, refl, sym, ap, subst, inl, inr, arith}
 use Rattle.std.specs.Prelude.{Bool, if◌then◌else◌}
 use Rattle.std.specs.Option.{option_map}
 use Rattle.std.proofs.lemmas.Bool.{le-ltb, lt-ltb}
@@ -10,11 +10,12 @@ use Rattle.kr_store.specs.Stores.{IsListing}
 use Rattle.kr_store.specs.declared.rows.Row as stored
 use Rattle.kr_base.specs.Limits.{journal_limit}
 use Rattle.kr_cmd_steps.specs.Around.{Around, with_world, with_lent}
-use Rattle.kr_cmd_steps.specs.Commands.{by_result, rewriting_by, rewriting_live, within_journal}
+use Rattle.kr_cmd_steps.specs.Commands.{by_result, rewriting_by, rewriting_live, steps, within_journal}
 use Rattle.kr_cmd_steps.specs.Plugins.{borrow_links}
 use Rattle.kr_cmd_steps.specs.Steps.{Steps, borrow_dice, find, give, and_then, refuses, Goes}
 use Rattle.kr_cmd_steps.specs.StoreFiles.{Stored}
 use Rattle.kr_cmd_steps.specs.declared.programs.Program.{Program}
+use Rattle.kr_cmd_messages.specs.declared.command.Command.{Command}
 use Rattle.kr_cmd_messages.specs.declared.refusal.Ended.{Ended}
 use Rattle.kr_cmd_messages.specs.declared.refusal.Limit.TheVariants as limit
 use Rattle.kr_cmd_messages.specs.declared.refusal.Outcome.{Outcome}
@@ -24,9 +25,10 @@ use Rattle.kr_cmd_messages.specs.declared.refusal.Stop.TheVariants.{Refused, NoM
 use Rattle.kr_cmd_messages.specs.declared.report.Counts.{Counts}
 use Rattle.kr_cmd_steps.specs.inner.Lent.{Tapes, with_tapes, with_lent_dice, with_lent_links, with_lent_tape}
 use Rattle.kr_cmd_steps.specs.inner.Phases.{Does}
-use Rattle.kr_cmd_steps.specs.inner.Reporting.{saying}
+use Rattle.kr_cmd_steps.specs.inner.Reporting.{DoesAll, saying}
 use Rattle.kr_cmd_rewrite.specs.inner.Rewriting.{LacksRoom}
 use Rattle.kr_cmd_steps.proofs.Frames.{Seen}
+use Rattle.kr_cmd_steps.proofs.Ends.{does_all}
 use Rattle.kr_cmd_steps.proofs.Goes.{goes_on, home_refl, reach}
 
 -- ---- what is said stands beside what is lent
@@ -71,6 +73,14 @@ pub stopped_by : {next : Steps Outcome} {old new : Around} (stop : Stop) (ended 
     → Does next old (saying ended.said new) ended.made
 stopped_by {next} {old} {new} stop ended is d =
     subst (λ (e : Ended). Does next old (saying e.said new) e.made) (sym is) d
+
+pub stopped_all : {command : Command} {old new : Around} (stop : Stop) (ended : Ended)
+    → ended ≡ record { made = Err stop; said = None } → new.said ≡ []
+    → Does (steps command) old new (Err stop)
+    → DoesAll command old (saying ended.said new) ended.made
+stopped_all {command} {old} {new} stop ended is silent d =
+    subst (λ (e : Ended). DoesAll command old (saying e.said new) e.made) (sym is)
+    (does_all command (Err stop) silent d)
 
 -- ---- room
 

@@ -11,13 +11,14 @@ ghost use Rattle.kr_provider.specs.Publication.{Publication};
 ghost use Rattle.kr_history.specs.Calls.{AreServed};
 ghost use Rattle.kr_store.specs.Stores.{IsListing};
 ghost use Rattle.kr_cmd_steps.specs.Around.{Around, with_world};
-ghost use Rattle.kr_cmd_steps.specs.Commands.{nothing_done, driving, rewriting, rewriting_on, rewriting_by};
+ghost use Rattle.kr_cmd_steps.specs.Commands.{nothing_done, driving, rewriting_on, rewriting_by};
 ghost use Rattle.kr_cmd_steps.specs.Plugins.{borrow_links};
 ghost use Rattle.kr_cmd_messages.specs.Reports.{report_done};
+ghost use Rattle.kr_cmd_messages.specs.declared.command.Command.TheVariants.{Rewrite};
 ghost use Rattle.kr_cmd_steps.specs.inner.Lent.{Name, Tapes, with_tapes, with_lent_dice, with_lent_links, with_lent_tape};
 ghost use Rattle.kr_cmd_steps.specs.inner.Phases.{Does};
-ghost use Rattle.kr_cmd_steps.specs.inner.Reporting.{saying};
-ghost use Rattle.kr_cmd_rewrite.specs.inner.Rewriting.{HasRoom, LacksRoom, LiveRows, Told, IsAlone, IsDriveStop, IsReported, MayCutShort, StartsAlone, counts_of, opened_store};
+ghost use Rattle.kr_cmd_steps.specs.inner.Reporting.{DoesAll, saying};
+ghost use Rattle.kr_cmd_rewrite.specs.inner.Rewriting.{HasRoom, LacksRoom, LiveRows, Told, IsAlone, IsDriveStop, IsReported, MayCutShort, StartsAlone, counts_of, opened_store, to_settle};
 ghost use Rattle.kr_cmd_steps.specs.inner.Tapes.{stored_of};
 
 use kr_base::{Dice, JOURNAL_LIMIT, List, NoMemory, Shared, Tape, Text};
@@ -30,7 +31,7 @@ use kr_cmd_steps::{
 };
 use kr_config::Settings;
 use kr_history::{Acts, CallNo, Solo};
-use kr_kms::{Kms, World};
+use kr_kms::{Access, Kms, World};
 use kr_provider::{Bench, Links, Published};
 use kr_rewrite::{Report, drive};
 use kr_rollout::Core;
@@ -44,7 +45,7 @@ const CACHE: u32 = 64;
 
 /// Writes the stale rows of a store anew.
 pub fn rewrite<W: World>(alloc: Global, words: &Rewriting, world: &mut W) -> Ended
-    ensures { (a : Around) → a.truth ≡ W.Link.truth → Does (rewriting words.now)
+    ensures { (a : Around) → a.truth ≡ W.Link.truth → a.said ≡ [] → DoesAll (Rewrite words.now)
         (with_world (W.told world.old) a)
         (saying result.said (with_world (W.told world.new) a)) result.made }
 {
@@ -57,15 +58,32 @@ pub fn rewrite<W: World>(alloc: Global, words: &Rewriting, world: &mut W) -> End
         Err(stop) => return stopped(stop),
     };
     let name = words.store.as_str();
-    let tape = match open_tape(alloc, world, name, false) {
+    let tape = match open_tape(alloc, world, name, Access::ToWrite) {
         Ok(tape) => tape,
         Err(stop) => return stopped(stop),
     };
     let (ended, tape) = rewrite_on(alloc, settings, programs.as_slice(), world, tape);
+    match settle_tape(world, name, Object::Store, tape, to_settle(ended)) {
+        Ok(ended) => ended,
+        Err(stop) => stopped(stop),
+    }
+}
+
+/// What is told once the tape is settled: a value, or the report of a command that was stopped. A
+/// stop alone tells of no row.
+fn to_settle(ended: Ended) -> Result<Ended, Stop>
+    ensures { result ≡ to_settle ended.made ended.said }
+{
     let Ended { made, said } = ended;
-    Ended {
-        made: settle_tape(world, name, Object::Store, tape, made),
-        said,
+    match made {
+        Ok(outcome) => Ok(Ended {
+            made: Ok(outcome),
+            said,
+        }),
+        Err(stop) => match said {
+            None => Err(stop),
+            Some(counts) => Ok(cut_short(counts, stop)),
+        },
     }
 }
 

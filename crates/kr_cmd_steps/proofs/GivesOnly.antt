@@ -5,6 +5,7 @@ use Rattle.kr_base.specs.Told.{Agrees}
 use Rattle.kr_kms.specs.declared.plugin.Status.{Status}
 use Rattle.kr_kms.specs.declared.plugin.Wrapped.{Wrapped}
 use Rattle.kr_kms.specs.declared.world.WorldCall.TheVariants.{File, Link, RandomSource, Settled, Tape}
+use Rattle.kr_kms.specs.Outside.{makes}
 use Rattle.kr_cmd_steps.specs.Steps.{Steps, load, take_input, borrow_dice, borrow_tape, read_tape, write_row, keep_rows, settle, draw, borrow_link, ask_status, wrap, unwrap, note, find, refuse, give, and_then, Point, awaits, amid, refuses, gives, Left, Goes, loading, opening, lending, scanning, writing, settling, drawing, linking, asking, with_asked, with_count, with_dice, with_said, with_tape, with_told}
 
 -- from what is left on, whatever they draw and find, they refuse nothing, and give this; such steps
@@ -14,8 +15,8 @@ GivesOnly Q (load name next) left = (bytes : Option (List ℕ)) → Agrees (left
     → GivesOnly Q (next bytes) (with_asked (File name) left)
 GivesOnly Q (take_input limit long next) left = ⊥
 GivesOnly Q (borrow_dice seat next) left = GivesOnly Q next (with_asked (RandomSource seat) left)
-GivesOnly Q (borrow_tape name make absent next) left = (make ≡ true)
-    × GivesOnly Q next (with_tape make name (with_asked (Tape name make) left))
+GivesOnly Q (borrow_tape name access absent next) left = (makes access ≡ true)
+    × GivesOnly Q next (with_tape (makes access) name (with_asked (Tape name access) left))
 GivesOnly Q (read_tape object name next) left = (bytes : List ℕ)
     → Agrees (left.tapes name) (Some bytes) → GivesOnly Q (next bytes) left
 GivesOnly Q (write_row object name store row next) left =
@@ -62,12 +63,12 @@ module _ {A : Type 0} (Q : A → Left → Type 0) where
     allowed (borrow_dice seat next) left g (inl e) = at amid _ tt e
     allowed (borrow_dice seat next) left g (inr (inl e)) = at (awaits (opening seat)) _ tt e
     allowed (borrow_dice seat next) left g (inr (inr goes)) = allowed next _ g goes
-    allowed (borrow_tape name make absent next) left g (inl e) = at amid _ tt e
-    allowed (borrow_tape name make absent next) left g (inr (inl e)) =
+    allowed (borrow_tape name access absent next) left g (inl e) = at amid _ tt e
+    allowed (borrow_tape name access absent next) left g (inr (inl e)) =
         at (awaits (lending name)) _ tt e
-    allowed (borrow_tape name make absent next) left g (inr (inr (inl (none, agrees, e)))) =
+    allowed (borrow_tape name access absent next) left g (inr (inr (inl (none, agrees, e)))) =
         absurd (let t = sym g.0 ∙ none in cc)
-    allowed (borrow_tape name make absent next) left g (inr (inr (inr (may, goes)))) =
+    allowed (borrow_tape name access absent next) left g (inr (inr (inr (may, goes)))) =
         allowed next _ g.1 goes
     allowed (read_tape object name next) left g (inl e) =
         at (awaits (scanning object name)) _ tt e
@@ -116,7 +117,7 @@ module _ {A B : Type 0} (R : A → Left → Type 0) (Q : B → Left → Type 0) 
   gives_then (load name next) left g = λ bytes agrees. gives_then (next bytes) _ (g bytes agrees)
   gives_then (take_input limit long next) left g = absurd g
   gives_then (borrow_dice seat next) left g = gives_then next _ g
-  gives_then (borrow_tape name make absent next) left g = (g.0, gives_then next _ g.1)
+  gives_then (borrow_tape name access absent next) left g = (g.0, gives_then next _ g.1)
   gives_then (read_tape object name next) left g =
       λ bytes agrees. gives_then (next bytes) _ (g bytes agrees)
   gives_then (write_row object name store row next) left g = λ told. gives_then next _ (g told)

@@ -79,12 +79,12 @@ module _ {A B : Type 0} (point : Point B) (last : Left) (others : A → Steps B)
       inr (inl (land (awaits (opening seat)) at f))
   further p end f (borrow_dice seat next) left (inr (inr goes)) =
       inr (inr (further p end f next _ goes))
-  further p end f (borrow_tape name make absent next) left (inl at) = inl (land amid at f)
-  further p end f (borrow_tape name make absent next) left (inr (inl at)) =
+  further p end f (borrow_tape name access absent next) left (inl at) = inl (land amid at f)
+  further p end f (borrow_tape name access absent next) left (inr (inl at)) =
       inr (inl (land (awaits (lending name)) at f))
-  further p end f (borrow_tape name make absent next) left (inr (inr (inl (may, agrees, at)))) =
+  further p end f (borrow_tape name access absent next) left (inr (inr (inl (may, agrees, at)))) =
       inr (inr (inl (may, agrees, land (refuses absent) at f)))
-  further p end f (borrow_tape name make absent next) left (inr (inr (inr (may, goes)))) =
+  further p end f (borrow_tape name access absent next) left (inr (inr (inr (may, goes)))) =
       inr (inr (inr (may, further p end f next _ goes)))
   further p end f (read_tape object name next) left (inl at) =
       inl (land (awaits (scanning object name)) at f)

@@ -42,7 +42,7 @@ seen_same e = record { told = ap (λ o. o.told) e; home = home_same e }
 pub no_more : (n : ℕ) → n ≤ n
 no_more n = omega arith
 
-no_less : (q : Bool) (a b n m : ℕ) → a ≤ b → n ≤ m → (if q then n else a) ≤ (if q then m else b)
+pub no_less : (q : Bool) (a b n m : ℕ) → a ≤ b → n ≤ m → (if q then n else a) ≤ (if q then m else b)
 no_less true a b n m h k = k
 no_less false a b n m h k = h
 

@@ -3,6 +3,7 @@ pub mod AddedRows
 pub mod Adding
 pub mod Apart
 pub mod EmptyFiles
+pub mod Ends
 pub mod Frames
 pub mod GivesOnly
 pub mod Goes

@@ -1,8 +1,9 @@
 -- A tape that is settled before it is back.
-use Rattle.std.proofs.Common.{◌≡◌, ℕ, ◌+◌, ◌≤◌, List, Bool, Option, Result, Ok, Err, refl, sym, ap, subst, inl, inr, arith}
+use Rattle.std.proofs.Common.{◌≡◌, ℕ, ◌+◌, ◌≤◌, List, Option, Result, Ok, Err, refl, sym, ap, subst, inl, inr, arith}
 use Rattle.kr_base.specs.Faults.{Rose}
 use Rattle.kr_kms.specs.Outside.{Outside, at_key, same_name, with_call}
 use Rattle.kr_kms.specs.declared.world.WorldCall.TheVariants.{Settled}
+use Rattle.kr_kms.specs.declared.world.Access.{Access}
 use Rattle.kr_cmd_steps.specs.Around.{Around, with_world}
 use Rattle.kr_cmd_steps.specs.Commands.{settled_for}
 use Rattle.kr_cmd_steps.specs.Steps.{Steps, and_then, give, settle, settling, with_asked}
@@ -16,7 +17,7 @@ use Rattle.kr_cmd_steps.proofs.Goes.{goes_on, home_refl, reach, stops}
 use Rattle.kr_cmd_steps.proofs.Loading.{count_here, counted_tape, tape_home, tape_rose}
 use Rattle.kr_cmd_steps.proofs.Tapes.{lends_tape_to}
 
-rose_later : (before now : ℕ) → Rose before now → before ≤ now
+pub rose_later : (before now : ℕ) → Rose before now → before ≤ now
 rose_later before now (inl less) = omega (arith, less)
 rose_later before now (inr (x, y)) = omega (arith, x, y)
 
@@ -61,39 +62,39 @@ module _ (object : Object) (name : List ℕ) (told : Option (List ℕ)) (count :
   }
 
 -- it is borrowed for what follows, is settled behind that, and comes back
-module _ (object : Object) (name : List ℕ) (make : Bool) {old out : Outside}
+module _ (object : Object) (name : List ℕ) (access : Access) {old out : Outside}
     {given : Option (List ℕ)} {first : ℕ} (mid new : Outside) (back : Option (List ℕ)) (count : ℕ)
   where
     pub lends_settled_to : (a b : Around) {A : Type 0} (next : Steps A) (made result : Result A Stop)
-        → LentTape name make old out given first
+        → LentTape name access old out given first
         → ReturnsSettled name object mid new back count made result
         → Does next (with_lent_tape name given first (with_world out a))
         (with_lent_tape name back count (with_world mid b)) made
-        → Does (settled_for object name make next) (with_world old a) (with_world new b) result
+        → Does (settled_for object name access next) (with_world old a) (with_world new b) result
     lends_settled_to a b next (Ok made) (Ok x) h (same, returned) works =
-        subst (λ x. Does (settled_for object name make next) (with_world old a) (with_world new b)
+        subst (λ x. Does (settled_for object name access next) (with_world old a) (with_world new b)
         (Ok x)) (sym same)
-        (lends_tape_to name make a b {next = and_then next (λ made. settle object name (give made))} h
+        (lends_tape_to name access a b {next = and_then next (λ made. settle object name (give made))} h
         returned (goes_on next (λ made. settle object name (give made)) made works
         (is_settled object name back count made mid b)))
     lends_settled_to a b next (Ok made) (Err stop) h (later, rose, same, returned) works =
-        subst (λ s. Does (settled_for object name make next) (with_world old a) (with_world new b)
+        subst (λ s. Does (settled_for object name access next) (with_world old a) (with_world new b)
         (Err s)) (sym same)
-        (lends_tape_to name make a b {next = and_then next (λ made. settle object name (give made))} h
+        (lends_tape_to name access a b {next = and_then next (λ made. settle object name (give made))} h
         returned (goes_on next (λ made. settle object name (give made)) made works
         (not_settled object name back count made (with_world mid b) later rose)))
     lends_settled_to a b next (Err why) result h (same, returned) works =
-        subst (λ r. Does (settled_for object name make next) (with_world old a) (with_world new b) r)
+        subst (λ r. Does (settled_for object name access next) (with_world old a) (with_world new b) r)
         (sym same)
-        (lends_tape_to name make a b {next = and_then next (λ made. settle object name (give made))} h
+        (lends_tape_to name access a b {next = and_then next (λ made. settle object name (give made))} h
         returned (stops next (λ made. settle object name (give made)) why works))
 
     pub lends_settled : (a : Around) {A : Type 0} (next : Steps A) (made result : Result A Stop)
-        → LentTape name make old out given first
+        → LentTape name access old out given first
         → ReturnsSettled name object mid new back count made result
         → Does next (with_lent_tape name given first (with_world out a))
         (with_lent_tape name back count (with_world mid a)) made
-        → Does (settled_for object name make next) (with_world old a) (with_world new a) result
+        → Does (settled_for object name access next) (with_world old a) (with_world new a) result
     lends_settled a next made result h returned works =
         lends_settled_to a a next made result h returned works
 

@@ -5,9 +5,10 @@ use Rattle.std.specs.Io.KnownBytes.{Keeps}
 use Rattle.std.proofs.lemmas.Slice.Eq.{bytes_eq-Decides}
 use Rattle.std.specs.Option.{option_map}
 use Rattle.kr_base.specs.Told.{Agrees}
-use Rattle.kr_kms.specs.Outside.{Outside, Objects, with_call, same_name, HandsOut, IsTape, KeepsFiles, KeepsObjects}
+use Rattle.kr_kms.specs.Outside.{Outside, Objects, with_call, same_name, HandsOut, IsTape, KeepsFiles, KeepsObjects, makes}
 use Rattle.kr_kms.specs.declared.world.WorldCall.TheVariants.{Tape}
 use Rattle.kr_kms.proofs.Lent.{names_decide}
+use Rattle.kr_kms.specs.declared.world.Access.{Access}
 use Rattle.kr_cmd_steps.specs.Around.{Around, with_world, with_lent, Stays, Reaches}
 use Rattle.kr_cmd_steps.specs.Commands.{tape_for}
 use Rattle.kr_cmd_steps.specs.Steps.{Steps, borrow_tape, give, lending, Point, awaits, Left, MayBorrow, or_empty, tapes_with, with_asked, with_tape}
@@ -72,45 +73,45 @@ told_with true {name} held {count} {old} {out} h t = λ i other.
 
 module _ {old new : Outside} (files : KeepsFiles old new) (objects : KeepsObjects old new)
     (a : Around) where
-  not_lent_at : (name : List ℕ) (make : Bool) (absent : Refusal) {A : Type 0} {next : Steps A}
+  not_lent_at : (name : List ℕ) (access : Access) (absent : Refusal) {A : Type 0} {next : Steps A}
       {left : Left} → Stays left (with_world old a)
-      → new.asked ≡ with_call (Tape name make) old.asked
-      → Reaches (borrow_tape name make absent next) left (with_world new a)
+      → new.asked ≡ with_call (Tape name access) old.asked
+      → Reaches (borrow_tape name access absent next) left (with_world new a)
       (awaits (lending name))
-  not_lent_at name make absent {left = left} s made =
-      reach (with_asked (Tape name make) left) (inr (inl (refl, refl)))
-      (stays_noted files objects a (Tape name make) s made)
+  not_lent_at name access absent {left = left} s made =
+      reach (with_asked (Tape name access) left) (inr (inl (refl, refl)))
+      (stays_noted files objects a (Tape name access) s made)
 
-  pub not_lent : (name : List ℕ) (make : Bool) {A : Type 0} {next : Steps A} (stop : Stop)
-      → NoTape old new name make stop → AskedUnless old.asked new.asked (Tape name make) stop
-      → Does (tape_for name make next) (with_world old a) (with_world new a) (Err stop)
-  not_lent name make (Words why) n q = absurd n
-  not_lent name make (Refused why) n q = record {
+  pub not_lent : (name : List ℕ) (access : Access) {A : Type 0} {next : Steps A} (stop : Stop)
+      → NoTape old new name access stop → AskedUnless old.asked new.asked (Tape name access) stop
+      → Does (tape_for name access next) (with_world old a) (with_world new a) (Err stop)
+  not_lent name access (Words why) n q = absurd n
+  not_lent name access (Refused why) n q = record {
     home = asked_home files objects a;
-    ends = λ left s. reach (with_asked (Tape name make) left) (inr (inr (inl (
+    ends = λ left s. reach (with_asked (Tape name access) left) (inr (inr (inl (
       n.0,
       subst (λ t. Agrees (t name) None) s.tapes n.1,
       (ap Point.refuses n.2, refl),
     ))))
-        (stays_noted files objects a (Tape name make) s q);
+        (stays_noted files objects a (Tape name access) s q);
   }
-  not_lent name make (Fault object count) n q = record {
+  not_lent name access (Fault object count) n q = record {
     home = asked_home files objects a;
-    ends = λ left s. (lending name, not_lent_at name make _ s q, n);
+    ends = λ left s. (lending name, not_lent_at name access _ s q, n);
   }
-  not_lent name make NoMemory n (inl q) = record {
+  not_lent name access NoMemory n (inl q) = record {
     home = asked_home files objects a;
     ends = λ left s. inr (unasked files objects a s q (inl (refl, refl)));
   }
-  not_lent name make NoMemory n (inr q) = record {
+  not_lent name access NoMemory n (inr q) = record {
     home = asked_home files objects a;
-    ends = λ left s. inl (lending name, tt, not_lent_at name make _ s q);
+    ends = λ left s. inl (lending name, tt, not_lent_at name access _ s q);
   }
 
 -- ---- one that was
 
-pub is_out : (name : List ℕ) {make : Bool} {old out : Outside} {held : Option (List ℕ)} {count : ℕ}
-    → LentTape name make old out held count → 0 < out.tapes.out name
+pub is_out : (name : List ℕ) {access : Access} {old out : Outside} {held : Option (List ℕ)} {count : ℕ}
+    → LentTape name access old out held count → 0 < out.tapes.out name
 is_out name {old = old} {out} h = omega (
   arith,
   h.out.out name,
@@ -121,11 +122,11 @@ is_out name {old = old} {out} h = omega (
 abbrev pub nothing : Steps (Unit {0})
 nothing = give tt
 
-pub lent : (name : List ℕ) (make : Bool) (absent : Refusal) {old out : Outside}
-    {held : Option (List ℕ)} {count : ℕ} → LentTape name make old out held count → (a : Around)
-    → Does (borrow_tape name make absent nothing) (with_world old a)
+pub lent : (name : List ℕ) (access : Access) (absent : Refusal) {old out : Outside}
+    {held : Option (List ℕ)} {count : ℕ} → LentTape name access old out held count → (a : Around)
+    → Does (borrow_tape name access absent nothing) (with_world old a)
     (with_lent_tape name held count (with_world out a)) (Ok tt)
-lent name make absent {old} {out} {held} {count} h a = record {
+lent name access absent {old} {out} {held} {count} h a = record {
   home = record {
     files = record { file = h.files.file; later = h.files.later };
     dice = home_same h.dice;
@@ -133,20 +134,20 @@ lent name make absent {old} {out} {held} {count} h a = record {
     links = home_same h.links;
     input = omega arith;
   };
-  ends = λ l s. reach (with_tape make name (with_asked (Tape name make) l))
+  ends = λ l s. reach (with_tape (makes access) name (with_asked (Tape name access) l))
       (inr (inr (inr (
-        subst (λ t. MayBorrow (t name) make) s.tapes
-            (may_borrow (old.tapes.told name) make held h.tape),
+        subst (λ t. MayBorrow (t name) (makes access)) s.tapes
+            (may_borrow (old.tapes.told name) (makes access) held h.tape),
         (refl, refl),
       ))))
       (record {
         truth = s.truth;
         file = h.files.file ∙ s.file;
-        tapes = told_with make held h.out h.tape ∙ ap (tapes_with make name) s.tapes;
+        tapes = told_with (makes access) held h.out h.tape ∙ ap (tapes_with (makes access) name) s.tapes;
         links = ap (λ o. o.told) h.links ∙ s.links;
         input = s.input;
         dice = λ seat. subst (λ d. Keeps (l.dice seat) (d.told seat)) (sym h.dice) (s.dice seat);
-        asked = h.asked ∙ ap (with_call (Tape name make)) s.asked;
+        asked = h.asked ∙ ap (with_call (Tape name access)) s.asked;
         said = s.said;
         counts = λ key. omega (
           arith,
@@ -171,23 +172,23 @@ came_back name h a = λ i. record a {
 }
 
 -- it is borrowed for what follows, and comes back
-module _ (name : List ℕ) (make : Bool) {old out mid new : Outside}
+module _ (name : List ℕ) (access : Access) {old out mid new : Outside}
     {given back : Option (List ℕ)} {first count : ℕ} where
   pub lends_tape_to : (a b : Around) {B : Type 0} {next : Steps B} {result : Result B Stop}
-      → LentTape name make old out given first → ReturnedTape name mid new back count
+      → LentTape name access old out given first → ReturnedTape name mid new back count
       → Does next (with_lent_tape name given first (with_world out a))
       (with_lent_tape name back count (with_world mid b)) result
-      → Does (tape_for name make next) (with_world old a) (with_world new b) result
+      → Does (tape_for name access next) (with_world old a) (with_world new b) result
   lends_tape_to a b {next = next} {result} h returned works =
-      subst (λ c. Does (tape_for name make next) (with_world old a) c result)
+      subst (λ c. Does (tape_for name access next) (with_world old a) c result)
       (came_back name returned b)
-      (goes_on (tape_for name make nothing) (λ u. next) tt (lent name make _ h a) works)
+      (goes_on (tape_for name access nothing) (λ u. next) tt (lent name access _ h a) works)
 
   pub lends_tape : (a : Around) {B : Type 0} {next : Steps B} {result : Result B Stop}
-      → LentTape name make old out given first → ReturnedTape name mid new back count
+      → LentTape name access old out given first → ReturnedTape name mid new back count
       → Does next (with_lent_tape name given first (with_world out a))
       (with_lent_tape name back count (with_world mid a)) result
-      → Does (tape_for name make next) (with_world old a) (with_world new a) result
+      → Does (tape_for name access next) (with_world old a) (with_world new a) result
   lends_tape a h returned works = lends_tape_to a a h returned works
 
 -- what leaves the tapes, done while this one is out

@@ -15,8 +15,10 @@ use Rattle.kr_store.specs.declared.rows.Row as stored
 use Rattle.kr_store.specs.Stores.{IsListing}
 use Rattle.kr_cmd_steps.specs.Around.{Around}
 use Rattle.kr_cmd_messages.specs.Command.{Asks}
+use Rattle.kr_cmd_messages.specs.Receipts.{Receipt}
 use Rattle.kr_cmd_steps.specs.Commands.{migrated_row}
 use Rattle.kr_cmd_steps.specs.Configuration.{IsConfiguration}
+use Rattle.kr_cmd_steps.specs.Ran.{IsIdle}
 use Rattle.kr_cmd_steps.specs.Steps.{or_empty}
 use Rattle.kr_cmd_steps.specs.StoreFiles.{Stored, IsStored, with_row, HoldsRows, BeginsWith, StillHolds}
 use Rattle.kr_cmd_messages.specs.declared.command.Command.{Command}
@@ -161,11 +163,12 @@ Settles (Migrate words) new = IsSettledLast words.to new.asked
 Settles (Rewrite words) new = IsSettledLast words.store new.asked
 Settles command new = ⊤
 
--- the words stopped the call, or they ask for a command that leaves the tapes so, and at status 0
--- settled what it wrote
-abbrev pub AreLeft : List (List ℕ) → Around → Around → (status : ℕ) → Type 0
-AreLeft words old new status =
-    ((status ≢ 0) × (new.world.tapes.told ≡ old.world.tapes.told))
+-- the words stopped the call, and nothing was written; or they ask for a command that leaves the
+-- tapes so, and settled what it wrote at status 0, and wherever anything of it was printed
+abbrev pub AreLeft : List (List ℕ) → Around → Around → Receipt → (status : ℕ) → Type 0
+AreLeft words old new output status =
+    ((status ≢ 0) × (new.world.tapes.told ≡ old.world.tapes.told) × IsIdle output)
     ⊎ ((command : Command) × Asks words command
     × LeavesTapes command status old.world new.world
-    × (status ≡ 0 → Settles command new.world))
+    × (status ≡ 0 → Settles command new.world)
+    × (IsIdle output ⊎ Settles command new.world))

@@ -11,6 +11,8 @@ use Rattle.kr_kms.specs.Cache.{key_eq}
 use Rattle.kr_kms.specs.Truth.{key_of}
 use Rattle.kr_kms.specs.declared.seeds.SeedKey.{SeedKey}
 use Rattle.kr_kms.specs.declared.seeds.SeedRow.{SeedRow}
+use Rattle.kr_kms.specs.declared.world.Access.{Access}
+use Rattle.kr_kms.specs.declared.world.Access.TheVariants.{ToRead, ToWrite, ToMake}
 use Rattle.kr_provider.specs.Envelopes.{Envelope, HasObject, seed_key}
 use Rattle.kr_provider.specs.PluginOrder.{plugin_order}
 use Rattle.kr_provider.specs.Publication.{Publication, seed_of}
@@ -91,13 +93,13 @@ stored_on object name =
     read_tape object name (λ bytes. find (Result Stored Refusal) (IsStored bytes) by_result)
 
 -- the tape of a name, for these steps
-abbrev pub tape_for : {A : Type 0} → List ℕ → (make : Bool) → Steps A → Steps A
-tape_for name make next = borrow_tape name make (Absent (visible name)) next
+abbrev pub tape_for : {A : Type 0} → List ℕ → (access : Access) → Steps A → Steps A
+tape_for name access next = borrow_tape name access (Absent (visible name)) next
 
 -- it is settled before it is back, where these steps give something
-abbrev pub settled_for : {A : Type 0} → Object → List ℕ → (make : Bool) → Steps A → Steps A
-settled_for object name make next =
-    tape_for name make (and_then next (λ made. settle object name (give made)))
+abbrev pub settled_for : {A : Type 0} → Object → List ℕ → (access : Access) → Steps A → Steps A
+settled_for object name access next =
+    tape_for name access (and_then next (λ made. settle object name (give made)))
 
 -- these steps, where there is memory for what they need
 abbrev pub with_memory : {A : Type 0} → Steps A → Steps A
@@ -259,7 +261,7 @@ sealed_into words store rows programs bytes read =
 -- the store's tape is out from before the sealing until the row is written and settled
 abbrev pub stored_into : Conversion → (store : List ℕ) → List Row → List Program → (bytes : List ℕ)
     → Steps Outcome
-stored_into words store rows programs bytes = settled_for Store store true
+stored_into words store rows programs bytes = settled_for Store store ToMake
     (and_then (stored_on Store store) (sealed_into words store rows programs bytes))
 
 abbrev pub putting : Conversion → (store : List ℕ) → Steps Outcome
@@ -285,7 +287,7 @@ abbrev pub getting : Lookup → Steps Outcome
 getting words =
     and_then (configuration words.config) (λ rows.
     and_then (linking_programs words.options rows) (λ programs.
-    and_then (tape_for words.store false (row_on words.store words.path)) (λ row.
+    and_then (tape_for words.store ToRead (row_on words.store words.path)) (λ row.
     bench_steps programs Decrypt row.resource words.path rows row.stored)))
 
 -- ---- verify
@@ -324,7 +326,7 @@ abbrev pub verifying : Verification → Steps Outcome
 verifying words =
     and_then (configuration words.config) (λ rows.
     and_then (linking_programs words.options rows) (λ programs.
-    and_then (tape_for words.store false (live_on words.store)) (verifying_with programs rows)))
+    and_then (tape_for words.store ToRead (live_on words.store)) (verifying_with programs rows)))
 
 -- ---- migrate
 
@@ -374,13 +376,13 @@ copied_into to rows source target =
 -- the target's tape, which is made where it is absent, once the source was read
 abbrev pub migrating_into : (to : List ℕ) → List Row → (source : Stored) → Steps Outcome
 migrating_into to rows source =
-    settled_for Target to true (and_then (target_on to) (copied_into to rows source))
+    settled_for Target to ToMake (and_then (target_on to) (copied_into to rows source))
 
 -- the source's tape is out until the target's is back
 abbrev pub migrating : Migration → Steps Outcome
 migrating words =
     and_then (configuration words.config) (λ rows.
-    tape_for words.store false
+    tape_for words.store ToRead
     (and_then (source_on words.store) (migrating_into words.to rows)))
 
 -- ---- list
@@ -422,7 +424,7 @@ judging_on name options =
     and_then (stored_on Store name) (λ stored. judging_by options stored.rows)
 
 abbrev pub judging : Judgement → Steps Outcome
-judging words = tape_for words.store false (judging_on words.store words.options)
+judging words = tape_for words.store ToRead (judging_on words.store words.options)
 
 -- ---- plan
 
@@ -547,7 +549,7 @@ abbrev pub rewriting : Rewriting → Steps Outcome
 rewriting words =
     and_then (configuration words.config) (λ rows.
     and_then (linking_programs words.options rows) (λ programs.
-    settled_for Store words.store false (rewriting_on words.store rows programs)))
+    settled_for Store words.store ToWrite (rewriting_on words.store rows programs)))
 
 -- ---- the commands
 
@@ -559,7 +561,7 @@ steps (Put words store) = putting words store
 steps (Get words) = getting words
 steps (Verify words) = verifying words
 steps (Migrate words) = migrating words
-steps (Rows store) = tape_for store false (listing_on store)
+steps (Rows store) = tape_for store ToRead (listing_on store)
 steps (Judge words) = judging words
 steps (Plan words) = planning words
 steps (Rewrite words) = rewriting words

@@ -2,12 +2,12 @@
 use Rattle.std.specs.Prelude.{◌≡◌, ℕ, List, [], ◌++◌, codes, decimal, map, Option, None, Some, Result, Ok, Err}
 use Rattle.std.specs.List.{concat}
 use Rattle.kr_config.specs.Kept.{Row}
+use Rattle.kr_config.specs.Texts.{settings_text}
 use Rattle.kr_config.specs.declared.refusal.ConfigNo.TheVariants as config
 use Rattle.kr_judge.specs.Texts.{class_text, who_text}
 use Rattle.kr_judge.specs.Verdicts.{first}
 use Rattle.kr_plan.specs.Merges.{wide_rows, turned_rows}
 use Rattle.kr_plan.specs.Plans.{moves_of, reasons}
-use Rattle.kr_plan.specs.Texts.{settings_text}
 use Rattle.kr_plan.specs.declared.moves.Phase.{Phase}
 use Rattle.kr_plan.specs.declared.moves.Phase.TheVariants as phase
 use Rattle.kr_plan.specs.declared.moves.Move.{Move}

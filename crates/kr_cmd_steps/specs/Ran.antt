@@ -5,20 +5,21 @@ use Rattle.kr_base.specs.Faults.{Rose}
 use Rattle.kr_base.specs.Streams.{AppendsFront}
 use Rattle.kr_base.specs.Told.{Agrees}
 use Rattle.kr_config.specs.Kept.{Row}
+use Rattle.kr_kms.specs.declared.world.WorldCall.TheVariants.{Settled}
 use Rattle.kr_provider.specs.PluginOrder.{plugin_order}
 use Rattle.kr_provider.specs.Publication.{names_plugin}
-use Rattle.kr_cmd_steps.specs.Around.{Around, with_what_is_said, left_of, faults_at, count_at, Reaches, IsHome, Ends}
+use Rattle.kr_cmd_steps.specs.Around.{Around, with_what_is_said, left_of, faults_at, count_at, IsHome, IsFault, MayLack, Stays}
 use Rattle.kr_cmd_messages.specs.Command.{replica_names, reload_in, reload_file, Asks, AskNothing, AskPage, AskReplicas, AskSize, AskBadly}
 use Rattle.kr_cmd_steps.specs.Commands.{steps}
 use Rattle.kr_cmd_steps.specs.Configuration.{IsConfiguration}
 use Rattle.kr_cmd_messages.specs.Message.{status_of, status_of_done, status_of_refusal, line_of, refusal_line, fault_line, done_line}
-use Rattle.kr_cmd_steps.specs.Steps.{Call, object_of, Point, awaits, refuses, gives, Left, Goes}
+use Rattle.kr_cmd_steps.specs.Steps.{Call, settling, object_of, Point, awaits, amid, refuses, gives, Left, with_asked, with_said, IsAt, Goes}
 use Rattle.kr_cmd_messages.specs.declared.command.Command.TheVariants.{Verify}
 use Rattle.kr_cmd_messages.specs.declared.command.Command.{Command}
 use Rattle.kr_cmd_messages.specs.declared.command.Command.TheVariants.{Convert, Check, Inspect, Put, Get, Migrate, Rows, Judge, Plan, Rewrite}
 use Rattle.kr_cmd_messages.specs.declared.command.Direction.{Direction}
 use Rattle.kr_cmd_messages.specs.declared.command.Direction.TheVariants.{Encrypt, Decrypt}
-use Rattle.kr_cmd_messages.specs.declared.refusal.Object.TheVariants.{Output}
+use Rattle.kr_cmd_messages.specs.declared.refusal.Object.TheVariants.{Output, Store}
 use Rattle.kr_cmd_messages.specs.declared.refusal.Refusal.{Refusal}
 use Rattle.kr_cmd_messages.specs.declared.refusal.Stop.{Stop}
 use Rattle.kr_cmd_messages.specs.declared.refusal.Stop.TheVariants.{Words, Refused, Fault, NoMemory}
@@ -41,15 +42,64 @@ Reports (byte ∷ bytes) output = Appends output.old output.new (byte ∷ bytes)
 abbrev pub IsUntouched : Around → Around → Receipt → Type 0
 IsUntouched old new output = (new ≡ old) × IsIdle output
 
+-- ---- how a command ends
+
+-- the tape of whose rows a command says what became where it is stopped
+abbrev pub ReportsOf : Command → (name : List ℕ) → Type 0
+ReportsOf (Rewrite words) name = name ≡ words.store
+ReportsOf command name = ⊥
+
+-- steps were stopped
+abbrev pub IsStop : Point Outcome → Type 0
+IsStop (gives made) = ⊥
+IsStop stop = ⊤
+
+-- they were not, or said nothing
+abbrev pub SaysNothing : Point Outcome → (end : Left) → Type 0
+SaysNothing (gives made) end = ⊤
+SaysNothing stop end = end.said ≡ []
+
+-- steps came to this end, and the command to that: what they say in place of a value stands once
+-- the tape of those rows is settled, of which the world is told; where it can't be settled nothing
+-- is said, and this is where the command ends
+abbrev pub Closes : Command → (stop : Point Outcome) → (end : Left) → (point : Point Outcome)
+    → (last : Left) → Type 0
+Closes command stop end point last =
+    (SaysNothing stop end × IsAt point last stop end)
+    ⊎ (IsStop stop × ((name : List ℕ) × ReportsOf command name × (
+    IsAt point last stop (with_asked (Settled name) end)
+    ⊎ IsAt point last (awaits (settling Store name)) (with_said [] end))))
+
+-- from what is left the command comes to this point, and nothing was done but by that
+pub record ReachesEnd (command : Command) (left : Left) (new : Around) (point : Point Outcome)
+    : Type 0 where
+  pub stop : Point Outcome
+  pub end : Left
+  pub last : Left
+  pub goes : Goes stop end (steps command) left
+  pub closes : Closes command stop end point last
+  pub stays : Stays last new
+
+-- it ends there as steps do
+abbrev pub EndsAll : Command → Left → Around → Around → Result Outcome Stop → Type 0
+EndsAll command left old new (Ok made) = ReachesEnd command left new (gives made)
+EndsAll command left old new (Err (Words why)) = ⊥
+EndsAll command left old new (Err (Refused why)) = ReachesEnd command left new (refuses why)
+EndsAll command left old new (Err (Fault object count)) =
+    (call : Call) × ReachesEnd command left new (awaits call) × IsFault call object count old new
+EndsAll command left old new (Err NoMemory) =
+    ((call : Call) × MayLack call × ReachesEnd command left new (awaits call))
+    ⊎ ReachesEnd command left new amid
+
 -- ---- what a call did
 
--- the words ask for a command, and its steps ended so
+-- the words ask for a command, and it ended so
 pub record Did (words : List (List ℕ)) (old new : Around) (made : Result Outcome Stop)
     : Type 0 where
   pub command : Command
   pub asks : Asks words command
   pub home : IsHome old new
-  pub ends : Ends (steps command) (left_of old) old new made
+  pub ends : EndsAll command (left_of old) old new made
 
 -- the value of a command was written; where the output fails, a prefix of it; where a step ended
 -- the command, that stands, and what was said was written
@@ -84,12 +134,12 @@ pub record Ran (words : List (List ℕ)) (old new : Around) (output errors : Rec
 
 -- ---- what follows from it, for readers
 
--- the words ask for a command whose steps come to this point, where this was said
+-- the words ask for a command that comes to this point, where this was said
 pub record ComesSaying (words : List (List ℕ)) (old new : Around) (said : List ℕ)
     (point : Point Outcome) : Type 0 where
   pub command : Command
   pub asks : Asks words command
-  pub reaches : Reaches (steps command) (left_of old) (with_what_is_said said new) point
+  pub reaches : ReachesEnd command (left_of old) (with_what_is_said said new) point
   pub home : IsHome old new
 
 -- whatever was said

@@ -3,7 +3,7 @@ use Rattle.std.specs.Prelude.{◌≡◌, ℕ, ◌+◌, ◌≤◌, ◌==◌, ◌�
 use Rattle.std.specs.Io.KnownBytes.{Consumes, IsAtEnd}
 use Rattle.std.specs.Option.{option_map}
 use Rattle.kr_base.specs.Told.{Agrees}
-use Rattle.kr_kms.specs.Outside.{with_call, same_name}
+use Rattle.kr_kms.specs.Outside.{with_call, same_name, makes}
 use Rattle.kr_kms.specs.Calls.{key_in}
 use Rattle.kr_kms.specs.Limits.{IsWithinLimits}
 use Rattle.kr_kms.specs.Truth.{Truth, TellsOf}
@@ -12,6 +12,7 @@ use Rattle.kr_kms.specs.declared.plugin.Wrapped.{Wrapped}
 use Rattle.kr_kms.specs.declared.seeds.SeedKey.{SeedKey}
 use Rattle.kr_kms.specs.declared.world.WorldCall.{WorldCall}
 use Rattle.kr_kms.specs.declared.world.WorldCall.TheVariants.{File, Tape, RandomSource, Link, Settled}
+use Rattle.kr_kms.specs.declared.world.Access.{Access}
 use Rattle.kr_store.specs.declared.rows.LogRow.{LogRow}
 use Rattle.kr_cmd_steps.specs.StoreFiles.{Stored, with_row, HoldsRows, BeginsWith, StillHolds}
 use Rattle.kr_cmd_messages.specs.declared.refusal.Object.{Object}
@@ -26,8 +27,8 @@ pub data Steps (A : Type 0) : Type 1 where
   take_input : ℕ → Refusal → (List ℕ → Steps A) → Steps A
   -- the random source of a seat
   borrow_dice : ℕ → Steps A → Steps A
-  -- the tape of a name, which is made where it is absent, if so; one that is absent is refused so
-  borrow_tape : (name : List ℕ) (make : Bool) → Refusal → Steps A → Steps A
+  -- the tape of a name, which is asked for so; one that is absent and isn't made is refused so
+  borrow_tape : (name : List ℕ) (access : Access) → Refusal → Steps A → Steps A
   -- all bytes of a tape that is lent; a fault's line names the object
   read_tape : Object → (name : List ℕ) → (List ℕ → Steps A) → Steps A
   -- a row behind the rows of a store, on a tape that is lent; a fault's line names the object
@@ -61,8 +62,8 @@ and_then (load name next) others = load name (λ bytes. and_then (next bytes) ot
 and_then (take_input limit long next) others =
     take_input limit long (λ bytes. and_then (next bytes) others)
 and_then (borrow_dice seat next) others = borrow_dice seat (and_then next others)
-and_then (borrow_tape name make absent next) others =
-    borrow_tape name make absent (and_then next others)
+and_then (borrow_tape name access absent next) others =
+    borrow_tape name access absent (and_then next others)
 and_then (read_tape object name next) others =
     read_tape object name (λ bytes. and_then (next bytes) others)
 and_then (write_row object name store row next) others =
@@ -200,13 +201,13 @@ module _ {A : Type 0} (point : Point A) (end : Left) where
       IsAt amid left
       ⊎ IsAt (awaits (opening seat)) (with_asked (RandomSource seat) left)
       ⊎ Goes next (with_asked (RandomSource seat) left)
-  Goes (borrow_tape name make absent next) left =
+  Goes (borrow_tape name access absent next) left =
       IsAt amid left
-      ⊎ IsAt (awaits (lending name)) (with_asked (Tape name make) left)
-      ⊎ ((make ≡ false) × Agrees (left.tapes name) None
-      × IsAt (refuses absent) (with_asked (Tape name make) left))
-      ⊎ (MayBorrow (left.tapes name) make
-      × Goes next (with_tape make name (with_asked (Tape name make) left)))
+      ⊎ IsAt (awaits (lending name)) (with_asked (Tape name access) left)
+      ⊎ ((makes access ≡ false) × Agrees (left.tapes name) None
+      × IsAt (refuses absent) (with_asked (Tape name access) left))
+      ⊎ (MayBorrow (left.tapes name) (makes access)
+      × Goes next (with_tape (makes access) name (with_asked (Tape name access) left)))
   Goes (read_tape object name next) left =
       IsAt (awaits (scanning object name)) left
       ⊎ ((bytes : List ℕ) × Agrees (left.tapes name) (Some bytes) × Goes (next bytes) left)

@@ -13,7 +13,7 @@ ghost use Rattle.kr_cmd_steps.specs.inner.Tapes.{HasOneMore, IsLoaded, LentTape,
 
 use kr_base::{Bytes, Failed, STORE_LIMIT, Tape};
 use kr_cmd_messages::{Breach, Limit, Object, Refusal, Stop, visible};
-use kr_kms::{FileNo, World};
+use kr_kms::{Access, FileNo, World};
 use kr_store::{Check, PutNo, Store, StoreNo};
 use std::alloc::Global;
 
@@ -23,21 +23,21 @@ pub fn open_tape<W: World>(
     alloc: Global,
     world: &mut W,
     name: &str,
-    make: bool,
+    access: Access,
 ) -> Result<W::Tap, Stop>
-    ensures lent { IfOk result (λ tape. LentTape name.now make (W.told world.old)
+    ensures lent { IfOk result (λ tape. LentTape name.now access (W.told world.old)
         (W.told world.new) (W.Tap.told tape) (W.Tap.count tape)) }
     ensures objects { OnErr result (KeepsObjects (W.told world.old) (W.told world.new)) }
-    ensures why { IfErr result (NoTape (W.told world.old) (W.told world.new) name.now make) }
+    ensures why { IfErr result (NoTape (W.told world.old) (W.told world.new) name.now access) }
     ensures asked { AskedFor (W.told world.old).asked (W.told world.new).asked
-        (WorldCall.Tape name.now make) result }
+        (WorldCall.Tape name.now access) result }
     ensures files { KeepsFiles (W.told world.old) (W.told world.new) }
 {
     let absent = match visible(alloc, name) {
         Ok(text) => text,
         Err(_) => return Err(Stop::NoMemory),
     };
-    match world.tape(alloc, name, make) {
+    match world.tape(alloc, name, access) {
         Ok(tape) => Ok(tape),
         Err(FileNo::Absent) => Err(Stop::Refused(Refusal::Absent(absent))),
         Err(FileNo::Failed) => Err(Stop::Fault(Object::Files, world.faults())),

@@ -3,9 +3,10 @@ use Rattle.std.proofs.Common.{◌≡◌, ℕ, ◌+◌, List, Option, None, Some,
 use Rattle.std.specs.Prelude.{Bool, true, false, ◌-◌, if◌then◌else◌}
 use Rattle.std.specs.Option.{option_map}
 use Rattle.kr_base.specs.Told.{Agrees}
-use Rattle.kr_kms.specs.Outside.{Outside, at_key, same_name, HandsOut, TakesBack, IsTape, KeepsFiles, KeepsObjects}
+use Rattle.kr_kms.specs.Outside.{Outside, at_key, same_name, HandsOut, TakesBack, IsTape, KeepsFiles, KeepsObjects, makes}
 use Rattle.kr_kms.proofs.Lent.{names_decide}
 use Rattle.kr_kms.specs.declared.world.WorldCall.TheVariants.{Tape}
+use Rattle.kr_kms.specs.declared.world.Access.{Access}
 use Rattle.kr_cmd_steps.specs.Around.{Around, with_lent, with_world}
 use Rattle.kr_cmd_steps.specs.Commands.{settled_for, tape_for}
 use Rattle.kr_cmd_steps.specs.Steps.{Steps}
@@ -81,12 +82,12 @@ module _ (name other : List ℕ) (told : Option (List ℕ)) (count : ℕ)
   abbrev pub seen : Outside → Outside
   seen world = with_tapes (behind world.tapes) world
 
-  lent_behind : (make : Bool) {old out : Outside} {held : Option (List ℕ)} {first : ℕ}
-      → LentTape other make old out held first
-      → LentTape other make (seen old) (seen out) held first
-  lent_behind make {old} {out} {held} h = record {
+  lent_behind : (access : Access) {old out : Outside} {held : Option (List ℕ)} {first : ℕ}
+      → LentTape other access old out held first
+      → LentTape other access (seen old) (seen out) held first
+  lent_behind access {old} {out} {held} h = record {
     out = hands_out h.out;
-    tape = subst (λ t. IsTape t make held) (sym (there old.tapes)) h.tape;
+    tape = subst (λ t. IsTape t (makes access) held) (sym (there old.tapes)) h.tape;
     files = record { file = h.files.file; later = h.files.later };
     asked = h.asked;
     dice = h.dice;
@@ -116,39 +117,39 @@ module _ (name other : List ℕ) (told : Option (List ℕ)) (count : ℕ)
   returns_behind object mid new held last (Err why) result (same, h) = (same, back_behind h)
 
   -- it is borrowed for what follows, and is settled before it is back
-  pub settles_behind : (object : Object) (make : Bool) {old out : Outside}
+  pub settles_behind : (object : Object) (access : Access) {old out : Outside}
       {given : Option (List ℕ)} {first : ℕ} (mid new : Outside) (back : Option (List ℕ))
       (last : ℕ) (a : Around) {B : Type 0} (next : Steps B)
-      (made result : Result B Stop) → LentTape other make old out given first
+      (made result : Result B Stop) → LentTape other access old out given first
       → ReturnsSettled other object mid new back last made result
       → Does next (with_lent_tape other given first (with_lent_tape name told count
       (with_world out a)))
       (with_lent_tape other back last (with_lent_tape name told count (with_world mid a))) made
-      → Does (settled_for object other make next) (with_lent_tape name told count (with_world old a))
+      → Does (settled_for object other access next) (with_lent_tape name told count (with_world old a))
       (with_lent_tape name told count (with_world new a)) result
-  settles_behind object make {old} {out} mid new back last a next made result lent returned works =
-      lends_settled object other make {old = seen old} {out = seen out} (seen mid) (seen new) back
-      last a next made result (lent_behind make lent)
+  settles_behind object access {old} {out} mid new back last a next made result lent returned works =
+      lends_settled object other access {old = seen old} {out = seen out} (seen mid) (seen new) back
+      last a next made result (lent_behind access lent)
       (returns_behind object mid new back last made result returned) works
 
   -- it isn't lent
-  pub not_lent_behind : (make : Bool) {old new : Outside} (a : Around) {B : Type 0}
+  pub not_lent_behind : (access : Access) {old new : Outside} (a : Around) {B : Type 0}
       {next : Steps B} (stop : Stop) → KeepsFiles old new → KeepsObjects old new
-      → NoTape old new other make stop → AskedUnless old.asked new.asked (Tape other make) stop
-      → Does (tape_for other make next) (with_lent_tape name told count (with_world old a))
+      → NoTape old new other access stop → AskedUnless old.asked new.asked (Tape other access) stop
+      → Does (tape_for other access next) (with_lent_tape name told count (with_world old a))
       (with_lent_tape name told count (with_world new a)) (Err stop)
-  not_lent_behind make {old} {new} a {next = next} stop files objects none asked =
-      subst (λ t. Does (tape_for other make next) (with_world (seen old) a)
+  not_lent_behind access {old} {new} a {next = next} stop files objects none asked =
+      subst (λ t. Does (tape_for other access next) (with_world (seen old) a)
       (with_world (with_tapes (behind t) new) a) (Err stop)) (sym objects.tapes)
       (not_lent {old = seen old} {new = with_tapes (behind old.tapes) new}
       (record { file = files.file; later = files.later })
-      (record { dice = objects.dice; tapes = refl; links = objects.links }) a other make stop
-      (no_tape_apart make stop none) asked)
+      (record { dice = objects.dice; tapes = refl; links = objects.links }) a other access stop
+      (no_tape_apart access stop none) asked)
     where
-      no_tape_apart : (make : Bool) (stop : Stop) → NoTape old new other make stop
-          → NoTape (seen old) (with_tapes (behind old.tapes) new) other make stop
-      no_tape_apart make (Words why) h = h
-      no_tape_apart make (Refused why) h =
+      no_tape_apart : (access : Access) (stop : Stop) → NoTape old new other access stop
+          → NoTape (seen old) (with_tapes (behind old.tapes) new) other access stop
+      no_tape_apart access (Words why) h = h
+      no_tape_apart access (Refused why) h =
           (h.0, subst (λ t. Agrees t None) (sym (there old.tapes)) h.1, h.2)
-      no_tape_apart make (Fault object n) h = h
-      no_tape_apart make NoMemory h = h
+      no_tape_apart access (Fault object n) h = h
+      no_tape_apart access NoMemory h = h

@@ -17,7 +17,7 @@ use kr_cmd_messages::{Done, Judgement, Object, Outcome, Refusal, Stop};
 use kr_cmd_steps::{close_tape, load_settings, load_store, open_tape};
 use kr_config::Settings;
 use kr_judge::Verdict;
-use kr_kms::World;
+use kr_kms::{Access, World};
 use kr_opening::{StartNo, board_of};
 use kr_store::Store;
 use std::alloc::Global;
@@ -29,7 +29,7 @@ pub fn judge<W: World>(alloc: Global, words: &Judgement, world: &mut W) -> Resul
         (with_world (W.told world.old) a) (with_world (W.told world.new) a) result }
 {
     let name = words.store.as_str();
-    let tape = match open_tape(alloc, world, name, false) {
+    let tape = match open_tape(alloc, world, name, Access::ToRead) {
         Ok(tape) => tape,
         Err(stop) => return Err(stop),
     };

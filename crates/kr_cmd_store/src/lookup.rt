@@ -1,6 +1,7 @@
 //! `get`: configuration, programs of its plugins, store, the path's row, random source, links,
 //! publish, unseal.
-ghost use Rattle.std.specs.Prelude.{◌≡◌, ◌≤◌, ◌⊎◌, List, ℕ, false, IfOk, length};
+ghost use Rattle.std.specs.Prelude.{◌≡◌, ◌≤◌, ◌⊎◌, List, ℕ, IfOk, length};
+ghost use Rattle.kr_kms.specs.declared.world.Access.TheVariants.{ToRead};
 ghost use Rattle.kr_base.specs.Limits.{path_limit, value_limit};
 ghost use Rattle.kr_cmd_steps.specs.Around.{Around, with_world};
 ghost use Rattle.kr_cmd_steps.specs.Commands.{getting, tape_for, row_on};
@@ -13,7 +14,7 @@ ghost use Rattle.kr_cmd_steps.specs.inner.Tapes.{IsLookedUp};
 use kr_base::{Bytes, Shared, Tape, Text};
 use kr_cmd_messages::{Direction, Lookup, Object, Outcome, Refusal, Stop};
 use kr_cmd_steps::{Task, close_tape, configure, load_store, make, open_tape, programs_of};
-use kr_kms::World;
+use kr_kms::{Access, World};
 use kr_store::{Row, Store};
 use std::alloc::Global;
 
@@ -54,12 +55,12 @@ fn find_row<W: World>(
     store: &Text,
     path: &Text,
 ) -> Result<Shared<Row>, Stop>
-    ensures does { (a : Around) → Does (tape_for store.now false (row_on store.now path.now))
+    ensures does { (a : Around) → Does (tape_for store.now ToRead (row_on store.now path.now))
         (with_world (W.told world.old) a) (with_world (W.told world.new) a) result }
     ensures fits { IfOk result (λ row. length row.stored ≤ value_limit) }
 {
     let name = store.as_str();
-    let tape = match open_tape(alloc, world, name, false) {
+    let tape = match open_tape(alloc, world, name, Access::ToRead) {
         Ok(tape) => tape,
         Err(stop) => return Err(stop),
     };

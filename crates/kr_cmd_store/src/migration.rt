@@ -25,7 +25,7 @@ use kr_cmd_steps::{
     add_delete, add_put, close_tape, configure, load_store, open_tape, settle_tape,
 };
 use kr_config::{Settings, Who};
-use kr_kms::World;
+use kr_kms::{Access, World};
 use kr_provider::reader_of;
 use kr_store::{Check, Format, Row, RowRef, Store};
 use std::alloc::Global;
@@ -41,7 +41,7 @@ pub fn migrate<W: World>(alloc: Global, words: &Migration, world: &mut W) -> Res
         Err(stop) => return Err(stop),
     };
     let name = words.store.as_str();
-    let tape = match open_tape(alloc, world, name, false) {
+    let tape = match open_tape(alloc, world, name, Access::ToRead) {
         Ok(tape) => tape,
         Err(stop) => return Err(stop),
     };
@@ -120,7 +120,7 @@ fn migrate_into<W: World>(
         → (W.told world.new).tapes.out name ≡ (W.told world.old).tapes.out name }
 {
     let name = to.as_str();
-    let tape = match open_tape(alloc, world, name, true) {
+    let tape = match open_tape(alloc, world, name, Access::ToMake) {
         Ok(tape) => tape,
         Err(stop) => return Err(stop),
     };

@@ -9,7 +9,7 @@ use crate::row_lines::row_lines;
 use kr_base::Tape;
 use kr_cmd_messages::{Command, Object, Outcome, Stop};
 use kr_cmd_steps::{close_tape, load_store, open_tape, show};
-use kr_kms::World;
+use kr_kms::{Access, World};
 use std::alloc::Global;
 
 /// Makes the text of the live rows of the store in a file.
@@ -17,7 +17,7 @@ pub fn list<W: World>(alloc: Global, name: &str, world: &mut W) -> Result<Outcom
     ensures { (a : Around) → Does (steps (Command.Rows name.now))
         (with_world (W.told world.old) a) (with_world (W.told world.new) a) result }
 {
-    let tape = match open_tape(alloc, world, name, false) {
+    let tape = match open_tape(alloc, world, name, Access::ToRead) {
         Ok(tape) => tape,
         Err(stop) => return Err(stop),
     };

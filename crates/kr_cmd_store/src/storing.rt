@@ -25,7 +25,7 @@ use kr_cmd_steps::{
     take_input,
 };
 use kr_config::{Settings, Who};
-use kr_kms::World;
+use kr_kms::{Access, World};
 use kr_provider::check_of;
 use kr_store::{Check, Store};
 use std::alloc::Global;
@@ -88,7 +88,7 @@ fn put_into<W: World>(
         (with_world (W.told world.old) a) (with_world (W.told world.new) a) result }
 {
     let name = store.as_str();
-    let tape = match open_tape(alloc, world, name, true) {
+    let tape = match open_tape(alloc, world, name, Access::ToMake) {
         Ok(tape) => tape,
         Err(stop) => return Err(stop),
     };

@@ -1,7 +1,8 @@
 //! `verify`: configuration, programs of its plugins, store, its live rows, random source, links,
 //! publish, unseal each row.
-ghost use Rattle.std.specs.Prelude.{◌≡◌, All, IfOk, None, false};
+ghost use Rattle.std.specs.Prelude.{◌≡◌, All, IfOk, None};
 ghost use Rattle.std.specs.List.{last_or};
+ghost use Rattle.kr_kms.specs.declared.world.Access.TheVariants.{ToRead};
 ghost use Rattle.kr_cmd_steps.specs.Around.{Around, with_world};
 ghost use Rattle.kr_cmd_steps.specs.Commands.{live_on, tape_for, verifying};
 ghost use Rattle.kr_cmd_steps.specs.inner.Lent.{Name, with_lent_tape};
@@ -13,7 +14,7 @@ use crate::reading::read_by_links;
 use kr_base::{List, Shared, Tape};
 use kr_cmd_messages::{Object, Outcome, Stop, Verification};
 use kr_cmd_steps::{close_tape, configure, load_store, open_tape, programs_of};
-use kr_kms::World;
+use kr_kms::{Access, World};
 use kr_store::{Row, Store};
 use std::alloc::Global;
 
@@ -39,11 +40,11 @@ pub fn verify<W: World>(alloc: Global, words: &Verification, world: &mut W) -> R
 
 /// The live rows of the store in a file, by their paths.
 fn find_rows<W: World>(alloc: Global, world: &mut W, name: &str) -> Result<List<Shared<Row>>, Stop>
-    ensures does { (a : Around) → Does (tape_for name.now false (live_on name.now))
+    ensures does { (a : Around) → Does (tape_for name.now ToRead (live_on name.now))
         (with_world (W.told world.old) a) (with_world (W.told world.new) a) (rows_listed result) }
     ensures within { IfOk result (λ rows. All IsWithin rows.0) }
 {
-    let tape = match open_tape(alloc, world, name, false) {
+    let tape = match open_tape(alloc, world, name, Access::ToRead) {
         Ok(tape) => tape,
         Err(stop) => return Err(stop),
     };

@@ -5,6 +5,7 @@ ghost use Rattle.kr_judge.specs.Texts.{class_text, who_text};
 
 use kr_base::{NoMemory, Text};
 use kr_config::{Class, Who};
+use kr_judge::{class_words, who_words};
 use std::alloc::Global;
 
 /// The class, a space and the provider, as a verdict has them.
@@ -22,22 +23,15 @@ pub fn clash_text(alloc: Global, class: &Class, who: &Who) -> Result<Text, NoMem
 fn push_class(text: &mut String, class: &Class) -> Result<(), NoMemory>
     ensures { OnOk result (string_bytes text.new ≡ string_bytes text.old ++ class_text class.now) }
 {
-    match class {
-        Class::Exact(name) => push_pair(text, "", name.as_str()),
-        Class::Group(group) => push_pair(text, "*.", group.as_str()),
-        Class::Rest => push_pair(text, "*.*", ""),
-    }
+    let (all, name) = class_words(class);
+    push_pair(text, all, name)
 }
 
 fn push_who(text: &mut String, who: &Who) -> Result<(), NoMemory>
     ensures { OnOk result (string_bytes text.new ≡ string_bytes text.old ++ who_text who.now) }
 {
-    match who {
-        Who::Identity => push_pair(text, "identity", ""),
-        Who::Aescbc(name, _) => push_pair(text, "aescbc:", name.as_str()),
-        Who::Aesgcm(name, _) => push_pair(text, "aesgcm:", name.as_str()),
-        Who::Kms(name) => push_pair(text, "kms:", name.as_str()),
-    }
+    let (kind, name) = who_words(who);
+    push_pair(text, kind, name)
 }
 
 fn push_pair(text: &mut String, one: &str, other: &str) -> Result<(), NoMemory>

@@ -1,14 +1,14 @@
 //! The lines of a plan's moves, and its settings as a line.
 ghost use Rattle.std.specs.Prelude.{◌≡◌, ◌++◌, IfOk};
 ghost use Rattle.kr_config.specs.Kept.{rows_of};
+ghost use Rattle.kr_config.specs.Texts.{settings_text};
 ghost use Rattle.kr_cmd_messages.specs.Texts.{line};
-ghost use Rattle.kr_plan.specs.Texts.{settings_text};
 ghost use Rattle.kr_cmd_steps.specs.PlanLines.{phase_text, move_text, move_lines};
 
 use kr_base::{Bytes, NoMemory};
 use kr_cmd_messages::{add, add_number};
-use kr_config::Settings;
-use kr_plan::{Move, Phase, settings_text};
+use kr_config::{Settings, settings_text};
+use kr_plan::{Move, Phase};
 use std::alloc::Global;
 
 /// A line for each move.

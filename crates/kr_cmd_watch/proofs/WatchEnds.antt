@@ -4,6 +4,7 @@ use Rattle.std.proofs.Common.{◌≡◌, ℕ, ◌<◌, ◌≤◌, true, false, L
 use Rattle.std.proofs.lemmas.List.Elements.{All-head}
 use Rattle.std.specs.Prelude.{All}
 use Rattle.kr_kms.specs.Calls.{Link}
+use Rattle.kr_kms.specs.Exchanges.{Exchange}
 use Rattle.kr_kms.specs.Truth.{OpenAll, Opens, Truth}
 use Rattle.kr_provider.specs.Publication.{Publication, names_plugin}
 use Rattle.kr_opening.specs.Replicas.{generations_from}
@@ -121,12 +122,13 @@ writes_so P Q output (Err (Refused why)) h w = absurd w
 -- ---- the call
 
 module _ (T : Type 0) {L D : Type 0} (truth : Truth) (link : L → Link)
+    (step : L → Exchange → L → Type 0)
     (left : D → Option (List ℕ)) (count : D → ℕ) (words : WatchWords) where
   -- the plan wasn't made
   pub watch_unplanned : (old new : Around) (file : List ℕ) → file ≡ words.fleet.file
       → (stop : Stop) (output : Receipt)
       → Does (planning file words.fleet.options) old new (Err stop) → IsIdle output
-      → DidWatch T truth link left count words old new output (Err stop)
+      → DidWatch T truth link step left count words old new output (Err stop)
   watch_unplanned old new file is stop output d idle =
       let all = stops (planning words.fleet.file words.fleet.options)
       (over_store true words.fleet.store) stop
@@ -146,9 +148,9 @@ module _ (T : Type 0) {L D : Type 0} (truth : Truth) (link : L → Link)
     -- the steps behind it ended the command, or want of memory did
     pub watch_stopped : (stop : Stop) (output : Receipt)
         → Does (over_store true store plan) now new (Err stop)
-        ⊎ LacksWorkers T truth link left count (over_store true store plan) store now new stop
-        ⊎ LacksSettling T truth link left count (over_store true store plan) store now new stop
-        → IsIdle output → DidWatch T truth link left count words old new output (Err stop)
+        ⊎ LacksWorkers T truth link step left count (over_store true store plan) store now new stop
+        ⊎ LacksSettling T truth link step left count (over_store true store plan) store now new stop
+        → IsIdle output → DidWatch T truth link step left count words old new output (Err stop)
     watch_stopped stop output (inl e) idle =
         let all = goes_on (planning words.fleet.file words.fleet.options)
         (over_store true words.fleet.store) plan d
@@ -158,7 +160,8 @@ module _ (T : Type 0) {L D : Type 0} (truth : Truth) (link : L → Link)
           did = inl (inl (all.ends (left_of old) (stays_refl old)), idle);
         }
     watch_stopped stop output (inr (inl lacking)) idle =
-        let l = subst (λ s. LacksWorkers T truth link left count (over_store true s plan) s now new
+        let l = subst (λ s. LacksWorkers T truth link step left count (over_store true s plan) s now
+        new
         stop) is_store lacking in
         let all = goes_on (planning words.fleet.file words.fleet.options)
         (over_store true words.fleet.store) plan d l.does in
@@ -173,7 +176,8 @@ module _ (T : Type 0) {L D : Type 0} (truth : Truth) (link : L → Link)
           );
         }
     watch_stopped stop output (inr (inr lacking)) idle =
-        let l = subst (λ s. LacksSettling T truth link left count (over_store true s plan) s now new
+        let l = subst (λ s. LacksSettling T truth link step left count (over_store true s plan) s
+        now new
         stop) is_store lacking in
         let all = goes_on (planning words.fleet.file words.fleet.options)
         (over_store true words.fleet.store) plan d l.does in
@@ -193,11 +197,14 @@ module _ (T : Type 0) {L D : Type 0} (truth : Truth) (link : L → Link)
 
     -- the workers ran, and left this record
     module _ (made : Record)
-        (left_so : LeavesRecord T truth link left count true true (over_store true store plan) store
+        (left_so : LeavesRecord T truth link step left count true true (over_store true store plan)
+        store
         plan now new made) where
-      l : LeavesRecord T truth link left count true true (over_store true words.fleet.store plan)
+      l : LeavesRecord T truth link step left count true true
+          (over_store true words.fleet.store plan)
           words.fleet.store plan now new made
-      l = subst (λ s. LeavesRecord T truth link left count true true (over_store true s plan) s plan
+      l = subst (λ s. LeavesRecord T truth link step left count true true (over_store true s plan) s
+          plan
           now new made) is_store left_so
 
       abbrev Opened : Opening
@@ -231,7 +238,7 @@ module _ (T : Type 0) {L D : Type 0} (truth : Truth) (link : L → Link)
       starts : (output : Receipt) (result : Result Ending Stop)
           → WritesWatch (ShowsHistory truth words l.begun Opened l.history
           (ending_of (map (λ (w : fleet_worker.Worker T L D). w.told) l.ended))) output result
-          → DidWatch T truth link left count words old new output result
+          → DidWatch T truth link step left count words old new output result
       starts output result w =
           let all = goes_on (planning words.fleet.file words.fleet.options)
           (over_store true words.fleet.store) plan d l.does in
@@ -251,7 +258,7 @@ module _ (T : Type 0) {L D : Type 0} (truth : Truth) (link : L → Link)
 
       -- and memory lacked for what is shown
       pub watch_lacks : (output : Receipt) → IsIdle output
-          → DidWatch T truth link left count words old new output (Err NoMemory)
+          → DidWatch T truth link step left count words old new output (Err NoMemory)
       watch_lacks output idle = starts output (Err NoMemory) idle
 
       -- and what a watch showed was written
@@ -262,7 +269,7 @@ module _ (T : Type 0) {L D : Type 0} (truth : Truth) (link : L → Link)
           → ended ≡ ending_of made.replies.0 → (text : List ℕ) (told : Ending)
           → ShowsState words.since words watch ended text told → (output : Receipt)
           (result : Result Ending Stop) → WritesWatch (IsText text told) output result
-          → DidWatch T truth link left count words old new output result
+          → DidWatch T truth link step left count words old new output result
       watch_wrote lines same watch kept follows ended end text told shows output result w =
           let f = subst (λ items. Follows items Opened l.history watch) l.items_are
           (follows Opened l.history (handed lines same)) in

@@ -3,6 +3,7 @@ use Rattle.std.specs.Prelude.{◌⊎◌, map}
 use Rattle.std.proofs.Common.{◌≡◌, ℕ, ◌≤◌, List, codes, Option, None, Some, Result, Ok, Err, refl, sym, ap, subst, inl, inr, arith}
 use Rattle.std.specs.Prelude.{IfSome, IsSomeAnd}
 use Rattle.kr_kms.specs.Calls.{Link}
+use Rattle.kr_kms.specs.Exchanges.{Exchange}
 use Rattle.kr_kms.specs.Truth.{Truth}
 use Rattle.kr_words.specs.Numerals.{IsDecimal}
 use Rattle.kr_words.specs.Options.{value_of}
@@ -68,23 +69,27 @@ no_watch_by_fleet words (Fault object count) h asked asks = absurd h
 no_watch_by_fleet words NoMemory h asked asks = refl
 
 module _ (T : Type 0) {L D : Type 0} (truth : Truth) (link : L → Link)
+    (step : L → Exchange → L → Type 0)
     (left : D → Option (List ℕ)) (count : D → ℕ) where
   pub watch_unread : (asked : WatchWords) (stop : Stop) → stop ≡ NoMemory → (a : Around)
       (output : Receipt) → IsIdle output
-      → DidWatch T truth link left count asked a a output (Err stop)
+      → DidWatch T truth link step left count asked a a output (Err stop)
   watch_unread asked stop lacks a output idle =
-      subst (λ s. DidWatch T truth link left count asked a a output (Err s)) (sym lacks) (record {
+      subst (λ s. DidWatch T truth link step left count asked a a output (Err s)) (sym lacks)
+      (record {
         home = home_refl a;
         did = inl (inl (inr (reach (left_of a) (inl (refl, refl)) (stays_refl a))), idle);
       })
 
-pub for_watch : {T L D : Type 0} {truth : Truth} {link : L → Link} {left : D → Option (List ℕ)}
+pub for_watch : {T L D : Type 0} {truth : Truth} {link : L → Link}
+    {step : L → Exchange → L → Type 0} {left : D → Option (List ℕ)}
     {count : D → ℕ} {a b : WatchWords} {old new : Around} {output errors : Receipt} {status : ℕ}
-    → a ≡ b → RanWatch T truth link left count a old new output errors status
-    → RanWatch T truth link left count b old new output errors status
-for_watch {T} {truth = truth} {link = link} {left = left} {count = count} {old = old} {new = new}
+    → a ≡ b → RanWatch T truth link step left count a old new output errors status
+    → RanWatch T truth link step left count b old new output errors status
+for_watch {T} {truth = truth} {link = link} {step = step} {left = left} {count = count} {old = old}
+    {new = new}
     {output = output} {errors = errors} {status = status} e r =
-    subst (λ w. RanWatch T truth link left count w old new output errors status) e r
+    subst (λ w. RanWatch T truth link step left count w old new output errors status) e r
 
 -- ---- a page has items
 

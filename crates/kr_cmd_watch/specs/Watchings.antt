@@ -5,6 +5,7 @@ use Rattle.std.specs.Io.KnownBytes.{Appends}
 use Rattle.kr_base.specs.Faults.{Rose}
 use Rattle.kr_base.specs.Streams.{AppendsFront}
 use Rattle.kr_kms.specs.Calls.{Link}
+use Rattle.kr_kms.specs.Exchanges.{Exchange}
 use Rattle.kr_kms.specs.Truth.{Opens, Truth}
 use Rattle.kr_rollout.specs.declared.opening.Entry.{Entry}
 use Rattle.kr_rollout.specs.declared.opening.Opening.{Opening}
@@ -90,6 +91,7 @@ WritesWatch Shown output (Err why) = ⊥
 -- ---- once the workers were started
 
 module _ (T : Type 0) {L D : Type 0} (truth : Truth) (link : L → Link)
+    (step : L → Exchange → L → Type 0)
     (left : D → Option (List ℕ)) (count : D → ℕ) where
   -- the one history is that of a fleet, and what is shown of it was written
   pub record StartsWatch (words : WatchWords) (old new : Around) (output : Receipt)
@@ -100,7 +102,7 @@ module _ (T : Type 0) {L D : Type 0} (truth : Truth) (link : L → Link)
     pub since : IsHome old mid
     pub history : List Entry
     pub ended : List (fleet_worker.Worker T L D)
-    pub runs : RunsFleet truth link left count words.fleet.store begun
+    pub runs : RunsFleet truth link step left count words.fleet.store begun
         (settled_behind words.fleet.store mid) new history ended
     pub writes : WritesWatch (ShowsHistory truth words begun
         (opening_of words.fleet.store begun mid) history
@@ -115,10 +117,11 @@ module _ (T : Type 0) {L D : Type 0} (truth : Truth) (link : L → Link)
 
 -- what a call of `run` did for a watch
 pub record RanWatch (T : Type 0) {L D : Type 0} (truth : Truth) (link : L → Link)
+    (step : L → Exchange → L → Type 0)
     (left : D → Option (List ℕ)) (count : D → ℕ) (words : WatchWords) (old new : Around)
     (output errors : Receipt) (status : ℕ) : Type 0 where
   pub result : Result Ending Stop
-  pub did : DidWatch T truth link left count words old new output result
+  pub did : DidWatch T truth link step left count words old new output result
   pub tells : TellsFleet result errors status
   pub written : output.old_faults ≤ output.new_faults
   pub told : errors.old_faults ≤ errors.new_faults

@@ -30,7 +30,7 @@ pub fn watch<R: Threads + Wait + Sync, W: World, O: Sink>(
 ) -> Result<Ending, Stop>
     requires limit { 1 ≤ words.now.limit }
     ensures did { (a : Around) → a.truth ≡ W.Link.truth
-        → DidWatch W.Tap W.Link.truth W.Link.link W.Rand.left W.Rand.count words.now
+        → DidWatch W.Tap W.Link.truth W.Link.link W.Link.step W.Rand.left W.Rand.count words.now
         (with_world (W.told world.old) a) (with_world (W.told world.new) a)
         (receipt (O.held output.old) (O.held output.new) (O.count output.old) (O.count output.new))
         result }

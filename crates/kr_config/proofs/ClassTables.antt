@@ -226,6 +226,15 @@ group_narrows classes group none rows known =
     same_list classes (λ p. covers_group p group) covers_rest (no_group classes group none) rows
     known
 
+-- an exact class that no pattern is of has the list of its group
+pub exact_widens : (classes : List Class) (resource : List ℕ)
+    → list_any (is_exact resource) classes ≡ false → (rows : List Row)
+    → ((class : Class) → Contains (classes_in rows) class → Contains classes class)
+    → list_of rows resource ≡ class_list rows (Group (group_of resource))
+exact_widens classes resource none rows known =
+    same_list classes (λ p. matches p resource) (λ p. covers_group p (group_of resource))
+    (group_agrees classes resource none) rows known
+
 -- the list of a resource is the list of its class
 pub law_of_classes : (added : List (List Row)) (classes : List Class) (rows : List Row)
     (resource : List ℕ) → IsTableOf added classes → Contains added rows

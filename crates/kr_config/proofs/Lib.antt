@@ -15,3 +15,14 @@ pub mod EntryLoop
 pub mod Conversions
 pub mod Meant
 pub mod OneMeaning
+pub mod ListParts
+pub mod Sums
+pub mod ClassEntries
+pub mod KeptLists
+pub mod ClassIndexes
+pub mod ClassSearches
+pub mod ClassChecks
+pub mod Middle
+pub mod ReadBack
+pub mod AsMeant
+pub mod ValueLoops

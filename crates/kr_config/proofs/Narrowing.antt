@@ -1,6 +1,6 @@
 -- Each class has the list of one that the table has.
 use Rattle.std.proofs.Common.{◌≡◌, ◌≢◌, ℕ, Bool, true, false, List, ◌∷◌, None, Some, All, Contains}
-use Rattle.std.proofs.Common.{refl, subst, arith}
+use Rattle.std.proofs.Common.{Option, ◌↔◌, refl, subst, arith}
 use Rattle.std.specs.Prelude.{if◌then◌else◌}
 use Rattle.std.specs.List.{list_any, flat_map}
 use Rattle.std.specs.declared.cmp.Ordering.TheVariants.{Less}
@@ -12,25 +12,25 @@ use Rattle.kr_config.specs.Kept.{Row}
 use Rattle.kr_config.specs.Patterns.{group_of}
 use Rattle.kr_config.specs.Lists.{class_list}
 use Rattle.kr_config.specs.Classes.{classes_in, IsTableOf, class_in, class_cmp, is_exact, is_group}
-use Rattle.kr_config.specs.Nexts.{comes_after}
+use Rattle.kr_config.specs.Nexts.{comes_after, IsNextClass}
 use Rattle.kr_config.specs.Laws.{EachClassNarrows, NextInTable}
 use Rattle.kr_config.proofs.Places.{exact_is, group_is}
 use Rattle.kr_config.proofs.ClassTables.{law_of_classes, known_class, group_narrows}
 
-known_in : (test : Class → Bool) (class : Class) (classes : List Class)
+pub known_in : (test : Class → Bool) (class : Class) (classes : List Class)
     → ((c : Class) → test c ≡ true → c ≡ class) → list_any test classes ≡ true
     → Contains classes class
 known_in test class classes is h = let some = Any-from_list_any test classes h in
     subst (Contains classes) (is some.1 some.4) (some.0, some.2, some.3)
 
-has_rest : (added : List (List Row)) (classes : List Class) → IsTableOf added classes
+pub has_rest : (added : List (List Row)) (classes : List Class) → IsTableOf added classes
     → Contains classes Rest
 has_rest added classes table = (table.members Rest).1 (one_first Rest (flat_map classes_in added))
   where
     one_first : (c : Class) (cs : List Class) → Contains (c ∷ cs) c
     one_first c cs = (0, omega arith, refl)
 
-class_there : (added : List (List Row)) (classes : List Class) (resource : List ℕ)
+pub class_there : (added : List (List Row)) (classes : List Class) (resource : List ℕ)
     → IsTableOf added classes → Contains classes (class_in classes resource)
 unfolding class_in
 class_there added classes resource table =
@@ -80,18 +80,24 @@ each_class_narrows added classes Rest table =
     (Rest, has_rest added classes table, λ rows there. refl)
 
 -- what is least in a list is least in another of the same members
-all_same : (P : Class → Type 0) (xs ys : List Class) → ((c : Class) → Contains ys c → Contains xs c)
-    → All P xs → All P ys
+pub all_same : (P : Class → Type 0) (xs ys : List Class)
+    → ((c : Class) → Contains ys c → Contains xs c) → All P xs → All P ys
 all_same P xs ys same h = All-weaker (Contains ys) P
     (λ c there. All-contains P xs c h (same c there)) ys (All-contains_itself ys)
 
-pub next_in_table : NextInTable
-next_in_table added classes after None table h =
-    all_same (λ c. comes_after after c ≡ false) (Rest ∷ flat_map classes_in added) classes
-    (λ c there. (table.members c).0 there) h
-next_in_table added classes after (Some next) table h = (
-  (table.members next).1 h.0,
+pub same_least : (xs ys : List Class) (after next : Option Class)
+    → ((c : Class) → Contains xs c ↔ Contains ys c) → IsNextClass xs after next
+    → IsNextClass ys after next
+same_least xs ys after None same h =
+    all_same (λ c. comes_after after c ≡ false) xs ys (λ c there. (same c).1 there) h
+same_least xs ys after (Some next) same h = (
+  (same next).0 h.0,
   h.1,
-  all_same (λ c. comes_after after c ≡ true → class_cmp c next ≢ Less)
-      (Rest ∷ flat_map classes_in added) classes (λ c there. (table.members c).0 there) h.2,
+  all_same (λ c. comes_after after c ≡ true → class_cmp c next ≢ Less) xs ys
+      (λ c there. (same c).1 there) h.2,
 )
+
+pub next_in_table : NextInTable
+next_in_table added classes after next table h =
+    same_least (Rest ∷ flat_map classes_in added) classes after next
+    (λ c. ((table.members c).1, (table.members c).0)) h

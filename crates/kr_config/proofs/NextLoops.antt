@@ -4,15 +4,11 @@ use Rattle.std.proofs.Common.{length, get_or, take, refl, sym, ap, ◌∙◌}
 use Rattle.std.specs.List.{flat_map}
 use Rattle.std.proofs.lemmas.List.{take_all, take_more, flat_map_more}
 use Rattle.kr_config.specs.declared.settings.Entry.{Entry}
-use Rattle.kr_config.specs.declared.class.Class.{Class}
-use Rattle.kr_config.specs.declared.class.Class.TheVariants.{Rest}
-use Rattle.kr_config.specs.declared.pattern.Pattern.{Pattern}
 use Rattle.kr_config.specs.declared.who.Who.{Who}
 use Rattle.kr_config.specs.Providers.{plugin_of, plugins_among}
 use Rattle.kr_config.specs.Kept.{Row, row_of, rows_of, plugins_in}
-use Rattle.kr_config.specs.Classes.{class_cmp, class_made, classes_made, classes_in}
-use Rattle.kr_config.specs.Nexts.{earlier, name_cmp, IsNextName, IsNextClass}
-use Rattle.kr_config.proofs.Nexts.{names_joined, no_name, classes_joined, no_class}
+use Rattle.kr_config.specs.Nexts.{earlier, name_cmp, IsNextName}
+use Rattle.kr_config.proofs.Nexts.{names_joined, no_name}
 
 more_parts : {X Y : Type 0} (f : X → List Y) (xs : List X) (i : ℕ) (x : X) → i < length xs
     → x ≡ get_or xs i x → flat_map f (take i xs) ++ f x ≡ flat_map f (take (i + 1) xs)
@@ -77,57 +73,3 @@ entries_end entries i after next h all =
     subst (λ l. IsNextName l after next)
     (all_parts entry_names entries i h
     ∙ sym (row_parts (λ row. plugins_among row.providers) entries)) all
-
--- over patterns
-pub made_begin : (patterns : List Pattern) (after : Option Class)
-    → IsNextClass (classes_made (take 0 patterns)) after None
-made_begin patterns after = no_class after
-
-pub made_more : (patterns : List Pattern) (i : ℕ) (pattern : Pattern)
-    (after old other new : Option Class) → i < length patterns → pattern ≡ get_or patterns i pattern
-    → IsNextClass (classes_made (take i patterns)) after old
-    → IsNextClass (class_made pattern) after other → new ≡ earlier class_cmp old other
-    → IsNextClass (classes_made (take (i + 1) patterns)) after new
-made_more patterns i pattern after old other new h is before own e =
-    subst (λ l. IsNextClass l after new) (more_parts class_made patterns i pattern h is)
-    (subst (IsNextClass (classes_made (take i patterns) ++ class_made pattern) after) (sym e)
-    (classes_joined (classes_made (take i patterns)) (class_made pattern) after old other before
-    own))
-
-pub made_end : (patterns : List Pattern) (i : ℕ) (after next : Option Class) → length patterns ≤ i
-    → IsNextClass (classes_made (take i patterns)) after next
-    → IsNextClass (classes_made patterns) after next
-made_end patterns i after next h all =
-    subst (λ l. IsNextClass l after next) (all_parts class_made patterns i h) all
-
--- over the entries' patterns, with the rest before all
-abbrev pub entry_classes : Entry → List Class
-entry_classes entry = classes_made entry.patterns.0
-
-abbrev pub with_rest : List Entry → List Class
-with_rest entries = Rest ∷ flat_map entry_classes entries
-
-pub rest_begin : (entries : List Entry) (after next : Option Class)
-    → IsNextClass (Rest ∷ []) after next → IsNextClass (with_rest (take 0 entries)) after next
-rest_begin entries after next h = h
-
-pub rest_more : (entries : List Entry) (i : ℕ) (entry : Entry) (after old other new : Option Class)
-    → i < length entries → entry ≡ get_or entries i entry
-    → IsNextClass (with_rest (take i entries)) after old
-    → IsNextClass (classes_made entry.patterns.0) after other
-    → new ≡ earlier class_cmp old other
-    → IsNextClass (with_rest (take (i + 1) entries)) after new
-rest_more entries i entry after old other new h is before own e =
-    subst (λ l. IsNextClass l after new)
-    (ap (λ l. Rest ∷ l) (more_parts entry_classes entries i entry h is))
-    (subst (IsNextClass (with_rest (take i entries) ++ entry_classes entry) after) (sym e)
-    (classes_joined (with_rest (take i entries)) (entry_classes entry) after old other before
-    own))
-
-pub rest_end : (entries : List Entry) (i : ℕ) (after next : Option Class) → length entries ≤ i
-    → IsNextClass (with_rest (take i entries)) after next
-    → IsNextClass (Rest ∷ classes_in (rows_of entries)) after next
-rest_end entries i after next h all =
-    subst (λ l. IsNextClass l after next)
-    (ap (λ l. Rest ∷ l) (all_parts entry_classes entries i h
-    ∙ sym (row_parts (λ row. classes_made row.patterns) entries))) all

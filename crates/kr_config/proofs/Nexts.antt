@@ -21,7 +21,7 @@ no_test cmp test least xs h =
     All-weaker (λ x. test x ≡ false) (λ x. test x ≡ true → cmp x least ≢ Less)
     (λ x f t. absurd (let e : false ≡ true = sym f ∙ t in cc)) xs h
 
-below : (o : Ordering) → is_lt o ≡ true → o ≡ Less
+pub below : (o : Ordering) → is_lt o ≡ true → o ≡ Less
 below Less h = refl
 below Equal h = cc
 below Greater h = cc
@@ -50,7 +50,7 @@ not_before {T} {cmp} order test x y xs h all =
     All-weaker (λ z. test z ≡ true → cmp z y ≢ Less) (λ z. test z ≡ true → cmp z x ≢ Less)
     (λ z f t l. f t (still_before order x y z h l)) xs all
 
-not_behind_before : {T : Type 0} {cmp : T → T → Ordering} (order : IsTotalOrder cmp) (x y : T)
+pub not_behind_before : {T : Type 0} {cmp : T → T → Ordering} (order : IsTotalOrder cmp) (x y : T)
     → cmp y x ≡ Less → cmp x y ≢ Less
 not_behind_before {T} {cmp} order x y h l = let e : Less ≡ ordering_reverse Less =
     sym l ∙ order.antisymm x y ∙ ap ordering_reverse h in cc
@@ -125,14 +125,3 @@ pub classes_joined : (classes more : List Class) (after a b : Option Class)
     → IsNextClass (classes ++ more) after (earlier class_cmp a b)
 classes_joined classes more after a b h k =
     least_joined class_total (comes_after after) classes more a b h k
-
-pub class_next : (class : Class) (after : Option Class) → comes_after after class ≡ true
-    → IsNextClass (class ∷ []) after (Some class)
-class_next class after e = least_of_one class_total (comes_after after) class true e
-
-pub class_none : (class : Class) (after : Option Class) → comes_after after class ≡ false
-    → IsNextClass (class ∷ []) after None
-class_none class after e = least_of_one class_total (comes_after after) class false e
-
-pub no_class : (after : Option Class) → IsNextClass [] after None
-no_class after = All-nil (λ class. comes_after after class ≡ false)

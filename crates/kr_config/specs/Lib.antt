@@ -9,5 +9,7 @@ pub mod Nexts
 pub mod Walk
 pub mod Yaml
 pub mod Meanings
+pub mod ClassEntries
+pub mod Texts
 pub mod Laws
 pub mod inner

@@ -2,3 +2,5 @@
 pub mod Reads
 pub mod Finds
 pub mod ClassTables
+pub mod ClassIndexes
+pub mod Written

@@ -4,35 +4,44 @@ ghost use Rattle.std.specs.Prelude.{◌≡◌, IfOk};
 ghost use Rattle.std.specs.Option.{option_map};
 ghost use Rattle.std.specs.Ordering.{is_lt};
 ghost use Rattle.kr_config.specs.Classes.{class_cmp};
-ghost use Rattle.kr_config.specs.Nexts.{lent_class, earlier, comes_after};
+ghost use Rattle.kr_config.specs.Nexts.{lent_class, earlier};
 
 use crate::class::Class;
 use kr_base::{NoMemory, Text};
 use std::alloc::Global;
+use std::cmp::Ordering;
 
 /// A class of resources, lent. Its order is that of `Class`.
 #[derive(Clone, Copy, Debug)]
 pub enum BorrowedClass<'a> {
     /// The one resource of this text.
-    Exact(&'a Text),
+    Exact(&'a str),
     /// The resources of this group that have no class of their own.
-    Group(&'a Text),
+    Group(&'a str),
     /// All other resources.
     Rest,
+}
+
+/// How the class stands to the other in the order of classes.
+pub fn compare(class: BorrowedClass<'_>, other: BorrowedClass<'_>) -> Ordering
+    ensures { result ≡ class_cmp (lent_class class.entry) (lent_class other.entry) }
+{
+    match (class, other) {
+        (BorrowedClass::Exact(a), BorrowedClass::Exact(b)) => a.cmp(b),
+        (BorrowedClass::Exact(_), _) => Ordering::Less,
+        (BorrowedClass::Group(_), BorrowedClass::Exact(_)) => Ordering::Greater,
+        (BorrowedClass::Group(a), BorrowedClass::Group(b)) => a.cmp(b),
+        (BorrowedClass::Group(_), BorrowedClass::Rest) => Ordering::Less,
+        (BorrowedClass::Rest, BorrowedClass::Rest) => Ordering::Equal,
+        (BorrowedClass::Rest, _) => Ordering::Greater,
+    }
 }
 
 /// Whether this class comes before the other.
 pub fn is_before(class: BorrowedClass<'_>, other: BorrowedClass<'_>) -> bool
     ensures { result ≡ is_lt (class_cmp (lent_class class.entry) (lent_class other.entry)) }
 {
-    match (class, other) {
-        (BorrowedClass::Exact(a), BorrowedClass::Exact(b)) => a < b,
-        (BorrowedClass::Exact(_), _) => true,
-        (BorrowedClass::Group(_), BorrowedClass::Exact(_)) => false,
-        (BorrowedClass::Group(a), BorrowedClass::Group(b)) => a < b,
-        (BorrowedClass::Group(_), BorrowedClass::Rest) => true,
-        (BorrowedClass::Rest, _) => false,
-    }
+    compare(class, other).is_lt()
 }
 
 /// A copy of the class that is lent.
@@ -40,19 +49,9 @@ pub fn copy_class(alloc: Global, class: BorrowedClass<'_>) -> Result<Class, NoMe
     ensures { IfOk result (λ copy. copy ≡ lent_class class.entry) }
 {
     match class {
-        BorrowedClass::Exact(text) => Ok(Class::Exact(Text::copy(alloc, text.as_str())?)),
-        BorrowedClass::Group(group) => Ok(Class::Group(Text::copy(alloc, group.as_str())?)),
+        BorrowedClass::Exact(text) => Ok(Class::Exact(Text::copy(alloc, text)?)),
+        BorrowedClass::Group(group) => Ok(Class::Group(Text::copy(alloc, group)?)),
         BorrowedClass::Rest => Ok(Class::Rest),
-    }
-}
-
-/// Whether the class comes after this one, or at all.
-pub fn comes_after(after: Option<BorrowedClass<'_>>, class: BorrowedClass<'_>) -> bool
-    ensures { result ≡ comes_after (option_map lent_class after.entry) (lent_class class.entry) }
-{
-    match after {
-        Some(after) => is_before(after, class),
-        None => true,
     }
 }
 

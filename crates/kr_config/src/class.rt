@@ -3,6 +3,7 @@ ghost use Rattle.std.specs.Prelude.{◌≡◌};
 ghost use Rattle.kr_config.specs.Classes.{is_exact, is_group, is_rest};
 
 use crate::borrowed_class::{BorrowedClass, copy_class};
+use crate::pattern::Pattern;
 use kr_base::{NoMemory, Text};
 use std::alloc::Global;
 
@@ -21,14 +22,15 @@ pub enum Class {
 impl Class {
     ghost use Rattle.std.specs.Prelude.{IfOk};
     ghost use Rattle.kr_config.specs.Nexts.{lent_class};
+    ghost use Rattle.kr_config.specs.ClassEntries.{class_pattern};
 
     /// The class, lent.
     pub fn borrowed(&self) -> BorrowedClass<'_>
         ensures { lent_class result ≡ self.now }
     {
         match self {
-            Class::Exact(text) => BorrowedClass::Exact(text),
-            Class::Group(group) => BorrowedClass::Group(group),
+            Class::Exact(text) => BorrowedClass::Exact(text.as_str()),
+            Class::Group(group) => BorrowedClass::Group(group.as_str()),
             Class::Rest => BorrowedClass::Rest,
         }
     }
@@ -38,6 +40,17 @@ impl Class {
         ensures { IfOk result (λ copy. copy ≡ self.now) }
     {
         copy_class(alloc, self.borrowed())
+    }
+
+    /// The pattern that speaks of the class: in an entry of its own it gives the class its list.
+    pub fn pattern(&self, alloc: Global) -> Result<Pattern, NoMemory>
+        ensures { IfOk result (λ pattern. pattern ≡ class_pattern self.now) }
+    {
+        match self {
+            Class::Exact(text) => Ok(Pattern::Exact(Text::copy(alloc, text.as_str())?)),
+            Class::Group(group) => Ok(Pattern::Group(Text::copy(alloc, group.as_str())?)),
+            Class::Rest => Ok(Pattern::All),
+        }
     }
 
     /// Whether this is the class of the one resource.

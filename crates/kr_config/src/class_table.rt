@@ -150,7 +150,7 @@ fn rest_place(classes: &[Class]) -> Option<usize>
 }
 
 /// Sorts the classes and leaves each once.
-fn put_in_order(classes: &mut Vec<Class>)
+pub(crate) fn put_in_order(classes: &mut Vec<Class>)
     ensures ascends { IsStrictlySortedBy class_cmp classes.new.items }
     ensures members { (class : Class)
         → Contains classes.new.items class ↔ Contains classes.old.items class }
@@ -160,7 +160,7 @@ fn put_in_order(classes: &mut Vec<Class>)
 }
 
 /// The rest, and the classes that the patterns of the entries make, in their order there.
-fn fresh_classes(alloc: Global, entries: &[Entry]) -> Result<Vec<Class>, NoMemory>
+pub(crate) fn fresh_classes(alloc: Global, entries: &[Entry]) -> Result<Vec<Class>, NoMemory>
     ensures { IfOk result (λ classes. classes.items ≡ Rest ∷ classes_in (rows_of entries.now)) }
 {
     let mut classes = Vec::new(alloc);

@@ -3,9 +3,10 @@
 
 mod borrowed_class;
 mod class;
+mod class_index;
 mod class_table;
+mod counts;
 mod laws;
-mod next_class;
 mod next_plugin;
 mod pattern;
 mod place;
@@ -17,16 +18,23 @@ mod reading;
 mod refusal;
 mod settings;
 mod tree;
+mod values;
 mod who;
+mod writing;
 mod yaml;
 
 pub use borrowed_class::{BorrowedClass, copy_class, first_of, is_before};
 pub use class::Class;
+pub use class_index::ClassPlace;
 pub use class_table::ClassTable;
-pub use laws::{classes_narrow, one_meaning};
+pub use counts::{keys_in, plugins_in};
+pub use laws::{
+    class_entries_give_their_lists, classes_narrow, one_meaning, texts_are_read_as_meant,
+};
 pub use pattern::Pattern;
 pub use place::Place;
 pub use reading::read;
 pub use refusal::{ConfigErr, ConfigNo, Counted, Rule, YamlRule};
 pub use settings::{Entry, Settings};
 pub use who::Who;
+pub use writing::settings_text;

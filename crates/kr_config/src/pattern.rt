@@ -2,7 +2,10 @@
 ghost use Rattle.std.specs.Prelude.{◌≡◌};
 ghost use Rattle.kr_config.specs.Patterns.{matches, covers_group, covers_rest, group_of, same};
 ghost use Rattle.kr_config.specs.Patterns.{overlap};
+ghost use Rattle.kr_config.specs.Nexts.{lent_class};
+ghost use Rattle.kr_config.specs.inner.ClassIndexes.{speaks_of};
 
+use crate::borrowed_class::BorrowedClass;
 use kr_base::Text;
 
 /// Which resources an entry speaks of.
@@ -36,6 +39,17 @@ impl Pattern {
             Pattern::Exact(_) => false,
             Pattern::Group(own) => own.as_str() == group,
             Pattern::All => true,
+        }
+    }
+
+    /// Whether the pattern speaks of all of the class.
+    pub(crate) fn speaks_of(&self, class: BorrowedClass<'_>) -> bool
+        ensures { result ≡ speaks_of (lent_class class.entry) self.now }
+    {
+        match class {
+            BorrowedClass::Exact(text) => self.matches(text),
+            BorrowedClass::Group(group) => self.covers_group(group),
+            BorrowedClass::Rest => self.covers_rest(),
         }
     }
 

@@ -1,20 +1,19 @@
 //! Reading a configuration.
-ghost use Rattle.std.specs.Prelude.{◌≡◌, count_by, map, []};
+ghost use Rattle.std.specs.Prelude.{◌≡◌, map, []};
 ghost use Rattle.serde_json.specs.View.{view};
 ghost use Rattle.serde_json.specs.Read.{read};
-ghost use Rattle.kr_config.specs.Providers.{is_key, is_kms};
 ghost use Rattle.kr_config.specs.Walk.{walk, entry_step, config_in};
 ghost use Rattle.kr_config.specs.Meanings.{begins_json, is_blank, json_rows, MeansYaml, TextMeans};
 ghost use Rattle.kr_config.specs.Meanings.{no_text, Means};
 ghost use Rattle.kr_config.specs.Meanings.{ReadsSettings};
 ghost use Rattle.kr_config.specs.inner.Reads.{ReadsEntries, ReadsMeant, ReadsJson};
 
+use crate::counts::{keys_among, plugins_among};
 use crate::place::{Counts, start};
 use crate::read_entry::read_entry;
 use crate::refusal::{ConfigErr, ConfigNo, Counted, Rule, YamlRule};
 use crate::settings::{Entry, Settings};
 use crate::tree::{has_text, is_mapping, named_list};
-use crate::who::Who;
 use crate::yaml::read_yaml;
 use kr_base::List;
 use serde_json::Value;
@@ -163,8 +162,8 @@ fn read_entries(alloc: Global, values: &[Value]) -> Result<List<Entry>, ConfigEr
         };
         let entry = read_entry(alloc, counts, number, value)?;
         patterns += entry.patterns.as_slice().len();
-        keys += keys_in(entry.providers.as_slice());
-        plugins += plugins_in(entry.providers.as_slice());
+        keys += keys_among(entry.providers.as_slice());
+        plugins += plugins_among(entry.providers.as_slice());
         match entries.push(entry) {
             Ok(()) => {}
             Err(_) => return Err(ConfigErr::NoMemory),
@@ -172,18 +171,4 @@ fn read_entries(alloc: Global, values: &[Value]) -> Result<List<Entry>, ConfigEr
         number = number.saturating_add(1);
     }
     Ok(entries)
-}
-
-/// How many keys there are.
-fn keys_in(providers: &[Who]) -> usize
-    ensures { result ≡ count_by is_key providers.now }
-{
-    providers.iter().filter(|who| who.is_key()).count()
-}
-
-/// How many plugins there are.
-fn plugins_in(providers: &[Who]) -> usize
-    ensures { result ≡ count_by is_kms providers.now }
-{
-    providers.iter().filter(|who| who.is_kms()).count()
 }

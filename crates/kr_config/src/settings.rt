@@ -1,14 +1,17 @@
 //! Settings: the entries of a configuration.
-ghost use Rattle.std.specs.Prelude.{◌≡◌, IsTrue, [], ◌∷◌};
+ghost use Rattle.std.specs.Prelude.{◌≡◌, IsTrue, [], ◌∷◌, map};
 ghost use Rattle.std.specs.List.{list_any};
 ghost use Rattle.kr_config.specs.declared.who.Who.TheVariants.{Identity};
 ghost use Rattle.kr_config.specs.Kept.{rows_of, keeps};
+ghost use Rattle.kr_config.specs.inner.ClassIndexes.{are_classes_of, class_at};
+ghost use Rattle.kr_config.specs.inner.ClassIndexes.{lists_by_place, lists_by_class};
 
 use crate::borrowed_class::BorrowedClass;
 use crate::class::Class;
+use crate::class_index::ClassPlace;
 use crate::pattern::Pattern;
 use crate::who::Who;
-use crate::{next_class, next_plugin};
+use crate::{class_index, next_plugin};
 use kr_base::{List, NoMemory};
 use std::alloc::Global;
 
@@ -30,18 +33,24 @@ pub struct Settings {
     pub entries: List<Entry>,
     /// The list of a resource that no entry matches: identity alone.
     pub fallback: List<Who>,
+    /// The classes that the entries tell apart in their order, each with the place of its list, so
+    /// that both are found by halves.
+    pub index: List<ClassPlace>,
     pub ghost kept: { IsTrue (keeps (rows_of entries.0)) },
     pub ghost alone: { fallback.0 ≡ Identity ∷ [] },
+    pub ghost told_apart: { IsTrue (are_classes_of (rows_of entries.0) (map class_at index.0)) },
+    pub ghost listed: { lists_by_place (rows_of entries.0) index.0
+        ≡ lists_by_class (rows_of entries.0) index.0 },
 }
 
 impl Settings {
     ghost use Rattle.std.specs.Prelude.{IfOk};
-    ghost use Rattle.kr_config.specs.Patterns.{covers_group, covers_rest};
     ghost use Rattle.std.specs.Option.{option_map};
     ghost use Rattle.kr_config.specs.declared.class.Class.TheVariants.{Rest};
     ghost use Rattle.kr_config.specs.Classes.{classes_in};
     ghost use Rattle.kr_config.specs.Kept.{plugins_in};
-    ghost use Rattle.kr_config.specs.Lists.{first_list, list_of, class_list};
+    ghost use Rattle.kr_config.specs.Lists.{list_of, class_list};
+    ghost use Rattle.kr_config.specs.inner.ClassIndexes.{list_at, IsIndexOf};
     ghost use Rattle.kr_config.specs.Nexts.{lent_class, IsNextClass, IsNextName};
 
     /// The settings of entries that keep the rules.
@@ -49,25 +58,32 @@ impl Settings {
         requires { IsTrue (keeps (rows_of entries.0)) }
         ensures { IfOk result (λ settings. settings.entries ≡ entries) }
     {
+        let index = List::from_vec(class_index::index_of(alloc, entries.as_slice())?);
         let mut fallback = List::new(alloc);
         match fallback.push(Who::Identity) {
-            Ok(()) => Ok(Settings { entries, fallback }),
+            Ok(()) => Ok(Settings {
+                entries,
+                fallback,
+                index,
+            }),
             Err(_) => Err(NoMemory),
         }
     }
 
+    /// What is known of all settings. It does nothing.
+    pub fn known(&self)
+        ensures { IsTrue (keeps (rows_of self.now.entries.0)) }
+    {
+        // Read, so that the check sees the fields.
+        let _entries = self.entries.as_slice();
+    }
+
     /// The providers of the first entry with a pattern that matches the resource, or identity
     /// alone.
-    #[tactic(auto, using(crate::proofs::FirstLists::first_more, crate::proofs::FirstLists::first_found, crate::proofs::FirstLists::first_none))]
     pub fn list_for(&self, resource: &str) -> &[Who]
         ensures { result.now ≡ list_of (rows_of self.now.entries.0) resource.now }
     {
-        for entry in self.entries.as_slice() {
-            if entry.matches(resource) {
-                return entry.providers.as_slice();
-            }
-        }
-        self.fallback.as_slice()
+        self.list_near(BorrowedClass::Exact(resource), 0)
     }
 
     /// The providers of a class of resources: for an exact one its resource's, for a group those of
@@ -76,22 +92,22 @@ impl Settings {
     pub fn list_for_class(&self, class: &Class) -> &[Who]
         ensures { result.now ≡ class_list (rows_of self.now.entries.0) class.now }
     {
-        match class {
-            Class::Exact(text) => self.list_for(text.as_str()),
-            Class::Group(group) => self.list_for_group(group.as_str()),
-            Class::Rest => self.list_for_rest(),
-        }
+        self.list_near(class.borrowed(), 0)
     }
 
     /// The providers of a class that is lent, as `list_for_class` has them.
     pub fn list_for_borrowed(&self, class: BorrowedClass<'_>) -> &[Who]
         ensures { result.now ≡ class_list (rows_of self.now.entries.0) (lent_class class.entry) }
     {
-        match class {
-            BorrowedClass::Exact(text) => self.list_for(text.as_str()),
-            BorrowedClass::Group(group) => self.list_for_group(group.as_str()),
-            BorrowedClass::Rest => self.list_for_rest(),
-        }
+        self.list_near(class, 0)
+    }
+
+    /// The same, found at once where the class is the one of this number in their order, and else
+    /// by halves. Nothing but the time goes by the number.
+    pub fn list_near(&self, class: BorrowedClass<'_>, number: usize) -> &[Who]
+        ensures { result.now ≡ class_list (rows_of self.now.entries.0) (lent_class class.entry) }
+    {
+        self.list_at(class_index::entry_for(self.classes(), class, number))
     }
 
     /// The first class after this one, or the first of all, in the order of classes, of those that
@@ -100,7 +116,20 @@ impl Settings {
         ensures { IsNextClass (Rest ∷ classes_in (rows_of self.now.entries.0))
             (option_map lent_class after.entry) (option_map lent_class result) }
     {
-        next_class::next_in(self.entries.as_slice(), after)
+        self.next_near(after, 0)
+    }
+
+    /// The same, found at once where it is the class of this number in their order, and else by
+    /// halves. Nothing but the time goes by the number.
+    pub fn next_near(
+        &self,
+        after: Option<BorrowedClass<'_>>,
+        number: usize,
+    ) -> Option<BorrowedClass<'_>>
+        ensures { IsNextClass (Rest ∷ classes_in (rows_of self.now.entries.0))
+            (option_map lent_class after.entry) (option_map lent_class result) }
+    {
+        class_index::next_in(self.classes(), after, number)
     }
 
     /// The least name of a plugin after this one by bytes. Names aren't empty, so the first comes
@@ -115,65 +144,36 @@ impl Settings {
         }
     }
 
-    /// The providers of the first entry that speaks of all of the group, or identity alone.
-    #[tactic(auto, using(crate::proofs::FirstLists::first_more, crate::proofs::FirstLists::first_found, crate::proofs::FirstLists::first_none))]
-    fn list_for_group(&self, group: &str) -> &[Who]
-        ensures { result.now ≡ first_list (λ pattern. covers_group pattern group.now)
-            (rows_of self.now.entries.0) }
+    /// The providers of the entry at the place, or identity alone behind the last.
+    fn list_at(&self, place: usize) -> &[Who]
+        ensures { result.now ≡ list_at (rows_of self.now.entries.0) place }
     {
-        for entry in self.entries.as_slice() {
-            if entry.covers_group(group) {
-                return entry.providers.as_slice();
-            }
+        let entries = self.entries.as_slice();
+        if place >= entries.len() {
+            return self.fallback.as_slice();
         }
-        self.fallback.as_slice()
+        entries[place].providers.as_slice()
     }
 
-    /// The providers of the first entry that speaks of every resource, or identity alone.
-    #[tactic(auto, using(crate::proofs::FirstLists::first_more, crate::proofs::FirstLists::first_found, crate::proofs::FirstLists::first_none))]
-    fn list_for_rest(&self) -> &[Who]
-        ensures { result.now ≡ first_list covers_rest (rows_of self.now.entries.0) }
+    /// The index, and what is known of it.
+    fn classes(&self) -> &[ClassPlace]
+        ensures { IsIndexOf (rows_of self.now.entries.0) result.now }
     {
-        for entry in self.entries.as_slice() {
-            if entry.covers_rest() {
-                return entry.providers.as_slice();
-            }
-        }
-        self.fallback.as_slice()
+        self.index.as_slice()
     }
 }
 
 impl Entry {
-    ghost use Rattle.kr_config.specs.Patterns.{matches, covers_group, covers_rest};
+    ghost use Rattle.kr_config.specs.Nexts.{lent_class};
+    ghost use Rattle.kr_config.specs.inner.ClassIndexes.{speaks_of};
 
-    /// Whether one of its patterns matches the resource.
-    fn matches(&self, resource: &str) -> bool
-        ensures { result ≡ list_any (λ pattern. matches pattern resource.now) self.now.patterns.0 }
+    /// Whether one of its patterns speaks of all of the class.
+    pub(crate) fn speaks_of(&self, class: BorrowedClass<'_>) -> bool
+        ensures { result ≡ list_any (speaks_of (lent_class class.entry)) self.now.patterns.0 }
     {
         self.patterns
             .as_slice()
             .iter()
-            .any(|pattern| pattern.matches(resource))
-    }
-
-    /// Whether one of its patterns matches all of the group.
-    fn covers_group(&self, group: &str) -> bool
-        ensures { result ≡ list_any (λ pattern. covers_group pattern group.now)
-            self.now.patterns.0 }
-    {
-        self.patterns
-            .as_slice()
-            .iter()
-            .any(|pattern| pattern.covers_group(group))
-    }
-
-    /// Whether one of its patterns matches every resource.
-    fn covers_rest(&self) -> bool
-        ensures { result ≡ list_any covers_rest self.now.patterns.0 }
-    {
-        self.patterns
-            .as_slice()
-            .iter()
-            .any(|pattern| pattern.covers_rest())
+            .any(|pattern| pattern.speaks_of(class))
     }
 }

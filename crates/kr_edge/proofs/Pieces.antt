@@ -1,12 +1,12 @@
 -- What a file holds behind a part of a read or of a write.
-use Rattle.std.proofs.Common.{◌≡◌, ℕ, ◌+◌, ◌-◌, ◌≤◌, List, [], ◌++◌, length, take, drop, replicate, Option, None, Some, refl, sym, ◌∙◌, ap, subst, arith}
-use Rattle.std.specs.Prelude.{IfSome, Result, Ok, Err}
+use Rattle.std.proofs.Common.{◌≡◌, ℕ, ◌+◌, ◌-◌, ◌≤◌, List, [], ◌++◌, length, take, drop, replicate, Option, None, Some, true, inr, refl, sym, ◌∙◌, ap, subst, arith}
+use Rattle.std.specs.Prelude.{IfSome, Result, Ok, Err, is_ok}
 use Rattle.std.specs.Option.{option_map}
-use Rattle.std.proofs.lemmas.List.{append_assoc, append-nil, drop-drop, length-append, length-drop, length-take-le, take-append-drop, take_all}
+use Rattle.std.proofs.lemmas.List.{append_assoc, append-nil, drop-drop, length-append, length-drop, length-replicate, length-take, length-take-le, take-append-drop, take_all}
 use Rattle.std.proofs.lemmas.List.Edits.{paste_all, paste-paste}
 use Rattle.std.proofs.Math.Seq.{paste, take-add, take-append-add}
 use Rattle.kr_base.specs.Tapes.{KeepsFront, with_bytes_at}
-use Rattle.kr_edge.specs.Placed.{ReadsSome, SetsLength, with_length}
+use Rattle.kr_edge.specs.Placed.{LengthCall, ReadsSome, Restores, SetsLength, with_length, with_length_call}
 use Rattle.kr_edge.proofs.Lines.{next_bytes}
 use borrow.Rule.Slice.PartMut.{put_mid, take_put}
 
@@ -148,3 +148,33 @@ cut_by_length None new len fits is = is
 cut_by_length (Some bytes) new len fits is =
     let none : len - length bytes ≡ 0 = omega (arith, fits) in
     is ∙ ap Some (ap (λ n. take len bytes ++ replicate n 0) none ∙ append-nil (take len bytes))
+
+-- ---- the old length
+
+-- a length that was set is that of the file
+length_set : {T E : Type 0} (old new : Option (List ℕ)) (len : ℕ) (result : Result T E)
+    → SetsLength old new len result → is_ok result ≡ true
+    → IfSome new (λ held. length held ≡ len)
+length_set old new len (Err why) sets done = absurd cc
+length_set None new len (Ok t) sets done =
+    subst (λ n. IfSome n (λ held. length held ≡ len)) (sym sets) tt
+length_set (Some held) new len (Ok t) sets done =
+    subst (λ n. IfSome n (λ held. length held ≡ len)) (sym sets) (omega (
+      arith,
+      length-append (take len held) (replicate (len - length held) 0),
+      length-take len held,
+      length-replicate {A = ℕ} (len - length held) 0,
+    ))
+
+-- the file was to have its old length again
+pub length_restored : {T E : Type 0} (old mid new : Option (List ℕ)) (len : ℕ) (result : Result T E)
+    {first second last : Option (List LengthCall)} → IfSome old (λ held. len ≡ length held)
+    → SetsLength mid new len result → second ≡ first
+    → last ≡ with_length_call len (is_ok result) second → Restores old new first last
+length_restored old mid new len result is sets same call = inr (
+  len,
+  is_ok result,
+  is,
+  call ∙ ap (with_length_call len (is_ok result)) same,
+  length_set mid new len result sets,
+)

@@ -1,5 +1,5 @@
 -- A file that is read and written at places, call by call. What it doesn't tell stays untold.
-use Rattle.std.specs.Prelude.{◌≡◌, ℕ, ◌-◌, ◌≤◌, ◌⊎◌, List, ◌++◌, length, take, drop, replicate, Option, IfSome, Result, Ok, Err}
+use Rattle.std.specs.Prelude.{◌≡◌, ℕ, ◌-◌, ◌≤◌, ◌⊎◌, Bool, true, List, [], ◌∷◌, ◌++◌, length, take, drop, replicate, Option, IfSome, Result, Ok, Err}
 use Rattle.std.specs.Option.{option_map}
 use Rattle.kr_base.specs.Tapes.{KeepsFront, with_bytes_at}
 use Rattle.kr_edge.specs.declared.placed.PlacedNo.{PlacedNo}
@@ -26,6 +26,26 @@ WritesSome old new at bytes (Err Failed) = KeepsFront old new at
 -- the bytes up to the length, and zeros behind them where they are fewer
 abbrev pub with_length : ℕ → List ℕ → List ℕ
 with_length len bytes = take len bytes ++ replicate (len - length bytes) 0
+
+-- a length that a file was to have, and whether that was done
+pub record LengthCall : Type 0 where
+  pub len : ℕ
+  pub done : Bool
+
+abbrev pub length_call : ℕ → Bool → LengthCall
+length_call len done = record { len = len; done = done }
+
+-- one more length was asked for
+abbrev pub with_length_call : ℕ → Bool → Option (List LengthCall) → Option (List LengthCall)
+with_length_call len done calls = option_map (λ made. made ++ length_call len done ∷ []) calls
+
+-- a put failed: nothing was written; or the file was to have its old length again, and has it but
+-- where that failed too
+abbrev pub Restores : (old new : Option (List ℕ)) (before after : Option (List LengthCall)) → Type 0
+Restores old new before after = ((new ≡ old) × (after ≡ before))
+    ⊎ ((len : ℕ) × (done : Bool) × IfSome old (λ held. len ≡ length held)
+    × (after ≡ with_length_call len done before)
+    × (done ≡ true → IfSome new (λ held. length held ≡ len)))
 
 -- the file has the length; after a fault only the bytes before it are known
 abbrev pub SetsLength : {T E : Type 0} → Option (List ℕ) → Option (List ℕ) → ℕ → Result T E → Type 0

@@ -1,8 +1,11 @@
 -- By which calls of the system a store is opened and a program started, and why not.
-use Rattle.std.specs.Prelude.{◌≡◌, ℕ, ◌⊎◌, Bool, true, false, List, [], ◌∷◌, Option, None, Some, Result, Ok, Err, ⊤, codes}
+use Rattle.std.specs.Prelude.{◌≡◌, ℕ, ◌⊎◌, Bool, true, false, List, [], ◌∷◌, Option, None, Some, Result, Ok, Err, codes}
 use Rattle.std.specs.Fs.{new_options, with_read, with_write, with_create_new}
 use Rattle.std.specs.Path.{path_parent}
 use Rattle.std.specs.declared.fs.options.OpenOptions.{OpenOptions}
+use Rattle.kr_kms.specs.Outside.{makes}
+use Rattle.kr_kms.specs.declared.world.Access.{Access}
+use Rattle.kr_kms.specs.declared.world.Access.TheVariants.{ToRead, ToWrite, ToMake}
 use Rattle.kr_kms.specs.declared.world.FileNo.{FileNo}
 use Rattle.kr_kms.specs.declared.world.FileNo.TheVariants as file
 use Rattle.kr_edge.specs.SystemCalls.{noted, with_note}
@@ -24,25 +27,38 @@ named_folder (Some (byte ∷ bytes)) = byte ∷ bytes
 abbrev pub folder_of : List ℕ → List ℕ
 folder_of name = named_folder (path_parent name)
 
--- a plain file that is there is opened as it is, to be read and written; where there is none it may
--- be made, and must be new then
-abbrev pub options_for : (make : Bool) → Found → Option OpenOptions
-options_for make Empty = Some (with_write (with_read new_options true) true)
-options_for make Filled = Some (with_write (with_read new_options true) true)
-options_for true Absent =
-    Some (with_create_new (with_write (with_read new_options true) true) true)
-options_for make found = None
+-- a store that is only read needs no right to write, and others may read it too
+abbrev pub only_reads : Access → Bool
+only_reads ToRead = true
+only_reads ToWrite = false
+only_reads ToMake = false
+
+-- a plain file that is there is opened as it is, for what it is asked for
+abbrev pub options_by : Access → OpenOptions
+options_by ToRead = with_read new_options true
+options_by ToWrite = with_write (with_read new_options true) true
+options_by ToMake = with_write (with_read new_options true) true
+
+-- where there is none it may be made, and must be new then
+abbrev pub options_for : Access → Found → Option OpenOptions
+options_for access Empty = Some (options_by access)
+options_for access Filled = Some (options_by access)
+options_for ToMake Absent = Some (with_create_new (options_by ToMake) true)
+options_for access found = None
 
 -- the options, or why it can't be opened
-abbrev pub ChoosesOptions : (make : Bool) → Found → Result OpenOptions OpenNo → Type 0
-ChoosesOptions make found (Ok options) = options_for make found ≡ Some options
-ChoosesOptions make found (Err why.Absent) = (found ≡ Absent) × (make ≡ false)
-ChoosesOptions make found (Err why.Failed) = (found ≡ Other) ⊎ (found ≡ Failed)
+abbrev pub ChoosesOptions : Access → Found → Result OpenOptions OpenNo → Type 0
+ChoosesOptions access found (Ok options) = options_for access found ≡ Some options
+ChoosesOptions access found (Err why.Absent) = (found ≡ Absent) × (makes access ≡ false)
+ChoosesOptions access found (Err why.Failed) = (found ≡ Other) ⊎ (found ≡ Failed)
 
--- the file was looked at behind its lock, or it is locked already
-abbrev pub LooksLocked : Option (List SystemCall) → Option (List SystemCall) → Option Found → Type 0
-LooksLocked old new (Some at) = new ≡ noted (Lock true ∷ LookAt at ∷ []) old
-LooksLocked old new None = new ≡ with_note (Lock false) old
+-- the file of the name was looked at behind its lock, which readers share and a writer has alone; or
+-- it is locked already
+abbrev pub LooksLocked : (name : List ℕ) → Access → Option (List SystemCall)
+    → Option (List SystemCall) → Option Found → Type 0
+LooksLocked name access old new (Some at) =
+    new ≡ noted (Lock name (only_reads access) true ∷ LookAt name at ∷ []) old
+LooksLocked name access old new None = new ≡ with_note (Lock name (only_reads access) false) old
 
 -- the folder of an empty store, which may be new, is synced where one may be made; one that has
 -- bytes needs no more calls, and what isn't a plain file is no store
@@ -54,27 +70,29 @@ folder_calls name make found = None
 
 -- its name was looked at; it was opened, of mode 600 where it is new; it was locked before it was
 -- looked at
-abbrev pub OpensBy : (name : List ℕ) → (make : Bool) → List SystemCall → Type 0
-OpensBy name make calls = (found at : Found) × (options : OpenOptions) × (last : List SystemCall)
-    × (options_for make found ≡ Some options) × (folder_calls name make at ≡ Some last)
-    × (calls ≡ Look name found ∷ Open name options 0o600 true ∷ Lock true ∷ LookAt at ∷ last)
+abbrev pub OpensBy : (name : List ℕ) → Access → List SystemCall → Type 0
+OpensBy name access calls = (found at : Found) × (options : OpenOptions) × (last : List SystemCall)
+    × (options_for access found ≡ Some options)
+    × (folder_calls name (makes access) at ≡ Some last)
+    × (calls ≡ Look name found ∷ Open name options 0o600 true
+    ∷ Lock name (only_reads access) true ∷ LookAt name at ∷ last)
 
 -- what the last call answered is a reason to open no store
 abbrev pub Refuses : SystemCall → Type 0
 Refuses (Look name found) = (found ≡ Other) ⊎ (found ≡ Failed)
 Refuses (Open name options mode opened) = opened ≡ false
-Refuses (Lock locked) = locked ≡ false
-Refuses (LookAt found) = (found ≡ Absent) ⊎ (found ≡ Other) ⊎ (found ≡ Failed)
+Refuses (Lock name shared locked) = locked ≡ false
+Refuses (LookAt name found) = (found ≡ Absent) ⊎ (found ≡ Other) ⊎ (found ≡ Failed)
 Refuses (SyncFolder folder synced) = synced ≡ false
 Refuses call = ⊥
 
-abbrev pub OpensStore : {F : Type 0} → (name : List ℕ) → (make : Bool)
+abbrev pub OpensStore : {F : Type 0} → (name : List ℕ) → Access
     → Option (List SystemCall) → Option (List SystemCall) → Result F OpenNo → Type 0
-OpensStore name make old new (Ok file) =
-    (calls : List SystemCall) × OpensBy name make calls × (new ≡ noted calls old)
-OpensStore name make old new (Err why.Absent) =
-    (make ≡ false) × (new ≡ noted (Look name Absent ∷ []) old)
-OpensStore name make old new (Err why.Failed) =
+OpensStore name access old new (Ok file) =
+    (calls : List SystemCall) × OpensBy name access calls × (new ≡ noted calls old)
+OpensStore name access old new (Err why.Absent) =
+    (makes access ≡ false) × (new ≡ noted (Look name Absent ∷ []) old)
+OpensStore name access old new (Err why.Failed) =
     (calls : List SystemCall) × (last : SystemCall) × Refuses last
     × (new ≡ with_note last (noted calls old))
 
@@ -90,16 +108,18 @@ Starts program old new (Err no.NoMemory) =
 -- ---- what a world lends
 
 -- the store of a tape was opened; or why there is no tape: one of the name is out, so nothing was
--- asked, or its store was refused, or memory lacked
-abbrev pub LendsStore : {F : Type 0} → (name : List ℕ) → (make : Bool) → (IsOut : Type 0)
+-- asked; or its store was refused; or memory lacked, before anything was asked or behind the opening
+abbrev pub LendsStore : {F : Type 0} → (name : List ℕ) → Access → (IsOut : Type 0)
     → Option (List SystemCall) → Option (List SystemCall) → Result F FileNo → Type 0
-LendsStore {F} name make IsOut old new (Ok tape) = OpensStore {F = F} name make old new (Ok tape)
-LendsStore {F} name make IsOut old new (Err file.Absent) =
-    OpensStore {F = F} name make old new (Err why.Absent)
-LendsStore {F} name make IsOut old new (Err file.TooLong) = ⊥
-LendsStore {F} name make IsOut old new (Err file.Failed) =
-    (IsOut × (new ≡ old)) ⊎ OpensStore {F = F} name make old new (Err why.Failed)
-LendsStore {F} name make IsOut old new (Err file.NoMemory) = ⊤
+LendsStore {F} name access IsOut old new (Ok tape) =
+    OpensStore {F = F} name access old new (Ok tape)
+LendsStore {F} name access IsOut old new (Err file.Absent) =
+    OpensStore {F = F} name access old new (Err why.Absent)
+LendsStore {F} name access IsOut old new (Err file.TooLong) = ⊥
+LendsStore {F} name access IsOut old new (Err file.Failed) =
+    (IsOut × (new ≡ old)) ⊎ OpensStore {F = F} name access old new (Err why.Failed)
+LendsStore {F} name access IsOut old new (Err file.NoMemory) = (new ≡ old)
+    ⊎ ((calls : List SystemCall) × OpensBy name access calls × (new ≡ noted calls old))
 
 -- the program of a link was started; or it wasn't, or has no pipe, or memory lacked
 abbrev pub LendsLink : {L : Type 0} → (program : List ℕ)

@@ -1,39 +1,46 @@
 //! How stores are opened, and programs started.
 ghost use Rattle.std.specs.Prelude.{◌≡◌};
-ghost use Rattle.kr_edge.specs.Stores.{ChoosesOptions, LooksLocked, OpensStore, Starts, folder_of};
+ghost use Rattle.kr_edge.specs.Stores.{ChoosesOptions, LooksLocked, OpensStore, Starts};
+ghost use Rattle.kr_edge.specs.Stores.{folder_of, only_reads};
 
 use crate::placed::DiskFile;
 use crate::system::{Found, OpenNo, StartNo, System};
+use kr_base::Text;
+use kr_kms::Access;
 use std::alloc::Global;
 use std::fs::OpenOptions;
 use std::path::Path;
 use std::process::{Child, Command, Stdio, SystemProcess};
 
-/// Opens the file of that name to be read and written, and locks it. An absent one is made, of mode
-/// 600, where `make` says so; the folder of an empty one is synced then, so that its name outlasts a
-/// loss of power: it may just have been made, here or by a call that was cut off before it synced
-/// the folder. What is no plain file fails, and so does one that is locked already, here or in
-/// another process. What the name leads to is looked at before it is opened, since to open a device
-/// may do something, and again behind that.
-pub fn open_store<S: System>(system: &mut S, name: &str, make: bool) -> Result<DiskFile, OpenNo>
-    ensures calls { OpensStore name.now make (S.calls system.old) (S.calls system.new) result }
+/// Opens the file of that name for what it is asked for, and locks it: one that is only read by a
+/// lock that others share who read it, and any other by one of its own. An absent one may be made, of
+/// mode 600; the folder of an empty one is synced then, so that its name outlasts a loss of power: it
+/// may just have been made, here or by a call that was cut off before it synced the folder. What is
+/// no plain file fails, and so does one whose lock another open holds, here or in another process.
+/// What the name leads to is looked at before it is opened, since to open a device may do something,
+/// and again behind that.
+pub fn open_store<S: System>(system: &mut S, name: Text, access: Access) -> Result<DiskFile, OpenNo>
+    ensures calls { OpensStore name access (S.calls system.old) (S.calls system.new) result }
     ensures same { S.told system.new ≡ S.told system.old }
 {
-    let mut options = match options_for(make, system.look(name)) {
+    let mut options = match options_for(access, system.look(name.as_str())) {
         Ok(options) => options,
-        Err(why) => return Err(why),
+        Err(why) => {
+            drop(name);
+            return Err(why);
+        }
     };
     let Some(file) = system.open(name, &mut options, 0o600) else {
         return Err(OpenNo::Failed);
     };
-    let Some(at) = look_locked(system, &file) else {
+    let Some(at) = look_locked(system, &file, access) else {
         drop(file);
         return Err(OpenNo::Failed);
     };
     match at {
         Found::Filled => Ok(file),
         Found::Empty => {
-            if make && !system.sync_folder(folder_of(name)) {
+            if access.makes() && !system.sync_folder(folder_of(file.name())) {
                 drop(file);
                 return Err(OpenNo::Failed);
             }
@@ -46,28 +53,42 @@ pub fn open_store<S: System>(system: &mut S, name: &str, make: bool) -> Result<D
     }
 }
 
-/// What the file is that was opened last, once it is locked.
-fn look_locked<S: System>(system: &mut S, file: &DiskFile) -> Option<Found>
-    ensures calls { LooksLocked (S.calls system.old) (S.calls system.new) result }
+/// What the file is, once it is locked.
+fn look_locked<S: System>(system: &mut S, file: &DiskFile, access: Access) -> Option<Found>
+    ensures calls { LooksLocked file.now.name access (S.calls system.old) (S.calls system.new)
+        result }
     ensures same { S.told system.new ≡ S.told system.old }
 {
-    if system.lock(file) {
+    if system.lock(file, only_reads(access)) {
         Some(system.look_at(file))
     } else {
         None
     }
 }
 
+/// Whether a store is only to be read, so that others who read it may have the lock too.
+pub(crate) fn only_reads(access: Access) -> bool
+    ensures { result ≡ only_reads access }
+{
+    match access {
+        Access::ToRead => true,
+        Access::ToWrite | Access::ToMake => false,
+    }
+}
+
 /// By which options a store is opened whose name leads to what was found.
-fn options_for(make: bool, found: Found) -> Result<OpenOptions, OpenNo>
-    ensures { ChoosesOptions make found result }
+fn options_for(access: Access, found: Found) -> Result<OpenOptions, OpenNo>
+    ensures { ChoosesOptions access found result }
 {
     let mut options = OpenOptions::new();
-    options.read(true).write(true);
+    options.read(true);
+    if !only_reads(access) {
+        options.write(true);
+    }
     match found {
         Found::Empty | Found::Filled => Ok(options),
         Found::Absent => {
-            if !make {
+            if !access.makes() {
                 return Err(OpenNo::Absent);
             }
             options.create_new(true);

@@ -2,10 +2,10 @@
 ghost use Rattle.std.specs.Prelude.{◌≡◌, ◌<◌, ◌==◌, ◌&&◌, length, position, codes, None};
 ghost use Rattle.std.specs.Prelude.{OnOk, OnErr, IfOk, IfErr, IfSome, IsErrOf, MatchResult, is_some, true};
 ghost use Rattle.std.specs.Io.KnownBytes.{Consumes, Keeps};
-ghost use Rattle.kr_base.specs.Faults.{Rose, IsCounted};
+ghost use Rattle.kr_base.specs.Faults.{Rose, IsCounted, counted};
 ghost use Rattle.std.specs.Str.{bytes_eq};
 ghost use Rattle.kr_kms.specs.Outside.{Notes, KeepsFiles, HandsOut, IsFaultOrMemory, IsTape, RefusesTape};
-ghost use Rattle.kr_kms.specs.Outside.{link_at, same_link, same_name, same_seat};
+ghost use Rattle.kr_kms.specs.Outside.{has_failed, makes, link_at, same_link, same_name, same_seat};
 ghost use Rattle.kr_kms.specs.declared.world.WorldCall.{WorldCall};
 ghost use Rattle.kr_edge.specs.Opened.{Holds};
 ghost use Rattle.kr_edge.specs.Plugins.{line_link};
@@ -20,7 +20,7 @@ use crate::streams::StdSource;
 use crate::system::{OpenNo, StartNo, System};
 use crate::tape::FileTape;
 use kr_base::{Bytes, Dice, Failed, FaultCount, List, ReadNo, Text, read_all};
-use kr_kms::{FileFaults, FileNo, Kms, Shelf, World, name_place, plugin_place};
+use kr_kms::{Access, FileFaults, FileNo, Kms, Shelf, World, name_place, plugin_place};
 use std::alloc::Global;
 use std::io::Read;
 
@@ -129,26 +129,36 @@ where
         }
     }
 
-    fn tape(&mut self, alloc: Global, name: &str, make: bool) -> Result<FileTape<DiskFile>, FileNo>
+    fn tape(
+        &mut self,
+        alloc: Global,
+        name: &str,
+        access: Access,
+    ) -> Result<FileTape<DiskFile>, FileNo>
         // The store of that name was opened, and nothing else.
-        ensures calls { LendsStore name.now make
+        ensures calls { LendsStore name.now access
             (is_some (position (λ out. same_name out name.now) self.old.tapes.out) ≡ true)
             (S.calls self.old.system) (S.calls self.new.system) result }
+
+        // The tape is for what it was asked for.
+        ensures access { IfOk result (λ tape. tape.access ≡ access) }
 
         // As the trait says.
         ensures ok { IfOk result (λ tape. HandsOut same_name (seen S.told self.old).tapes
             (seen S.told self.new).tapes name.now tape.faults) }
         ensures tape { IfOk result
-            (λ tape. IsTape ((seen S.told self.old).tapes.told name.now) make None) }
+            (λ tape. IsTape ((seen S.told self.old).tapes.told name.now) (makes access) None) }
         ensures alone { IfOk result (λ tape. (seen S.told self.old).tapes.out name.now ≡ 0) }
         ensures err { OnErr result
             ((seen S.told self.new).tapes ≡ (seen S.told self.old).tapes) }
         ensures refusals { IfErr result
-            (λ why. RefusesTape ((seen S.told self.old).tapes.told name.now) make why) }
+            (λ why. RefusesTape ((seen S.told self.old).tapes.told name.now) (makes access) why) }
         ensures failed { IsErrOf result FileNo.Failed
             → Rose self.old.faults.tapes self.new.faults.tapes }
+        ensures once { self.new.faults.tapes
+            ≡ counted (has_failed result) self.old.faults.tapes }
         ensures asked { Notes (seen S.told self.old) (seen S.told self.new)
-            (WorldCall.Tape name.now make) result }
+            (WorldCall.Tape name.now access) result }
         ensures kind { self.new.faults
             ≡ record self.old.faults { tapes = self.new.faults.tapes } }
         ensures files { KeepsFiles (seen S.told self.old) (seen S.told self.new) }
@@ -159,10 +169,10 @@ where
             self.faults.tapes.rise();
             return Err(FileNo::Failed);
         }
-        let Ok(key) = Text::copy(alloc, name) else {
+        let (Ok(key), Ok(opened)) = (Text::copy(alloc, name), Text::copy(alloc, name)) else {
             return Err(FileNo::NoMemory);
         };
-        let file = match open_store(&mut self.system, name, make) {
+        let file = match open_store(&mut self.system, opened, access) {
             Ok(file) => file,
             Err(OpenNo::Absent) => {
                 drop(key);
@@ -178,7 +188,7 @@ where
             Some(at) => match self.tapes.lend(at, key) {
                 Ok((key, count)) => {
                     drop(key);
-                    Ok(FileTape::new(file, count))
+                    Ok(FileTape::new(file, access, count))
                 }
                 Err(_) => {
                     drop(file);
@@ -186,7 +196,7 @@ where
                 }
             },
             None => match self.tapes.add(key) {
-                Ok(()) => Ok(FileTape::first(file)),
+                Ok(()) => Ok(FileTape::first(file, access)),
                 Err(_) => {
                     drop(file);
                     Err(FileNo::NoMemory)
@@ -214,6 +224,8 @@ where
         ensures refusals { IfErr result IsFaultOrMemory }
         ensures failed { IsErrOf result FileNo.Failed
             → Rose self.old.faults.dice self.new.faults.dice }
+        ensures once { self.new.faults.dice
+            ≡ counted (has_failed result) self.old.faults.dice }
         ensures asked { Notes
             (seen S.told self.old)
             (seen S.told self.new)
@@ -269,6 +281,8 @@ where
         ensures refusals { IfErr result IsFaultOrMemory }
         ensures failed { IsErrOf result FileNo.Failed
             → Rose self.old.faults.links self.new.faults.links }
+        ensures once { self.new.faults.links
+            ≡ counted (has_failed result) self.old.faults.links }
         ensures asked { Notes (seen S.told self.old) (seen S.told self.new)
             (WorldCall.Link seat plugin.now program.now) result }
         ensures kind { self.new.faults

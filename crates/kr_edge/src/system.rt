@@ -1,5 +1,5 @@
 //! The calls of the system by which files are opened and programs started.
-ghost use Rattle.std.specs.Prelude.{◌≡◌, ℕ, List, Option, is_ok, is_some};
+ghost use Rattle.std.specs.Prelude.{◌≡◌, ℕ, List, Option, IfSome, is_ok, is_some};
 ghost use Rattle.std.specs.Process.{command_program};
 ghost use Rattle.kr_edge.specs.Opened.{Opens};
 ghost use Rattle.kr_edge.specs.SystemCalls.{IsBare, with_note};
@@ -60,12 +60,16 @@ pub enum SystemCall {
         mode: u32,
         opened: bool,
     },
-    /// A lock that no other open of the file holds was asked for, on what was opened last.
+    /// A lock on the open file of a name was asked for: one that others share who only read it, or
+    /// one that no other open of the file has beside it.
     Lock {
+        name: Text,
+        shared: bool,
         locked: bool,
     },
-    /// It was asked what the file is that was opened last.
+    /// It was asked what the open file of a name is.
     LookAt {
+        name: Text,
         found: Found,
     },
     /// The names in a folder were to be synced.
@@ -107,19 +111,23 @@ pub trait System {
         ensures same { told self.new ≡ told self.old };
 
     /// Opens the file of that name by the options, one that is made with this mode.
-    fn open(&mut self, name: &str, options: &mut OpenOptions, mode: u32) -> Option<DiskFile>
+    fn open(&mut self, name: Text, options: &mut OpenOptions, mode: u32) -> Option<DiskFile>
+        ensures name { IfSome result (λ file. file.name ≡ name) }
         ensures noted { calls self.new ≡ with_note
-            (SystemCall.Open name.now options.old mode (is_some result)) (calls self.old) }
+            (SystemCall.Open name options.old mode (is_some result)) (calls self.old) }
         ensures same { told self.new ≡ told self.old };
 
-    /// Takes the lock of the file that was opened last, unless another open of it holds one.
-    fn lock(&mut self, file: &DiskFile) -> bool
-        ensures noted { calls self.new ≡ with_note (SystemCall.Lock result) (calls self.old) }
+    /// Takes the lock of the file, a shared one if so, unless another open of it holds one that goes
+    /// with none beside it.
+    fn lock(&mut self, file: &DiskFile, shared: bool) -> bool
+        ensures noted { calls self.new
+            ≡ with_note (SystemCall.Lock file.now.name shared result) (calls self.old) }
         ensures same { told self.new ≡ told self.old };
 
-    /// What the file is that was opened last.
+    /// What the open file is.
     fn look_at(&mut self, file: &DiskFile) -> Found
-        ensures noted { calls self.new ≡ with_note (SystemCall.LookAt result) (calls self.old) }
+        ensures noted { calls self.new
+            ≡ with_note (SystemCall.LookAt file.now.name result) (calls self.old) }
         ensures same { told self.new ≡ told self.old };
 
     /// Lets the names in the folder stand on the device.

@@ -4,6 +4,7 @@ ghost use Rattle.std.specs.Prelude.{None};
 use crate::placed::DiskFile;
 use crate::system::{Found, OpenNo, StartNo, System};
 use crate::system_error::kind_of;
+use kr_base::Text;
 use std::fs::{File, Metadata, OpenFile, OpenOptions};
 use std::io::{self, ErrorKind};
 use std::os::unix::fs::OpenOptionsExt;
@@ -47,19 +48,24 @@ impl<R: Files<File = File> + Processes<Started = SystemProcess>> System for Syst
         found(self.rt.metadata(name))
     }
 
-    fn open(&mut self, name: &str, options: &mut OpenOptions, mode: u32) -> Option<DiskFile> {
+    fn open(&mut self, name: Text, options: &mut OpenOptions, mode: u32) -> Option<DiskFile> {
         options.mode(mode);
-        match self.rt.open_file(options, name) {
-            Ok(file) => Some(DiskFile::new(file)),
+        match self.rt.open_file(options, name.as_str()) {
+            Ok(file) => Some(DiskFile::new(name, file)),
             Err(error) => {
-                drop(error);
+                drop((name, error));
                 None
             }
         }
     }
 
-    fn lock(&mut self, file: &DiskFile) -> bool {
-        match file.file().try_lock() {
+    fn lock(&mut self, file: &DiskFile, shared: bool) -> bool {
+        let locked = if shared {
+            file.file().try_lock_shared()
+        } else {
+            file.file().try_lock()
+        };
+        match locked {
             Ok(()) => true,
             Err(why) => {
                 drop(why);

@@ -24,10 +24,10 @@ use Rattle.kr_history.specs.declared.call.CallNo.TheVariants as refusal
 use Rattle.kr_fleet.specs.declared.outcome.Joining.{Joining}
 use Rattle.kr_fleet.specs.declared.outcome.Loaded.{Loaded}
 use Rattle.kr_history.specs.Calls.{AddsNothing, KeepsHonestBy}
-use Rattle.kr_fleet.specs.LoadCalls.{BringsBy, IsJoin, IsReload}
 use Rattle.kr_fleet.specs.inner.Answering as answers
 use Rattle.kr_fleet.specs.inner.Answering.{ReloadsBy}
-use Rattle.kr_fleet.specs.inner.Stages.{NotShared, publish_refusal}
+use Rattle.kr_fleet.specs.CallForms.{CutShortWhere, JoinsWhere, ReloadsWhere, publish_refusal}
+use Rattle.kr_fleet.specs.inner.Stages.{NotSharedWhere}
 use Rattle.kr_history.proofs.Answered.{may_give}
 use Rattle.kr_history.proofs.KeptByEvents.{holds_still}
 
@@ -106,131 +106,118 @@ join_holds old new replica p given a = holds_still old new (event.Join replica p
 
 -- ---- what is answered
 
-module _ {L D : Type 0} (truth : Truth) (link : L → Link) (left : D → Option (List ℕ))
-    (count : D → ℕ) (rows : List Row) (old new : Caller) (olds news : List L) (dice after : D)
-  where
-    module _ (brings : Publication → Event) (replica : ℕ) where
-      pub not_published : (no : PublishNo) → new ≡ old
-          → Publishes truth link left count rows olds dice (Err no) news after
-          → BringsBy truth link left count rows brings replica old olds dice (publish_refusal no)
-          new news after
-      not_published (publishing.PluginFailed name) same w = (w, same)
-      not_published publishing.DiceFailed same w = (w, same)
-      not_published (publishing.Unhealthy name field text) same w = (w, same)
-      not_published publishing.NoMemory same w = inl (w, same)
+module _ (Publishes : Result Publication PublishNo → Type 0) (old new : Caller) where
+  module _ (brings : Publication → Event) (replica : ℕ) where
+    pub not_published : (no : PublishNo) → new ≡ old
+        → Publishes (Err no)
+        → CutShortWhere Publishes brings replica old (publish_refusal no) new
+    not_published (publishing.PluginFailed name) same w = (w, same)
+    not_published publishing.DiceFailed same w = (w, same)
+    not_published (publishing.Unhealthy name field text) same w = (w, same)
+    not_published publishing.NoMemory same w = inl (w, same)
 
-      pub not_shared : (why : CallNo) → new ≡ old
-          → NotShared truth link left count rows olds dice why news after
-          → BringsBy truth link left count rows brings replica old olds dice why new news after
-      not_shared why same (inl n) = subst
-          (λ y. BringsBy truth link left count rows brings replica old olds dice y new news after)
-          (sym n.1) (not_published n.0 same n.2)
-      not_shared why same (inr n) = subst
-          (λ y. BringsBy truth link left count rows brings replica old olds dice y new news after)
-          (sym n.1) (inr (inl ((n.0, n.2), same)))
-
-      pub in_vain : (p : Publication) → AddsNothing old new
-          → Publishes truth link left count rows olds dice (Ok p) news after
-          → BringsBy truth link left count rows brings replica old olds dice refusal.Spent new news
-          after
-      in_vain p none w = ((p, w), none)
-
-    pub reload_answered : (replica : ℕ) (p : Publication) (given : Answer)
-        (result : Result Loaded CallNo)
-        → Publishes truth link left count rows olds dice (Ok p) news after
-        → AddsEntry old (event.Reload replica p None) given new → ReloadsBy given result
-        → IsReload truth link left count rows replica old olds dice result new news after
-    reload_answered replica p (answer.Adopted number q) result w a d = absurd d
-    reload_answered replica p (answer.Gone other) result w a d =
-        let m = may_give old new (event.Reload replica p None) (answer.Gone other) a in
-        subst (λ r. IsReload truth link left count rows replica old olds dice r new news
-        after) (sym d)
-        (record {
-          p = p;
-          publishes = w;
-          brought = subst
-              (λ r. AddsEntry old (event.Reload replica p None) (answer.Gone r) new) m.is.0
-              a;
-        })
-    reload_answered replica p (answer.Found row) result w a d = absurd d
-    reload_answered replica p answer.Absent result w a d = absurd d
-    reload_answered replica p (answer.Written revision) result w a d = absurd d
-    reload_answered replica p (answer.Changed revision) result w a d = absurd d
-    reload_answered replica p answer.StoreFailed result w a d = absurd d
-    reload_answered replica p (answer.StoreFull needed) result w a d = absurd d
-    reload_answered replica p answer.Released result w a d = absurd d
-    reload_answered replica p (answer.Reloaded number) result w a d =
-        subst (λ r. IsReload truth link left count rows replica old olds dice r new news
-        after) (sym d)
-        (record { p = p; publishes = w; brought = a })
-    reload_answered replica p (answer.Joined number) result w a d = absurd d
-    reload_answered replica p (answer.Refused verdict) result w a d =
-        subst (λ r. IsReload truth link left count rows replica old olds dice r new news
-        after) (sym d)
-        (record { p = p; publishes = w; brought = a })
-    reload_answered replica p (answer.Moved number) result w a d =
-        absurd ((may_give old new (event.Reload replica p None) (answer.Moved number) a).is.1 tt)
-    reload_answered replica p (answer.Present number) result w a d = absurd d
-    reload_answered replica p (answer.Departed number) result w a d = absurd d
-    reload_answered replica p answer.NoMemory result w a d =
-        subst (λ r. IsReload truth link left count rows replica old olds dice r new news
-        after) (sym d)
-        (inr (inr (record { p = p; publishes = w; brought = a })))
-
-    pub join_answered : (replica : ℕ) (p : Publication) (given : Answer)
-        (result : Result Joining CallNo)
-        → Publishes truth link left count rows olds dice (Ok p) news after
-        → AddsEntry old (event.Join replica p) given new → answers.JoinsBy given result
-        → IsJoin truth link left count rows replica old olds dice result new news after
-    join_answered replica p (answer.Adopted number q) result w a d = absurd d
-    join_answered replica p (answer.Gone other) result w a d = absurd d
-    join_answered replica p (answer.Found row) result w a d = absurd d
-    join_answered replica p answer.Absent result w a d = absurd d
-    join_answered replica p (answer.Written revision) result w a d = absurd d
-    join_answered replica p (answer.Changed revision) result w a d = absurd d
-    join_answered replica p answer.StoreFailed result w a d = absurd d
-    join_answered replica p (answer.StoreFull needed) result w a d = absurd d
-    join_answered replica p answer.Released result w a d = absurd d
-    join_answered replica p (answer.Reloaded number) result w a d = absurd d
-    join_answered replica p (answer.Joined number) result w a d =
-        subst (λ r. IsJoin truth link left count rows replica old olds dice r new news
-        after) (sym d)
-        (record { p = p; publishes = w; brought = a })
-    join_answered replica p (answer.Refused verdict) result w a d =
-        subst (λ r. IsJoin truth link left count rows replica old olds dice r new news
-        after) (sym d)
-        (record { p = p; publishes = w; brought = a })
-    join_answered replica p (answer.Moved number) result w a d = absurd d
-    join_answered replica p (answer.Present number) result w a d =
-        subst (λ r. IsJoin truth link left count rows replica old olds dice r new news
-        after) (sym d)
-        (record { p = p; publishes = w; brought = a })
-    join_answered replica p (answer.Departed number) result w a d = absurd d
-    join_answered replica p answer.NoMemory result w a d =
-        subst (λ r. IsJoin truth link left count rows replica old olds dice r new news
-        after) (sym d)
-        (inr (inr (record { p = p; publishes = w; brought = a })))
-
-    join_unshared : (replica : ℕ) (no : PublishNo) → new ≡ old
-        → Publishes truth link left count rows olds dice (Err no) news after
-        → IsJoin truth link left count rows replica old olds dice (Err (publish_refusal no)) new
-        news after
-    join_unshared replica (publishing.PluginFailed name) same w = (w, same)
-    join_unshared replica publishing.DiceFailed same w = (w, same)
-    join_unshared replica (publishing.Unhealthy name field text) same w = (w, same)
-    join_unshared replica publishing.NoMemory same w = inl (w, same)
-
-    pub join_not_shared : (replica : ℕ) (why : CallNo) → new ≡ old
-        → NotShared truth link left count rows olds dice why news after
-        → IsJoin truth link left count rows replica old olds dice (Err why) new news after
-    join_not_shared replica why same (inl n) = subst
-        (λ y. IsJoin truth link left count rows replica old olds dice (Err y) new news after)
-        (sym n.1) (join_unshared replica n.0 same n.2)
-    join_not_shared replica why same (inr n) = subst
-        (λ y. IsJoin truth link left count rows replica old olds dice (Err y) new news after)
+    pub not_shared : (why : CallNo) → new ≡ old
+        → NotSharedWhere Publishes why
+        → CutShortWhere Publishes brings replica old why new
+    not_shared why same (inl n) = subst
+        (λ y. CutShortWhere Publishes brings replica old y new)
+        (sym n.1) (not_published n.0 same n.2)
+    not_shared why same (inr n) = subst
+        (λ y. CutShortWhere Publishes brings replica old y new)
         (sym n.1) (inr (inl ((n.0, n.2), same)))
 
-    pub join_in_vain : (replica : ℕ) (p : Publication) → AddsNothing old new
-        → Publishes truth link left count rows olds dice (Ok p) news after
-        → IsJoin truth link left count rows replica old olds dice (Err refusal.Spent) new news after
-    join_in_vain replica p none w = ((p, w), none)
+    pub in_vain : (p : Publication) → AddsNothing old new
+        → Publishes (Ok p)
+        → CutShortWhere Publishes brings replica old refusal.Spent new
+    in_vain p none w = ((p, w), none)
+
+  pub reload_answered : (replica : ℕ) (p : Publication) (given : Answer)
+      (result : Result Loaded CallNo)
+      → Publishes (Ok p)
+      → AddsEntry old (event.Reload replica p None) given new → ReloadsBy given result
+      → ReloadsWhere Publishes replica old result new
+  reload_answered replica p (answer.Adopted number q) result w a d = absurd d
+  reload_answered replica p (answer.Gone other) result w a d =
+      let m = may_give old new (event.Reload replica p None) (answer.Gone other) a in
+      subst (λ r. ReloadsWhere Publishes replica old r new) (sym d)
+      (record {
+        p = p;
+        publishes = w;
+        brought = subst
+            (λ r. AddsEntry old (event.Reload replica p None) (answer.Gone r) new) m.is.0
+            a;
+      })
+  reload_answered replica p (answer.Found row) result w a d = absurd d
+  reload_answered replica p answer.Absent result w a d = absurd d
+  reload_answered replica p (answer.Written revision) result w a d = absurd d
+  reload_answered replica p (answer.Changed revision) result w a d = absurd d
+  reload_answered replica p answer.StoreFailed result w a d = absurd d
+  reload_answered replica p (answer.StoreFull needed) result w a d = absurd d
+  reload_answered replica p answer.Released result w a d = absurd d
+  reload_answered replica p (answer.Reloaded number) result w a d =
+      subst (λ r. ReloadsWhere Publishes replica old r new) (sym d)
+      (record { p = p; publishes = w; brought = a })
+  reload_answered replica p (answer.Joined number) result w a d = absurd d
+  reload_answered replica p (answer.Refused verdict) result w a d =
+      subst (λ r. ReloadsWhere Publishes replica old r new) (sym d)
+      (record { p = p; publishes = w; brought = a })
+  reload_answered replica p (answer.Moved number) result w a d =
+      absurd ((may_give old new (event.Reload replica p None) (answer.Moved number) a).is.1 tt)
+  reload_answered replica p (answer.Present number) result w a d = absurd d
+  reload_answered replica p (answer.Departed number) result w a d = absurd d
+  reload_answered replica p answer.NoMemory result w a d =
+      subst (λ r. ReloadsWhere Publishes replica old r new) (sym d)
+      (inr (inr (record { p = p; publishes = w; brought = a })))
+
+  pub join_answered : (replica : ℕ) (p : Publication) (given : Answer)
+      (result : Result Joining CallNo)
+      → Publishes (Ok p)
+      → AddsEntry old (event.Join replica p) given new → answers.JoinsBy given result
+      → JoinsWhere Publishes replica old result new
+  join_answered replica p (answer.Adopted number q) result w a d = absurd d
+  join_answered replica p (answer.Gone other) result w a d = absurd d
+  join_answered replica p (answer.Found row) result w a d = absurd d
+  join_answered replica p answer.Absent result w a d = absurd d
+  join_answered replica p (answer.Written revision) result w a d = absurd d
+  join_answered replica p (answer.Changed revision) result w a d = absurd d
+  join_answered replica p answer.StoreFailed result w a d = absurd d
+  join_answered replica p (answer.StoreFull needed) result w a d = absurd d
+  join_answered replica p answer.Released result w a d = absurd d
+  join_answered replica p (answer.Reloaded number) result w a d = absurd d
+  join_answered replica p (answer.Joined number) result w a d =
+      subst (λ r. JoinsWhere Publishes replica old r new) (sym d)
+      (record { p = p; publishes = w; brought = a })
+  join_answered replica p (answer.Refused verdict) result w a d =
+      subst (λ r. JoinsWhere Publishes replica old r new) (sym d)
+      (record { p = p; publishes = w; brought = a })
+  join_answered replica p (answer.Moved number) result w a d = absurd d
+  join_answered replica p (answer.Present number) result w a d =
+      subst (λ r. JoinsWhere Publishes replica old r new) (sym d)
+      (record { p = p; publishes = w; brought = a })
+  join_answered replica p (answer.Departed number) result w a d = absurd d
+  join_answered replica p answer.NoMemory result w a d =
+      subst (λ r. JoinsWhere Publishes replica old r new) (sym d)
+      (inr (inr (record { p = p; publishes = w; brought = a })))
+
+  join_unshared : (replica : ℕ) (no : PublishNo) → new ≡ old
+      → Publishes (Err no)
+      → JoinsWhere Publishes replica old (Err (publish_refusal no)) new
+  join_unshared replica (publishing.PluginFailed name) same w = (w, same)
+  join_unshared replica publishing.DiceFailed same w = (w, same)
+  join_unshared replica (publishing.Unhealthy name field text) same w = (w, same)
+  join_unshared replica publishing.NoMemory same w = inl (w, same)
+
+  pub join_not_shared : (replica : ℕ) (why : CallNo) → new ≡ old
+      → NotSharedWhere Publishes why
+      → JoinsWhere Publishes replica old (Err why) new
+  join_not_shared replica why same (inl n) = subst
+      (λ y. JoinsWhere Publishes replica old (Err y) new)
+      (sym n.1) (join_unshared replica n.0 same n.2)
+  join_not_shared replica why same (inr n) = subst
+      (λ y. JoinsWhere Publishes replica old (Err y) new)
+      (sym n.1) (inr (inl ((n.0, n.2), same)))
+
+  pub join_in_vain : (replica : ℕ) (p : Publication) → AddsNothing old new
+      → Publishes (Ok p)
+      → JoinsWhere Publishes replica old (Err refusal.Spent) new
+  join_in_vain replica p none w = ((p, w), none)

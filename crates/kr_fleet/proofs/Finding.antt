@@ -36,6 +36,7 @@ use Rattle.kr_history.specs.declared.call.CallNo.TheVariants as refusal
 use Rattle.kr_fleet.specs.declared.outcome.Read.{Read}
 use Rattle.kr_fleet.specs.declared.outcome.Read.TheVariants.{Absent}
 use Rattle.kr_history.specs.Calls.{LetsGo}
+use Rattle.kr_fleet.specs.CallForms.{FindsWhere}
 use Rattle.kr_fleet.specs.ReadCalls.{FindsRow, Finds, IsContentOf, IsKnownContent, IsOfValue, IsRead, IsReadByAny}
 use Rattle.kr_fleet.specs.inner.Answering.{FetchesBy}
 use Rattle.kr_fleet.specs.inner.Stages.{Fetches, HoldsAdopted, value_of}
@@ -45,14 +46,40 @@ use Rattle.kr_history.proofs.Nexts.{front_own, found_row, legal_now}
 
 -- ---- what the bench answers is the answer
 
-pub value_found : {L : Type 0} (truth : Truth) (link : L → Link) (path : List ℕ) (p : Publication)
-    (old new : Caller) (olds news : List L) (row : Row) (opened : Result Opened UnsealNo)
-    → FindsRow truth link path p old olds row opened new news
-    → Finds truth link path p old olds (value_of row.revision opened) new news
-value_found truth link path p old new olds news row (Ok opened) f = (row, f, refl)
-value_found truth link path p old new olds news row (Err (unsealing.Refused why)) f = (row, f)
-value_found truth link path p old new olds news row (Err (unsealing.PluginFailed name)) f = (row, f)
-value_found truth link path p old new olds news row (Err unsealing.NoMemory) f = inl (row, f)
+module _ (path : List ℕ) (old new : Caller) (Reads : Row → Result Opened UnsealNo → Type 0)
+    (AsksNone : Type 0) where
+  pub value_found : (row : Row) (opened : Result Opened UnsealNo) → Reads row opened
+      → FindsWhere path old new Reads AsksNone (value_of row.revision opened)
+  value_found row (Ok opened) f = (row, f, refl)
+  value_found row (Err (unsealing.Refused why)) f = (row, f)
+  value_found row (Err (unsealing.PluginFailed name)) f = (row, f)
+  value_found row (Err unsealing.NoMemory) f = inl (row, f)
+
+  pub none_fetched : (why : CallNo) → Fetches path old (Err why) new → AsksNone
+      → FindsWhere path old new Reads AsksNone (Err why)
+  none_fetched (refusal.Refused x) a none = absurd a
+  none_fetched (refusal.PluginFailed name) a none = absurd a
+  none_fetched refusal.DiceFailed a none = absurd a
+  none_fetched refusal.StoreFailed a none = absurd a
+  none_fetched (refusal.StoreFull needed) a none = absurd a
+  none_fetched (refusal.Unhealthy name field text) a none = absurd a
+  none_fetched refusal.Gone a none = absurd a
+  none_fetched refusal.Spent a none = (a, none)
+  none_fetched refusal.NoMemory a none = inr (a, none)
+
+  pub absent_fetched : (found : Option Row) → found ≡ None → Fetches path old (Ok found) new
+      → AsksNone → FindsWhere path old new Reads AsksNone (Ok Absent)
+  absent_fetched found is a none =
+      let f : AddsEntry old (event.Fetch path) answer.Absent new =
+      subst (λ f. Fetches path old (Ok f) new) is a in (
+        record {
+          absent = f;
+          content = λ opens. absent_is_nothing opens old.opening (old.seen ++ f.others) f.entry path
+              (legal_now old new (event.Fetch path) answer.Absent f) f.records.did_is
+              f.records.gave_is;
+        },
+        none,
+      )
 
 -- what was fetched isn't too long, and stands at its path
 abbrev pub IsAt : (path : List ℕ) → Row → Type 0
@@ -108,11 +135,11 @@ module _ (old : Caller) (k : IsCaller old) (number : ℕ) (p : Publication)
       seat_in = k.seat_in;
     }
 
-    seeds_open : (opens : Opens) → IsHonest opens old.opening before → SeedsOpen opens p
+    pub seeds_open : (opens : Opens) → IsHonest opens old.opening before → SeedsOpen opens p
     seeds_open opens honest = held_opens opens at_front number p at_front_is honest held
 
-  module _ {L : Type 0} (truth : Truth) (link : L → Link) (new : Caller) (olds news : List L) where
-    found_content : (opens : Opens) (row : Row)
+  module _ (new : Caller) where
+    pub found_content : (opens : Opens) (row : Row)
         (f : AddsEntry old (event.Fetch path) (answer.Found row) new) (reading : Reading)
         → IsHonestAt opens path (old.seen ++ f.others)
         → HasReading opens (list_at p row.resource) path row.stored reading
@@ -129,6 +156,7 @@ module _ (old : Caller) (k : IsCaller old) (number : ℕ) (p : Publication)
         (subst (λ q. HasReading opens (list_of p.rows row.resource) q row.stored reading)
         (sym r.path_is) reads))
 
+  module _ {L : Type 0} (truth : Truth) (link : L → Link) (new : Caller) (olds news : List L) where
     known_content : (row : Row) (f : AddsEntry old (event.Fetch path) (answer.Found row) new)
         (reading : Reading)
         → (truth.told ≡ true → SeedsOpen truth.opens p
@@ -139,10 +167,10 @@ module _ (old : Caller) (k : IsCaller old) (number : ℕ) (p : Publication)
         let given = answer.Found row in
         let h = old.seen ++ f.others in
         record {
-          told = λ told honest. found_content truth.opens row f reading
+          told = λ told honest. found_content new truth.opens row f reading
               (honest_at_each truth.opens old.opening h path f.legal honest)
               (reads told (seeds_open new given f truth.opens honest));
-          bare = λ opens none. found_content opens row f reading
+          bare = λ opens none. found_content new opens row f reading
               (honest_at_each opens old.opening h path f.legal
               (honest_without_plugin opens old.opening h f.legal none))
               (reads_bare opens old.opening h p.rows row.resource path row.stored reading
@@ -176,12 +204,13 @@ module _ (old : Caller) (k : IsCaller old) (number : ℕ) (p : Publication)
 
     pub content_by_any : (row : Row) (f : AddsEntry old (event.Fetch path) (answer.Found row) new)
         (opened : Result Opened UnsealNo)
-        → (u : UnsealsBy truth link p.seeds (list_at p row.resource) path row.stored olds opened news)
+        → (u : UnsealsBy truth link p.seeds (list_at p row.resource) path row.stored olds opened
+        news)
         → IsReadByAny truth link path old.opening (old.seen ++ f.others) p row olds news opened u
     content_by_any row f (Ok opened) u = λ opens honest same.
-        found_content opens row f (data_of opened.plain) honest (u.envelope, same, u.is.0)
+        found_content new opens row f (data_of opened.plain) honest (u.envelope, same, u.is.0)
     content_by_any row f (Err (unsealing.Refused why)) u = λ opens honest same.
-        found_content opens row f (refused why) honest (u.envelope, same, u.is)
+        found_content new opens row f (refused why) honest (u.envelope, same, u.is)
     content_by_any row f (Err (unsealing.PluginFailed name)) u = tt
     content_by_any row f (Err unsealing.NoMemory) u = tt
 
@@ -191,29 +220,15 @@ module _ {L : Type 0} (truth : Truth) (link : L → Link) (path : List ℕ) (old
     (olds news : List L) where
   pub fetch_refused : (p : Publication) (why : CallNo) → Fetches path old (Err why) new
       → Finds truth link path p old olds (Err why) new olds
-  fetch_refused p (refusal.Refused x) a = absurd a
-  fetch_refused p (refusal.PluginFailed name) a = absurd a
-  fetch_refused p refusal.DiceFailed a = absurd a
-  fetch_refused p refusal.StoreFailed a = absurd a
-  fetch_refused p (refusal.StoreFull needed) a = absurd a
-  fetch_refused p (refusal.Unhealthy name field text) a = absurd a
-  fetch_refused p refusal.Gone a = absurd a
-  fetch_refused p refusal.Spent a = (a, refl)
-  fetch_refused p refusal.NoMemory a = inr (a, refl)
+  fetch_refused p why a = none_fetched path old new
+      (λ row opened. FindsRow truth link path p old olds row opened new olds) (olds ≡ olds) why a
+      refl
 
   pub fetch_absent : (p : Publication) (found : Option Row) → found ≡ None
       → Fetches path old (Ok found) new → Finds truth link path p old olds (Ok Absent) new olds
-  fetch_absent p found is a =
-      let f : AddsEntry old (event.Fetch path) answer.Absent new =
-      subst (λ f. Fetches path old (Ok f) new) is a in (
-        record {
-          absent = f;
-          content = λ opens. absent_is_nothing opens old.opening (old.seen ++ f.others) f.entry path
-              (legal_now old new (event.Fetch path) answer.Absent f) f.records.did_is
-              f.records.gave_is;
-        },
-        refl,
-      )
+  fetch_absent p found is a = absent_fetched path old new
+      (λ row opened. FindsRow truth link path p old olds row opened new olds) (olds ≡ olds) found is
+      a refl
 
   -- the row as it was lent
   pub find_done : (published : Option Publication) (found : Option Row) (row lent : Row)
@@ -239,7 +254,9 @@ module _ {L : Type 0} (truth : Truth) (link : L → Link) (path : List ℕ) (old
       subst (λ o. IfSome o (λ p. Finds truth link path p old olds result new news)) (sym h.adopted)
       (subst (λ r. Finds truth link path p old olds r new news)
       (sym (e ∙ ap (λ (r : Row). value_of r.revision opened) same))
-      (value_found truth link path p old new olds news row opened (record {
+      (value_found path old new
+      (λ row opened. FindsRow truth link path p old olds row opened new news)
+      (news ≡ olds) row opened (record {
         found = f;
         named = (held_is_named old new (event.Fetch path) (answer.Found row) h.number p k f
             h.held).published;

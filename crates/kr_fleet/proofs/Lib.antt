@@ -1,4 +1,6 @@
 -- The lemmas of kr_fleet: of what may be asked, of reading, writing, loading and refreshing.
+pub mod AgreeingLoads
+pub mod AgreeingReads
 pub mod Allowed
 pub mod Asked
 pub mod Bare
@@ -7,6 +9,8 @@ pub mod Bringing
 pub mod Closing
 pub mod Finding
 pub mod Putting
+pub mod ReadTalks
+pub mod RenewTalks
 pub mod Renewed
 pub mod Renewing
 pub mod Single

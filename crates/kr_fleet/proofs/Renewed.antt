@@ -9,6 +9,7 @@ use Rattle.kr_kms.specs.declared.seeds.SeedRow.{SeedRow}
 use Rattle.kr_provider.specs.AskedLinks.{AskedOnly}
 use Rattle.kr_provider.specs.Publication.{IsPublished, Publication}
 use Rattle.kr_provider.specs.Publishing.{Publishes}
+use Rattle.kr_provider.specs.declared.refusal.PublishNo.{PublishNo}
 use Rattle.kr_judge.specs.declared.verdict.Verdict.{Verdict}
 use Rattle.kr_rollout.specs.declared.answer.Answer.{Answer}
 use Rattle.kr_rollout.specs.declared.answer.Answer.TheVariants as answer
@@ -24,7 +25,9 @@ use Rattle.kr_rollout.proofs.Holdings.{holding_of}
 use Rattle.kr_history.proofs.Judging.{refresh_is_not_refused}
 use Rattle.kr_history.specs.declared.call.CallNo.{CallNo}
 use Rattle.kr_fleet.specs.declared.outcome.Loaded.{Loaded}
-use Rattle.kr_fleet.specs.LoadCalls.{BringsBy, IsKeyChanged, Refreshes, plugin_names, reload_of}
+use Rattle.kr_fleet.specs.declared.outcome.Loaded.TheVariants as loaded
+use Rattle.kr_fleet.specs.CallForms.{BringsWhere, CutShortWhere}
+use Rattle.kr_fleet.specs.LoadCalls.{IsKeyChanged, Refreshes, plugin_names, reload_of}
 use Rattle.kr_fleet.specs.inner.Answering.{ReloadsBy}
 use Rattle.kr_fleet.specs.inner.Stages.{ComparesKeys, SharesPublished}
 use Rattle.kr_provider.proofs.AskedLists.{asked_then}
@@ -83,74 +86,67 @@ not_refused old new replica number p q verdict k held rows a =
 
 -- ---- what is answered
 
+-- what the Reload of the settings that were published anew comes to
+module _ (Publishes : Result Publication PublishNo → Type 0) (replica number : ℕ)
+    (p : Publication) (old new : Caller) where
+  abbrev pub Renewed : Result Loaded CallNo → Type 0
+  Renewed (Ok (loaded.Generation made)) =
+      BringsWhere Publishes (reload_of replica (Some number)) old (answer.Reloaded made) new
+  Renewed (Ok (loaded.Moved current)) =
+      BringsWhere Publishes (reload_of replica (Some number)) old (answer.Moved current) new
+  Renewed (Ok (loaded.Unchanged same)) = ⊥
+  Renewed (Ok (loaded.Refused verdict)) = ⊥
+  Renewed (Err why) = CutShortWhere Publishes (reload_of replica (Some number)) replica old why new
+
+  pub renew_answered : (q : Publication) (given : Answer) (result : Result Loaded CallNo)
+      → IsCaller old → holding old.mine ≡ Some (number, p) → q.rows ≡ p.rows → Publishes (Ok q)
+      → AddsEntry old (event.Reload replica q (Some number)) given new → ReloadsBy given result
+      → Renewed result
+  renew_answered q (answer.Adopted n r) result k held rows w a d = absurd d
+  renew_answered q (answer.Gone other) result k held rows w a d =
+      let step = reload_step old new replica number p q (answer.Gone other) a in
+      subst (λ r. Renewed r) (sym d) (record {
+        p = q;
+        publishes = w;
+        brought = subst
+            (λ r. AddsEntry old (event.Reload replica q (Some number)) (answer.Gone r) new) step.0
+            a;
+      })
+  renew_answered q (answer.Found row) result k held rows w a d = absurd d
+  renew_answered q answer.Absent result k held rows w a d = absurd d
+  renew_answered q (answer.Written revision) result k held rows w a d = absurd d
+  renew_answered q (answer.Changed revision) result k held rows w a d = absurd d
+  renew_answered q answer.StoreFailed result k held rows w a d = absurd d
+  renew_answered q (answer.StoreFull needed) result k held rows w a d = absurd d
+  renew_answered q answer.Released result k held rows w a d = absurd d
+  renew_answered q (answer.Reloaded made) result k held rows w a d =
+      subst (λ r. Renewed r) (sym d) (record { p = q; publishes = w; brought = a })
+  renew_answered q (answer.Joined made) result k held rows w a d = absurd d
+  renew_answered q (answer.Refused verdict) result k held rows w a d =
+      absurd (not_refused old new replica number p q verdict k held rows a)
+  renew_answered q (answer.Moved current) result k held rows w a d =
+      subst (λ r. Renewed r) (sym d) (record { p = q; publishes = w; brought = a })
+  renew_answered q (answer.Present n) result k held rows w a d = absurd d
+  renew_answered q (answer.Departed n) result k held rows w a d = absurd d
+  renew_answered q answer.NoMemory result k held rows w a d =
+      subst (λ r. Renewed r) (sym d) (inr (inr (record { p = q; publishes = w; brought = a })))
+
 module _ {L D : Type 0} (truth : Truth) (link : L → Link) (left : D → Option (List ℕ))
     (count : D → ℕ) (replica number : ℕ) (p : Publication) (old new : Caller)
     (olds asked news : List L) (dice after : D)
     (links : AskedOnly link (plugin_names p.seeds) olds asked)
     (changed : IsKeyChanged link olds p.seeds) where
-  pub renew_answered : (q : Publication) (given : Answer) (result : Result Loaded CallNo)
-      → IsCaller old → holding old.mine ≡ Some (number, p)
-      → Publishes truth link left count p.rows asked dice (Ok q) news after
-      → AddsEntry old (event.Reload replica q (Some number)) given new → ReloadsBy given result
+  renewed : (result : Result Loaded CallNo) → Renewed
+      (λ made. Publishes truth link left count p.rows asked dice made news after) replica number p
+      old new result
       → Refreshes truth link left count replica number p old olds dice result new news after
-  renew_answered q (answer.Adopted n r) result k held w a d = absurd d
-  renew_answered q (answer.Gone other) result k held w a d =
-      let step = reload_step old new replica number p q (answer.Gone other) a in
-      subst (λ r. Refreshes truth link left count replica number p old olds dice r new
-      news after) (sym d) (inr (record {
-        asked = asked;
-        links = links;
-        changed = changed;
-        brought = record {
-          p = q;
-          publishes = w;
-          brought = subst
-              (λ r. AddsEntry old (event.Reload replica q (Some number)) (answer.Gone r) new)
-              step.0 a;
-        };
-      }))
-  renew_answered q (answer.Found row) result k held w a d = absurd d
-  renew_answered q answer.Absent result k held w a d = absurd d
-  renew_answered q (answer.Written revision) result k held w a d = absurd d
-  renew_answered q (answer.Changed revision) result k held w a d = absurd d
-  renew_answered q answer.StoreFailed result k held w a d = absurd d
-  renew_answered q (answer.StoreFull needed) result k held w a d = absurd d
-  renew_answered q answer.Released result k held w a d = absurd d
-  renew_answered q (answer.Reloaded made) result k held w a d =
-      subst (λ r. Refreshes truth link left count replica number p old olds dice r new
-      news after) (sym d) (record {
-        asked = asked;
-        links = links;
-        changed = changed;
-        brought = record { p = q; publishes = w; brought = a };
-      })
-  renew_answered q (answer.Joined made) result k held w a d = absurd d
-  renew_answered q (answer.Refused verdict) result k held w a d =
-      absurd (not_refused old new replica number p q verdict k held w.0 a)
-  renew_answered q (answer.Moved current) result k held w a d =
-      subst (λ r. Refreshes truth link left count replica number p old olds dice r new
-      news after) (sym d) (record {
-        asked = asked;
-        links = links;
-        changed = changed;
-        brought = record { p = q; publishes = w; brought = a };
-      })
-  renew_answered q (answer.Present n) result k held w a d = absurd d
-  renew_answered q (answer.Departed n) result k held w a d = absurd d
-  renew_answered q answer.NoMemory result k held w a d =
-      subst (λ r. Refreshes truth link left count replica number p old olds dice r new
-      news after) (sym d) (inr (record {
-        asked = asked;
-        links = links;
-        changed = changed;
-        brought = inr (inr (record { p = q; publishes = w; brought = a }));
-      }))
-
-  pub renew_stopped : (why : CallNo)
-      → BringsBy truth link left count p.rows (reload_of replica (Some number)) replica old asked
-      dice why new news after
-      → Refreshes truth link left count replica number p old olds dice (Err why) new news after
-  renew_stopped why b =
+  renewed (Ok (loaded.Generation made)) b =
+      record { asked = asked; links = links; changed = changed; brought = b }
+  renewed (Ok (loaded.Moved current)) b =
+      record { asked = asked; links = links; changed = changed; brought = b }
+  renewed (Ok (loaded.Unchanged same)) b = absurd b
+  renewed (Ok (loaded.Refused verdict)) b = absurd b
+  renewed (Err why) b =
       inr (record { asked = asked; links = links; changed = changed; brought = b })
 
 -- ---- behind a comparison of key ids
@@ -197,9 +193,9 @@ module _ {L D : Type 0} (truth : Truth) (link : L → Link) (left : D → Option
   pub unpublished : (why : CallNo) → new ≡ old
       → SharesPublished truth link left count rows mids between (Err why) news after
       → Refreshes truth link left count replica number p old olds dice (Err why) new news after
-  unpublished why same w = renew_stopped truth link left count replica number p old new olds mids
-      news dice after asked_of changed_then why
-      (not_shared truth link left count p.rows old new mids news dice after
+  unpublished why same w = renewed truth link left count replica number p old new olds mids
+      news dice after asked_of changed_then (Err why)
+      (not_shared (λ made. Publishes truth link left count p.rows mids dice made news after) old new
       (reload_of replica (Some number)) replica why same (published_then (Err why) w))
 
   pub published : (q : Publication) (given : Answer) (result : Result Loaded CallNo)
@@ -207,6 +203,9 @@ module _ {L D : Type 0} (truth : Truth) (link : L → Link) (left : D → Option
       → SharesPublished truth link left count rows mids between (Ok q) news after
       → AddsEntry old (event.Reload replica q (Some number)) given new → ReloadsBy given result
       → Refreshes truth link left count replica number p old olds dice result new news after
-  published q given result k held w a d = renew_answered truth link left count replica number p
-      old new olds mids news dice after asked_of changed_then q given result k held
-      (published_then (Ok q) w) a d
+  published q given result k held w a d =
+      let made = published_then (Ok q) w in
+      renewed truth link left count replica number p old new olds mids news dice after asked_of
+      changed_then result (renew_answered
+      (λ made. Publishes truth link left count p.rows mids dice made news after) replica number p
+      old new q given result k held made.0 made a d)

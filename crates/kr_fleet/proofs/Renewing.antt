@@ -21,7 +21,8 @@ use Rattle.kr_provider.specs.declared.refusal.PublishNo.TheVariants as publishin
 use Rattle.kr_history.specs.declared.call.CallNo.{CallNo}
 use Rattle.kr_history.specs.declared.call.CallNo.TheVariants as refusal
 use Rattle.kr_fleet.specs.LoadCalls.{AreKeysSame, AsksUpTo, MayTellKey, plugin_names}
-use Rattle.kr_fleet.specs.inner.Stages.{ComparesKeys, publish_refusal}
+use Rattle.kr_fleet.specs.CallForms.{publish_refusal}
+use Rattle.kr_fleet.specs.inner.Stages.{ComparesKeys}
 use Rattle.kr_provider.proofs.AskedLists.{asked_then, breach_back, had, has_at, names_stay, rose_at, rose_later}
 use Rattle.kr_fleet.proofs.Asked.{asked_among}
 

@@ -12,94 +12,62 @@ use Rattle.kr_provider.specs.Publication.{Publication}
 use Rattle.kr_provider.specs.Publishing.{Publishes}
 use Rattle.kr_kms.specs.Health.{HasBreach}
 use Rattle.kr_provider.specs.declared.refusal.PublishNo.{PublishNo}
-use Rattle.kr_provider.specs.declared.refusal.PublishNo.TheVariants as publishing
 use Rattle.kr_rollout.specs.declared.answer.Answer.{Answer}
 use Rattle.kr_rollout.specs.declared.answer.Answer.TheVariants as answer
 use Rattle.kr_rollout.specs.declared.event.Event.{Event}
-use Rattle.kr_rollout.specs.declared.event.Event.TheVariants as event
-use Rattle.kr_history.specs.Acting.{Caller, AddsEntry}
+use Rattle.kr_history.specs.Acting.{Caller}
 use Rattle.kr_history.specs.declared.call.CallNo.{CallNo}
 use Rattle.kr_history.specs.declared.call.CallNo.TheVariants as refusal
+use Rattle.kr_fleet.specs.CallForms.{BringsWhere, BringsNothingWhere, CutShortWhere, JoinsWhere, NotJoinedWhere, PublishesNothingWhere, ReloadsWhere}
+pub use Rattle.kr_fleet.specs.CallForms.{reload_of}
 use Rattle.kr_fleet.specs.declared.outcome.Joining.{Joining}
-use Rattle.kr_fleet.specs.declared.outcome.Joining.TheVariants as joining
 use Rattle.kr_fleet.specs.declared.outcome.Loaded.{Loaded}
 use Rattle.kr_fleet.specs.declared.outcome.Loaded.TheVariants as loaded
-use Rattle.kr_history.specs.Calls.{AddsNothing, EndsEarly, HoldsMeanwhile}
-
--- a replica is given the configuration in place of the expected generation
-abbrev pub reload_of : (replica : ℕ) → (expect : Option ℕ) → Publication → Event
-reload_of replica expect p = event.Reload replica p expect
+use Rattle.kr_history.specs.Calls.{EndsEarly, HoldsMeanwhile}
 
 module _ {L D : Type 0} (truth : Truth) (link : L → Link) (left : D → Option (List ℕ))
     (count : D → ℕ) (rows : List Row) where
   -- the settings were published, and the event that brings them was answered so
-  pub record Brings (brings : Publication → Event) (old : Caller) (olds : List L) (dice : D)
-      (given : Answer) (new : Caller) (news : List L) (after : D) : Type 0 where
-    pub p : Publication
-    pub publishes : Publishes truth link left count rows olds dice (Ok p) news after
-    pub brought : AddsEntry old (brings p) given new
+  abbrev pub Brings : (Publication → Event) → Caller → List L → D → Answer → Caller → List L → D
+      → Type 0
+  Brings brings old olds dice given new news after = BringsWhere (λ made.
+      Publishes truth link left count rows olds dice made news after) brings old given new
 
   -- they were published, but aren't brought
   abbrev pub BringsNothing : List L → D → List L → D → Type 0
-  BringsNothing olds dice news after =
-      (p : Publication) × Publishes truth link left count rows olds dice (Ok p) news after
+  BringsNothing olds dice news after = BringsNothingWhere (λ made.
+      Publishes truth link left count rows olds dice made news after)
 
   -- they weren't published, and nothing is brought
   abbrev pub PublishesNothing : Caller → List L → D → PublishNo → Caller → List L → D → Type 0
-  PublishesNothing old olds dice why new news after =
-      Publishes truth link left count rows olds dice (Err why) news after × (new ≡ old)
+  PublishesNothing old olds dice why new news after = PublishesNothingWhere (λ made.
+      Publishes truth link left count rows olds dice made news after) old why new
 
   -- why a call that publishes and brings is cut short
   abbrev pub BringsBy : (Publication → Event) → (replica : ℕ) → Caller → List L → D → CallNo
       → Caller → List L → D → Type 0
-  BringsBy brings replica old olds dice (refusal.PluginFailed name) new news after =
-      PublishesNothing old olds dice (publishing.PluginFailed name) new news after
-  BringsBy brings replica old olds dice refusal.DiceFailed new news after =
-      PublishesNothing old olds dice publishing.DiceFailed new news after
-  BringsBy brings replica old olds dice (refusal.Unhealthy name field text) new news after =
-      PublishesNothing old olds dice (publishing.Unhealthy name field text) new news after
-  BringsBy brings replica old olds dice refusal.NoMemory new news after =
-      PublishesNothing old olds dice publishing.NoMemory new news after
-      ⊎ (BringsNothing olds dice news after × (new ≡ old))
-      ⊎ Brings brings old olds dice answer.NoMemory new news after
-  BringsBy brings replica old olds dice refusal.Gone new news after =
-      Brings brings old olds dice (answer.Gone replica) new news after
-  BringsBy brings replica old olds dice refusal.Spent new news after =
-      BringsNothing olds dice news after × AddsNothing old new
-  BringsBy brings replica old olds dice why new news after = ⊥
+  BringsBy brings replica old olds dice why new news after = CutShortWhere (λ made.
+      Publishes truth link left count rows olds dice made news after) brings replica old why new
 
   -- ---- reload: a Reload that expects no generation
 
   abbrev pub IsReload : (replica : ℕ) → Caller → List L → D → Result Loaded CallNo → Caller
       → List L → D → Type 0
-  IsReload replica old olds dice (Ok (loaded.Generation number)) new news after =
-      Brings (reload_of replica None) old olds dice (answer.Reloaded number) new news after
-  IsReload replica old olds dice (Ok (loaded.Refused verdict)) new news after =
-      Brings (reload_of replica None) old olds dice (answer.Refused verdict) new news after
-  IsReload replica old olds dice (Ok (loaded.Moved number)) new news after = ⊥
-  IsReload replica old olds dice (Ok (loaded.Unchanged number)) new news after = ⊥
-  IsReload replica old olds dice (Err why) new news after =
-      BringsBy (reload_of replica None) replica old olds dice why new news after
+  IsReload replica old olds dice result new news after = ReloadsWhere (λ made.
+      Publishes truth link left count rows olds dice made news after) replica old result new
 
   -- ---- join: a Join
 
   -- a Join is never answered that the replica isn't in
   abbrev pub JoinsBy : (replica : ℕ) → Caller → List L → D → CallNo → Caller → List L → D
       → Type 0
-  JoinsBy replica old olds dice refusal.Gone new news after = ⊥
-  JoinsBy replica old olds dice why new news after =
-      BringsBy (event.Join replica) replica old olds dice why new news after
+  JoinsBy replica old olds dice why new news after = NotJoinedWhere (λ made.
+      Publishes truth link left count rows olds dice made news after) replica old why new
 
   abbrev pub IsJoin : (replica : ℕ) → Caller → List L → D → Result Joining CallNo → Caller
       → List L → D → Type 0
-  IsJoin replica old olds dice (Ok (joining.Generation number)) new news after =
-      Brings (event.Join replica) old olds dice (answer.Joined number) new news after
-  IsJoin replica old olds dice (Ok (joining.Refused verdict)) new news after =
-      Brings (event.Join replica) old olds dice (answer.Refused verdict) new news after
-  IsJoin replica old olds dice (Ok (joining.Present number)) new news after =
-      Brings (event.Join replica) old olds dice (answer.Present number) new news after
-  IsJoin replica old olds dice (Err why) new news after =
-      JoinsBy replica old olds dice why new news after
+  IsJoin replica old olds dice result new news after = JoinsWhere (λ made.
+      Publishes truth link left count rows olds dice made news after) replica old result new
 
 -- ---- refresh: an Adopt; a Reload of the same settings, where a key has changed; a LetGo
 

@@ -1,6 +1,6 @@
 -- `read`: an Adopt, a Fetch, a LetGo. What is found is unsealed by the adopted configuration, and
 -- is the content at the path.
-use Rattle.std.specs.Prelude.{◌≡◌, ◌⊎◌, ℕ, true, List, ◌++◌, None, Some, Result, Ok, Err, ⊤}
+use Rattle.std.specs.Prelude.{◌≡◌, ◌⊎◌, ℕ, true, List, ◌++◌, Some, Result, Ok, Err, ⊤}
 use Rattle.kr_config.specs.declared.who.Who.{Who}
 use Rattle.kr_kms.specs.Calls.{Link}
 use Rattle.kr_kms.specs.Truth.{Opens, Truth}
@@ -23,10 +23,9 @@ use Rattle.kr_history.specs.Contents.{IsContent}
 use Rattle.kr_history.specs.ContentLaws.{NamesNoPlugin}
 use Rattle.kr_history.specs.Honesty.{IsHonest, IsHonestAt}
 use Rattle.kr_history.specs.declared.call.CallNo.{CallNo}
-use Rattle.kr_history.specs.declared.call.CallNo.TheVariants as refusal
+use Rattle.kr_fleet.specs.CallForms.{FindsWhere}
 use Rattle.kr_fleet.specs.declared.outcome.Read.{Read}
-use Rattle.kr_fleet.specs.declared.outcome.Read.TheVariants.{Absent, Value}
-use Rattle.kr_history.specs.Calls.{AddsNothing, EndsEarly, HoldsMeanwhile}
+use Rattle.kr_history.specs.Calls.{EndsEarly, HoldsMeanwhile}
 
 -- ---- the content at the path
 
@@ -63,12 +62,6 @@ IsContentByAny o history list path bytes envelope reading = (opens : Opens)
 
 -- ---- the call
 
--- the path has no row, and no content before the Fetch, by any truth
-pub record FindsNothing (path : List ℕ) (old new : Caller) : Type 0 where
-  pub absent : AddsEntry old (event.Fetch path) answer.Absent new
-  pub content : (opens : Opens)
-      → IsContent opens old.opening (old.seen ++ absent.others) path None
-
 module _ {L : Type 0} (truth : Truth) (link : L → Link) (path : List ℕ) where
   -- so is what the bench read, with the source that it had
   abbrev pub IsReadByAny : Opening → List Entry → (p : Publication) → (row : Row)
@@ -101,19 +94,8 @@ module _ {L : Type 0} (truth : Truth) (link : L → Link) (path : List ℕ) wher
 
   -- by a held configuration
   abbrev pub Finds : Publication → Caller → List L → Result Read CallNo → Caller → List L → Type 0
-  Finds p old olds (Ok Absent) new news = FindsNothing path old new × (news ≡ olds)
-  Finds p old olds (Ok (Value revision plain stale)) new news = (row : Row)
-      × FindsRow p old olds row (Ok (record { plain = plain; stale = stale })) new news
-      × (row.revision ≡ revision)
-  Finds p old olds (Err (refusal.Refused why)) new news =
-      FindsValue p old olds (Err (unsealing.Refused why)) new news
-  Finds p old olds (Err (refusal.PluginFailed name)) new news =
-      FindsValue p old olds (Err (unsealing.PluginFailed name)) new news
-  Finds p old olds (Err refusal.NoMemory) new news =
-      FindsValue p old olds (Err unsealing.NoMemory) new news
-      ⊎ (AddsEntry old (event.Fetch path) answer.NoMemory new × (news ≡ olds))
-  Finds p old olds (Err refusal.Spent) new news = AddsNothing old new × (news ≡ olds)
-  Finds p old olds (Err why) new news = ⊥
+  Finds p old olds result new news = FindsWhere path old new
+      (λ row opened. FindsRow p old olds row opened new news) (news ≡ olds) result
 
   abbrev pub IsRead : (replica : ℕ) → Caller → List L → Result Read CallNo → Caller → List L
       → Type 0

@@ -7,6 +7,7 @@
 
 mod acting;
 mod deleting;
+mod exchange_laws;
 mod fleet;
 mod leaving;
 mod loading;
@@ -18,6 +19,7 @@ mod writing;
 
 pub use acting::At;
 pub use deleting::delete;
+pub use exchange_laws::{loads_agree, reads_agree};
 pub use fleet::{Fleet, Seat};
 pub use leaving::leave;
 pub use loading::{join, reload};

@@ -1,15 +1,18 @@
 //! Configurations that are published and brought.
 ghost use Rattle.std.specs.Prelude.{◌≡◌, ◌<◌, ◌≤◌, [], length, get_or, None};
+ghost use Rattle.kr_base.specs.Walks.{Talk};
 ghost use Rattle.kr_config.specs.Kept.{plugins_in, rows_of};
-ghost use Rattle.kr_provider.specs.AskedLinks.{AskedOnly};
+ghost use Rattle.kr_provider.specs.AskedLinks.{Among, AskedOnly};
 ghost use Rattle.kr_provider.specs.Names.{HasLinks, names_of};
 ghost use Rattle.kr_rollout.specs.Callers.{holding, reloads_in};
 ghost use Rattle.kr_rollout.specs.Openings.{NamesAmong};
 ghost use Rattle.kr_history.specs.Calls.{AreServed, KeepsToldHonesty};
 ghost use Rattle.kr_history.specs.Parts.{AddsWithin};
+ghost use Rattle.kr_fleet.specs.CallExchanges.{IsJoinBy, IsReloadBy};
+ghost use Rattle.kr_fleet.specs.CallForms.{publish_refusal};
 ghost use Rattle.kr_fleet.specs.LoadCalls.{IsJoin, IsReload};
 ghost use Rattle.kr_fleet.specs.inner.Answering.{AnswersJoin, AnswersReload, JoinsBy, ReloadsBy};
-ghost use Rattle.kr_fleet.specs.inner.Stages.{SharesPublished, publish_refusal};
+ghost use Rattle.kr_fleet.specs.inner.Stages.{SharesPublished, SharesPublishedBy};
 
 use crate::outcome::{Joining, Loaded};
 use kr_base::{Dice, Shared, Spent};
@@ -38,6 +41,9 @@ pub fn reload<A: Acts, L: Kms, D: Dice>(
     ensures reloads { IsReload L.truth L.link D.left D.count (rows_of settings.entries.0) replica
         (A.caller acts.old) bench.old.links bench.old.dice result (A.caller acts.new)
         bench.new.links bench.new.dice }
+    ensures exchanged { Talk (Among L.step) bench.old.links bench.new.links (IsReloadBy D.left
+        D.count (rows_of settings.entries.0) replica (A.caller acts.old) bench.old.dice result
+        (A.caller acts.new) bench.new.dice) }
     ensures honest { KeepsToldHonesty L.truth (A.caller acts.old) (A.caller acts.new) }
     ensures idle { holding (A.caller acts.new).mine ≡ None }
     ensures asked { AskedOnly L.link (plugins_in (rows_of settings.entries.0)) bench.old.links
@@ -80,6 +86,9 @@ pub fn join<A: Acts, L: Kms, D: Dice>(
     ensures joins { IsJoin L.truth L.link D.left D.count (rows_of settings.entries.0) replica
         (A.caller acts.old) bench.old.links bench.old.dice result (A.caller acts.new)
         bench.new.links bench.new.dice }
+    ensures exchanged { Talk (Among L.step) bench.old.links bench.new.links (IsJoinBy D.left
+        D.count (rows_of settings.entries.0) replica (A.caller acts.old) bench.old.dice result
+        (A.caller acts.new) bench.new.dice) }
     ensures honest { KeepsToldHonesty L.truth (A.caller acts.old) (A.caller acts.new) }
     ensures idle { holding (A.caller acts.new).mine ≡ None }
     ensures asked { AskedOnly L.link (plugins_in (rows_of settings.entries.0)) bench.old.links
@@ -110,6 +119,8 @@ pub(crate) fn publish<L: Kms, D: Dice>(
     requires links { HasLinks (names_of L.link bench.old.links) (rows_of settings.entries.0) }
     ensures published { SharesPublished L.truth L.link D.left D.count (rows_of settings.entries.0)
         bench.old.links bench.old.dice result bench.new.links bench.new.dice }
+    ensures exchanged { Talk (Among L.step) bench.old.links bench.new.links (SharesPublishedBy
+        D.left D.count (rows_of settings.entries.0) bench.old.dice result bench.new.dice) }
     ensures asked { AskedOnly L.link (plugins_in (rows_of settings.entries.0)) bench.old.links
         bench.new.links }
     ensures later { D.count bench.old.dice ≤ D.count bench.new.dice }

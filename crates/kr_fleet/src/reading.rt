@@ -2,19 +2,22 @@
 ghost use Rattle.std.specs.Prelude.{◌≡◌, ◌<◌, ◌≤◌, [], length, None, Some, IfSome, IfOk, IsSome};
 ghost use Rattle.kr_base.specs.Rules.{IsPath};
 ghost use Rattle.kr_base.specs.Limits.{value_limit};
-ghost use Rattle.kr_provider.specs.AskedLinks.{AskedOnly};
+ghost use Rattle.kr_base.specs.Walks.{Talk};
+ghost use Rattle.kr_provider.specs.AskedLinks.{Among, AskedOnly};
+ghost use Rattle.kr_provider.specs.BenchKeys.{LeavesKeys};
 ghost use Rattle.kr_provider.specs.KeyPages.{size_of};
 ghost use Rattle.kr_provider.specs.Names.{names_of};
 ghost use Rattle.kr_rollout.specs.Callers.{holding};
 ghost use Rattle.kr_history.specs.Calls.{AreServed, IsIdle, KeepsHonesty};
 ghost use Rattle.kr_history.specs.Parts.{AddsWithin};
+ghost use Rattle.kr_fleet.specs.CallExchanges.{FindsBy, IsReadBy};
 ghost use Rattle.kr_fleet.specs.ReadCalls.{Finds, IsRead};
 ghost use Rattle.kr_fleet.specs.inner.Answering.{AnswersFetch, FetchesBy};
 ghost use Rattle.kr_fleet.specs.inner.Stages.{Fetches, HoldsAdopted, value_of};
 
 use crate::outcome::Read;
 use kr_base::{Dice, Shared, Spent, Text};
-use kr_history::{Acts, CallNo, adopt, let_go, take_up, unseal};
+use kr_history::{Acts, CallNo, adopt, lay_down, let_go, take_up, unseal};
 use kr_kms::Kms;
 use kr_provider::{Bench, Opened, UnsealNo};
 use kr_rollout::{Answer, Event};
@@ -38,12 +41,15 @@ pub fn read<A: Acts, L: Kms, D: Dice>(
     requires pages { 64 ≤ size_of bench.old.pages }
     ensures reads { IsRead L.truth L.link path.now replica (A.caller acts.old) bench.old.links
         result (A.caller acts.new) bench.new.links }
+    ensures exchanged { Talk (Among L.step) bench.old.links bench.new.links (IsReadBy path.now
+        replica (A.caller acts.old) bench.old.cache result (A.caller acts.new) bench.new.cache) }
     ensures adds { AddsWithin 3 0 [] (A.caller acts.old) (A.caller acts.new) }
     ensures honest { KeepsHonesty (A.caller acts.old) (A.caller acts.new) }
     ensures idle { IsIdle result (A.caller acts.new) }
     ensures asked { AskedOnly L.link (names_of L.link bench.old.links) bench.old.links
         bench.new.links }
     ensures dice { bench.new.dice ≡ bench.old.dice }
+    ensures keys { LeavesKeys bench.old bench.new }
     ensures pages { size_of bench.new.pages ≡ size_of bench.old.pages }
     ensures place { A.place acts.new ≡ A.place acts.old }
 {
@@ -56,6 +62,7 @@ pub fn read<A: Acts, L: Kms, D: Dice>(
     };
     take_up(bench, held.1);
     let found = find(alloc, acts, bench, copy);
+    lay_down(bench);
     let_go(acts, found)
 }
 
@@ -70,6 +77,9 @@ fn find<A: Acts, L: Kms, D: Dice>(
     requires held { HoldsAdopted bench.old.published (A.caller acts.old).mine }
     ensures finds { IfSome bench.old.published (λ p. Finds L.truth L.link path p
         (A.caller acts.old) bench.old.links result (A.caller acts.new) bench.new.links) }
+    ensures exchanged { IfSome bench.old.published (λ p. Talk (Among L.step) bench.old.links
+        bench.new.links (FindsBy path p (A.caller acts.old) bench.old.cache result
+        (A.caller acts.new) bench.new.cache)) }
     ensures adds { AddsWithin 1 0 [] (A.caller acts.old) (A.caller acts.new) }
     ensures kept { bench.new
         ≡ record bench.old { links = bench.new.links; cache = bench.new.cache } }

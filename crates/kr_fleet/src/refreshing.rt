@@ -1,14 +1,17 @@
 //! Settings that are published anew where a plugin's key has changed.
 ghost use Rattle.std.specs.Prelude.{◌≡◌, ◌<◌, ◌≤◌, length, get_or, ℕ, List, [], ◌∷◌, Contains, None, Some, IfOk};
+ghost use Rattle.kr_base.specs.Walks.{Talk};
 ghost use Rattle.kr_config.specs.Kept.{rows_of};
-ghost use Rattle.kr_provider.specs.AskedLinks.{AskedOnly};
+ghost use Rattle.kr_provider.specs.AskedLinks.{Among, AskedOnly};
+ghost use Rattle.kr_provider.specs.BenchKeys.{LeavesKeys};
 ghost use Rattle.kr_provider.specs.Names.{HasLinks, names_of};
 ghost use Rattle.kr_rollout.specs.Callers.{holding, reloads_in};
 ghost use Rattle.kr_rollout.specs.Openings.{NamesAmong};
 ghost use Rattle.kr_history.specs.Calls.{AreServed, IsIdle, KeepsToldHonesty};
 ghost use Rattle.kr_history.specs.Parts.{AddsWithin};
+ghost use Rattle.kr_fleet.specs.CallExchanges.{ComparesKeysBy, IsRefreshBy, RefreshesBy};
 ghost use Rattle.kr_fleet.specs.LoadCalls.{IsRefresh, Refreshes, plugin_names};
-ghost use Rattle.kr_fleet.specs.inner.Stages.{ComparesKeys};
+ghost use Rattle.kr_fleet.specs.inner.Stages.{ComparesKeyBy, ComparesKeys};
 
 use crate::loading::{publish, publish_refusal, reloaded};
 use crate::outcome::Loaded;
@@ -37,6 +40,9 @@ pub fn refresh<A: Acts, L: Kms, D: Dice>(
     ensures refreshes { IsRefresh L.truth L.link D.left D.count replica
         (A.caller acts.old) bench.old.links bench.old.dice result (A.caller acts.new)
         bench.new.links bench.new.dice }
+    ensures exchanged { Talk (Among L.step) bench.old.links bench.new.links (IsRefreshBy D.left
+        D.count replica (A.caller acts.old) bench.old.dice result (A.caller acts.new)
+        bench.new.dice) }
     ensures honest { KeepsToldHonesty L.truth (A.caller acts.old) (A.caller acts.new) }
     ensures idle { IsIdle result (A.caller acts.new) }
     ensures asked { AskedOnly L.link (names_of L.link bench.old.links) bench.old.links
@@ -44,6 +50,7 @@ pub fn refresh<A: Acts, L: Kms, D: Dice>(
     ensures later { D.count bench.old.dice ≤ D.count bench.new.dice }
     ensures kept { bench.new
         ≡ record bench.old { links = bench.new.links; dice = bench.new.dice } }
+    ensures keys { LeavesKeys bench.old bench.new }
     ensures adds { AddsWithin 3 1 [] (A.caller acts.old) (A.caller acts.new) }
     ensures place { A.place acts.new ≡ A.place acts.old }
 {
@@ -73,6 +80,9 @@ fn renew<A: Acts, L: Kms, D: Dice>(
     ensures refreshes { Refreshes L.truth L.link D.left D.count replica generation published.now
         (A.caller acts.old) bench.old.links bench.old.dice result (A.caller acts.new)
         bench.new.links bench.new.dice }
+    ensures exchanged { Talk (Among L.step) bench.old.links bench.new.links (RefreshesBy D.left
+        D.count replica generation published.now (A.caller acts.old) bench.old.dice result
+        (A.caller acts.new) bench.new.dice) }
     ensures holds { holding (A.caller acts.new).mine ≡ holding (A.caller acts.old).mine }
     ensures honest { KeepsToldHonesty L.truth (A.caller acts.old) (A.caller acts.new) }
     ensures asked { AskedOnly L.link (plugin_names published.now.seeds) bench.old.links
@@ -132,6 +142,8 @@ fn has_changed<L: Kms, D: Dice>(
     requires links { (name : List ℕ) → Contains (plugin_names seeds.now) name
         → Contains (names_of L.link bench.old.links) name }
     ensures compares { ComparesKeys L.link seeds.now bench.old.links result bench.new.links }
+    ensures exchanged { Talk (Among L.step) bench.old.links bench.new.links
+        (ComparesKeysBy seeds.now result) }
     ensures asked { AskedOnly L.link (plugin_names seeds.now) bench.old.links
         bench.new.links }
     ensures kept { bench.new ≡ record bench.old { links = bench.new.links } }
@@ -157,6 +169,8 @@ fn is_changed<L: Kms, D: Dice>(
     requires link { Contains (names_of L.link bench.old.links) row.now.name }
     ensures compares { ComparesKeys L.link (row.now ∷ []) bench.old.links result
         bench.new.links }
+    ensures exchanged { Talk (Among L.step) bench.old.links bench.new.links
+        (ComparesKeyBy row.now result) }
     ensures asked { AskedOnly L.link (row.now.name ∷ []) bench.old.links bench.new.links }
     ensures kept { bench.new ≡ record bench.old { links = bench.new.links } }
 {

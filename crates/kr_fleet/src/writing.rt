@@ -1,6 +1,7 @@
 //! Data that are put under a path.
 ghost use Rattle.std.specs.Prelude.{◌≡◌, ◌<◌, ◌≤◌, [], ◌∷◌, length, None, IfSome};
 ghost use Rattle.kr_base.specs.Rules.{IsPath, IsResource};
+ghost use Rattle.kr_provider.specs.BenchKeys.{LeavesKeys};
 ghost use Rattle.kr_provider.specs.KeyPages.{size_of};
 ghost use Rattle.kr_provider.specs.Names.{names_of};
 ghost use Rattle.kr_rollout.specs.declared.line.Did.TheVariants.{Put};
@@ -12,7 +13,7 @@ ghost use Rattle.kr_fleet.specs.inner.Answering.{AnswersPut, PutsBy};
 ghost use Rattle.kr_fleet.specs.inner.Stages.{HoldsAdopted, seal_refusal};
 
 use kr_base::{Bytes, Dice, Spent, Text};
-use kr_history::{Acts, CallNo, adopt, let_go, seal, take_up};
+use kr_history::{Acts, CallNo, adopt, lay_down, let_go, seal, take_up};
 use kr_kms::Kms;
 use kr_provider::{Bench, SealNo, ValueNo};
 use kr_rollout::{Answer, Event};
@@ -42,7 +43,9 @@ pub fn write<A: Acts, L: Kms, D: Dice>(
     ensures honest { KeepsHonesty (A.caller acts.old) (A.caller acts.new) }
     ensures idle { IsIdle result (A.caller acts.new) }
     ensures links { bench.new.links ≡ bench.old.links }
+    ensures cache { bench.new.cache ≡ bench.old.cache }
     ensures later { D.count bench.old.dice ≤ D.count bench.new.dice }
+    ensures keys { LeavesKeys bench.old bench.new }
     ensures pages { size_of bench.new.pages ≡ size_of bench.old.pages }
     ensures place { A.place acts.new ≡ A.place acts.old }
 {
@@ -58,6 +61,7 @@ pub fn write<A: Acts, L: Kms, D: Dice>(
     };
     take_up(bench, held.1);
     let written = put(alloc, acts, bench, resource, path, plain);
+    lay_down(bench);
     let_go(acts, written)
 }
 

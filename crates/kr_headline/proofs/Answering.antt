@@ -4,7 +4,6 @@ use Rattle.std.proofs.Common.{◌≡◌, ℕ, ◌+◌, List, [], ◌∷◌, ◌+
 use Rattle.std.proofs.lemmas.Bool.{false≢true}
 use Rattle.std.proofs.lemmas.Option.{none-some, same_Some}
 use Rattle.kr_base.specs.Faults.{Rose}
-use Rattle.kr_kms.specs.Truth.{Truth}
 use Rattle.kr_provider.specs.Publication.{Publication}
 use Rattle.kr_store.specs.declared.rows.Row.{Row}
 use Rattle.kr_store.specs.Rows.{live}
@@ -28,6 +27,7 @@ use Rattle.kr_history.proofs.Effects.{entry_with, replaced_row}
 use Rattle.kr_script.specs.Fleets.{Worker}
 use Rattle.kr_script.specs.declared.told.Told.{Told}
 use Rattle.kr_workers.specs.declared.files.SettingsFile.{SettingsFile}
+use Rattle.kr_workers.specs.Heard.{Heard}
 use Rattle.kr_headline.specs.Fleets.{Outside, Readings, run_of}
 use Rattle.kr_headline.specs.Headline.{IsAt, MayAnswer, Object, Run, has_at, stands_at}
 use Rattle.kr_headline.proofs.Contents.{object_of}
@@ -65,12 +65,12 @@ row_of_revision (Some it) revision is = (it, refl, same_Some it.revision revisio
 
 -- ---- an entry behind a front
 
-module _ (truth : Truth) (o : Opening) (files : List SettingsFile) (workers : List Worker)
-    (replies : List (List Told)) (history : List Entry) (outside : Outside)
-    (readings : Readings truth o files workers replies history) (front : List Entry)
+module _ (heard : (worker : ℕ) → Heard) (o : Opening) (files : List SettingsFile)
+    (workers : List Worker) (replies : List (List Told)) (history : List Entry) (outside : Outside)
+    (readings : Readings heard o files workers replies history) (front : List Entry)
     (legal : IsLegal o front) where
   abbrev run : Run
-  run = run_of truth o files workers replies history outside readings
+  run = run_of heard o files workers replies history outside readings
 
   abbrev st : State
   st = state_of o front

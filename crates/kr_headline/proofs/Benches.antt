@@ -4,6 +4,7 @@ use Rattle.std.proofs.Common.{◌≡◌, ℕ, zero, suc, ◌≤◌, List, [], �
 use Rattle.std.proofs.lemmas.List.{append_assoc}
 use Rattle.std.proofs.lemmas.Option.{none-some, same_Some}
 use Rattle.kr_kms.specs.Calls.{Link}
+use Rattle.kr_kms.specs.Exchanges.{Exchange}
 use Rattle.kr_kms.specs.Truth.{Truth}
 use Rattle.kr_provider.specs.AskedLinks.{AskedOnly}
 use Rattle.kr_provider.specs.Names.{names_of}
@@ -13,10 +14,11 @@ use Rattle.kr_workers.specs.Runs.{DoesAll, IsDone, LineDone, entries_in}
 use Rattle.kr_workers.specs.ScriptLines.{Workplace}
 use Rattle.kr_workers.specs.declared.files.SettingsFile.{SettingsFile}
 
-module _ {L D : Type 0} (truth : Truth) (link : L → Link) (left : D → Option (List ℕ))
+module _ {L D : Type 0} (truth : Truth) (link : L → Link) (step : L → Exchange → L → Type 0)
+    (left : D → Option (List ℕ))
     (count : D → ℕ) (files : List SettingsFile) (replica : ℕ) where
   abbrev Chain : Workplace L D → List LineDone → Workplace L D → Type 0
-  Chain first run last = DoesAll truth link left count files replica first run last
+  Chain first run last = DoesAll truth link step left count files replica first run last
 
   abbrev pub bench_of : Workplace L D → List L × D
   bench_of place = (place.links, place.dice)
@@ -71,7 +73,7 @@ module _ {L D : Type 0} (truth : Truth) (link : L → Link) (left : D → Option
     pub mine_is : before.caller.mine ≡ first.caller.mine ++ entries_in ahead
     pub more : List Entry
     pub seen_is : last.caller.seen ≡ after.caller.seen ++ more
-    pub is : IsDone truth link left count files replica before done after
+    pub is : IsDone truth link step left count files replica before done after
 
   pub done_there : (first : Workplace L D) (ahead : List LineDone) (done : LineDone)
       (behind : List LineDone) (last : Workplace L D)

@@ -7,6 +7,7 @@ use Rattle.std.proofs.lemmas.List.Elements.{All-cons, All-head, All-tail}
 use Rattle.std.proofs.lemmas.Bool.{false≢true}
 use Rattle.std.proofs.lemmas.Option.{none-some, same_Some}
 use Rattle.kr_kms.specs.Calls.{Link}
+use Rattle.kr_kms.specs.Exchanges.{Exchange}
 use Rattle.kr_provider.specs.Publication.{Publication}
 use Rattle.kr_provider.specs.Reading.{Reading, data_of, refused, unopened}
 use Rattle.kr_history.proofs.ContentSteps.{one_path}
@@ -190,12 +191,13 @@ refused_stood run h worker at path why r truth supposed =
     by None is = is
     by (Some plain) is = absurd (false≢true (sym (ap is_data is)))
 
-module _ (T : Type 0) {L D : Type 0} (link : L → Link) (count : D → ℕ) where
-  pub got_was_put : GotWasPut T link count
-  got_was_put old new truth files o parts history h =
-      got_is_put (run_in link count old new truth files o parts history h) h.has.headline
+module _ (T : Type 0) {L D : Type 0} (link : L → Link) (step : L → Exchange → L → Type 0)
+    (count : D → ℕ) where
+  pub got_was_put : GotWasPut T link step count
+  got_was_put old new files o parts history h =
+      got_is_put (run_in link step count old new files o parts history h) h.has.headline
       h.has.made
 
-  pub refused_stood_there : RefusedStoodThere T link count
-  refused_stood_there old new truth files o parts history h =
-      refused_stood (run_in link count old new truth files o parts history h) h.has.headline
+  pub refused_stood_there : RefusedStoodThere T link step count
+  refused_stood_there old new files o parts history h =
+      refused_stood (run_in link step count old new files o parts history h) h.has.headline

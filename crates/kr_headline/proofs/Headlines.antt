@@ -8,6 +8,7 @@ use Rattle.std.proofs.lemmas.Option.{none-some, same_Some, slice_get-get_or}
 use Rattle.kr_base.specs.Faults.{Rose}
 use Rattle.kr_base.specs.Lines.{of_seat}
 use Rattle.kr_kms.specs.Calls.{Link}
+use Rattle.kr_kms.specs.Exchanges.{AgreeAll, Exchange}
 use Rattle.kr_kms.specs.Health.{HasBreach}
 use Rattle.kr_kms.specs.Truth.{Opens, Truth}
 use Rattle.kr_kms.specs.declared.health.Field.{Field}
@@ -29,6 +30,7 @@ use Rattle.kr_rollout.specs.declared.opening.Opening.{Opening}
 use Rattle.kr_rollout.proofs.Appending.{front_law}
 use Rattle.kr_history.specs.Acting.{Caller}
 use Rattle.kr_history.specs.Contents.{IsContent}
+use Rattle.kr_history.specs.Honesty.{IsHonest}
 use Rattle.kr_history.proofs.ContentSteps.{one_content}
 use Rattle.kr_history.proofs.HavingContent.{some_content}
 use Rattle.kr_history.proofs.Judging.{judged_by_fit}
@@ -43,16 +45,19 @@ use Rattle.kr_script.specs.declared.told.Told.TheVariants as told
 use Rattle.kr_workers.specs.Changes.{MayChange}
 use Rattle.kr_workers.specs.Configurations.{CannotBeSealed, NamesPlugin, ReadBy}
 use Rattle.kr_workers.specs.Files.{rows_at}
-use Rattle.kr_workers.specs.Gets.{FetchesWhere, ReadsContent, TellContents, TellsContent}
+use Rattle.kr_workers.specs.Gets.{FetchesWhere, IsHeardContent, ReadsContent, TellContents, TellsContent, heard_by}
+use Rattle.kr_workers.specs.Heard.{AgreesWithHeard, Heard}
 use Rattle.kr_workers.specs.Histories.{IsOneHistory, StandsIn, first_place}
-use Rattle.kr_workers.specs.Runs.{LineDone, entries_in, lines_in, replies_in}
+use Rattle.kr_workers.specs.Runs.{LineDone, entries_in, exchanges_in, lines_in, replies_in}
 use Rattle.kr_workers.specs.RewriteParts.{RewritePart}
+use Rattle.kr_workers.specs.Sentences.{RepliesAreTrue, TellsRun}
 use Rattle.kr_workers.specs.Shapes.{PartIs}
 use Rattle.kr_workers.specs.ScriptLines.{Workplace}
 use Rattle.kr_workers.specs.declared.files.SettingsFile.{SettingsFile}
 use Rattle.kr_workers.specs.declared.worker.Worker as fleet_worker
-use Rattle.kr_workers.proofs.Getting.{gets_tell_content}
+use Rattle.kr_workers.proofs.Hearing.{agree_ahead}
 use Rattle.kr_workers.proofs.HonestPlugins.{honest_of_plugins}
+use Rattle.kr_workers.proofs.Sentencing.{histories_tell}
 use Rattle.kr_workers.proofs.ShapingLines.{parts_have_shape}
 use Rattle.kr_headline.specs.Fleets.{AreBenches, AreKnown, AtLine, FleetHeadline, Outside, Readings, ReadsWith, StaysListed, Unwraps, outside_of, run_of}
 use Rattle.kr_headline.specs.Headline.{Finds, Headline, Object, OnlyReseals, Run, Step, entries_of, own_entries, stands_at}
@@ -70,10 +75,11 @@ use Rattle.kr_headline.proofs.Seats.{below_of, first_in, past_end, path_in, plus
 use Rattle.kr_headline.proofs.Standing.{faults_are, object_revision, row_revision}
 use Rattle.kr_headline.proofs.Undone.{only_reseals}
 
-module _ {T L D : Type 0} (truth : Truth) (link : L → Link) (left : D → Option (List ℕ))
+module _ {T L D : Type 0} (truth : Truth) (link : L → Link) (step : L → Exchange → L → Type 0)
+    (left : D → Option (List ℕ))
     (count : D → ℕ) (files : List SettingsFile) (history : List Entry) (o : Opening)
     (parts : List Part) (budgets : List ℕ) (old new : List (fleet_worker.Worker T L D))
-    (one : IsOneHistory truth link left count files history o parts budgets old new) where
+    (one : IsOneHistory truth link step left count files history o parts budgets old new) where
   abbrev workers : List Worker
   workers = map worker_of parts
 
@@ -90,7 +96,14 @@ module _ {T L D : Type 0} (truth : Truth) (link : L → Link) (left : D → Opti
   Told_at worker at asked reply = (slice_get (lines_at worker) at ≡ Some asked)
       × (slice_get (get_or replies worker []) at ≡ Some reply)
 
-  -- ---- the run of each seat
+  -- ---- what was heard, and the run of each seat
+
+  true_replies : RepliesAreTrue truth link step left count files history o parts budgets old new
+  true_replies = histories_tell T truth link step left count files history o parts budgets old new
+      one
+
+  abbrev heard : (worker : ℕ) → Heard
+  heard worker = true_replies.heard worker
 
   record Stood (seat : ℕ) (run : List LineDone) (benches : List (List L × D)) : Type 0 where
     replica : ℕ
@@ -104,7 +117,7 @@ module _ {T L D : Type 0} (truth : Truth) (link : L → Link) (left : D → Opti
     seen_is : last.caller.seen ++ unseen ≡ history
     there : (ahead : List LineDone) (done : LineDone) (behind : List LineDone)
         → run ≡ ahead ++ done ∷ behind
-        → DoneThere truth link left count files replica first last benches ahead done
+        → DoneThere truth link step left count files replica first last benches ahead done
     benches_are : (part : Part) (before after : fleet_worker.Worker T L D)
         → slice_get parts seat ≡ Some part → slice_get old seat ≡ Some before
         → slice_get new seat ≡ Some after
@@ -112,7 +125,8 @@ module _ {T L D : Type 0} (truth : Truth) (link : L → Link) (left : D → Opti
     parts_are : entries_in run ≡ of_seat seat_of seat history
     lines_are : lines_in run ≡ lines_at seat
     replies_are : replies_in run ≡ get_or replies seat []
-    tells : TellContents truth o history seat run
+    exchanges_are : (heard seat).exchanges ≡ exchanges_in run
+    tells : TellContents truth (heard seat).kept o history seat run
 
   many_new : length new ≡ length parts
   many_new = one.many ∙ one.whole
@@ -151,10 +165,25 @@ module _ {T L D : Type 0} (truth : Truth) (link : L → Link) (left : D → Opti
         ∙ ap (λ (it : Worker). it.replica)
         (get_or-map worker_of parts seat first_part (worker_of first_part) within)
 
-    module _ (s : StandsIn truth link left count files history its_part its_place its_new.told.0
-        its_new.bench) where
+    abbrev IsTold : Type 0
+    IsTold = TellsRun truth link step left count files
+        (heard seat) o history seat its_part its_place
+        its_new.told.0 its_new.bench
+
+    told_run : IsTold
+    told_run = true_replies.gets seat its_part its_old its_new
+        (slice_get-get_or parts seat first_part within)
+        (slice_get-get_or old seat first_old (omega (arith, within, one.whole)))
+        (slice_get-get_or new seat first_old (omega (arith, within, many_new)))
+
+    module _ (t : IsTold) where
+      abbrev s : StandsIn truth link step left count files history its_part its_place its_new.told.0
+          its_new.bench
+      s = t.stands
+
       abbrev its_benches : List (List L × D)
-      its_benches = benches_of truth link left count files its_part.replica its_place s.run s.last
+      its_benches = benches_of truth link step left count files its_part.replica its_place s.run
+          s.last
           s.does
 
       are_there : AreBenches link count its_benches (length its_part.lines.0) its_old.bench
@@ -165,16 +194,19 @@ module _ {T L D : Type 0} (truth : Truth) (link : L → Link) (left : D → Opti
             many = omega (
               arith,
               many,
-              many_benches truth link left count files its_part.replica
+              many_benches truth link step left count files its_part.replica
                   its_place s.run s.last s.does,
             );
-            first = first_bench truth link left count files its_part.replica its_place s.run s.last
+            first = first_bench truth link step left count files its_part.replica its_place s.run
+                s.last
                 s.does;
             last = ap (λ n. slice_get its_benches n) many
-                ∙ last_bench truth link left count files its_part.replica its_place s.run s.last
+                ∙ last_bench truth link step left count files its_part.replica its_place s.run
+                s.last
                 s.does
                 ∙ (λ i. Some (sym s.links_are i, sym s.dice_are i));
-            stay = λ at before after b a. benches_stay truth link left count files its_part.replica
+            stay = λ at before after b a. benches_stay truth link step left count files
+                its_part.replica
                 its_place s.run s.last s.does at before after b
                 (ap (slice_get its_benches) (plus_one at) ∙ a);
           }
@@ -190,7 +222,8 @@ module _ {T L D : Type 0} (truth : Truth) (link : L → Link) (left : D → Opti
         none_yet = refl;
         unseen = s.front.0;
         seen_is = s.front.1;
-        there = λ ahead done behind is. done_in_run truth link left count files its_part.replica
+        there = λ ahead done behind is. done_in_run truth link step left count files
+            its_part.replica
             its_place s.run s.last ahead done behind is s.does;
         benches_are = λ part before after part_is before_is after_is.
             subst (λ (p : Part). AreBenches link count its_benches (length p.lines.0) before.bench
@@ -210,8 +243,8 @@ module _ {T L D : Type 0} (truth : Truth) (link : L → Link) (left : D → Opti
         replies_are = sym s.replies_are
             ∙ sym (get_or-map (λ (w : fleet_worker.Worker T L D). w.told.0) new seat first_old []
             (omega (arith, within, many_new)));
-        tells = gets_tell_content truth link left count files history its_part its_place
-            its_new.told.0 its_new.bench s refl;
+        exchanges_are = t.exchanges;
+        tells = t.tell;
       }
 
   some_run : (seat : ℕ) → (run : List LineDone) × (benches : List (List L × D))
@@ -222,8 +255,8 @@ module _ {T L D : Type 0} (truth : Truth) (link : L → Link) (left : D → Opti
           → (run : List LineDone) × (benches : List (List L × D))
           × (seat < length parts → Stood seat run benches)
       by (inl within) =
-          let s = one.each seat (first_part seat within) (first_old seat within) within in
-          (s.run, its_benches seat within s, λ again. stood_by seat within s)
+          let t = told_run seat within in
+          (t.stands.run, its_benches seat within t, λ again. stood_by seat within t)
       by (inr past) = ([], [], λ within. absurd (omega (arith, past, within)))
 
   abbrev runs : ℕ → List LineDone
@@ -315,7 +348,7 @@ module _ {T L D : Type 0} (truth : Truth) (link : L → Link) (left : D → Opti
     within : worker < length parts
     s : Stood worker (runs worker) (benches worker)
     d : place.DoneAt (runs worker) at asked reply
-    t : DoneThere truth link left count files s.replica s.first s.last (benches worker) d.ahead
+    t : DoneThere truth link step left count files s.replica s.first s.last (benches worker) d.ahead
         d.done
 
   line_at : (worker at : ℕ) (asked : ScriptLine) (reply : Told)
@@ -361,6 +394,8 @@ module _ {T L D : Type 0} (truth : Truth) (link : L → Link) (left : D → Opti
     fetches : fetch.line.did ≡ did.Fetch path
     gave_is : fetch.line.gave ≡ gave.Found revision
     r : ReadsContent truth o path reading front fetch
+    agreed : (opens : Opens) → AgreesWithHeard opens (heard worker) → IsHonest opens o front
+        → IsContent opens o front path (Some reading)
     same : r.envelope ≡ envelope
 
   -- the revision is that which the reply tells, if it tells one
@@ -384,10 +419,26 @@ module _ {T L D : Type 0} (truth : Truth) (link : L → Link) (left : D → Opti
       ∙ place.place_there l.d.ahead l.d.done l.d.behind (f.adopt ∷ []) f.fetch (f.let_go ∷ [])
       f.part_is ∙ l.d.many
 
+  -- what was heard up to the line
+  abbrev heard_to : (worker at : ℕ) (asked : ScriptLine) (reply : Told)
+      → LineAt worker at asked reply → Heard
+  heard_to worker at asked reply l = heard_by (heard worker).kept l.d.ahead l.d.done
+
+  -- what agrees with all that was heard agrees with it
+  agrees_to : (worker at : ℕ) (asked : ScriptLine) (reply : Told)
+      → (l : LineAt worker at asked reply) (opens : Opens) → AgreesWithHeard opens (heard worker)
+      → AgreesWithHeard opens (heard_to worker at asked reply l)
+  agrees_to worker at asked reply l opens agrees = record {
+    kept = agrees.kept;
+    answers = agree_ahead opens l.d.ahead l.d.done l.d.behind
+        (subst (AgreeAll opens) (l.s.exchanges_are ∙ ap exchanges_in l.d.run_is) agrees.answers);
+  }
+
   was_read : (worker at : ℕ) (path : List ℕ) (reply : Told) (reading : Reading)
       → (l : LineAt worker at (line.Get path) reply) → reading_in reply ≡ Some reading
-      → TellsContent truth o history worker path (entries_in l.d.ahead) l.d.done.part reply
-      → (envelope : Envelope) × WasTold worker at path reading envelope reply
+      → TellsContent truth (heard_to worker at (line.Get path) reply l) o history worker path
+      (entries_in l.d.ahead) l.d.done.part reply → (envelope : Envelope)
+      × WasTold worker at path reading envelope reply
   was_read worker at path (told.Got revision bytes) reading l is t = (
     t.holds.1.envelope,
     subst (λ (it : Reading). WasTold worker at path it t.holds.1.envelope
@@ -403,11 +454,15 @@ module _ {T L D : Type 0} (truth : Truth) (link : L → Link) (left : D → Opti
               t.own,
               read_part worker at path (told.Got revision bytes) l (λ front fetch.
                   (fetch.line.gave ≡ gave.Found revision)
-                  × ReadsContent truth o path (data_of bytes) front fetch) t,
+                  × ReadsContent truth o path (data_of bytes) front fetch
+                  × IsHeardContent (heard_to worker at (line.Get path) (told.Got revision bytes) l)
+                  o path (data_of bytes) front) t,
             );
             fetches = t.fetches;
             gave_is = t.holds.0;
             r = t.holds.1;
+            agreed = λ opens agrees. t.holds.2 opens
+                (agrees_to worker at (line.Get path) (told.Got revision bytes) l opens agrees);
             same = refl;
           };
         }),
@@ -427,11 +482,15 @@ module _ {T L D : Type 0} (truth : Truth) (link : L → Link) (left : D → Opti
               t.own,
               read_part worker at path (told.Value why) l (λ front fetch.
                   (revision : ℕ) × (fetch.line.gave ≡ gave.Found revision)
-                  × ReadsContent truth o path (refused why) front fetch) t,
+                  × ReadsContent truth o path (refused why) front fetch
+                  × IsHeardContent (heard_to worker at (line.Get path) (told.Value why) l) o path
+                  (refused why) front) t,
             );
             fetches = t.fetches;
             gave_is = t.holds.1;
             r = t.holds.2;
+            agreed = λ opens agrees. t.holds.3 opens
+                (agrees_to worker at (line.Get path) (told.Value why) l opens agrees);
             same = refl;
           };
         }),
@@ -440,9 +499,11 @@ module _ {T L D : Type 0} (truth : Truth) (link : L → Link) (left : D → Opti
 
   told_content : (worker at : ℕ) (path : List ℕ) (reply : Told)
       → (l : LineAt worker at (line.Get path) reply)
-      → TellsContent truth o history worker path (entries_in l.d.ahead) l.d.done.part reply
+      → TellsContent truth (heard_to worker at (line.Get path) reply l) o history worker path
+      (entries_in l.d.ahead) l.d.done.part reply
   told_content worker at path reply l = subst (λ (t : Told).
-      TellsContent truth o history worker path (entries_in l.d.ahead) l.d.done.part t) l.d.reply_is
+      TellsContent truth (heard_to worker at (line.Get path) reply l) o history worker path
+      (entries_in l.d.ahead) l.d.done.part t) l.d.reply_is
       (l.s.tells l.d.ahead l.d.done l.d.behind l.d.run_is path l.d.line_is)
 
   -- of each line there is one envelope, with which its `get` was read, if it is one
@@ -504,17 +565,17 @@ module _ {T L D : Type 0} (truth : Truth) (link : L → Link) (left : D → Opti
             (ap path_in (same_Some asked (line.Get path) (sym asked_is ∙ r.0)))),
       )
 
-  abbrev readings : Readings truth o files workers replies history
+  abbrev readings : Readings heard o files workers replies history
   readings = record {
     at_start = λ opens path. (some_content opens o [] path).0;
     start_is = λ opens path. (some_content opens o [] path).1;
     envelope_of = λ worker at. (read_at worker at).0;
-    reseals = (honest_of_plugins T truth link left count files history o parts budgets old new
+    reseals = (honest_of_plugins T truth link step left count files history o parts budgets old new
         one).reseals;
   }
 
   abbrev run : Run
-  run = run_of truth o files workers replies history outside readings
+  run = run_of heard o files workers replies history outside readings
 
   some_object : (now : Option Object) (revision : ℕ) → object_revision now ≡ Some revision
       → (object : Object) × (now ≡ Some object) × (object.revision ≡ revision)
@@ -530,7 +591,7 @@ module _ {T L D : Type 0} (truth : Truth) (link : L → Link) (left : D → Opti
       w.r.row w.fetches w.gave_is w.r.found in
       let entries : entries_of (marks runs [] w.front) ≡ w.front = entries_stay runs [] w.front in
       let object = some_object (stands_at run path w.front) w.r.row.revision
-      (alike truth o files workers replies history outside readings w.front
+      (alike heard o files workers replies history outside readings w.front
       (legal_front o history one.legal w.front w.fetch w.rest w.there) path
       ∙ ap row_revision found.0) in
       let reads : ReadsWith (readings.envelope_of worker at) w.fetch reading =
@@ -572,12 +633,15 @@ module _ {T L D : Type 0} (truth : Truth) (link : L → Link) (left : D → Opti
       }
     where
       by : (opens : Opens)
-          → AreKnown truth opens o
-          ⊎ Unwraps truth o files workers replies history readings opens path worker at w.fetch
+          → AreKnown heard opens o
+          ⊎ Unwraps heard o files workers replies history readings opens path worker at w.fetch
           → IsContent opens o w.front path (Some reading)
-      by opens (inl known) = known_trusted o history one.legal w.front w.fetch w.rest w.there truth
-          opens path one.honest reading w.r.known known
-      by opens (inr u) = unwraps_trusted truth o files workers replies history readings opens path
+      by opens (inl known) = known_trusted o history one.legal w.front w.fetch w.rest w.there heard
+          opens path
+          (λ agrees begun. true_replies.agreed opens agrees begun w.front (w.fetch ∷ w.rest)
+          w.there)
+          reading (w.r.known.bare opens) (λ agrees. w.agreed opens (agrees worker)) known
+      by opens (inr u) = unwraps_trusted heard o files workers replies history readings opens path
           worker at w.fetch u w.front w.rest w.there reading w.r w.same
 
   gets : (worker at : ℕ) (path : List ℕ) (reply : Told) (reading : Reading)
@@ -670,7 +734,7 @@ module _ {T L D : Type 0} (truth : Truth) (link : L → Link) (left : D → Opti
           ) in
           subst (λ (it : Opening). IsSome (live (state_of it front).rows (x ∷ xs))) (sym opened)
           (some_lives (stands_at run (x ∷ xs) front) (live (state_of o front).rows (x ∷ xs))
-          (alike truth o files workers replies history outside readings front legal_now (x ∷ xs))
+          (alike heard o files workers replies history outside readings front legal_now (x ∷ xs))
           (subst (λ (h : List Entry). stands_at run (x ∷ xs) h ≢ None)
           (entries_stay runs [] front) standing))
 
@@ -707,7 +771,7 @@ module _ {T L D : Type 0} (truth : Truth) (link : L → Link) (left : D → Opti
       let Shape : ℕ → ℕ → List Entry → ScriptLine → Told → Type 0 = λ seat own part asked reply.
       PartIs Plugin Dice Breaks Keys NamesPlugin CannotBeSealed ReadBy
       (RewritePart Plugin Dice Covers seat own part) seat own part (rows_at files) asked reply in
-      let shape = parts_have_shape truth link left count files l.s.replica old_place new_place
+      let shape = parts_have_shape truth link step left count files l.s.replica old_place new_place
       l.d.done l.t.is in
       part_mono Plugin (run.PluginFailed worker at) Dice (run.SourceFailed worker at) Breaks
       (run.BreaksRule worker at) Keys (run.KeysAreSame worker at) NamesPlugin CannotBeSealed ReadBy
@@ -774,7 +838,7 @@ module _ {T L D : Type 0} (truth : Truth) (link : L → Link) (left : D → Opti
     steps = steps;
     entries_are = entries_stay runs [] history;
     in_order = marks_in_order runs history own_entries_there [] history refl;
-    answers = λ front e rest is. may_answer truth o files workers replies history outside readings
+    answers = λ front e rest is. may_answer heard o files workers replies history outside readings
         front (legal_front o history one.legal front e rest is) e rest is
         (here o history one.legal front e rest is)
         (judged_by_fit o front e (legal_one o history one.legal front e rest is));
@@ -786,13 +850,13 @@ module _ {T L D : Type 0} (truth : Truth) (link : L → Link) (left : D → Opti
     refuses = refused_at;
   }
 
-  stays_listed : StaysListed truth o files workers replies history
+  stays_listed : StaysListed heard o files workers replies history
   stays_listed front rest path row rows is lives live_rows =
       let l = live_is_readable o front path row rows
       (front_law o front rest (subst (IsLegal o) is one.legal)) lives live_rows in
       (l.0, l.2)
 
-  pub the_headline : FleetHeadline link count old new truth files o parts history
+  pub the_headline : FleetHeadline link step count old new files o parts history
   unfolding headline
   the_headline = record {
     whole = one.whole;
@@ -801,6 +865,9 @@ module _ {T L D : Type 0} (truth : Truth) (link : L → Link) (left : D → Opti
     benches_are = λ worker part before after part_is before_is after_is.
         (run_stood worker (some_below parts worker part part_is)).benches_are part before after
         part_is before_is after_is;
+    heard = heard;
+    was_heard = true_replies.was_heard;
+    no_more = true_replies.no_more;
     has = record {
       legal = one.legal;
       listed = stays_listed;
@@ -811,6 +878,7 @@ module _ {T L D : Type 0} (truth : Truth) (link : L → Link) (left : D → Opti
   }
 
 pub fleet_headline : (T : Type 0) → {L D : Type 0} → (truth : Truth) (link : L → Link)
-    (left : D → Option (List ℕ)) (count : D → ℕ) → HeadlineHolds T truth link left count
-fleet_headline T truth link left count files history o parts budgets old new one =
-    the_headline truth link left count files history o parts budgets old new one
+    (step : L → Exchange → L → Type 0)
+    (left : D → Option (List ℕ)) (count : D → ℕ) → HeadlineHolds T truth link step left count
+fleet_headline T truth link step left count files history o parts budgets old new one =
+    the_headline truth link step left count files history o parts budgets old new one

@@ -16,3 +16,4 @@ pub mod Undone
 pub mod WrongRewrites
 pub mod Wrong
 pub mod NoPlugins
+pub mod Agreeing

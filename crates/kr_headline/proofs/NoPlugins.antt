@@ -7,7 +7,8 @@ use Rattle.kr_config.specs.Providers.{is_kms}
 use Rattle.kr_config.specs.declared.who.Who.{Who}
 use Rattle.kr_config.specs.declared.who.Who.TheVariants.{Identity, Aescbc, Aesgcm, Kms}
 use Rattle.kr_kms.specs.Calls.{Link}
-use Rattle.kr_kms.specs.Truth.{Opens, Truth}
+use Rattle.kr_kms.specs.Exchanges.{Exchange}
+use Rattle.kr_kms.specs.Truth.{Opens}
 use Rattle.kr_kms.specs.declared.seeds.SeedRow.{SeedRow}
 use Rattle.kr_provider.specs.Envelopes.{Envelope, HasEnvelope, IsEnvelopeOf}
 use Rattle.kr_provider.specs.Publication.{SeedOpens, list_at}
@@ -23,6 +24,7 @@ use Rattle.kr_script.specs.Fleets.{Worker, worker_of}
 use Rattle.kr_script.specs.declared.told.Told.{Told}
 use Rattle.kr_workers.specs.declared.files.SettingsFile.{SettingsFile}
 use Rattle.kr_workers.specs.declared.worker.Worker as fleet_worker
+use Rattle.kr_workers.specs.Heard.{Heard}
 use Rattle.kr_headline.specs.Consequences.{NothingSupposed, UsesNoPlugin}
 use Rattle.kr_headline.specs.Fleets.{Readings, SealedBy, Unwraps, run_in}
 use Rattle.kr_headline.specs.Headline.{entries_of}
@@ -63,9 +65,9 @@ sealed_by_none opens path e (gave.Written revision) (did.Replace own from) u =
     seed_opens opens p.seeds (list_at p old.resource) (u same old replaced p is)
 sealed_by_none opens path e given done u = tt
 
-module _ (truth : Truth) (o : Opening) (files : List SettingsFile) (workers : List Worker)
-    (replies : List (List Told)) (history : List Entry)
-    (readings : Readings truth o files workers replies history) (path : List ℕ)
+module _ (heard : (worker : ℕ) → Heard) (o : Opening) (files : List SettingsFile)
+    (workers : List Worker) (replies : List (List Told)) (history : List Entry)
+    (readings : Readings heard o files workers replies history) (path : List ℕ)
     (none : All (λ e. UsesNoPlugin path e e.line.gave e.line.did) history) (opens : Opens)
     (worker at : ℕ) where
   uses_none : (front : List Entry) (e : Entry) (rest : List Entry) → history ≡ front ++ e ∷ rest
@@ -78,7 +80,7 @@ module _ (truth : Truth) (o : Opening) (files : List SettingsFile) (workers : Li
   unwraps_none : (front : List Entry) (e : Entry) (rest : List Entry) (revision : ℕ)
       → history ≡ front ++ e ∷ rest → e.line.did ≡ did.Fetch path
       → e.line.gave ≡ gave.Found revision
-      → Unwraps truth o files workers replies history readings opens path worker at e
+      → Unwraps heard o files workers replies history readings opens path worker at e
   unwraps_none front e rest revision is fetches found = record {
     sealed = λ before x since behind there last. sealed_by_none opens path x x.line.gave
         x.line.did (uses_none before x (since ++ e ∷ behind) there);
@@ -95,11 +97,12 @@ module _ (truth : Truth) (o : Opening) (files : List SettingsFile) (workers : Li
         row_is p held);
   }
 
-module _ (T : Type 0) {L D : Type 0} (link : L → Link) (count : D → ℕ) where
-  pub nothing_supposed : NothingSupposed T link count
-  nothing_supposed old new truth files o parts history h path none opens worker at front step rest
-      is own fetches revision found = inr (unwraps_none truth o files (map worker_of parts)
+module _ (T : Type 0) {L D : Type 0} (link : L → Link) (step : L → Exchange → L → Type 0)
+    (count : D → ℕ) where
+  pub nothing_supposed : NothingSupposed T link step count
+  nothing_supposed old new files o parts history h path none opens worker at front taken rest
+      is own fetches revision found = inr (unwraps_none h.heard o files (map worker_of parts)
       (map (λ (worker : fleet_worker.Worker T L D). worker.told.0) new) history h.has.readings path
-      none opens worker at (entries_of front) step.entry (entries_of rest) revision
-      (there_in (run_in link count old new truth files o parts history h) h.has.headline front step
+      none opens worker at (entries_of front) taken.entry (entries_of rest) revision
+      (there_in (run_in link step count old new files o parts history h) h.has.headline front taken
       rest is) fetches found)

@@ -1,7 +1,7 @@
 -- What a get of a legal history read is the content at its path, where plugins unwrapped what they
 -- had wrapped.
-use Rattle.std.specs.Prelude.{All, IfSome}
-use Rattle.std.proofs.Common.{◌≡◌, ℕ, suc, true, List, [], ◌∷◌, ◌++◌, None, Some, inl, inr, refl, ap, sym, subst, ◌∙◌, arith}
+use Rattle.std.specs.Prelude.{All}
+use Rattle.std.proofs.Common.{◌≡◌, ℕ, suc, List, [], ◌∷◌, ◌++◌, None, Some, inl, inr, refl, ap, sym, subst, ◌∙◌, arith}
 use Rattle.std.proofs.lemmas.List.{append_assoc}
 use Rattle.std.proofs.lemmas.List.Elements.{All-nil}
 use Rattle.std.proofs.lemmas.Option.{same_Some}
@@ -24,15 +24,14 @@ use Rattle.kr_rollout.specs.declared.opening.Entry.{Entry}
 use Rattle.kr_rollout.specs.declared.opening.Opening.{Opening}
 use Rattle.kr_rollout.proofs.Appending.{front_law}
 use Rattle.kr_history.specs.Contents.{IsContent, last_change}
-use Rattle.kr_history.specs.ContentLaws.{IsRowFor}
-use Rattle.kr_history.specs.Honesty.{IsHonest, IsHonestAt, IsHonestEntry, SeedsOpen, WritesHonestly}
+use Rattle.kr_history.specs.ContentLaws.{IsRowFor, NamesNoPlugin}
+use Rattle.kr_history.specs.Honesty.{IsHonest, IsHonestAt, IsHonestEntry, WritesHonestly}
 use Rattle.kr_history.proofs.FoundRows.{found_is_live}
-use Rattle.kr_history.proofs.HonestSeats.{honest_by_entries}
 use Rattle.kr_history.proofs.NoNames.{no_names_no_plugin}
-use Rattle.kr_fleet.specs.ReadCalls.{IsKnownContent}
 use Rattle.kr_script.specs.Fleets.{Worker}
 use Rattle.kr_script.specs.declared.told.Told.{Told}
 use Rattle.kr_workers.specs.Gets.{ReadsContent}
+use Rattle.kr_workers.specs.Heard.{AgreesWithHeard, Heard}
 use Rattle.kr_workers.specs.Plugins.{IsReplaced}
 use Rattle.kr_workers.specs.declared.files.SettingsFile.{SettingsFile}
 use Rattle.kr_headline.specs.Fleets.{AreKnown, Readings, SealedBy, Unwraps}
@@ -80,28 +79,28 @@ module _ (o : Opening) (history : List Entry) (legal : IsLegal o history) (front
       )
 
   -- a content that is known, where plugins are
-  pub known_trusted : (truth : Truth) (opens : Opens) (path : List ℕ)
-      → (truth.told ≡ true → IsHonest truth.opens o [] → IsHonest truth.opens o history)
-      → (reading : Reading) → IsKnownContent truth o front path reading
-      → AreKnown truth opens o → IsContent opens o front path (Some reading)
-  known_trusted truth opens path honest reading known (inl none) =
-      known.bare opens (no_names_no_plugin o front legal_front none)
-  known_trusted truth opens path honest reading known (inr t) =
-      subst (λ (os : Opens). IsContent os o front path (Some reading)) t.1
-      (known.told t.0 (honest_by_entries.front truth.opens o front (e ∷ rest)
-      (subst (λ (l : List Entry). IsHonest truth.opens o l) is (honest t.0 (record {
-        opening = subst (λ (os : Opens).
-            All (λ replica. IfSome replica (SeedsOpen os)) o.replicas) (sym t.1) t.2;
-        entries = All-nil (IsHonestEntry truth.opens);
-      })))))
+  pub known_trusted : (heard : (worker : ℕ) → Heard) (opens : Opens) (path : List ℕ)
+      → (((worker : ℕ) → AgreesWithHeard opens (heard worker)) → IsHonest opens o []
+      → IsHonest opens o front) → (reading : Reading)
+      → (NamesNoPlugin o front → IsContent opens o front path (Some reading))
+      → (((worker : ℕ) → AgreesWithHeard opens (heard worker)) → IsHonest opens o front
+      → IsContent opens o front path (Some reading))
+      → AreKnown heard opens o → IsContent opens o front path (Some reading)
+  known_trusted heard opens path honest reading bare agreed (inl none) =
+      bare (no_names_no_plugin o front legal_front none)
+  known_trusted heard opens path honest reading bare agreed (inr t) =
+      agreed t.0 (honest t.0 (record {
+        opening = t.1;
+        entries = All-nil (IsHonestEntry opens);
+      }))
 
 -- ---- by what is supposed of plugins
 
-module _ (truth : Truth) (o : Opening) (files : List SettingsFile) (workers : List Worker)
-    (replies : List (List Told)) (history : List Entry)
-    (readings : Readings truth o files workers replies history) (opens : Opens)
+module _ (heard : (worker : ℕ) → Heard) (o : Opening) (files : List SettingsFile)
+    (workers : List Worker) (replies : List (List Told)) (history : List Entry)
+    (readings : Readings heard o files workers replies history) (opens : Opens)
     (path : List ℕ) (worker at : ℕ) (fetch : Entry)
-    (u : Unwraps truth o files workers replies history readings opens path worker at fetch) where
+    (u : Unwraps heard o files workers replies history readings opens path worker at fetch) where
   sealed_honestly : (front : List Entry) (e : Entry) (since rest : List Entry)
       → history ≡ front ++ e ∷ (since ++ fetch ∷ rest) → last_change since path ≡ None
       → (given : Gave) (done : Did) → e.line.gave ≡ given
@@ -144,7 +143,7 @@ module _ (truth : Truth) (o : Opening) (files : List SettingsFile) (workers : Li
       (u.sealed before e since rest there last)
 
   pub unwraps_trusted : (front rest : List Entry) → history ≡ front ++ fetch ∷ rest
-      → (reading : Reading) → (r : ReadsContent truth o path reading front fetch)
+      → (reading : Reading) {truth : Truth} (r : ReadsContent truth o path reading front fetch)
       → r.envelope ≡ readings.envelope_of worker at → IsContent opens o front path (Some reading)
   unwraps_trusted front rest is reading r same = r.by_any opens (honest_at front rest is)
       (subst (λ (v : Envelope). IsEnvelopeOf opens (list_at r.p r.row.resource) r.row.stored v)

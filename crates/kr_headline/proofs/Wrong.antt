@@ -5,6 +5,7 @@ use Rattle.std.proofs.Common.{◌≡◌, ℕ, ◌+◌, ◌≤◌, List, [], ◌�
 use Rattle.std.proofs.lemmas.List.{append_assoc}
 use Rattle.std.proofs.lemmas.Option.{none-some, same_Some}
 use Rattle.kr_kms.specs.Calls.{Link}
+use Rattle.kr_kms.specs.Exchanges.{Exchange}
 use Rattle.kr_provider.specs.Reading.{Reading, data_of, refused, unopened}
 use Rattle.kr_rollout.specs.declared.line.Did.{Did}
 use Rattle.kr_rollout.specs.declared.line.Did.TheVariants as did
@@ -199,11 +200,11 @@ module _ (run : Run) (h : Headline run) (made : All (HasLine run) h.steps) where
         h.tells worker at line.Refresh (told.Refused verdict) told_is;
   }
 
-pub each_is_wrong : (T : Type 0) → {L D : Type 0} → (link : L → Link) (count : D → ℕ)
-    → EachIsWrong T link count
-each_is_wrong T {L} {D} link count old new truth files o parts history h = (
-  wrong (run_in link count old new truth files o parts history h) h.has.headline h.has.made,
-  wrong_rewrites truth o files (map worker_of parts)
+pub each_is_wrong : (T : Type 0) → {L D : Type 0} → (link : L → Link)
+    (step : L → Exchange → L → Type 0) (count : D → ℕ) → EachIsWrong T link step count
+each_is_wrong T {L} {D} link step count old new files o parts history h = (
+  wrong (run_in link step count old new files o parts history h) h.has.headline h.has.made,
+  wrong_rewrites h.heard o files (map worker_of parts)
       (map (λ (worker : fleet_worker.Worker T L D). worker.told.0) new) history
       (outside_of link count h.benches) h.has.readings h.has.headline,
 )

@@ -3,7 +3,6 @@ use Rattle.std.specs.Prelude.{◌≢◌, All, cond, count_by}
 use Rattle.std.proofs.Common.{◌≡◌, ℕ, List, [], ◌∷◌, ◌++◌, Some, refl, subst, arith}
 use Rattle.std.proofs.lemmas.List.Elements.{All-cons, All-head, All-nil, All-tail}
 use Rattle.std.proofs.lemmas.List.Sums.{sum_by-cons}
-use Rattle.kr_kms.specs.Truth.{Truth}
 use Rattle.kr_provider.specs.Publication.{Publication}
 use Rattle.kr_store.specs.declared.rows.Row.{Row}
 use Rattle.kr_rewrite.specs.Drives.{count_of, is_fresh, is_rewritten, path_of}
@@ -20,6 +19,7 @@ use Rattle.kr_workers.specs.Configurations.{IsFresh}
 use Rattle.kr_workers.specs.RewriteParts.{FindsNone, Passes, Reseals, Walks}
 use Rattle.kr_workers.specs.Shapes.{HoldsPart}
 use Rattle.kr_workers.specs.declared.files.SettingsFile.{SettingsFile}
+use Rattle.kr_workers.specs.Heard.{Heard}
 use Rattle.kr_headline.specs.Fleets.{Outside, Readings, run_of}
 use Rattle.kr_headline.specs.Headline.{Headline, Run, own_entries}
 use Rattle.kr_headline.specs.WrongPages.{WrongRewrites}
@@ -104,12 +104,12 @@ none_fresh own above (taken ∷ more) Ends part w all =
     (all_behind FoundStale w.0 w.1 (subst (λ (l : List Entry). All FoundStale l) w.2 all)) in
     omega (arith, rest, sum_by-cons (λ x. cond (is_fresh x) 1 0) taken more)
 
-module _ (truth : Truth) (o : Opening) (files : List SettingsFile) (workers : List Worker)
-    (replies : List (List Told)) (history : List Entry) (outside : Outside)
-    (readings : Readings truth o files workers replies history)
-    (h : Headline (run_of truth o files workers replies history outside readings)) where
+module _ (heard : (worker : ℕ) → Heard) (o : Opening) (files : List SettingsFile)
+    (workers : List Worker) (replies : List (List Told)) (history : List Entry) (outside : Outside)
+    (readings : Readings heard o files workers replies history)
+    (h : Headline (run_of heard o files workers replies history outside readings)) where
   abbrev run : Run
-  run = run_of truth o files workers replies history outside readings
+  run = run_of heard o files workers replies history outside readings
 
   abbrev Ended : ℕ → (above : List ℕ) → List Entry → Type 0
   Ended worker above rest =

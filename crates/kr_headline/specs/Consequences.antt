@@ -1,8 +1,10 @@
 -- What follows from the headline.
-use Rattle.std.specs.Prelude.{◌≡◌, ◌⊎◌, ℕ, false, List, ◌∷◌, ◌++◌, All, Some, ⊤}
+use Rattle.std.specs.Prelude.{◌≡◌, ◌⊎◌, ℕ, false, List, ◌∷◌, ◌++◌, All, Some, IfSome, ⊤}
 use Rattle.std.specs.List.{list_any}
+use Rattle.kr_kms.specs.Cache.{AreOpenBy}
 use Rattle.kr_kms.specs.Calls.{Link}
-use Rattle.kr_kms.specs.Truth.{Opens, Truth}
+use Rattle.kr_kms.specs.Exchanges.{AgreesWith, Exchange}
+use Rattle.kr_kms.specs.Truth.{Opens}
 use Rattle.kr_provider.specs.Reading.{data_of, refused}
 use Rattle.kr_provider.specs.declared.refusal.ValueNo.{ValueNo}
 use Rattle.kr_provider.specs.Publication.{Publication, list_at}
@@ -14,6 +16,7 @@ use Rattle.kr_rollout.specs.declared.line.Gave.{Gave}
 use Rattle.kr_rollout.specs.declared.line.Gave.TheVariants as gave
 use Rattle.kr_rollout.specs.declared.opening.Entry.{Entry}
 use Rattle.kr_rollout.specs.declared.opening.Opening.{Opening}
+use Rattle.kr_history.specs.Honesty.{SeedsOpen}
 use Rattle.kr_script.specs.declared.script.Part.{Part}
 use Rattle.kr_script.specs.declared.script.ScriptLine.TheVariants as line
 use Rattle.kr_script.specs.declared.told.Told.TheVariants as told
@@ -71,25 +74,44 @@ UsesNoPlugin path e (gave.Found revision) (did.Fetch own) =
     own ≡ path → (row : Row) → e.row ≡ Some row → ListsNone row.resource e
 UsesNoPlugin path e given done = ⊤
 
-module _ (T : Type 0) {L D : Type 0} (link : L → Link) (count : D → ℕ) where
+-- by this truth links are answered as plugins are supposed to answer, whatever they are asked; so
+-- are plugins in memory by their own truth (the law `tables_agree` of kr_kms)
+abbrev pub LinksAgree : {L : Type 0} → (L → Exchange → L → Type 0) → Opens → Type 0
+LinksAgree {L} step opens = (old : L) (exchange : Exchange) (new : L) → step old exchange new
+    → AgreesWith opens exchange
+
+module _ (T : Type 0) {L D : Type 0} (link : L → Link) (step : L → Exchange → L → Type 0)
+    (count : D → ℕ) where
   abbrev pub GotWasPut : Type 0
-  GotWasPut = (old new : List (Worker T L D)) (truth : Truth) (files : List SettingsFile)
+  GotWasPut = (old new : List (Worker T L D)) (files : List SettingsFile)
       (o : Opening) (parts : List Part) (history : List Entry)
-      → (h : FleetHeadline link count old new truth files o parts history)
-      → GotIsPut (run_in link count old new truth files o parts history h) h.has.headline
+      → (h : FleetHeadline link step count old new files o parts history)
+      → GotIsPut (run_in link step count old new files o parts history h) h.has.headline
 
   abbrev pub RefusedStoodThere : Type 0
-  RefusedStoodThere = (old new : List (Worker T L D)) (truth : Truth) (files : List SettingsFile)
+  RefusedStoodThere = (old new : List (Worker T L D)) (files : List SettingsFile)
       (o : Opening) (parts : List Part) (history : List Entry)
-      → (h : FleetHeadline link count old new truth files o parts history)
-      → RefusedStood (run_in link count old new truth files o parts history h) h.has.headline
+      → (h : FleetHeadline link step count old new files o parts history)
+      → RefusedStood (run_in link step count old new files o parts history h) h.has.headline
 
   -- of a path that needs no plugin nothing has to be supposed, whatever plugins do elsewhere
   abbrev pub NothingSupposed : Type 0
-  NothingSupposed = (old new : List (Worker T L D)) (truth : Truth) (files : List SettingsFile)
+  NothingSupposed = (old new : List (Worker T L D)) (files : List SettingsFile)
       (o : Opening) (parts : List Part) (history : List Entry)
-      → (h : FleetHeadline link count old new truth files o parts history)
+      → (h : FleetHeadline link step count old new files o parts history)
       → (path : List ℕ) → All (λ e. UsesNoPlugin path e e.line.gave e.line.did) history
       → (opens : Opens) (worker at : ℕ)
-      → IsSupposed (run_in link count old new truth files o parts history h) h.has.headline opens
+      → IsSupposed (run_in link step count old new files o parts history h) h.has.headline opens
+      path worker at
+
+  -- nor more of any than that the seeds at the start open, and those that benches had kept, where
+  -- each step of the links is answered as this truth has it
+  abbrev pub SeedsAloneSupposed : Type 0
+  SeedsAloneSupposed = (old new : List (Worker T L D)) (files : List SettingsFile) (o : Opening)
+      (parts : List Part) (history : List Entry)
+      → (h : FleetHeadline link step count old new files o parts history) → (opens : Opens)
+      → LinksAgree step opens → ((worker : ℕ) → AreOpenBy opens (h.heard worker).kept)
+      → All (λ replica. IfSome replica (SeedsOpen opens)) o.replicas
+      → (path : List ℕ) (worker at : ℕ)
+      → IsSupposed (run_in link step count old new files o parts history h) h.has.headline opens
       path worker at

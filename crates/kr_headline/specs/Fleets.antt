@@ -1,6 +1,6 @@
 -- A fleet's run, as the headline sees it: by the opening that its workers began with, its history,
 -- and what is known of the outside.
-use Rattle.std.specs.Prelude.{◌≡◌, ◌≢◌, ◌⊎◌, ◌≤◌, ◌+◌, ℕ, true, List, [], ◌∷◌, ◌++◌, length, map, get_or, slice_get, All, Contains, Option, None, Some, IfSome, ⊤}
+use Rattle.std.specs.Prelude.{◌≡◌, ◌≢◌, ◌⊎◌, ◌≤◌, ◌+◌, ℕ, List, [], ◌∷◌, ◌++◌, length, map, get_or, slice_get, All, Contains, Option, None, Some, IfSome, ⊤}
 use Rattle.std.specs.Option.{option_map}
 use Rattle.kr_base.specs.Faults.{Rose}
 use Rattle.kr_config.specs.Kept.{Row as setting}
@@ -8,7 +8,8 @@ use Rattle.kr_config.specs.Lists.{list_of}
 use Rattle.kr_config.specs.declared.who.Who.{Who}
 use Rattle.kr_kms.specs.Calls.{Link}
 use Rattle.kr_kms.specs.Health.{HasBreach}
-use Rattle.kr_kms.specs.Truth.{Opens, Truth}
+use Rattle.kr_kms.specs.Exchanges.{Exchange}
+use Rattle.kr_kms.specs.Truth.{Opens}
 use Rattle.kr_kms.specs.declared.health.Field.{Field}
 use Rattle.kr_provider.specs.AskedLinks.{AskedOnly, FaultRose, HasLinkWith}
 use Rattle.kr_provider.specs.BenchState.{BenchState}
@@ -44,6 +45,7 @@ use Rattle.kr_script.specs.declared.script.ScriptLine.{ScriptLine}
 use Rattle.kr_workers.specs.Changes.{MayChange}
 use Rattle.kr_workers.specs.Configurations.{CannotBeSealed, NamesPlugin, ReadBy, RowReads}
 use Rattle.kr_workers.specs.Files.{rows_at}
+use Rattle.kr_workers.specs.Heard.{AgreesWithHeard, Heard, WasHeard, unheard}
 use Rattle.kr_workers.specs.Plugins.{IsReplaced, Reseals}
 use Rattle.kr_workers.specs.RewriteParts.{RewritePart}
 use Rattle.kr_workers.specs.declared.files.SettingsFile.{SettingsFile}
@@ -62,11 +64,11 @@ pub record ReadsWith (envelope : Envelope) (e : Entry) (reading : Reading) : Typ
 
 -- ---- what is supposed of plugins
 
--- there are none; or their links tell their truth, which is this, and by which the seeds of the
--- configurations at the start open
-abbrev pub AreKnown : Truth → Opens → Opening → Type 0
-AreKnown truth opens o = (o.names ≡ [])
-    ⊎ ((truth.told ≡ true) × (truth.opens ≡ opens)
+-- there are none; or this truth agrees with all that the workers' plugins answered in this run, and
+-- by it the seeds of the configurations at the start open
+abbrev pub AreKnown : ((worker : ℕ) → Heard) → Opens → Opening → Type 0
+AreKnown heard opens o = (o.names ≡ [])
+    ⊎ (((worker : ℕ) → AgreesWithHeard opens (heard worker))
     × All (λ replica. IfSome replica (SeedsOpen opens)) o.replicas)
 
 -- the seed opens with which an entry sealed what it wrote at the path
@@ -96,8 +98,8 @@ pub record Outside : Type 1 where
   pub BreaksRule : (worker at : ℕ) → (name : List ℕ) → Field → (text : List ℕ) → Type 0
   pub KeysAreSame : (worker at : ℕ) → Publication → Type 0
 
-module _ (truth : Truth) (o : Opening) (files : List SettingsFile) (workers : List Worker)
-    (replies : List (List Told)) (history : List Entry) where
+module _ (heard : (worker : ℕ) → Heard) (o : Opening) (files : List SettingsFile)
+    (workers : List Worker) (replies : List (List Told)) (history : List Entry) where
   -- how rows read at the start, by each truth; the source with which each `get` was read; and that
   -- each row that was rewritten was read, with a source
   pub record Readings : Type 0 where
@@ -164,7 +166,7 @@ module _ (truth : Truth) (o : Opening) (files : List SettingsFile) (workers : Li
     Reads = λ worker at. ReadsWith (readings.envelope_of worker at);
     Truths = Opens;
     read_at_start = readings.at_start;
-    PluginsUnwrapped = λ opens path worker at e. AreKnown truth opens o
+    PluginsUnwrapped = λ opens path worker at e. AreKnown heard opens o
         ⊎ Unwraps readings opens path worker at e;
   }
 
@@ -226,11 +228,13 @@ module _ {L D : Type 0} (link : L → Link) (count : D → ℕ) where
         (λ before after. AreKeysSame link before.0 p.seeds);
   }
 
-module _ {T L D : Type 0} (link : L → Link) (count : D → ℕ)
+module _ {T L D : Type 0} (link : L → Link) (step : L → Exchange → L → Type 0) (count : D → ℕ)
     (old new : List (fleet_worker.Worker T L D)) where
-  -- the headline of workers, as they were and as they are, at these parts
-  pub record FleetHeadline (truth : Truth) (files : List SettingsFile) (o : Opening)
-      (parts : List Part) (history : List Entry) : Type 0 where
+  -- the headline of workers, as they were and as they are, at these parts; what each worker's
+  -- plugins were asked and answered, by which its links came to be what they are; of no other
+  -- number was anything heard
+  pub record FleetHeadline (files : List SettingsFile) (o : Opening) (parts : List Part)
+      (history : List Entry) : Type 0 where
     pub whole : length old ≡ length parts
     pub many : length new ≡ length parts
     pub benches : (worker : ℕ) → List (List L × D)
@@ -238,13 +242,18 @@ module _ {T L D : Type 0} (link : L → Link) (count : D → ℕ)
         → slice_get parts worker ≡ Some part → slice_get old worker ≡ Some before
         → slice_get new worker ≡ Some after
         → AreBenches link count (benches worker) (length part.lines.0) before.bench after.bench
-    pub has : HasHeadline truth o files (map worker_of parts)
+    pub heard : (worker : ℕ) → Heard
+    pub was_heard : (worker : ℕ) (before after : fleet_worker.Worker T L D)
+        → slice_get old worker ≡ Some before → slice_get new worker ≡ Some after
+        → WasHeard step (heard worker) before.bench after.bench
+    pub no_more : (worker : ℕ) → length parts ≤ worker → heard worker ≡ unheard
+    pub has : HasHeadline heard o files (map worker_of parts)
         (map (λ (worker : fleet_worker.Worker T L D). worker.told.0) new) history
         (outside_of link count benches)
 
   -- the run that has it
-  abbrev pub run_in : (truth : Truth) (files : List SettingsFile) (o : Opening)
-      (parts : List Part) (history : List Entry) → FleetHeadline truth files o parts history → Run
-  run_in truth files o parts history h = run_of truth o files (map worker_of parts)
+  abbrev pub run_in : (files : List SettingsFile) (o : Opening) (parts : List Part)
+      (history : List Entry) → FleetHeadline files o parts history → Run
+  run_in files o parts history h = run_of h.heard o files (map worker_of parts)
       (map (λ (worker : fleet_worker.Worker T L D). worker.told.0) new) history
       (outside_of link count h.benches) h.has.readings

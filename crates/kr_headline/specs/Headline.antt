@@ -89,13 +89,14 @@ pub record Run : Type 1 where
   -- each other one writes
   pub WouldStayReadable : (front : List Entry) → Did → Type 0
   -- the row that the worker's line found reads so, by the configuration that the entry held and
-  -- with some source. What a plugin answers, if one was asked, is such a source; that it is the
-  -- right one is what is supposed below, and nothing else ties it to the plugin
+  -- with some source. What a plugin answers, if one was asked, is such a source; nothing else ties
+  -- it to the plugin, and that it is the right one is what is supposed below
   pub Reads : (worker at : ℕ) → Entry → Reading → Type 0
   -- truths: what plugins' wrapped keys may open to. There is one, and where no plugin is concerned
   -- all that is supposed holds by itself, of any (a law, `nothing_supposed`). By each truth, how a
   -- path's row read at the start; and the one thing that is supposed: plugins unwrapped what they
-  -- had wrapped, as far as it concerns what the worker's line read at this path, by this entry
+  -- had wrapped, as far as it concerns what the worker's line read at this path, by this entry; or
+  -- the truth agrees with all that they answered in this run, and with the seeds at the start
   pub Truths : Type 0
   pub read_at_start : Truths → (path : List ℕ) → Option Reading
   pub PluginsUnwrapped : Truths → (path : List ℕ) → (worker at : ℕ) → Entry → Type 0

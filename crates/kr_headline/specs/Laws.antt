@@ -1,6 +1,7 @@
 -- The headline follows from one history.
 use Rattle.std.specs.Prelude.{ℕ, List, Option}
 use Rattle.kr_kms.specs.Calls.{Link}
+use Rattle.kr_kms.specs.Exchanges.{Exchange}
 use Rattle.kr_kms.specs.Truth.{Truth}
 use Rattle.kr_rollout.specs.declared.opening.Entry.{Entry}
 use Rattle.kr_rollout.specs.declared.opening.Opening.{Opening}
@@ -11,9 +12,10 @@ use Rattle.kr_workers.specs.Histories.{IsOneHistory}
 use Rattle.kr_headline.specs.Fleets.{FleetHeadline}
 
 abbrev pub HeadlineHolds : (T : Type 0) → {L D : Type 0} → Truth → (L → Link)
+    → (L → Exchange → L → Type 0)
     → (D → Option (List ℕ)) → (D → ℕ) → Type 0
-HeadlineHolds T {L} {D} truth link left count = (files : List SettingsFile)
+HeadlineHolds T {L} {D} truth link step left count = (files : List SettingsFile)
     (history : List Entry) (o : Opening) (parts : List Part) (budgets : List ℕ)
     (old new : List (Worker T L D))
-    → IsOneHistory truth link left count files history o parts budgets old new
-    → FleetHeadline link count old new truth files o parts history
+    → IsOneHistory truth link step left count files history o parts budgets old new
+    → FleetHeadline link step count old new files o parts history

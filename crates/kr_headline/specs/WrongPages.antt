@@ -2,7 +2,7 @@
 use Rattle.std.specs.Prelude.{◌≡◌, ◌≢◌, ◌≤◌, ℕ, List, ◌∷◌, ◌++◌, length, All, Contains, None, Some}
 use Rattle.std.specs.Option.{option_map}
 use Rattle.kr_kms.specs.Calls.{Link}
-use Rattle.kr_kms.specs.Truth.{Truth}
+use Rattle.kr_kms.specs.Exchanges.{Exchange}
 use Rattle.kr_kms.specs.declared.health.Field.{Field}
 use Rattle.kr_provider.specs.Publication.{Publication}
 use Rattle.kr_store.specs.declared.rows.Row.{Row}
@@ -137,9 +137,10 @@ module _ (run : Run) (h : Headline run) where
         → IsTold run worker at line.Rewrite (told.Got revision bytes) → ⊥
 
 -- so it is with each run of workers
-abbrev pub EachIsWrong : (T : Type 0) → {L D : Type 0} → (L → Link) → (D → ℕ) → Type 0
-EachIsWrong T {L} {D} link count = (old new : List (Worker T L D)) (truth : Truth)
+abbrev pub EachIsWrong : (T : Type 0) → {L D : Type 0} → (L → Link) → (L → Exchange → L → Type 0)
+    → (D → ℕ) → Type 0
+EachIsWrong T {L} {D} link step count = (old new : List (Worker T L D))
     (files : List SettingsFile) (o : Opening) (parts : List Part) (history : List Entry)
-    → (h : FleetHeadline link count old new truth files o parts history)
-    → WrongPages (run_in link count old new truth files o parts history h) h.has.headline
-    × WrongRewrites (run_in link count old new truth files o parts history h) h.has.headline
+    → (h : FleetHeadline link step count old new files o parts history)
+    → WrongPages (run_in link step count old new files o parts history h) h.has.headline
+    × WrongRewrites (run_in link step count old new files o parts history h) h.has.headline

@@ -3,4 +3,7 @@
 
 mod laws;
 
-pub use laws::{each_is_wrong, got_was_put, headline_holds, nothing_supposed, refused_stood_there};
+pub use laws::{
+    each_is_wrong, got_was_put, headline_holds, nothing_supposed, refused_stood_there,
+    seeds_alone_supposed,
+};

@@ -23,6 +23,7 @@ pub mod KeptByEvents
 pub mod KeptHonest
 pub mod Lacking
 pub mod LineChanges
+pub mod KeptSeeds
 pub mod LivePuts
 pub mod NeedsLive
 pub mod Nexts

@@ -6,6 +6,7 @@ pub mod Calls
 pub mod ContentLaws
 pub mod Contents
 pub mod CountLaws
+pub mod ExchangeLaws
 pub mod FitLaws
 pub mod Honesty
 pub mod LackLaws

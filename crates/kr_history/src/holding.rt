@@ -1,6 +1,7 @@
 //! What calls do that hold a generation meanwhile.
 ghost use Rattle.std.specs.Prelude.{◌≡◌, ◌<◌, ◌≤◌, [], length, None, Some, IfOk, IfErr, IsSome};
-ghost use Rattle.kr_provider.specs.KeyPages.{size_of};
+ghost use Rattle.kr_provider.specs.BenchKeys.{ClearsKeys};
+ghost use Rattle.kr_provider.specs.KeyPages.{HoldKeys, adopted_secrets, size_of};
 ghost use Rattle.kr_provider.specs.Names.{HasLinks, names_of};
 ghost use Rattle.kr_rollout.specs.Callers.{holding};
 ghost use Rattle.kr_history.specs.Calls.{Adopts, IsIdle, IsIdleAfter, KeepsHonesty, LetsGo};
@@ -59,12 +60,22 @@ pub fn take_up<L: Kms, D: Dice>(bench: &mut Bench<L, D>, published: Shared<Publi
     requires pages { 64 ≤ size_of bench.old.pages }
     ensures taken { bench.new
         ≡ record bench.old { published = Some published; pages = bench.new.pages } }
+    ensures keys { HoldKeys (adopted_secrets bench.new.published) bench.new.pages }
     ensures pages { size_of bench.new.pages ≡ size_of bench.old.pages }
 {
     published.get().known();
     let Ok(()) = bench.adopt(published) else {
         unreachable!()
     };
+}
+
+/// Takes the configuration of the bench away: each page is zero then. A call that gave it one does
+/// so before `let_go`, which may wait for others' turns.
+pub fn lay_down<L: Kms, D: Dice>(bench: &mut Bench<L, D>)
+    ensures kept { bench.new ≡ record bench.old { published = None; pages = bench.new.pages } }
+    ensures cleared { ClearsKeys bench.old bench.new }
+{
+    bench.let_go();
 }
 
 /// Lets the generation go that the seat holds, whatever was done meanwhile, and answers what was

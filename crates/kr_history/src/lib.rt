@@ -9,6 +9,7 @@ mod laws_caller;
 mod laws_calls;
 mod laws_content;
 mod laws_count;
+mod laws_exchange;
 mod laws_fit;
 mod laws_lack;
 mod laws_line;
@@ -19,7 +20,7 @@ mod solo;
 
 pub use acts::Acts;
 pub use call::CallNo;
-pub use holding::{adopt, let_go, take_up};
+pub use holding::{adopt, lay_down, let_go, take_up};
 pub use laws_caller::{found_follows, holding_follows};
 pub use laws_calls::{
     budget_follows, caller_follows, found_is_known, held_is_known, honesty_follows,
@@ -32,6 +33,7 @@ pub use laws_content::{
     some_content,
 };
 pub use laws_count::board_counts;
+pub use laws_exchange::kept_seeds_open;
 pub use laws_fit::{
     holding_is_live, judged_by_fit, judged_state_follows, legal_fits, live_is_readable,
     needs_are_live, one_cause, opening_fits, refresh_is_not_refused, refusal_is_exact,

@@ -1,7 +1,9 @@
 //! What a bench does by the configuration that it adopted.
 ghost use Rattle.std.specs.Prelude.{◌≡◌, ◌≤◌, length, IfOk, IfSome, IsSome};
 ghost use Rattle.kr_base.specs.Limits.{path_limit, value_limit};
-ghost use Rattle.kr_provider.specs.AskedLinks.{AskedOnly};
+ghost use Rattle.kr_base.specs.Walks.{Talk};
+ghost use Rattle.kr_provider.specs.AskedLinks.{Among, AskedOnly};
+ghost use Rattle.kr_provider.specs.Exchanges.{ReadsBy};
 ghost use Rattle.kr_provider.specs.Names.{names_of};
 ghost use Rattle.kr_provider.specs.Publication.{list_at, writer_at};
 ghost use Rattle.kr_provider.specs.Sealing.{IsSealing, Seals};
@@ -25,6 +27,9 @@ pub fn unseal<L: Kms, D: Dice>(
     ensures opened { IfSome bench.old.published (λ p. UnsealsBy L.truth L.link p.seeds
         (list_at p row.now.resource) row.now.path row.now.stored bench.old.links result
         bench.new.links) }
+    ensures exchanged { IfSome bench.old.published (λ p. Talk (Among L.step) bench.old.links
+        bench.new.links (ReadsBy p.seeds (list_at p row.now.resource) row.now.path row.now.stored
+        bench.old.cache result bench.new.cache)) }
     ensures asked { AskedOnly L.link (names_of L.link bench.old.links) bench.old.links
         bench.new.links }
     ensures kept { bench.new

@@ -16,28 +16,28 @@ some_there : (es : Entries) (path : List ℕ) (q : ℕ) → Some q ≡ lookup (i
 some_there es path q h = subst IsSome h refl
 
 pub made_there : (es : Entries) (old new : List Pair) (path kept : List ℕ) (place q : ℕ) → IsIndexed es old None → place < length old → length new ≡ length old → Some q ≡ lookup (is_at (name_cmp path)) es → kept ≡ path
-    → IsChangedAt (λ paths. insert_key name_cmp paths path) place old new → IsIndexed es new (Some (record { path = kept; place = place; fresh = false }))
+    → IsChangedAt (λ paths. insert_key name_cmp paths kept) place old new → IsIndexed es new (Some (record { path = kept; place = place; fresh = false }))
 made_there es old new path kept place q ix fits same found is change = subst (λ k. IsIndexed es new (Some (record { path = k; place = place; fresh = false }))) (sym is)
-    (step.made_there es old new path place ix fits same (some_there es path q found) change)
+    (step.made_there es old new path place ix fits same (some_there es path q found) (subst (λ k. IsChangedAt (λ paths. insert_key name_cmp paths k) place old new) is change))
 
-pub made_fresh : (es all : Entries) (old new : List Pair) (path kept key : List ℕ) (place : ℕ) → IsIndexed es old None → place < length old → length new ≡ length old → None ≡ lookup (is_at (name_cmp path)) es → kept ≡ path → key ≡ path
-    → IsChangedAt (λ paths. insert_key name_cmp paths path) place old new → all ≡ insert_entry name_cmp es key place → AreSorted all → IsIndexed all new (Some (record { path = kept; place = place; fresh = true }))
+pub made_fresh : (es all : Entries) (old new : List Pair) (path kept key : List ℕ) (place : ℕ) → IsIndexed es old None → place < length old → length new ≡ length old → None ≡ lookup (is_at (name_cmp path)) es → kept ≡ path → key ≡ kept
+    → IsChangedAt (λ paths. insert_key name_cmp paths kept) place old new → all ≡ insert_entry name_cmp es key place → AreSorted all → IsIndexed all new (Some (record { path = kept; place = place; fresh = true }))
 made_fresh es all old new path kept key place ix fits same none is key_is change put sorted =
-    let whole : all ≡ insert_entry name_cmp es path place = put ∙ ap (λ k. insert_entry name_cmp es k place) key_is in
+    let whole : all ≡ insert_entry name_cmp es path place = put ∙ ap (λ k. insert_entry name_cmp es k place) (key_is ∙ is) in
     subst (λ k. IsIndexed all new (Some (record { path = k; place = place; fresh = true }))) (sym is)
-    (subst (λ l. IsIndexed l new (Some (record { path = path; place = place; fresh = true }))) (sym whole) (step.made_fresh es old new path place ix fits same (sym none) change (subst AreSorted whole sorted)))
+    (subst (λ l. IsIndexed l new (Some (record { path = path; place = place; fresh = true }))) (sym whole) (step.made_fresh es old new path place ix fits same (sym none) (subst (λ k. IsChangedAt (λ paths. insert_key name_cmp paths k) place old new) is change) (subst AreSorted whole sorted)))
 
-pub made_and_gone : (es all : Entries) (old mid new : List Pair) (path : List ℕ) (place : ℕ) → IsIndexed es old None → None ≡ lookup (is_at (name_cmp path)) es → IsChangedAt (λ paths. insert_key name_cmp paths path) place old mid
+pub made_and_gone : (es all : Entries) (old mid new : List Pair) (path kept : List ℕ) (place : ℕ) → IsIndexed es old None → None ≡ lookup (is_at (name_cmp path)) es → kept ≡ path → IsChangedAt (λ paths. insert_key name_cmp paths kept) place old mid
     → IsChangedAt (remove_key (is_at (name_cmp path))) place mid new → all ≡ es → IsIndexed all new None
-made_and_gone es all old mid new path place ix none put taken same = subst (λ l. IsIndexed l new None) (sym same) (step.made_and_gone es old mid new path place ix (sym none) put taken)
+made_and_gone es all old mid new path kept place ix none is put taken same = subst (λ l. IsIndexed l new None) (sym same) (step.made_and_gone es old mid new path place ix (sym none) (subst (λ k. IsChangedAt (λ paths. insert_key name_cmp paths k) place old mid) is put) taken)
 
 pub without_there : (es : Entries) (kept : List ℕ) (place : ℕ) → without_proposed (Some (record { path = kept; place = place; fresh = false })) es ≡ es
 without_there es kept place = refl
 
-pub without_fresh : (es all : Entries) (path kept key : List ℕ) (place : ℕ) → None ≡ lookup (is_at (name_cmp path)) es → kept ≡ path → key ≡ path → all ≡ insert_entry name_cmp es key place
+pub without_fresh : (es all : Entries) (path kept key : List ℕ) (place : ℕ) → None ≡ lookup (is_at (name_cmp path)) es → kept ≡ path → key ≡ kept → all ≡ insert_entry name_cmp es key place
     → without_proposed (Some (record { path = kept; place = place; fresh = true })) all ≡ es
 without_fresh es all path kept key place none is key_is put =
-    ap (λ k. remove_entry (is_at (name_cmp k)) all) is ∙ ap (remove_entry (is_at (name_cmp path))) (put ∙ ap (λ k. insert_entry name_cmp es k place) key_is) ∙ put_and_taken es path place (sym none)
+    ap (λ k. remove_entry (is_at (name_cmp k)) all) is ∙ ap (remove_entry (is_at (name_cmp path))) (put ∙ ap (λ k. insert_entry name_cmp es k place) (key_is ∙ is)) ∙ put_and_taken es path place (sym none)
 
 pub there : (es : Entries) (pairs : List Pair) (p : Proposal) → IsIndexed es pairs (Some p) → None ≡ lookup (is_at (name_cmp p.path)) es → ⊥
 there es pairs p ix none = (let some : IsSome (lookup (is_at (name_cmp p.path)) es) = ix.stands.1 in let no_one : IsSome {T = ℕ} None = subst IsSome (sym none) some in cc)

@@ -4,6 +4,7 @@ pub mod Lists
 pub mod Needs
 pub mod Tables
 pub mod Strings
+pub mod Keys
 pub mod Entries
 pub mod Pairs
 pub mod Indexed

@@ -8,21 +8,23 @@ use crate::generation_list::GenerationList;
 use kr_config::{BorrowedClass, Settings, first_of};
 
 /// The first class after this one of those that the live generations and the new settings tell
-/// apart.
+/// apart. It is found at once in those where its number is this, as in most while few settings
+/// differ.
 #[tactic(auto, using(crate::proofs::Raw::raw_begin, crate::proofs::Raw::raw_more, crate::proofs::Raw::raw_end, crate::proofs::Walks::loss_within))]
 pub fn next_class<'a>(
     generations: &'a GenerationList,
     settings: &'a Settings,
     after: Option<BorrowedClass<'_>>,
+    place: usize,
 ) -> Option<BorrowedClass<'a>>
     ensures { IsNextClass
         (judged_classes (rows_of settings.now.entries.0) generations.now.generations)
         (option_map lent_class after.entry) (option_map lent_class result) }
 {
-    let mut next = settings.next_class(after);
+    let mut next = settings.next_near(after, place);
     for number in generations.live() {
         let own = generations.at(*number).settings.get();
-        next = first_of(next, own.next_class(after));
+        next = first_of(next, own.next_near(after, place));
     }
     next
 }

@@ -33,12 +33,13 @@ fn unread_at<'a>(
     class: BorrowedClass<'_>,
     own: &'a Settings,
     new: &'a Settings,
+    place: usize,
 ) -> Option<&'a Who>
     ensures { option_map (λ who. (lent_class class.entry, who.now)) result
         ≡ first (losses_at writer (lent_class class.entry ∷ []) (rows_of own.now.entries.0)
         (rows_of new.now.entries.0)) }
 {
-    let (own, new) = (own.list_for_borrowed(class), new.list_for_borrowed(class));
+    let (own, new) = (own.list_near(class, place), new.list_near(class, place));
     match writer {
         Writer::Other => unread_writer(own, new),
         Writer::New => unread_writer(new, own),
@@ -53,6 +54,7 @@ fn loss_at<'a>(
     replica: u32,
     settings: &'a Settings,
     class: BorrowedClass<'a>,
+    place: usize,
 ) -> Option<(u32, BorrowedClass<'a>, &'a Who)>
     ensures { option_map (λ lost. (lost.0, lent_class lost.1, lost.2.now)) result
         ≡ first (losses_on writer (lent_class class.entry ∷ []) replica
@@ -61,7 +63,8 @@ fn loss_at<'a>(
     for number in generations.live() {
         let generation = generations.at(*number);
         if generation.is_other(replica) {
-            let unread = unread_at(writer, class, generation.settings.get(), settings);
+            let own = generation.settings.get();
+            let unread = unread_at(writer, class, own, settings, place);
             if let Some(who) = unread {
                 return Some((*number, class, who));
             }
@@ -92,7 +95,7 @@ fn nearer_of<'a>(
 
 /// The first of the other live generations, and of their classes the first, whose writer the new
 /// settings don't read; and the first that doesn't read what they write. It goes over the classes
-/// once.
+/// once, and tells each settings the class's place among all as a guess of its place in them.
 #[tactic(auto, using(crate::proofs::Nearest::nearest_begin, crate::proofs::Nearest::nearest_more, crate::proofs::Nearest::nearest_end, crate::proofs::Nearest::left_smaller))]
 fn first_losses<'a>(
     generations: &'a GenerationList,
@@ -112,12 +115,14 @@ fn first_losses<'a>(
     let mut after = None;
     let mut dropped = None;
     let mut unread = None;
-    while let Some(class) = next_class(generations, settings, after) {
-        let other = loss_at(generations, Writer::Other, replica, settings, class);
-        let new = loss_at(generations, Writer::New, replica, settings, class);
+    let mut place: usize = 0;
+    while let Some(class) = next_class(generations, settings, after, place) {
+        let other = loss_at(generations, Writer::Other, replica, settings, class, place);
+        let new = loss_at(generations, Writer::New, replica, settings, class, place);
         dropped = nearer_of(dropped, other);
         unread = nearer_of(unread, new);
         after = Some(class);
+        place = place.saturating_add(1);
     }
     (dropped, unread)
 }

@@ -17,7 +17,6 @@ mod need_index;
 mod new_pairs;
 mod pair;
 mod pair_table;
-mod path_map;
 mod path_set;
 mod place_map;
 mod proposal;

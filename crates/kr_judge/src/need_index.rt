@@ -10,11 +10,11 @@ ghost use Rattle.kr_judge.specs.inner.Indexes.{GrowsWith};
 
 use crate::first_dropped::first_dropped;
 use crate::pair_table::PairTable;
-use crate::path_map::PathMap;
 use crate::path_set::PathSet;
 use crate::proposal::{Proposal, drop_path, keep_proposal, make_proposal, unmake_proposal};
 use kr_base::NoMemory;
 use kr_config::{Settings, Who};
+use kr_paths::PathMap;
 use std::alloc::Global;
 use std::marker::Model;
 

@@ -14,6 +14,7 @@ use crate::path_set::PathSet;
 use crate::place_map::PlaceMap;
 use kr_base::NoMemory;
 use kr_config::Who;
+use kr_paths::Path;
 use std::alloc::Global;
 use std::marker::Model;
 
@@ -106,14 +107,14 @@ impl PairTable {
     }
 
     /// Puts the path among those of the pair.
-    pub fn put_path(&mut self, place: usize, path: &str) -> Result<(), NoMemory>
+    pub fn put_path(&mut self, place: usize, path: &Path) -> Result<(), NoMemory>
         requires { place < length self.old }
         ensures ok { OnOk result (IsChangedAt (λ paths. insert_key name_cmp paths path.now) place
             self.old self.new) }
         ensures err { OnErr result (self.new ≡ self.old) }
         ensures length { length self.new ≡ length self.old }
     {
-        self.pairs[place].paths.insert(self.alloc, path)
+        self.pairs[place].paths.insert(path)
     }
 
     /// Takes the path from those of the pair.

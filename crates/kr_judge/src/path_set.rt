@@ -8,23 +8,24 @@ ghost use Rattle.kr_config.specs.Nexts.{name_cmp};
 ghost use Rattle.kr_judge.specs.Verdicts.{first};
 
 use kr_base::NoMemory;
+use kr_paths::{Path, PathMap};
 use std::alloc::Global;
-use std::collections::BTreeSet;
 use std::marker::Model;
 
 /// Paths in their order, each once. Contracts see the list of them.
 #[derive(Drop)]
 pub struct PathSet {
-    paths: BTreeSet<String>,
+    // The numbers say nothing.
+    paths: PathMap,
 }
 
 impl Model for PathSet {
-    ghost use Rattle.std.specs.Prelude.{ℕ, List, map};
-    ghost use Rattle.std.specs.String.{string_bytes};
+    ghost use Rattle.std.specs.Prelude.{ℕ, List};
+    ghost use Rattle.std.specs.Map.{keys_of};
 
     ghost Value = { List (List ℕ) };
 
-    ghost view = { λ set. map string_bytes set.paths.keys };
+    ghost view = { λ set. keys_of set.paths };
 }
 
 impl PathSet {
@@ -33,11 +34,12 @@ impl PathSet {
         ensures { result ≡ [] }
     {
         PathSet {
-            paths: BTreeSet::new(alloc),
+            paths: PathMap::new(alloc),
         }
     }
 
     /// How many there are.
+    #[tactic(auto, using(crate::proofs::Keys::keys_length))]
     pub fn len(&self) -> usize
         ensures { result ≡ length self.now }
     {
@@ -49,26 +51,25 @@ impl PathSet {
         ensures { option_map (λ path. path.now) result ≡ first self.now }
     {
         match self.paths.first() {
-            Some(path) => Some(path.as_str()),
+            Some((path, _)) => Some(path.as_str()),
             None => None,
         }
     }
 
-    /// Puts a copy of the path to its place, unless it is there.
-    #[tactic(auto, using(crate::proofs::Strings::key_put))]
-    pub(crate) fn insert(&mut self, alloc: Global, path: &str) -> Result<(), NoMemory>
+    /// Puts the path to its place, unless it is there. It is shared, not copied.
+    #[tactic(auto, using(crate::proofs::Keys::key_put))]
+    pub(crate) fn insert(&mut self, path: &Path) -> Result<(), NoMemory>
         ensures ok { OnOk result (self.new ≡ insert_key name_cmp self.old path.now) }
         ensures err { OnErr result (self.new ≡ self.old) }
     {
-        let copy = String::from_str(alloc, path)?;
-        match self.paths.insert(copy) {
-            Ok(_) => Ok(()),
-            Err(_) => Err(NoMemory),
+        match self.paths.insert(path.share()?, 0) {
+            Ok(()) => Ok(()),
+            Err(NoMemory) => Err(NoMemory),
         }
     }
 
     /// Takes the path away where it is there.
-    #[tactic(auto, using(crate::proofs::Strings::key_gone))]
+    #[tactic(auto, using(crate::proofs::Keys::key_gone))]
     pub(crate) fn remove(&mut self, path: &str)
         ensures { self.new ≡ remove_key (is_at (name_cmp path.now)) self.old }
     {

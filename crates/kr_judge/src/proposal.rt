@@ -6,14 +6,14 @@ ghost use Rattle.kr_config.specs.Nexts.{name_cmp};
 ghost use Rattle.kr_judge.specs.inner.Indexes.{IsIndexed, labels_of, without_proposed};
 
 use crate::pair_table::PairTable;
-use crate::path_map::PathMap;
-use kr_base::{NoMemory, Text};
+use kr_base::NoMemory;
+use kr_paths::{Path, PathMap};
 use std::alloc::Global;
 
 /// A path that would need the pair at the place.
 #[derive(Drop)]
 pub struct Proposal {
-    pub path: Text,
+    pub path: Path,
     pub place: usize,
     /// Whether nothing is needed at the path yet.
     pub fresh: bool,
@@ -37,9 +37,9 @@ pub fn make_proposal(
     ensures same { OnErr result (places.new ≡ places.old) }
     ensures labels { labels_of pairs.new ≡ labels_of pairs.old }
 {
-    let kept = Text::copy(alloc, path)?;
-    let key = Text::copy(alloc, path)?;
-    pairs.put_path(place, path)?;
+    let kept = Path::copy(alloc, path)?;
+    let key = kept.share()?;
+    pairs.put_path(place, &kept)?;
     match places.get(path) {
         Some(_own) => Ok(Proposal {
             path: kept,

@@ -1,9 +1,10 @@
 -- A tape that is made where none of its name is here or out.
 use Rattle.std.proofs.Common.{◌≡◌, ℕ, List, [], ◌∷◌, ◌++◌, Bool, true, None, Some, option_map, Result, Ok, Err, inr, refl, sym, ap, subst}
 use Rattle.std.specs.Prelude.{count_by, IfOk, IfErr}
+use Rattle.kr_base.specs.Faults.{counted}
 use Rattle.kr_base.specs.InMemory.{TapeState, faults_of}
 use Rattle.kr_kms.specs.MemWorld.{TapeShelf, first_tape, place_of, objects_by, name_of, new_tape, GivesTape}
-use Rattle.kr_kms.specs.Outside.{HandsOut, IsTape, same_name}
+use Rattle.kr_kms.specs.Outside.{HandsOut, IsTape, has_failed, same_name}
 use Rattle.kr_kms.specs.declared.world.FileNo.{FileNo}
 use Rattle.kr_kms.specs.declared.world.FileNo.TheVariants.{NoMemory}
 use Rattle.kr_kms.proofs.Lent.{made, names_decide, no_place}
@@ -57,3 +58,10 @@ pub alone_if : {T E : Type 0} (result : Result T E) (count : ℕ) → count ≡ 
     → IfOk result (λ t. count ≡ 0)
 alone_if (Ok t) count e = e
 alone_if (Err e) count none = tt
+
+-- want of memory counts as no fault
+pub not_counted : {T : Type 0} (result : Result T FileNo) (count : ℕ)
+    → IfErr result (λ why. why ≡ NoMemory) → count ≡ counted (has_failed result) count
+not_counted (Ok t) count e = refl
+not_counted {T} (Err why) count e =
+    subst (λ w. count ≡ counted (has_failed {T = T} (Err w)) count) (sym e) refl

@@ -8,6 +8,8 @@ use Rattle.kr_base.specs.Told.{Agrees}
 use Rattle.kr_kms.specs.Calls.{Link}
 use Rattle.kr_kms.specs.declared.file_faults.FileFaults.{FileFaults}
 use Rattle.kr_kms.specs.declared.plugin.Status.{Status}
+use Rattle.kr_kms.specs.declared.world.Access.{Access}
+use Rattle.kr_kms.specs.declared.world.Access.TheVariants.{ToRead, ToWrite, ToMake}
 use Rattle.kr_kms.specs.declared.world.WorldCall.{WorldCall}
 use Rattle.kr_kms.specs.declared.world.FileNo.{FileNo}
 use Rattle.kr_kms.specs.declared.world.FileNo.TheVariants.{Absent, TooLong, Failed, NoMemory}
@@ -69,6 +71,14 @@ Loads old new name limit (Err TooLong) =
 Loads old new name limit (Err Failed) = Rose old.faults.loads new.faults.loads
 Loads old new name limit (Err NoMemory) = ⊤
 
+-- whether a call failed: the count of its kind is one higher then, and else as before
+abbrev pub has_failed : {T : Type 0} → Result T FileNo → Bool
+has_failed (Ok object) = false
+has_failed (Err Absent) = false
+has_failed (Err TooLong) = false
+has_failed (Err Failed) = true
+has_failed (Err NoMemory) = false
+
 -- ---- what it was asked for
 
 -- one more call was made
@@ -116,6 +126,12 @@ same_link link other = (link.0 == other.0) && bytes_eq link.1 other.1
 -- a random source or a link is refused for a fault or for want of memory
 abbrev pub IsFaultOrMemory : FileNo → Type 0
 IsFaultOrMemory why = (why ≡ Failed) ⊎ (why ≡ NoMemory)
+
+-- whether a tape that is asked for so is made where it is absent
+abbrev pub makes : Access → Bool
+makes ToRead = false
+makes ToWrite = false
+makes ToMake = true
 
 -- the tape has what is told under its name; one that was absent may be made, and is empty then
 abbrev pub IsTape : Option (Option (List ℕ)) → (make : Bool) → Option (List ℕ) → Type 0

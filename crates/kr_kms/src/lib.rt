@@ -23,4 +23,4 @@ pub use plugin::{Kms, KmsNo, Status, Wrapped, is_within_limits};
 pub use seeds::{SeedKey, SeedRow, make_seed};
 pub use shelf::{Shelf, name_place, plugin_place};
 pub use table_plugin::TablePlugin;
-pub use world::{FileNo, World, WorldCall};
+pub use world::{Access, FileNo, World, WorldCall};

@@ -3,11 +3,11 @@ ghost use Rattle.std.specs.Prelude.{◌≡◌, [], ◌∷◌, ◌++◌, ◌<◌,
 ghost use Rattle.std.specs.Prelude.{is_ok, if◌then◌else◌, Some, IfOk, IfErr, IfSome, OnErr, IsErrOf};
 ghost use Rattle.std.specs.Option.{option_copied, option_map};
 ghost use Rattle.std.specs.Str.{bytes_eq};
-ghost use Rattle.kr_base.specs.Faults.{Rose};
+ghost use Rattle.kr_base.specs.Faults.{Rose, counted};
 ghost use Rattle.kr_base.specs.InMemory.{faults_of};
 ghost use Rattle.kr_kms.specs.Outside.{Loads, Notes, KeepsFiles, KeepsObjects, HandsOut, TakesBack};
 ghost use Rattle.kr_kms.specs.Outside.{same_seat, same_name, same_link, with_call};
-ghost use Rattle.kr_kms.specs.Outside.{IsFaultOrMemory, IsTape, RefusesTape, link_at};
+ghost use Rattle.kr_kms.specs.Outside.{IsFaultOrMemory, IsTape, RefusesTape, has_failed, link_at, makes};
 ghost use Rattle.kr_kms.specs.MemWorld.{file_of, seat_of, name_of, link_key, without_first};
 ghost use Rattle.kr_kms.specs.MemWorld.{first_dice, first_tape, first_link, new_tape, told_by};
 ghost use Rattle.kr_kms.specs.MemWorld.{GivesFile, GivesFirst, GivesTape};
@@ -15,7 +15,7 @@ ghost use Rattle.kr_kms.specs.MemWorld.{GivesFile, GivesFirst, GivesTape};
 use crate::file_faults::FileFaults;
 use crate::plugin::Kms;
 use crate::shelf::{Shelf, name_place, plugin_place};
-use crate::world::{FileNo, World, WorldCall};
+use crate::world::{Access, FileNo, World, WorldCall};
 use kr_base::{Bytes, List, MemDice, MemTape, NoMemory, Text, both};
 use std::alloc::Global;
 
@@ -111,6 +111,8 @@ impl<L: Kms + Send> World for MemWorld<L> {
         // As the trait says.
         ensures file { Loads (⟦<MemWorld<L> as World>⟧.told self.old)
             (⟦<MemWorld<L> as World>⟧.told self.new) name.now limit result }
+        ensures once { (⟦<MemWorld<L> as World>⟧.told self.new).faults.loads
+            ≡ counted (has_failed result) (⟦<MemWorld<L> as World>⟧.told self.old).faults.loads }
         ensures asked { Notes (⟦<MemWorld<L> as World>⟧.told self.old)
             (⟦<MemWorld<L> as World>⟧.told self.new) (WorldCall.File name.now) result }
         ensures kind { (⟦<MemWorld<L> as World>⟧.told self.new).faults ≡ record
@@ -135,10 +137,10 @@ impl<L: Kms + Send> World for MemWorld<L> {
         }
     }
 
-    fn tape(&mut self, alloc: Global, name: &str, make: bool) -> Result<MemTape, FileNo>
+    fn tape(&mut self, alloc: Global, name: &str, access: Access) -> Result<MemTape, FileNo>
         ensures gives { GivesTape
             (option_map (λ entry. entry.1) (first_tape self.old.tapes.items name.now))
-            (count_by (λ other. bytes_eq other name.now) self.old.tapes.out) make self.old.room
+            (count_by (λ other. bytes_eq other name.now) self.old.tapes.out) (makes access) self.old.room
             self.old.faults.tapes result self.new.faults.tapes }
         ensures gone { self.new.tapes.items ≡ (if is_ok result
             then without_first same_name name_of self.old.tapes.items name.now
@@ -152,19 +154,22 @@ impl<L: Kms + Send> World for MemWorld<L> {
             (⟦<MemWorld<L> as World>⟧.told self.new).tapes name.now
             (faults_of tape)) }
         ensures tape { IfOk result
-            (λ tape. IsTape ((⟦<MemWorld<L> as World>⟧.told self.old).tapes.told name.now) make
-            (Some tape.bytes)) }
+            (λ tape. IsTape ((⟦<MemWorld<L> as World>⟧.told self.old).tapes.told name.now)
+            (makes access) (Some tape.bytes)) }
         ensures alone { IfOk result (λ tape. (⟦<MemWorld<L> as World>⟧.told self.old).tapes.out
             name.now ≡ 0) }
         ensures err { OnErr result ((⟦<MemWorld<L> as World>⟧.told self.new).tapes ≡
             (⟦<MemWorld<L> as World>⟧.told self.old).tapes) }
         ensures refusals { IfErr result (λ why. RefusesTape
-            ((⟦<MemWorld<L> as World>⟧.told self.old).tapes.told name.now) make why) }
+            ((⟦<MemWorld<L> as World>⟧.told self.old).tapes.told name.now)
+            (makes access) why) }
         ensures failed { IsErrOf result FileNo.Failed → Rose
             (⟦<MemWorld<L> as World>⟧.told self.old).faults.tapes
             (⟦<MemWorld<L> as World>⟧.told self.new).faults.tapes }
+        ensures once { (⟦<MemWorld<L> as World>⟧.told self.new).faults.tapes
+            ≡ counted (has_failed result) (⟦<MemWorld<L> as World>⟧.told self.old).faults.tapes }
         ensures asked { Notes (⟦<MemWorld<L> as World>⟧.told self.old)
-            (⟦<MemWorld<L> as World>⟧.told self.new) (WorldCall.Tape name.now make) result }
+            (⟦<MemWorld<L> as World>⟧.told self.new) (WorldCall.Tape name.now access) result }
         ensures kind { (⟦<MemWorld<L> as World>⟧.told self.new).faults ≡ record
             (⟦<MemWorld<L> as World>⟧.told self.old).faults {
               tapes =
@@ -182,7 +187,7 @@ impl<L: Kms + Send> World for MemWorld<L> {
             return Err(FileNo::Failed);
         }
         let Some(at) = tape_place(self.tapes.items(), name) else {
-            if !make {
+            if !access.makes() {
                 return Err(FileNo::Absent);
             }
             return make_tape(alloc, &mut self.tapes, name, self.room);
@@ -219,6 +224,8 @@ impl<L: Kms + Send> World for MemWorld<L> {
         ensures failed { IsErrOf result FileNo.Failed → Rose
             (⟦<MemWorld<L> as World>⟧.told self.old).faults.dice
             (⟦<MemWorld<L> as World>⟧.told self.new).faults.dice }
+        ensures once { (⟦<MemWorld<L> as World>⟧.told self.new).faults.dice
+            ≡ counted (has_failed result) (⟦<MemWorld<L> as World>⟧.told self.old).faults.dice }
         ensures asked { Notes (⟦<MemWorld<L> as World>⟧.told self.old)
             (⟦<MemWorld<L> as World>⟧.told self.new) (WorldCall.RandomSource seat) result }
         ensures kind { (⟦<MemWorld<L> as World>⟧.told self.new).faults ≡ record
@@ -266,6 +273,8 @@ impl<L: Kms + Send> World for MemWorld<L> {
         ensures failed { IsErrOf result FileNo.Failed → Rose
             (⟦<MemWorld<L> as World>⟧.told self.old).faults.links
             (⟦<MemWorld<L> as World>⟧.told self.new).faults.links }
+        ensures once { (⟦<MemWorld<L> as World>⟧.told self.new).faults.links
+            ≡ counted (has_failed result) (⟦<MemWorld<L> as World>⟧.told self.old).faults.links }
         ensures asked { Notes (⟦<MemWorld<L> as World>⟧.told self.old)
             (⟦<MemWorld<L> as World>⟧.told self.new) (WorldCall.Link seat plugin.now _program.now)
             result }

@@ -1,10 +1,10 @@
 //! The world that a command runs in: its files, the tapes that it writes, the random source of each
 //! seat, and the links of each seat to plugins.
 ghost use Rattle.std.specs.Prelude.{◌≡◌, ◌<◌, IfOk, IfErr, OnErr, IsErrOf, true, Some, option_map};
-ghost use Rattle.kr_base.specs.Faults.{Rose};
+ghost use Rattle.kr_base.specs.Faults.{Rose, counted};
 ghost use Rattle.kr_kms.specs.Outside.{Outside, file_faults, Loads, Notes, KeepsFiles, KeepsObjects, with_call};
 ghost use Rattle.kr_kms.specs.Outside.{HandsOut, TakesBack, same_seat, same_name, same_link};
-ghost use Rattle.kr_kms.specs.Outside.{IsFaultOrMemory, IsTape, RefusesTape, link_at};
+ghost use Rattle.kr_kms.specs.Outside.{IsFaultOrMemory, IsTape, RefusesTape, has_failed, link_at, makes};
 
 use crate::plugin::Kms;
 use kr_base::{Bytes, Dice, Tape, Text};
@@ -23,15 +23,38 @@ pub enum FileNo {
     NoMemory,
 }
 
+/// What a tape is asked for.
+#[derive(Clone, Copy, Debug, PartialEq, Eq)]
+pub enum Access {
+    /// To be read, beside others that read it.
+    ToRead,
+    /// To be read and written, alone.
+    ToWrite,
+    /// As `ToWrite`, and made where it is absent.
+    ToMake,
+}
+
+impl Access {
+    /// Whether an absent tape is made.
+    pub fn makes(self) -> bool
+        ensures { result ≡ makes self }
+    {
+        match self {
+            Access::ToRead | Access::ToWrite => false,
+            Access::ToMake => true,
+        }
+    }
+}
+
 /// A call that a world notes.
 #[derive(Drop)]
 pub enum WorldCall {
     /// For the file of a name.
     File(Text),
-    /// For the tape of a name, which is made where it is absent, if `make` says so.
+    /// For the tape of a name, and what it is asked for.
     Tape {
         name: Text,
-        make: bool,
+        access: Access,
     },
     /// For the random source of a seat.
     RandomSource(u32),
@@ -50,7 +73,7 @@ pub enum WorldCall {
 /// no memory.
 ///
 /// Each call says what it leaves of each part of the world. A call that asks for something raises
-/// the count of faults of its own kind alone.
+/// the count of faults of its own kind by one where it answers `Failed`, and no count else.
 pub trait World {
     /// A file that is read and written at any place. It can move to a thread.
     type Tap: Tape + Send;
@@ -70,28 +93,32 @@ pub trait World {
     /// A whole file of at most `limit` bytes.
     fn load(&mut self, alloc: Global, name: &str, limit: u64) -> Result<Bytes, FileNo>
         ensures file { Loads (told self.old) (told self.new) name.now limit result }
+        ensures once { (told self.new).faults.loads
+            ≡ counted (has_failed result) (told self.old).faults.loads }
         ensures asked { Notes (told self.old) (told self.new) (WorldCall.File name.now) result }
         ensures kind { (told self.new).faults
             ≡ record (told self.old).faults { loads = (told self.new).faults.loads } }
         ensures files { KeepsFiles (told self.old) (told self.new) }
         ensures objects { KeepsObjects (told self.old) (told self.new) };
 
-    /// The file of a name, to be read and written at any place. An absent one is made, and empty
-    /// then, where `make` says so. It never answers `TooLong`. A tape that is out, here or in
-    /// another process, isn't handed out a second time: that fails.
-    fn tape(&mut self, alloc: Global, name: &str, make: bool) -> Result<Self::Tap, FileNo>
+    /// The file of a name, for what it is asked for; one that is made is empty. It never answers
+    /// `TooLong`. A tape that is out isn't handed out a second time: that fails. So does one that
+    /// another process has out, unless both only read.
+    fn tape(&mut self, alloc: Global, name: &str, access: Access) -> Result<Self::Tap, FileNo>
         ensures ok { IfOk result (λ tape. HandsOut same_name (told self.old).tapes
             (told self.new).tapes name.now (Self.Tap.count tape)) }
-        ensures tape { IfOk result (λ tape. IsTape ((told self.old).tapes.told name.now) make
-            (Self.Tap.told tape)) }
+        ensures tape { IfOk result (λ tape. IsTape ((told self.old).tapes.told name.now)
+            (makes access) (Self.Tap.told tape)) }
         ensures alone { IfOk result (λ tape. (told self.old).tapes.out name.now ≡ 0) }
         ensures err { OnErr result ((told self.new).tapes ≡ (told self.old).tapes) }
         ensures refusals { IfErr result
-            (λ why. RefusesTape ((told self.old).tapes.told name.now) make why) }
+            (λ why. RefusesTape ((told self.old).tapes.told name.now) (makes access) why) }
         ensures failed { IsErrOf result FileNo.Failed
             → Rose (told self.old).faults.tapes (told self.new).faults.tapes }
+        ensures once { (told self.new).faults.tapes
+            ≡ counted (has_failed result) (told self.old).faults.tapes }
         ensures asked { Notes (told self.old) (told self.new)
-            (WorldCall.Tape name.now make) result }
+            (WorldCall.Tape name.now access) result }
         ensures kind { (told self.new).faults
             ≡ record (told self.old).faults { tapes = (told self.new).faults.tapes } }
         ensures files { KeepsFiles (told self.old) (told self.new) }
@@ -108,6 +135,8 @@ pub trait World {
         ensures refusals { IfErr result IsFaultOrMemory }
         ensures failed { IsErrOf result FileNo.Failed
             → Rose (told self.old).faults.dice (told self.new).faults.dice }
+        ensures once { (told self.new).faults.dice
+            ≡ counted (has_failed result) (told self.old).faults.dice }
         ensures asked { Notes (told self.old) (told self.new) (WorldCall.RandomSource seat) result }
         ensures kind { (told self.new).faults
             ≡ record (told self.old).faults { dice = (told self.new).faults.dice } }
@@ -132,6 +161,8 @@ pub trait World {
         ensures refusals { IfErr result IsFaultOrMemory }
         ensures failed { IsErrOf result FileNo.Failed
             → Rose (told self.old).faults.links (told self.new).faults.links }
+        ensures once { (told self.new).faults.links
+            ≡ counted (has_failed result) (told self.old).faults.links }
         ensures asked { Notes (told self.old) (told self.new)
             (WorldCall.Link seat plugin.now program.now) result }
         ensures kind { (told self.new).faults

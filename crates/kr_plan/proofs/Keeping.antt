@@ -1,6 +1,6 @@
 -- The settings of both phases keep the rules, and what may pass a limit can be counted.
-use Rattle.std.proofs.Common.{◌≡◌, ℕ, ◌+◌, ◌*◌, ◌<◌, ◌≤◌, ◌^◌, Bool, true, false, List, [], ◌∷◌, ◌++◌, length, map, Contains, None, refl, sym, ap, subst, ◌∙◌, ◌⊎◌, inl, inr, arith, count_by, length-append}
-use Rattle.std.specs.Prelude.{◌&&◌, nat_lt, nat_le, not, if◌then◌else◌}
+use Rattle.std.proofs.Common.{◌≡◌, ℕ, ◌+◌, ◌*◌, ◌<◌, ◌≤◌, ◌^◌, Bool, true, false, List, [], ◌∷◌, ◌++◌, length, Contains, refl, ap, subst, ◌∙◌, inl, inr, arith, count_by, length-append}
+use Rattle.std.specs.Prelude.{◌&&◌, nat_le, not, if◌then◌else◌}
 use Rattle.std.specs.List.{filter, list_all, list_any, flat_map, sum_by}
 use Rattle.std.specs.Option.{option_map}
 use Rattle.std.specs.Ordering.{match_ordering}
@@ -11,7 +11,7 @@ use Rattle.std.proofs.lemmas.Bool.{le-leb, leb-true, ltb-false}
 use Rattle.std.proofs.lemmas.List.{length-map}
 use Rattle.std.proofs.lemmas.List.Elements.{All-weaker, All-contains_itself, All-map, Contains-append_cases}
 use Rattle.std.proofs.lemmas.List.Folds.{list_all-append}
-use Rattle.std.proofs.lemmas.List.Sums.{AllPass-from_list_all, list_all-from_AllPass, sum_by-append, sum_by-cons, sum_by-le}
+use Rattle.std.proofs.lemmas.List.Sums.{list_all-from_AllPass, sum_by-cons}
 use Rattle.kr_config.specs.declared.class.Class.{Class}
 use Rattle.kr_config.specs.declared.class.Class.TheVariants.{Exact, Group, Rest}
 use Rattle.kr_config.specs.declared.pattern.Pattern.{Pattern}
@@ -22,6 +22,7 @@ use Rattle.kr_config.specs.declared.who.Who.{Who}
 use Rattle.kr_config.specs.Classes.{class_cmp, class_made, classes_made, classes_in}
 use Rattle.kr_config.specs.Kept.{Row, apart, keeps, keeps_patterns, keeps_providers, keeps_row, patterns_in, keys_in, kms_in}
 use Rattle.kr_config.specs.Lists.{first_list, class_list}
+use Rattle.kr_config.specs.ClassEntries.{class_pattern, class_row}
 use Rattle.kr_config.specs.Patterns.{is_pattern, matches, covers_group, covers_rest}
 use Rattle.kr_config.specs.Patterns as patterns
 use Rattle.kr_config.specs.Providers.{is_provider, is_key, is_kms, rivals}
@@ -30,18 +31,18 @@ use Rattle.kr_judge.specs.Providers.{has}
 use Rattle.kr_judge.specs.Tables.{in_order, table_of}
 use Rattle.kr_judge.proofs.Lists.{cases, filtered_none, map_empty, mapped_none, option_none}
 use Rattle.kr_judge.proofs.Tables.{is_table}
-use Rattle.kr_plan.specs.Merges.{merge, pattern_of, merged_row, merged_rows, classes_of, wide_rows, turned_rows}
+use Rattle.kr_plan.specs.Merges.{merge, merged_list, merged_rows, classes_of, wide_rows, turned_rows}
 use Rattle.kr_plan.specs.declared.refusal.PlanNo.TheVariants.{SecretClash, TooMany}
 use Rattle.kr_plan.specs.Plans.{clash, first_clash, clashes_at, clash_reasons, amounts, is_above, limit_reasons}
 use Rattle.kr_plan.proofs.Apart.{no_clash, clash_turn, merged_apart, all_filter}
 use Rattle.kr_plan.proofs.ClassLists.{rest_in}
 use Rattle.kr_plan.proofs.Counting.{count_turn, count_most}
-use Rattle.kr_plan.proofs.KeptLists.{kept_of, each_kept, list_keeps}
+use Rattle.kr_config.proofs.KeptLists.{kept_of, each_kept, list_keeps}
 
 -- ---- the pattern of a class is of its form
 
 abbrev IsFormed : Class → Type 0
-IsFormed class = is_pattern (pattern_of class) ≡ true
+IsFormed class = is_pattern (class_pattern class) ≡ true
 
 made_formed : (p : Pattern) (class : Class) → is_pattern p ≡ true → Contains (class_made p) class
     → IsFormed class
@@ -129,8 +130,8 @@ providers_keep one other a b none =
 
 row_keeps : (one other : List Row) (class : Class) → IsFormed class
     → keeps_providers (merge (class_list one class) (class_list other class)) ≡ true
-    → keeps_row (merged_row one other class) ≡ true
-row_keeps one other class formed kept = both (keeps_patterns (pattern_of class ∷ []))
+    → keeps_row (class_row (merged_list one other) class) ≡ true
+row_keeps one other class formed kept = both (keeps_patterns (class_pattern class ∷ []))
     (keeps_providers (merge (class_list one class) (class_list other class)))
     (ap (λ v. (v && true) && true) formed) kept
 
@@ -160,8 +161,8 @@ rows_keep : (classes : List Class) (one other : List Row) → keeps one ≡ true
     → list_all keeps_row (merged_rows classes one other) ≡ true
 rows_keep classes one other a b formed none =
     list_all-from_AllPass keeps_row (merged_rows classes one other)
-    (All-map (λ row. keeps_row row ≡ true) (merged_row one other) classes
-    (All-weaker (Contains classes) (λ class. keeps_row (merged_row one other class) ≡ true)
+    (All-map (λ row. keeps_row row ≡ true) (class_row (merged_list one other)) classes
+    (All-weaker (Contains classes) (λ class. keeps_row (class_row (merged_list one other) class) ≡ true)
     (λ class m. row_keeps one other class (formed class m)
     (providers_keep (class_list one class) (class_list other class) (list_keeps one class a)
     (list_keeps other class b) (none class m))) classes (All-contains_itself classes)))
@@ -170,7 +171,7 @@ patterns_each : (classes : List Class) (one other : List Row)
     → patterns_in (merged_rows classes one other) ≡ length classes
 patterns_each [] one other = refl
 patterns_each (class ∷ classes) one other =
-    let s = sum_by-cons (λ (row : Row). length row.patterns) (merged_row one other class)
+    let s = sum_by-cons (λ (row : Row). length row.patterns) (class_row (merged_list one other) class)
     (merged_rows classes one other) in
     let r = patterns_each classes one other in omega (arith, s, r)
 
@@ -181,7 +182,7 @@ pub whole : (classes : List Class) (one other : List Row) → Contains classes R
 unfolding keeps
 whole classes one other some few rows keys plugins =
     let made : List Row = merged_rows classes one other in
-    let long : length made ≡ length classes = length-map classes (merged_row one other) in
+    let long : length made ≡ length classes = length-map classes (class_row (merged_list one other)) in
     let each = patterns_each classes one other in
     six (le-leb 1 (length made) (omega (arith, long, some.1)))
     (le-leb (length made) 64 (omega (arith, long, few))) rows
@@ -219,8 +220,8 @@ counts_turn : (p : Who → Bool) (classes : List Class) (one other : List Row) �
 counts_turn p [] one other a b = refl
 counts_turn p (class ∷ classes) one other a b =
     let many : Row → ℕ = λ row. count_by p row.providers in
-    let s = sum_by-cons many (merged_row one other class) (merged_rows classes one other) in
-    let t = sum_by-cons many (merged_row other one class) (merged_rows classes other one) in
+    let s = sum_by-cons many (class_row (merged_list one other) class) (merged_rows classes one other) in
+    let t = sum_by-cons many (class_row (merged_list other one) class) (merged_rows classes other one) in
     let r = counts_turn p classes one other a b in
     let c = count_turn p (class_list one class) (class_list other class)
     (stands one class a) (stands other class b) in
@@ -241,7 +242,7 @@ pub wide_keeps : (from to : List Row) → keeps from ≡ true → keeps to ≡ t
 wide_keeps from to a b none few =
     let classes : List Class = classes_of from to in
     let long : length (wide_rows from to) ≡ length classes =
-    length-map classes (merged_row from to) in
+    length-map classes (class_row (merged_list from to)) in
     whole classes from to (rest_in (from ∷ to ∷ [])) (omega (arith, long, few.entries))
     (rows_keep classes from to a b (formed from to a b) (unclashed classes from to none)) few.keys
     few.plugins
@@ -252,7 +253,7 @@ pub turned_keeps : (from to : List Row) → keeps from ≡ true → keeps to ≡
 turned_keeps from to a b none few =
     let classes : List Class = classes_of from to in
     let long : length (wide_rows from to) ≡ length classes =
-    length-map classes (merged_row from to) in
+    length-map classes (class_row (merged_list from to)) in
     let keys = counts_turn is_key classes from to a b in
     let plugins = counts_turn is_kms classes from to a b in
     whole classes to from (rest_in (from ∷ to ∷ [])) (omega (arith, long, few.entries))
@@ -358,7 +359,7 @@ merged_most : (p : Who → Bool) (classes : List Class) (one other : List Row) (
 merged_most p [] one other most none a b = omega arith
 merged_most p (class ∷ classes) one other most none a b =
     let many : Row → ℕ = λ row. count_by p row.providers in
-    let s = sum_by-cons many (merged_row one other class) (merged_rows classes one other) in
+    let s = sum_by-cons many (class_row (merged_list one other) class) (merged_rows classes one other) in
     let r = merged_most p classes one other most none a b in
     let c = count_most p (class_list one class) (class_list other class) in
     let x = class_most p one class most (none class) a in
@@ -385,7 +386,7 @@ pub wide_small : (from to : List Row) → keeps from ≡ true → keeps to ≡ t
 wide_small from to a b =
     let classes : List Class = classes_of from to in
     let long : length (wide_rows from to) ≡ length classes =
-    length-map classes (merged_row from to) in
+    length-map classes (class_row (merged_list from to)) in
     let most = table_long from to a b in
     let keys = merged_most is_key classes from to 64 no_key (few_keys from a) (few_keys to b) in
     let plugins =

@@ -22,7 +22,7 @@ use Rattle.kr_plan.specs.Laws.{WidePasses, TurnedPasses, TargetPasses}
 use Rattle.kr_plan.specs.Merges.{merge, wide_rows, turned_rows}
 use Rattle.kr_plan.specs.Rollouts.{IsBetween, GivesEither}
 use Rattle.kr_plan.proofs.ClassLists.{merges_each_class}
-use Rattle.kr_plan.proofs.KeptLists.{full_list}
+use Rattle.kr_config.proofs.KeptLists.{full_list}
 use Rattle.kr_plan.proofs.Merged.{from_passed, in_one, first_member, first_merged, merges_members}
 
 -- ---- live generations

@@ -1,22 +1,21 @@
 -- Loops over classes, providers and entries.
-use Rattle.std.proofs.Common.{◌≡◌, ℕ, ◌+◌, ◌<◌, ◌≤◌, Bool, true, false, List, [], ◌∷◌, ◌++◌, length, get_or, take, drop, map, Option, None, Some, refl, sym, ap, ◌∙◌, arith, count_by, append-nil, ◌^◌, Fits, w64}
+use Rattle.std.proofs.Common.{◌≡◌, ℕ, ◌+◌, ◌<◌, ◌≤◌, Bool, true, false, List, [], ◌∷◌, ◌++◌, length, get_or, take, drop, map, Option, None, Some, refl, sym, ap, ◌∙◌, arith, append-nil}
 use Rattle.std.specs.Prelude.{not, cond}
-use Rattle.std.specs.List.{cons_option, filter, fold, sum_by}
+use Rattle.std.specs.List.{cons_option, filter}
 use Rattle.std.specs.Option.{option_map}
 use Rattle.std.proofs.lemmas.List.{append_assoc, map-append, take_all}
 use Rattle.std.proofs.lemmas.List.Elements.{filter-append}
-use Rattle.std.proofs.lemmas.List.Folds.{fold-map}
 use Rattle.std.proofs.lemmas.List.FromFn.{map-range_with_len_more}
-use Rattle.std.proofs.lemmas.List.Sums.{sum_by-append, sum_by-cons, sum_by_more, sum_by_more_le}
 use Rattle.kr_config.specs.declared.class.Class.{Class}
 use Rattle.kr_config.specs.declared.settings.Entry.{Entry}
 use Rattle.kr_config.specs.declared.who.Who.{Who}
 use Rattle.kr_config.specs.Kept.{Row, row_of, rows_of}
 use Rattle.kr_config.specs.Lists.{class_list}
+use Rattle.kr_config.specs.ClassEntries.{class_row}
 use Rattle.kr_judge.specs.Providers.{has}
 use Rattle.kr_judge.specs.Verdicts.{first}
 use Rattle.kr_judge.proofs.Parts.{drop_at, drop_end, take_at_more}
-use Rattle.kr_plan.specs.Merges.{merged_row, merged_rows}
+use Rattle.kr_plan.specs.Merges.{merged_list, merged_rows}
 use Rattle.kr_plan.specs.Plans.{reloads, first_clash, clashes_at}
 use Rattle.kr_plan.specs.declared.moves.Move.{Move}
 use Rattle.kr_plan.specs.declared.moves.Move.TheVariants.{Reload}
@@ -64,14 +63,14 @@ left_end classes one other i left h =
 pub merged_more : (classes : List Class) (one other : List Row) (i : ℕ) (class : Class)
     (entries : List Entry) (entry : Entry)
     → rows_of entries ≡ merged_rows (take i classes) one other → i < length classes
-    → class ≡ get_or classes i class → row_of entry ≡ merged_row one other class
+    → class ≡ get_or classes i class → row_of entry ≡ class_row (merged_list one other) class
     → rows_of (entries ++ entry ∷ []) ≡ merged_rows (take (i + 1) classes) one other
 merged_more classes one other i class entries entry was h is row =
     map-append row_of entries (entry ∷ [])
     ∙ ap (λ l. l ++ row_of entry ∷ []) was
     ∙ ap (λ r. merged_rows (take i classes) one other ++ r ∷ []) row
-    ∙ sym (ap (map (merged_row one other)) (take_at_more classes i class h is)
-    ∙ map-append (merged_row one other) (take i classes) (class ∷ []))
+    ∙ sym (ap (map (class_row (merged_list one other))) (take_at_more classes i class h is)
+    ∙ map-append (class_row (merged_list one other)) (take i classes) (class ∷ []))
 
 pub merged_end : (classes : List Class) (one other : List Row) (i : ℕ) (entries : List Entry)
     → rows_of entries ≡ merged_rows (take i classes) one other → length classes ≤ i
@@ -138,50 +137,3 @@ pub reloads_more : (phase : Phase) (i : ℕ) (begun moves : List Move)
 reloads_more phase i begun moves was =
     ap (λ l. l ++ Reload i phase ∷ []) was ∙ append_assoc begun (reloads phase i) (Reload i phase ∷ [])
     ∙ ap (λ l. begun ++ l) (sym (map-range_with_len_more (λ replica. Reload replica phase) 0 i i (omega arith)))
-
--- ---- sums
-
-abbrev amount : (Who → Bool) → Row → ℕ
-amount test row = count_by test row.providers
-
-by_entries : (test : Who → Bool) (entries : List Entry)
-    → sum_by (amount test) (rows_of entries) ≡ sum_by (λ e. amount test (row_of e)) entries
-by_entries test entries = fold-map (λ s row. s + amount test row) row_of 0 entries
-
-pub sum_more : (test : Who → Bool) (entries : List Entry) (i : ℕ) (entry : Entry) (sum n : ℕ)
-    → sum ≡ sum_by (amount test) (rows_of (take i entries)) → i < length entries
-    → entry ≡ get_or entries i entry → n ≡ count_by test entry.providers.0
-    → sum + n ≡ sum_by (amount test) (rows_of (take (i + 1) entries))
-sum_more test entries i entry sum n was h is counted =
-    let a = by_entries test (take i entries) in
-    let b = by_entries test (take (i + 1) entries) in
-    let s = sum_by_more (λ (e : Entry). amount test (row_of e)) entries i entry h in
-    let own : amount test (row_of entry) ≡ amount test (row_of (get_or entries i entry)) =
-    ap (λ (e : Entry). amount test (row_of e)) is in
-    omega (arith, was, a, b, s, own, counted)
-
-pub sum_fits : (test : Who → Bool) (entries : List Entry) (i : ℕ) (entry : Entry) (sum n most : ℕ)
-    → sum ≡ sum_by (amount test) (rows_of (take i entries)) → i < length entries
-    → entry ≡ get_or entries i entry → n ≡ count_by test entry.providers.0
-    → sum_by (amount test) (rows_of entries) < most → sum + n < most
-sum_fits test entries i entry sum n most was h is counted small =
-    let a = by_entries test (take i entries) in
-    let b = by_entries test entries in
-    let s = sum_by_more_le (λ (e : Entry). amount test (row_of e)) entries i entry h in
-    let own : amount test (row_of entry) ≡ amount test (row_of (get_or entries i entry)) =
-    ap (λ (e : Entry). amount test (row_of e)) is in
-    omega (arith, was, a, b, s, own, counted, small)
-
-pub sum_in_word : (test : Who → Bool) (entries : List Entry) (i : ℕ) (entry : Entry) (sum n : ℕ)
-    → sum ≡ sum_by (amount test) (rows_of (take i entries)) → i < length entries
-    → entry ≡ get_or entries i entry → n ≡ count_by test entry.providers.0
-    → sum_by (amount test) (rows_of entries) < 2 ^ 32 → Fits w64 (sum + n)
-sum_in_word test entries i entry sum n was h is counted small =
-    let fits = sum_fits test entries i entry sum n (2 ^ 32) was h is counted small in
-    omega (arith, fits)
-
-pub sum_end : (test : Who → Bool) (entries : List Entry) (i sum : ℕ)
-    → sum ≡ sum_by (amount test) (rows_of (take i entries)) → length entries ≤ i
-    → sum ≡ sum_by (amount test) (rows_of entries)
-sum_end test entries i sum was h =
-    was ∙ ap (λ l. sum_by (amount test) (rows_of l)) (take_all i entries h)

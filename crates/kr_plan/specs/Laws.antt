@@ -1,25 +1,15 @@
 -- Laws of the definitions.
-use Rattle.std.specs.Prelude.{◌≡◌, ◌↔◌, ℕ, IsTrue, List, Result, Ok, Some, Contains, MatchResult}
+use Rattle.std.specs.Prelude.{◌≡◌, ◌↔◌, ℕ, IsTrue, List, Some, Contains}
 use Rattle.kr_config.specs.declared.class.Class.{Class}
 use Rattle.kr_config.specs.declared.who.Who.{Who}
-use Rattle.kr_config.specs.declared.settings.Settings.{Settings}
-use Rattle.kr_config.specs.declared.refusal.ConfigErr.{ConfigErr}
-use Rattle.kr_config.specs.declared.refusal.ConfigErr.TheVariants.{NoMemory}
-use Rattle.kr_config.specs.Kept.{Row, rows_of, keeps}
+use Rattle.kr_config.specs.Kept.{Row, keeps}
 use Rattle.kr_config.specs.Lists.{list_of, class_list}
-use Rattle.kr_config.specs.Meanings.{Means, ReadsSettings}
 use Rattle.kr_judge.specs.declared.need.Need.{Need}
 use Rattle.kr_judge.specs.declared.verdict.Verdict.TheVariants.{Pass}
 use Rattle.kr_judge.specs.Boards.{GenerationState}
 use Rattle.kr_judge.specs.Verdicts.{first, verdict_of}
 use Rattle.kr_plan.specs.Merges.{merge, wide_rows, turned_rows}
 use Rattle.kr_plan.specs.Rollouts.{IsBetween}
-
--- where a text means settings, reading it gives these settings or wants memory
-abbrev pub ReadsAsMeant : Type 0
-ReadsAsMeant = (text : List ℕ) (rows : List Row) (result : Result Settings ConfigErr)
-    → Means text (Ok rows) → ReadsSettings (Means text) result
-    → MatchResult result (λ settings. rows_of settings.entries.0 ≡ rows) (λ why. why ≡ NoMemory)
 
 -- at every class, whether or not the table has it, wide settings give the list of `from` and behind
 -- it what else `to` has, and turned ones the same the other way round

@@ -1,7 +1,6 @@
 -- The definitions that public contracts and laws name, in reading order.
 pub mod Merges
 pub mod Plans
-pub mod Texts
 pub mod Rollouts
 pub mod Laws
 pub mod inner

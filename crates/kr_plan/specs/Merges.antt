@@ -1,13 +1,11 @@
 -- Settings between two others: at each class of resources both their lists, one behind the other.
-use Rattle.std.specs.Prelude.{List, [], ◌∷◌, ◌++◌, not, map}
+use Rattle.std.specs.Prelude.{List, [], ◌∷◌, ◌++◌, not}
 use Rattle.std.specs.List.{filter}
-use Rattle.kr_config.specs.declared.pattern.Pattern.{Pattern}
-use Rattle.kr_config.specs.declared.pattern.Pattern.TheVariants as pattern
 use Rattle.kr_config.specs.declared.class.Class.{Class}
-use Rattle.kr_config.specs.declared.class.Class.TheVariants.{Exact, Group, Rest}
 use Rattle.kr_config.specs.declared.who.Who.{Who}
 use Rattle.kr_config.specs.Kept.{Row}
 use Rattle.kr_config.specs.Lists.{class_list}
+use Rattle.kr_config.specs.ClassEntries.{class_rows}
 use Rattle.kr_judge.specs.Providers.{has}
 use Rattle.kr_judge.specs.Tables.{table_of}
 
@@ -15,22 +13,13 @@ use Rattle.kr_judge.specs.Tables.{table_of}
 abbrev pub merge : (one other : List Who) → List Who
 merge one other = one ++ filter (λ who. not (has one who)) other
 
--- the pattern that speaks of a class
-abbrev pub pattern_of : Class → Pattern
-pattern_of (Exact text) = pattern.Exact text
-pattern_of (Group group) = pattern.Group group
-pattern_of Rest = pattern.All
-
--- an entry of that pattern alone
-abbrev pub merged_row : (one other : List Row) → Class → Row
-merged_row one other class = record {
-  patterns = pattern_of class ∷ [];
-  providers = merge (class_list one class) (class_list other class);
-}
+-- at each class both lists
+abbrev pub merged_list : (one other : List Row) → Class → List Who
+merged_list one other class = merge (class_list one class) (class_list other class)
 
 -- an entry for each class
 abbrev pub merged_rows : List Class → (one other : List Row) → List Row
-merged_rows classes one other = map (merged_row one other) classes
+merged_rows classes one other = class_rows (merged_list one other) classes
 
 -- the classes that the two settings tell apart, in the order of their table
 abbrev pub classes_of : (from to : List Row) → List Class

@@ -1,3 +1,2 @@
 -- Definitions that serve inner contracts alone.
 pub mod Checks
-pub mod Written

@@ -7,9 +7,9 @@ ghost use Rattle.kr_judge.specs.Verdicts.{first};
 ghost use Rattle.kr_plan.specs.Plans.{clash, first_clash, clashes_at, clash_reasons};
 ghost use Rattle.kr_plan.specs.inner.Checks.{Checks};
 
-use crate::providers::is_same;
 use crate::refusal::PlanNo;
 use kr_config::{Class, Settings, Who};
+use kr_judge::is_same;
 use std::alloc::Global;
 
 /// Whether the two settings have one secret for each prefix at each of the classes.

@@ -1,11 +1,6 @@
 //! Laws of the definitions, for a reader and for callers' proofs. The functions do nothing.
-ghost use Rattle.kr_plan.specs.Laws.{ReadsAsMeant, MergesEachClass, MergesMembers};
+ghost use Rattle.kr_plan.specs.Laws.{MergesEachClass, MergesMembers};
 ghost use Rattle.kr_plan.specs.Laws.{WidePasses, TurnedPasses, TargetPasses};
-
-/// A text that means settings is read as these settings, want of memory aside.
-pub fn texts_are_read_as_meant()
-    ensures { ReadsAsMeant }
-{}
 
 /// The settings of the first two phases have at every class the lists of both configurations, one
 /// behind the other, and the same providers.

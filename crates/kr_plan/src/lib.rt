@@ -8,12 +8,8 @@ mod limits;
 mod merging;
 mod moves;
 pub mod planning;
-mod providers;
 mod refusal;
-mod values;
-mod writing;
 
-pub use laws::{lists_are_merged, planned_reloads_pass, texts_are_read_as_meant};
+pub use laws::{lists_are_merged, planned_reloads_pass};
 pub use moves::{Move, Phase, Plan};
 pub use refusal::PlanNo;
-pub use writing::settings_text;

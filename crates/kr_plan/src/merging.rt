@@ -2,12 +2,13 @@
 ghost use Rattle.std.specs.Prelude.{◌≡◌, ◌++◌, not, IfOk, OnOk};
 ghost use Rattle.std.specs.List.{filter};
 ghost use Rattle.kr_config.specs.Kept.{row_of, rows_of};
+ghost use Rattle.kr_config.specs.ClassEntries.{class_row};
 ghost use Rattle.kr_judge.specs.Providers.{has};
-ghost use Rattle.kr_plan.specs.Merges.{merge, pattern_of, merged_row, merged_rows};
+ghost use Rattle.kr_plan.specs.Merges.{merge, merged_list, merged_rows};
 
-use crate::providers::has;
-use kr_base::{List, NoMemory, Text};
-use kr_config::{Class, Entry, Pattern, Settings, Who};
+use kr_base::{List, NoMemory};
+use kr_config::{Class, Entry, Settings, Who};
+use kr_judge::has;
 use std::alloc::Global;
 
 /// An entry for each of the classes.
@@ -36,10 +37,11 @@ fn merged_entry(
     other: &Settings,
 ) -> Result<Entry, NoMemory>
     ensures { IfOk result (λ entry. row_of entry
-        ≡ merged_row (rows_of one.now.entries.0) (rows_of other.now.entries.0) class.now) }
+        ≡ class_row (merged_list (rows_of one.now.entries.0) (rows_of other.now.entries.0))
+        class.now) }
 {
     let mut patterns = Vec::new(alloc);
-    patterns.push(pattern_of(alloc, class)?)?;
+    patterns.push(class.pattern(alloc)?)?;
     let providers = merged(
         alloc,
         one.list_for_class(class),
@@ -49,17 +51,6 @@ fn merged_entry(
         patterns: List::from_vec(patterns),
         providers: List::from_vec(providers),
     })
-}
-
-/// The pattern that speaks of the class.
-fn pattern_of(alloc: Global, class: &Class) -> Result<Pattern, NoMemory>
-    ensures { IfOk result (λ pattern. pattern ≡ pattern_of class.now) }
-{
-    match class {
-        Class::Exact(text) => Ok(Pattern::Exact(Text::copy(alloc, text.as_str())?)),
-        Class::Group(group) => Ok(Pattern::Group(Text::copy(alloc, group.as_str())?)),
-        Class::Rest => Ok(Pattern::All),
-    }
 }
 
 /// The providers of the one list, and behind them those of the other that it hasn't.

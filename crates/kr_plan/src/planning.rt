@@ -39,8 +39,8 @@ fn plan_over(
     requires { classes.now ≡ classes_of (rows_of from.now.entries.0) (rows_of to.now.entries.0) }
     ensures { Plans (rows_of from.now.entries.0) (rows_of to.now.entries.0) replicas result }
 {
-    tell_kept(from);
-    tell_kept(to);
+    from.known();
+    to.known();
     check_secrets(alloc, classes, from, to)?;
     let wide = merged_entries(alloc, classes, from, to)?;
     check_limits(wide.as_slice())?;
@@ -50,14 +50,6 @@ fn plan_over(
         turned: settings_of(alloc, turned)?,
         moves: moves_of(alloc, replicas)?,
     })
-}
-
-/// Tells what the type of settings keeps. It does nothing.
-pub(crate) fn tell_kept(settings: &Settings)
-    ensures { IsTrue (keeps (rows_of settings.now.entries.0)) }
-{
-    // Read, so that the check sees the fields.
-    let _entries = settings.entries.as_slice();
 }
 
 /// The settings of entries that keep the rules.

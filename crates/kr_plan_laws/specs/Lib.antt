@@ -1,3 +1,4 @@
 -- The laws and what they speak of.
 pub mod PlannedStates
 pub mod PlannedLaws
+pub mod Rounds

@@ -3,4 +3,4 @@
 
 mod laws;
 
-pub use laws::planned_reloads_are_not_refused;
+pub use laws::{planned_reloads_are_not_refused, rounds_follow};

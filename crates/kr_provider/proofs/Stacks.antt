@@ -192,6 +192,11 @@ holds secrets pages is h = record {
         list_any_at (nat_eq number) pages.out k 0 within
         ((Decides-eqb number _).1 (omega (arith, p, lt)))
 
+-- where no page is out there is no key
+pub nothing_held : (pages : KeyPages) → IsStack pages → pages.out ≡ [] → HoldKeys [] pages
+nothing_held pages is none = holds [] pages is
+    (ap (λ (l : List ℕ). map (λ number. words_of pages.pool number) l) none)
+
 -- a stack of which nothing is taken
 pub IsStack-free_pages : (pages : KeyPages) → IsPool pages.pool → (n : ℕ)
     → pages.pool.pages ≡ replicate n zero_page → pages.pool.free ≡ range_with_len 0 n

@@ -1,5 +1,6 @@
 -- The definitions that contracts cite.
 pub mod AskedLinks
+pub mod BenchKeys
 pub mod BenchState
 pub mod Checks
 pub mod Ciphers

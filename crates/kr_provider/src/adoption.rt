@@ -1,5 +1,5 @@
 //! The configuration that a bench adopted last, and the pages of its keys.
-ghost use Rattle.std.specs.Prelude.{◌≡◌, ◌↔◌, ◌<◌, Some, None, length, IsErr, IsSome, IfOk, IfSome, OnOk, OnErr};
+ghost use Rattle.std.specs.Prelude.{◌≡◌, ◌↔◌, ◌<◌, [], Some, None, length, IsErr, IsSome, IfOk, IfSome, OnOk, OnErr};
 ghost use Rattle.kr_config.specs.Kept.{keys_in};
 ghost use Rattle.kr_provider.specs.KeyPages.{HoldKeys, adopted_secrets, secrets_in, size_of, free_pages};
 ghost use Rattle.kr_provider.specs.inner.Scan.{HasWords, IsAmong};
@@ -61,6 +61,16 @@ impl Adoption {
         keep_all(published.get().entries(), &mut self.pages);
         self.published = Some(published);
         Ok(())
+    }
+
+    /// Lets the configuration go: its pages go back.
+    pub(crate) fn let_go(&mut self)
+        ensures none { self.new.published ≡ None }
+        ensures keys { HoldKeys [] self.new.pages }
+        ensures size { size_of self.new.pages ≡ size_of self.old.pages }
+    {
+        self.published = None;
+        self.pages.clear()
     }
 
     /// How many keys there are.

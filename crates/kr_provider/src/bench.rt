@@ -4,6 +4,7 @@ ghost use Rattle.kr_base.specs.Limits.{path_limit, value_limit};
 ghost use Rattle.kr_config.specs.Kept.{keys_in, plugins_in, rows_of};
 ghost use Rattle.kr_base.specs.Walks.{Talk};
 ghost use Rattle.kr_provider.specs.AskedLinks.{Among, AskedOnly};
+ghost use Rattle.kr_provider.specs.BenchKeys.{AdoptCall, ClearsKeys, Does};
 ghost use Rattle.kr_provider.specs.Exchanges.{PublishesBy, ReadsBy, TellsKeyIdAt};
 ghost use Rattle.kr_provider.specs.KeyPages.{HoldKeys, adopted_secrets, size_of, free_pages};
 ghost use Rattle.kr_provider.specs.Names.{HasLinks, names_of};
@@ -102,10 +103,20 @@ impl<L: Kms, D: Dice> Bench<L, D> {
             ≡ record self.old { published = Some published; pages = self.new.pages }) }
         ensures keys { HoldKeys (adopted_secrets self.new.published) self.new.pages }
         ensures size { size_of self.new.pages ≡ size_of self.old.pages }
+        ensures does { Does self.old (AdoptCall published) self.new }
     {
         let adopted = self.adoption.adopt(published);
         let _count = self.adoption.keys();
         adopted
+    }
+
+    /// Lets the adopted configuration go, if there is one: each of its pages goes back and is zero.
+    /// Links, random source and unwrapped seeds stay. It takes no memory.
+    pub fn let_go(&mut self)
+        ensures kept { self.new ≡ record self.old { published = None; pages = self.new.pages } }
+        ensures cleared { ClearsKeys self.old self.new }
+    {
+        self.adoption.let_go();
     }
 
     /// How many keys stand expanded in a page: those of the adopted configuration.

@@ -3,7 +3,7 @@
 ghost use Rattle.std.specs.Prelude.{◌≡◌, ◌+◌, ◌<◌, [], ◌∷◌, ◌++◌, length, slice_index_or, IfOk};
 ghost use Rattle.kr_aes.specs.KeyExpansion.{IsKeyLength, padded_schedule};
 ghost use Rattle.kr_pages.specs.Pool.{words_of};
-ghost use Rattle.kr_provider.specs.KeyPages.{words_out, size_of, free_pages};
+ghost use Rattle.kr_provider.specs.KeyPages.{HoldKeys, words_out, size_of, free_pages};
 ghost use Rattle.kr_provider.specs.inner.Stack.{IsStack};
 
 use kr_aes::expand;
@@ -94,6 +94,7 @@ impl KeyPages {
         ensures stack { IsStack self.new }
         ensures size { size_of self.new ≡ size_of self.old }
         ensures out { self.new.out ≡ [] }
+        ensures keys { HoldKeys [] self.new }
     {
         while let Some(page) = self.out.pop() {
             self.pool.give(page);

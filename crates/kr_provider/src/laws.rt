@@ -1,5 +1,6 @@
 //! Laws of the definitions, for a reader and for callers' proofs. The functions do nothing.
 ghost use Rattle.kr_provider.specs.Laws.{SealedReads, SealingReads, SealingIsSized, HasOneReading, ReadsWithoutPlugin, ReadsSomehow, ReadsUnderItsTag, UnsealsWithoutPlugin, PublishesInOrder, LinksStay};
+ghost use Rattle.kr_provider.specs.BenchKeys.{PagesFollowCalls};
 ghost use Rattle.std.specs.Prelude.{ℕ, List};
 
 use kr_base::Dice;
@@ -55,4 +56,11 @@ pub fn publishing_in_order<L: Kms, D: Dice>()
 /// `proofs/AskedLists`.
 pub fn asked_links<L: Kms>()
     ensures { (names : List (List ℕ)) → LinksStay L.link names }
+{}
+
+/// After each front of what a bench is asked for, its pages hold exactly the schedules of the
+/// configuration that it adopted last and didn't let go since, and every other page is free and
+/// zero.
+pub fn pages_follow_calls<L: Kms, D: Dice>()
+    ensures { PagesFollowCalls L D }
 {}

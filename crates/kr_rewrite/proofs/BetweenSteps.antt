@@ -2,9 +2,11 @@
 use Rattle.std.proofs.Common.{◌≡◌, ◌⊎◌, inl, inr, ℕ, ◌+◌, ◌*◌, ◌<◌, ◌≤◌, Bool, true, false, List, [], ◌∷◌, ◌++◌, length, Option, Result, Ok, Err, refl, sym, ap, subst, ◌∙◌, arith, length-append}
 use Rattle.kr_base.specs.Rules.{IsPath}
 use Rattle.kr_kms.specs.Calls.{Link}
-use Rattle.kr_kms.specs.Truth.{Truth}
 use Rattle.kr_provider.proofs.AskedLists.{asked_then, names_stay}
 use Rattle.kr_provider.specs.AskedLinks.{AskedOnly}
+use Rattle.kr_provider.specs.BenchKeys.{LeavesKeys}
+use Rattle.kr_provider.specs.BenchState.{BenchState}
+use Rattle.kr_provider.specs.KeyPages.{HoldKeys, size_of}
 use Rattle.kr_provider.specs.Names.{names_of}
 use Rattle.kr_history.specs.Calls.{AreServed}
 use Rattle.kr_history.specs.declared.call.CallNo.{CallNo}
@@ -12,30 +14,30 @@ use Rattle.kr_rollout.specs.declared.opening.Opening.{Opening}
 use Rattle.kr_history.specs.Acting.{Caller}
 use Rattle.kr_history.specs.Parts.{AddsWithin}
 use Rattle.kr_history.proofs.PartsAdd.{nothing_within, within_behind, within_more}
-use Rattle.kr_rewrite.specs.Drives.{Counts, CoversLive, Drives, EndsBy, FindsRow, IsCut, IsDrive, Walks, last_of, path_of, report_at}
-use Rattle.kr_rewrite.specs.Rewrites.{IsStep, IsStepTo}
+use Rattle.kr_rewrite.specs.Drives.{Counts, CoversLive, DrivesOver, EndsByOver, FindsRow, IsCutOver, IsDriveOver, WalksOver, last_of, path_of, report_at}
+use Rattle.kr_rewrite.specs.Rewrites.{IsStepOver, IsStepTo, RowReads}
 use Rattle.kr_rewrite.specs.declared.outcome.Report.{Report}
 use Rattle.kr_rewrite.specs.declared.outcome.Step.{Step}
 use Rattle.kr_rewrite.specs.declared.outcome.Step.TheVariants as step
-use Rattle.kr_rewrite.specs.inner.Stages.{CountsStep, GoesOn}
+use Rattle.kr_rewrite.specs.inner.Stages.{CountsStep, GoesOnOver}
 use Rattle.kr_rewrite.proofs.Covering.{IsCovered, covered_begin, covered_end, covered_more}
 use Rattle.kr_rewrite.proofs.Growing.{StepLooks, TakesStep, at_end, at_row, takes_step}
 use Rattle.kr_rewrite.proofs.Walking.{counts_more, ends_there, finds_row, last_is, settles, walks_more}
 
-module _ {L D : Type 0} (truth : Truth) (link : L → Link) (left : D → Option (List ℕ))
+module _ {S D : Type 0} (Reads : RowReads S) (left : D → Option (List ℕ))
     (count : D → ℕ) (replica : ℕ) where
   -- steps were taken up to here, each counted, and no path was passed by that is live throughout
-  pub record IsWalked (above : List ℕ) (old : Caller) (olds : List L) (dice : D) (report : Report)
-      (now : Caller) (links : List L) (drawn : D) : Type 0 where
+  pub record IsWalked (above : List ℕ) (old : Caller) (from : S) (dice : D) (report : Report)
+      (now : Caller) (links : S) (drawn : D) : Type 0 where
     pub steps : List Step
     pub counts : Counts above steps report
-    pub walks : Walks truth link left count replica above steps old olds dice now links drawn
+    pub walks : WalksOver Reads left count replica above steps old from dice now links drawn
     pub covers : IsCovered above steps old now
     pub few : AddsWithin (4 * length steps) 0 [] old now
 
-  pub walked_begin : (above : List ℕ) (old : Caller) (olds : List L) (dice : D) (report : Report)
-      → report ≡ report_at above → IsWalked above old olds dice report old olds dice
-  walked_begin above old olds dice report is = record {
+  pub walked_begin : (above : List ℕ) (old : Caller) (from : S) (dice : D) (report : Report)
+      → report ≡ report_at above → IsWalked above old from dice report old from dice
+  walked_begin above old from dice report is = record {
     steps = [];
     counts = subst (λ (r : Report). Counts above [] r) (sym is)
         (record { rewritten = refl; fresh = refl; changed = refl; left = refl; last = refl });
@@ -45,19 +47,19 @@ module _ {L D : Type 0} (truth : Truth) (link : L → Link) (left : D → Option
   }
 
   -- one more step
-  module _ (above : List ℕ) (old : Caller) (olds : List L) (dice : D) (report : Report)
-      (now new : Caller) (links news : List L) (drawn after : D)
-      (w : IsWalked above old olds dice report now links drawn) (at : List ℕ)
+  module _ (above : List ℕ) (old : Caller) (from : S) (dice : D) (report : Report)
+      (now new : Caller) (links to : S) (drawn after : D)
+      (w : IsWalked above old from dice report now links drawn) (at : List ℕ)
       (at_is : at ≡ report.last) where
     here : at ≡ last_of above w.steps
     here = at_is ∙ w.counts.last
 
     from_last : (ended : Result Step CallNo)
-        → IsStep truth link left count replica at now links drawn ended new news after
-        → IsStep truth link left count replica (last_of above w.steps) now links drawn ended new
-        news after
+        → IsStepOver Reads left count replica at now links drawn ended new to after
+        → IsStepOver Reads left count replica (last_of above w.steps) now links drawn ended new
+        to after
     from_last ended s = subst
-        (λ q. IsStep truth link left count replica q now links drawn ended new news after) here s
+        (λ q. IsStepOver Reads left count replica q now links drawn ended new to after) here s
 
     few_more : (taken : Step) → AddsWithin 4 0 [] now new
         → AddsWithin (4 * length (w.steps ++ taken ∷ [])) 0 [] old new
@@ -81,50 +83,21 @@ module _ {L D : Type 0} (truth : Truth) (link : L → Link) (left : D → Option
 
     pub walked_more : (taken : Step) (found : Bool) (next : Report)
         → CountsStep report taken found next → found ≡ true
-        → IsStep truth link left count replica at now links drawn (Ok taken) new news after
+        → IsStepOver Reads left count replica at now links drawn (Ok taken) new to after
         → AddsWithin 4 0 [] now new
-        → IsWalked above old olds dice next new news after
+        → IsWalked above old from dice next new to after
     walked_more taken found next c is s f =
         let finds = finds_row taken found report next c is in
         let t = from_last (Ok taken) s in
         record {
           steps = w.steps ++ taken ∷ [];
           counts = counts_more above w.steps taken found report next c is w.counts;
-          walks = walks_more truth link left count replica above w.steps taken old now new olds
-              links news dice drawn after w.walks finds t;
-          covers = covers_more taken finds (takes_step truth link left count replica
-              (last_of above w.steps) now new links news drawn after taken t);
+          walks = walks_more Reads left count replica above w.steps taken old now new from
+              links to dice drawn after w.walks finds t;
+          covers = covers_more taken finds (takes_step Reads left count replica
+              (last_of above w.steps) now new links to drawn after taken t);
           few = few_more taken f;
         }
-
-    ends_by : (ended : Result Step CallNo)
-        → IsStep truth link left count replica at now links drawn ended new news after
-        → AddsWithin 4 0 [] now new
-        → AskedOnly link (names_of link olds) olds links → count dice ≤ count drawn
-        → EndsBy truth link left count replica above w.steps old olds dice ended report new news
-        after
-    ends_by ended s f asked later = record {
-      counts = w.counts;
-      middle = now;
-      mids = links;
-      between = drawn;
-      walks = w.walks;
-      walks_few = w.few;
-      walks_asked = asked;
-      walks_later = later;
-      ends = from_last ended s;
-      few = within_behind (4 * length w.steps) 4 0 0 [] old now new w.few f;
-    }
-
-    pub walked_cut : (why : CallNo)
-        → IsStep truth link left count replica at now links drawn (Err why) new news after
-        → AddsWithin 4 0 [] now new
-        → AskedOnly link (names_of link olds) olds links → count dice ≤ count drawn
-        → IsCut truth link left count replica above old olds dice why report new news after
-    walked_cut why s f asked later = record {
-      steps = w.steps;
-      ends = ends_by (Err why) s f asked later;
-    }
 
     covers_all : TakesStep (last_of above w.steps) now new step.End
         → CoversLive above w.steps old new
@@ -135,31 +108,61 @@ module _ {L D : Type 0} (truth : Truth) (link : L → Link) (left : D → Option
         by (at_end is l) = covered_end above w.steps step.End w.few.0 old now new w.few.1 t.grows
             w.covers l
 
-    drives : IsStep truth link left count replica at now links drawn (Ok step.End) new news after
-        → AddsWithin 4 0 [] now new
-        → AskedOnly link (names_of link olds) olds links → count dice ≤ count drawn
-        → Drives truth link left count replica above old olds dice report new news after
-    drives s f asked later = record {
-      steps = w.steps;
-      ends = ends_by (Ok step.End) s f asked later;
-      covers = covers_all (takes_step truth link left count replica (last_of above w.steps) now
-          new links news drawn after step.End (from_last (Ok step.End) s));
-      settles = settles truth link left count replica above w.steps report old now olds links dice
-          drawn w.counts w.walks;
-    }
+    module _ (Meanwhile : S → S → Type 0) where
+      ends_by : (ended : Result Step CallNo)
+          → IsStepOver Reads left count replica at now links drawn ended new to after
+          → AddsWithin 4 0 [] now new
+          → Meanwhile from links → count dice ≤ count drawn
+          → EndsByOver Reads Meanwhile left count replica above w.steps old from dice ended report
+          new to after
+      ends_by ended s f asked later = record {
+        counts = w.counts;
+        middle = now;
+        mids = links;
+        between = drawn;
+        walks = w.walks;
+        walks_few = w.few;
+        walks_asked = asked;
+        walks_later = later;
+        ends = from_last ended s;
+        few = within_behind (4 * length w.steps) 4 0 0 [] old now new w.few f;
+      }
 
-    pub walked_end : (taken : Step) (found : Bool) (next : Report)
-        → CountsStep report taken found next → found ≡ false
-        → IsStep truth link left count replica at now links drawn (Ok taken) new news after
-        → AddsWithin 4 0 [] now new
-        → AskedOnly link (names_of link olds) olds links → count dice ≤ count drawn
-        → Drives truth link left count replica above old olds dice next new news after
-    walked_end taken found next c is s f asked later =
-        let e = ends_there taken found report next c is in
-        subst (λ (r : Report). Drives truth link left count replica above old olds dice r new news
-        after) (sym e.same)
-        (drives (subst (λ t. IsStep truth link left count replica at now links drawn (Ok t) new
-        news after) e.end s) f asked later)
+      pub walked_cut : (why : CallNo)
+          → IsStepOver Reads left count replica at now links drawn (Err why) new to after
+          → AddsWithin 4 0 [] now new
+          → Meanwhile from links → count dice ≤ count drawn
+          → IsCutOver Reads Meanwhile left count replica above old from dice why report new to after
+      walked_cut why s f asked later = record {
+        steps = w.steps;
+        ends = ends_by (Err why) s f asked later;
+      }
+
+      drives : IsStepOver Reads left count replica at now links drawn (Ok step.End) new to after
+          → AddsWithin 4 0 [] now new
+          → Meanwhile from links → count dice ≤ count drawn
+          → DrivesOver Reads Meanwhile left count replica above old from dice report new to after
+      drives s f asked later = record {
+        steps = w.steps;
+        ends = ends_by (Ok step.End) s f asked later;
+        covers = covers_all (takes_step Reads left count replica (last_of above w.steps) now
+            new links to drawn after step.End (from_last (Ok step.End) s));
+        settles = settles Reads left count replica above w.steps report old now from links dice
+            drawn w.counts w.walks;
+      }
+
+      pub walked_end : (taken : Step) (found : Bool) (next : Report)
+          → CountsStep report taken found next → found ≡ false
+          → IsStepOver Reads left count replica at now links drawn (Ok taken) new to after
+          → AddsWithin 4 0 [] now new
+          → Meanwhile from links → count dice ≤ count drawn
+          → DrivesOver Reads Meanwhile left count replica above old from dice next new to after
+      walked_end taken found next c is s f asked later =
+          let e = ends_there taken found report next c is in
+          subst (λ (r : Report). DrivesOver Reads Meanwhile left count replica above old from dice r
+          new to after) (sym e.same)
+          (drives (subst (λ t. IsStepOver Reads left count replica at now links drawn (Ok t) new
+          to after) e.end s) f asked later)
 
 -- ---- the path to go on from
 
@@ -178,11 +181,11 @@ path_next taken found old new c is to = inr (subst IsPath (sym (last_is taken fo
 
 -- ---- what stays
 
-module _ {L D : Type 0} (truth : Truth) (link : L → Link) (left : D → Option (List ℕ))
-    (count : D → ℕ) (replica : ℕ) (above : List ℕ) (old : Caller) (olds : List L) (dice : D)
-    (report : Report) (now : Caller) (links : List L) (drawn : D)
-    (w : IsWalked truth link left count replica above old olds dice report now links drawn) where
-  opening_stays : now.opening ≡ old.opening
+module _ {S D : Type 0} (Reads : RowReads S) (left : D → Option (List ℕ))
+    (count : D → ℕ) (replica : ℕ) (above : List ℕ) (old : Caller) (olds : S) (dice : D)
+    (report : Report) (now : Caller) (links : S) (drawn : D)
+    (w : IsWalked Reads left count replica above old olds dice report now links drawn) where
+  pub opening_stays : now.opening ≡ old.opening
   opening_stays = ap (λ (c : Caller). c.opening) w.few.1.new_is
 
   pub replica_stays : (number : ℕ) → number < length old.opening.replicas
@@ -190,13 +193,14 @@ module _ {L D : Type 0} (truth : Truth) (link : L → Link) (left : D → Option
   replica_stays number l =
       subst (λ (o : Opening). number < length o.replicas) (sym opening_stays) l
 
-  pub served_still : AskedOnly link (names_of link olds) olds links
-      → AreServed old.opening.names (names_of link olds)
-      → AreServed now.opening.names (names_of link links)
-  served_still asked served =
-      subst (λ (o : Opening). AreServed o.names (names_of link links)) (sym opening_stays)
-      (subst (λ names. AreServed old.opening.names names)
-      (sym (names_stay link (names_of link olds) olds links asked)) served)
+pub served_still : {L : Type 0} (link : L → Link) (old now : Caller) (olds links : List L)
+    → now.opening ≡ old.opening → AskedOnly link (names_of link olds) olds links
+    → AreServed old.opening.names (names_of link olds)
+    → AreServed now.opening.names (names_of link links)
+served_still link old now olds links same asked served =
+    subst (λ (o : Opening). AreServed o.names (names_of link links)) (sym same)
+    (subst (λ names. AreServed old.opening.names names)
+    (sym (names_stay link (names_of link olds) olds links asked)) served)
 
 pub asked_still : {L : Type 0} (link : L → Link) (olds mids news : List L)
     → AskedOnly link (names_of link olds) olds mids → AskedOnly link (names_of link mids) mids news
@@ -206,12 +210,32 @@ asked_still link olds mids news a b =
     (subst (λ names. AskedOnly link names mids news)
     (names_stay link (names_of link olds) olds mids a) b)
 
+-- a bench that was left so and so again
+pub leaves_then : {L D : Type 0} (old middle new : BenchState L D) → LeavesKeys old middle
+    → LeavesKeys middle new → LeavesKeys old new
+leaves_then old middle new (inl a) (inl b) = inl (b.0 ∙ a.0, b.1 ∙ a.1)
+leaves_then old middle new (inl a) (inr b) = inr (record {
+  none = b.none;
+  keys = b.keys;
+  size = b.size ∙ ap (λ x. size_of x) a.1;
+})
+leaves_then old middle new (inr a) (inl b) = inr (record {
+  none = b.0 ∙ a.none;
+  keys = subst (λ x. HoldKeys [] x) (sym b.1) a.keys;
+  size = ap (λ x. size_of x) b.1 ∙ a.size;
+})
+leaves_then old middle new (inr a) (inr b) = inr (record {
+  none = b.none;
+  keys = b.keys;
+  size = b.size ∙ a.size;
+})
+
 -- ---- the whole drive
 
-pub drives_on : {L D : Type 0} (truth : Truth) (link : L → Link) (left : D → Option (List ℕ))
-    (count : D → ℕ) (replica : ℕ) (above : List ℕ) (old new : Caller) (olds news : List L)
-    (dice after : D) (result : Result Report (Report × CallNo))
-    → GoesOn truth link left count replica above old olds dice result new news after
-    → IsDrive truth link left count replica above old olds dice result new news after
-drives_on truth link left count replica above old new olds news dice after (Ok report) g = g
-drives_on truth link left count replica above old new olds news dice after (Err cut) g = inl g
+pub drives_on : {S D : Type 0} (Reads : RowReads S) (Meanwhile : S → S → Type 0)
+    (left : D → Option (List ℕ)) (count : D → ℕ) (replica : ℕ) (above : List ℕ) (old new : Caller)
+    (from to : S) (dice after : D) (result : Result Report (Report × CallNo))
+    → GoesOnOver Reads Meanwhile left count replica above old from dice result new to after
+    → IsDriveOver Reads Meanwhile left count replica above old from dice result new to after
+drives_on Reads Meanwhile left count replica above old new from to dice after (Ok report) g = g
+drives_on Reads Meanwhile left count replica above old new from to dice after (Err cut) g = inl g

@@ -2,8 +2,6 @@
 use Rattle.std.proofs.Common.{◌≡◌, inl, inr, ℕ, ◌<◌, ◌≤◌, Bool, true, false, List, [], ◌∷◌, ◌++◌, Option, None, Some, Result, Ok, Err, refl, sym, ap, subst, ◌∙◌, append-nil, arith}
 use Rattle.std.proofs.lemmas.List.{append_assoc}
 use Rattle.std.proofs.lemmas.Option.{same_Some}
-use Rattle.kr_kms.specs.Calls.{Link}
-use Rattle.kr_kms.specs.Truth.{Truth}
 use Rattle.kr_provider.specs.Publication.{Publication}
 use Rattle.kr_provider.specs.declared.refusal.Opened.{Opened}
 use Rattle.kr_provider.specs.declared.refusal.SealNo.{SealNo}
@@ -30,7 +28,7 @@ use Rattle.kr_rollout.specs.Histories.{state_of}
 use Rattle.kr_history.proofs.FoundRows.{found_is_live}
 use Rattle.kr_history.proofs.Nexts.{legal_now, opening_is, seat_is, seen_is}
 use Rattle.kr_rewrite.specs.Drives.{FindsRow, path_of}
-use Rattle.kr_rewrite.specs.Rewrites.{FindsNone, IsStep, ReplacesBy, ResealsBy, Rewrites, RewritesBy, RewritesData, Steps, unread_step, unsealed_step}
+use Rattle.kr_rewrite.specs.Rewrites.{FindsNone, IsStepOver, ReplacesBy, ResealsBy, RewritesBy, RewritesData, RewritesOver, RowReads, StepsOver, unread_step, unsealed_step}
 use Rattle.kr_rewrite.specs.declared.outcome.Step.{Step}
 use Rattle.kr_rewrite.specs.declared.outcome.Step.TheVariants as step
 
@@ -53,7 +51,8 @@ grows_itself c = record {
 pub grows_same : (old new : Caller) → new ≡ old → Grows old new
 grows_same old new same = subst (λ c. Grows old c) (sym same) (grows_itself old)
 
-pub grows_entry : (old new : Caller) (asked : Event) (given : Answer) → AddsEntry old asked given new
+pub grows_entry : (old new : Caller) (asked : Event) (given : Answer) → AddsEntry old asked given
+    new
     → Grows old new
 grows_entry old new asked given a = record {
   more = a.others ++ a.entry ∷ [];
@@ -92,13 +91,13 @@ module _ {D : Type 0} (left : D → Option (List ℕ)) (count : D → ℕ) (p : 
   opened_grows (Ok opened) result r = data_grows opened.plain opened.stale result r
   opened_grows (Err why) result r = grows_same old new r.1
 
-pub rewrites_grow : {L D : Type 0} (truth : Truth) (link : L → Link) (left : D → Option (List ℕ))
-    (count : D → ℕ) (p : Publication) (row : Row) (old new : Caller) (olds news : List L)
+pub rewrites_grow : {S D : Type 0} (Reads : RowReads S) (left : D → Option (List ℕ))
+    (count : D → ℕ) (p : Publication) (row : Row) (old new : Caller) (from to : S)
     (dice after : D) (result : Result Step CallNo)
-    → Rewrites truth link left count p row old olds dice result new news after → Grows old new
-rewrites_grow truth link left count p row old new olds news dice after result (inl o) =
+    → RewritesOver Reads left count p row old from dice result new to after → Grows old new
+rewrites_grow Reads left count p row old new from to dice after result (inl o) =
     opened_grows left count p row old new dice after o.opened result o.rewrites
-rewrites_grow truth link left count p row old new olds news dice after result (inr n) =
+rewrites_grow Reads left count p row old new from to dice after result (inr n) =
     grows_same old new n.0.1
 
 pub lets_go_grows : (old new : Caller) (done result : Result Step CallNo)
@@ -200,14 +199,14 @@ module _ {D : Type 0} (left : D → Option (List ℕ)) (count : D → ℕ) (p : 
   opened_at (Ok opened) taken r = data_at opened.plain opened.stale taken r
   opened_at (Err why) taken r = unread_at row.path why taken r.0
 
-rewrites_at : {L D : Type 0} (truth : Truth) (link : L → Link) (left : D → Option (List ℕ))
-    (count : D → ℕ) (p : Publication) (row : Row) (old new : Caller) (olds news : List L)
+rewrites_at : {S D : Type 0} (Reads : RowReads S) (left : D → Option (List ℕ))
+    (count : D → ℕ) (p : Publication) (row : Row) (old new : Caller) (from to : S)
     (dice after : D) (taken : Step)
-    → Rewrites truth link left count p row old olds dice (Ok taken) new news after
+    → RewritesOver Reads left count p row old from dice (Ok taken) new to after
     → IsAt row.path taken
-rewrites_at truth link left count p row old new olds news dice after taken (inl o) =
+rewrites_at Reads left count p row old new from to dice after taken (inl o) =
     opened_at left count p row old new dice after o.opened taken o.rewrites
-rewrites_at truth link left count p row old new olds news dice after taken (inr n) =
+rewrites_at Reads left count p row old new from to dice after taken (inr n) =
     not_ok row.path taken refusal.NoMemory n.0.0
 
 -- ---- what an After finds
@@ -318,20 +317,20 @@ module _ (above : List ℕ) (replica number : ℕ) (p : Publication) (old adopte
       (at_row row at (looks_from old adopted middle new replica number p above (answer.Found row)
       (Some row) a b (grows_then middle acted new m g) (after_finds adopted middle above row b)))
 
-module _ {L D : Type 0} (truth : Truth) (link : L → Link) (left : D → Option (List ℕ))
-    (count : D → ℕ) (replica : ℕ) (above : List ℕ) (old new : Caller) (olds news : List L)
+module _ {S D : Type 0} (Reads : RowReads S) (left : D → Option (List ℕ))
+    (count : D → ℕ) (replica : ℕ) (above : List ℕ) (old new : Caller) (from to : S)
     (dice after : D) where
   by_steps : (taken : Step) (number : ℕ) (p : Publication) (adopted acted : Caller)
       → AddsEntry old (event.Adopt replica) (answer.Adopted number p) adopted → Grows acted new
-      → Steps truth link left count p above adopted olds dice (Ok taken) acted news after
+      → StepsOver Reads left count p above adopted from dice (Ok taken) acted to after
       → TakesStep above old new taken
   by_steps taken number p adopted acted a g (inl n) =
       took_none above replica number p old adopted acted new a g taken n.0
   by_steps taken number p adopted acted a g (inr f) =
       took_row above replica number p old adopted acted new a g taken f.row f.found f.finds
-      (rewrites_grow truth link left count p f.row f.found acted olds news dice after (Ok taken)
+      (rewrites_grow Reads left count p f.row f.found acted from to dice after (Ok taken)
       f.rewrites)
-      (rewrites_at truth link left count p f.row f.found acted olds news dice after taken
+      (rewrites_at Reads left count p f.row f.found acted from to dice after taken
       f.rewrites)
 
   -- what was done is the answer
@@ -341,12 +340,12 @@ module _ {L D : Type 0} (truth : Truth) (link : L → Link) (left : D → Option
   done_is taken acted done (inr a) = cc
 
   pub takes_step : (taken : Step)
-      → IsStep truth link left count replica above old olds dice (Ok taken) new news after
+      → IsStepOver Reads left count replica above old from dice (Ok taken) new to after
       → TakesStep above old new taken
   takes_step taken (inl early) = absurd early
   takes_step taken (inr h) = by_steps taken h.number h.p h.adopted h.acted h.adopts
       (lets_go_grows h.acted new h.done (Ok taken) h.lets_go)
-      (subst (λ d. Steps truth link left count h.p above h.adopted olds dice d h.acted news after)
+      (subst (λ d. StepsOver Reads left count h.p above h.adopted from dice d h.acted to after)
       (done_is taken h.acted h.done h.lets_go) h.does)
 
 -- ---- a step, however it ended
@@ -385,25 +384,25 @@ early_grows replica old new refusal.StoreFailed a = absurd a
 early_grows replica old new (refusal.StoreFull needed) a = absurd a
 early_grows replica old new (refusal.Unhealthy name field text) a = absurd a
 
-module _ {L D : Type 0} (truth : Truth) (link : L → Link) (left : D → Option (List ℕ))
-    (count : D → ℕ) (replica : ℕ) (above : List ℕ) (old new : Caller) (olds news : List L)
+module _ {S D : Type 0} (Reads : RowReads S) (left : D → Option (List ℕ))
+    (count : D → ℕ) (replica : ℕ) (above : List ℕ) (old new : Caller) (from to : S)
     (dice after : D) where
   steps_grow : (p : Publication) (adopted acted : Caller) (done : Result Step CallNo)
-      → Steps truth link left count p above adopted olds dice done acted news after
+      → StepsOver Reads left count p above adopted from dice done acted to after
       → Grows adopted acted
   steps_grow p adopted acted done (inl f) = none_grows above adopted acted done f.0
   steps_grow p adopted acted done (inr f) = grows_then adopted f.found acted
       (grows_entry adopted f.found (event.After above) (answer.Found f.row) f.finds)
-      (rewrites_grow truth link left count p f.row f.found acted olds news dice after done
+      (rewrites_grow Reads left count p f.row f.found acted from to dice after done
       f.rewrites)
 
   early_step_grows : (result : Result Step CallNo)
-      → EndsEarly replica ((news ≡ olds) × (after ≡ dice)) old result new → Grows old new
+      → EndsEarly replica ((to ≡ from) × (after ≡ dice)) old result new → Grows old new
   early_step_grows (Ok done) a = absurd a
   early_step_grows (Err why) a = early_grows replica old new why a.0
 
   pub step_grows : (result : Result Step CallNo)
-      → IsStep truth link left count replica above old olds dice result new news after
+      → IsStepOver Reads left count replica above old from dice result new to after
       → Grows old new
   step_grows result (inl early) = early_step_grows result early
   step_grows result (inr h) = grows_then old h.adopted new

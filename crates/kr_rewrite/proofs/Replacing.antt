@@ -1,12 +1,12 @@
 -- A row that is replaced: what its seat may ask, what becomes of the row, and that its data stay.
 use Rattle.std.specs.Prelude.{IfOk}
-use Rattle.std.proofs.Common.{◌≡◌, inl, inr, ℕ, ◌<◌, true, List, ◌++◌, length, Option, Some, Result, Ok, Err, refl, sym, ap, subst, ◌∙◌}
+use Rattle.std.proofs.Common.{◌≡◌, inl, inr, ℕ, ◌<◌, List, ◌++◌, length, Option, Some, Result, Ok, Err, refl, sym, ap, subst, ◌∙◌}
 use Rattle.std.specs.Option.{option_map}
 use Rattle.std.proofs.lemmas.Option.{same_Some}
 use Rattle.kr_base.specs.Rules.{IsPath}
-use Rattle.kr_kms.specs.Truth.{Truth}
+use Rattle.kr_kms.specs.Truth.{OpenAll, Opens, Truth}
 use Rattle.kr_provider.specs.Publication.{Publication, list_at, writer_at}
-use Rattle.kr_provider.specs.Reading.{HasSomeReading, data_of}
+use Rattle.kr_provider.specs.Reading.{HasReading, HasSomeReading, data_of}
 use Rattle.kr_provider.specs.Sealing.{IsSealing, Seals}
 use Rattle.kr_provider.specs.declared.refusal.SealNo.{SealNo}
 use Rattle.kr_provider.specs.declared.refusal.SealNo.TheVariants as sealing
@@ -21,7 +21,7 @@ use Rattle.kr_rollout.specs.declared.opening.Entry.{Entry}
 use Rattle.kr_rollout.specs.declared.opening.Opening.{Opening}
 use Rattle.kr_history.specs.Acting.{Caller, AddsEntry, IsCaller}
 use Rattle.kr_rollout.specs.Callers.{MayAsk, found_in, gave_of, holding}
-use Rattle.kr_history.specs.Calls.{AddsNothing, KeepsToldHonesty}
+use Rattle.kr_history.specs.Calls.{AddsNothing, KeepsHonestBy, KeepsToldHonesty}
 use Rattle.kr_history.specs.Honesty.{HonestBy, IsHonest, KeepsData}
 use Rattle.kr_history.proofs.FoundRows.{replaced_is_live}
 use Rattle.kr_history.proofs.HeldFacts.{found_is_named, held_is_named, held_opens}
@@ -57,15 +57,20 @@ may_replace o seat own number p row plain copy stored seat_in path held found is
 
 -- ---- that the data stay
 
-module _ (truth : Truth) (old new : Caller) (number : ℕ) (p : Publication) (row : Row)
+-- where the configuration's seeds open, the row reads as the data
+abbrev pub ReadsWhereOpen : Opens → Publication → Row → (plain : List ℕ) → Type 0
+ReadsWhereOpen opens p row plain = OpenAll opens p.seeds
+    → HasReading opens (list_at p row.resource) row.path row.stored (data_of plain)
+
+module _ (opens : Opens) (old new : Caller) (number : ℕ) (p : Publication) (row : Row)
     (plain stored : List ℕ) (k : IsCaller old) (held : holding old.mine ≡ Some (number, p))
-    (found : found_in old.mine ≡ Some row) (reads : ReadsData truth p row plain)
-    (sealing : IsSealing p row.resource row.path plain stored) (told : truth.told ≡ true) where
+    (found : found_in old.mine ≡ Some row) (reads : ReadsWhereOpen opens p row plain)
+    (sealing : IsSealing p row.resource row.path plain stored) where
   data_kept : (revision : ℕ)
       → (a : AddsEntry old (event.Replace row.path row.revision stored) (answer.Written revision)
       new)
-      → IsHonest truth.opens old.opening (old.seen ++ a.others)
-      → KeepsData truth.opens row.path a.entry
+      → IsHonest opens old.opening (old.seen ++ a.others)
+      → KeepsData opens row.path a.entry
   data_kept revision a honest =
       let asked = event.Replace row.path row.revision stored in
       let given = answer.Written revision in
@@ -88,14 +93,14 @@ module _ (truth : Truth) (old new : Caller) (number : ℕ) (p : Publication) (ro
         held = n.published;
         replaced = found_is_named old new row.path row.revision stored given row k a found refl;
         written = s.written;
-        reads = reads.told told (held_opens truth.opens front number p front_is honest held);
+        reads = reads (held_opens opens front number p front_is honest held);
         sealing = subst (λ v. IsSealing p row.resource row.path plain v) (sym same) sealing;
       }
 
   honest_entry : (given : Answer)
       → (a : AddsEntry old (event.Replace row.path row.revision stored) given new)
-      → IsHonest truth.opens old.opening (old.seen ++ a.others)
-      → HonestBy (gave_of given) (did.Replace row.path row.revision) truth.opens a.entry
+      → IsHonest opens old.opening (old.seen ++ a.others)
+      → HonestBy (gave_of given) (did.Replace row.path row.revision) opens a.entry
   honest_entry (answer.Adopted n q) a front = tt
   honest_entry (answer.Gone other) a front = tt
   honest_entry (answer.Found r) a front = tt
@@ -113,6 +118,18 @@ module _ (truth : Truth) (old new : Caller) (number : ℕ) (p : Publication) (ro
   honest_entry (answer.Departed n) a front = tt
   honest_entry answer.NoMemory a front = tt
 
+pub keeps_replace_by : (opens : Opens) (old new : Caller) (number : ℕ) (p : Publication) (row : Row)
+    (plain copy stored : List ℕ) (given : Answer) → IsCaller old
+    → holding old.mine ≡ Some (number, p) → found_in old.mine ≡ Some row
+    → ReadsWhereOpen opens p row plain → IsSealing p row.resource row.path plain stored
+    → copy ≡ row.path → AddsEntry old (event.Replace copy row.revision stored) given new
+    → KeepsHonestBy opens old new
+keeps_replace_by opens old new number p row plain copy stored given k held found reads sealing
+    is a =
+    let b = subst (λ q. AddsEntry old (event.Replace q row.revision stored) given new) is a in
+    honesty_follows opens old new (event.Replace row.path row.revision stored) given b
+    (honest_entry opens old new number p row plain stored k held found reads sealing given b)
+
 pub keeps_replace : (truth : Truth) (old new : Caller) (number : ℕ) (p : Publication) (row : Row)
     (plain copy stored : List ℕ) (given : Answer) → IsCaller old
     → holding old.mine ≡ Some (number, p) → found_in old.mine ≡ Some row
@@ -121,9 +138,8 @@ pub keeps_replace : (truth : Truth) (old new : Caller) (number : ℕ) (p : Publi
     → KeepsToldHonesty truth old new
 keeps_replace truth old new number p row plain copy stored given k held found reads sealing is a
     told =
-    let b = subst (λ q. AddsEntry old (event.Replace q row.revision stored) given new) is a in
-    honesty_follows truth.opens old new (event.Replace row.path row.revision stored) given b
-    (honest_entry truth old new number p row plain stored k held found reads sealing told given b)
+    keeps_replace_by truth.opens old new number p row plain copy stored given k held found
+    (reads.told told) sealing is a
 
 -- ---- what becomes of the row
 

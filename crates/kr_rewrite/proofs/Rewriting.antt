@@ -4,8 +4,7 @@ use Rattle.std.proofs.Common.{◌≡◌, inl, inr, ℕ, true, false, List, Optio
 use Rattle.kr_base.specs.Rules.{IsPath}
 use Rattle.kr_kms.specs.Calls.{Link}
 use Rattle.kr_kms.specs.Truth.{Truth}
-use Rattle.kr_provider.specs.Publication.{Publication, list_at}
-use Rattle.kr_provider.specs.Unsealing.{UnsealsBy}
+use Rattle.kr_provider.specs.Publication.{Publication}
 use Rattle.kr_provider.specs.declared.refusal.Opened.{Opened}
 use Rattle.kr_provider.specs.declared.refusal.UnsealNo.{UnsealNo}
 use Rattle.kr_provider.specs.declared.refusal.UnsealNo.TheVariants as unsealing
@@ -18,7 +17,7 @@ use Rattle.kr_history.specs.Acting.{Caller, AddsEntry}
 use Rattle.kr_history.specs.Calls.{LetsGo}
 use Rattle.kr_rewrite.specs.declared.outcome.Step.{Step}
 use Rattle.kr_rewrite.specs.declared.outcome.Step.TheVariants as step
-use Rattle.kr_rewrite.specs.Rewrites.{IsStep, IsStepTo, Rewrites, RewritesData, Steps, unread_step}
+use Rattle.kr_rewrite.specs.Rewrites.{IsStepOver, IsStepTo, RewritesData, RewritesOver, RowReads, StepsOver, UnsealsRow, unread_step}
 use Rattle.kr_rewrite.specs.inner.Stages.{LooksAbove, ReadsData, ResealsRow}
 
 -- ---- the value that was found
@@ -33,101 +32,98 @@ pub unread_to : (path own : List ℕ) (why : UnsealNo) (result : Result Step Cal
 unread_to path own why result same is d =
     subst (λ r. IfOk r IsStepTo) (sym d) (unread_at path why (subst IsPath (sym same) is))
 
-module _ {L : Type 0} (truth : Truth) (link : L → Link) (p : Publication) (row : Row)
-    (olds news : List L) where
-  abbrev pub Reads : Result Opened UnsealNo → Type 0
-  Reads opened = UnsealsBy truth link p.seeds (list_at p row.resource) row.path row.stored olds
-      opened news
+pub reads_data : {L : Type 0} (truth : Truth) (link : L → Link) (p : Publication) (row : Row)
+    (olds news : List L) (opened : Opened) → UnsealsRow truth link p row olds (Ok opened) news
+    → ReadsData truth p row opened.plain
+reads_data truth link p row olds news opened u = record {
+  some = (u.envelope, u.object, u.is.0);
+  told = λ told opens. (u.envelope, u.told told opens, u.is.0);
+}
 
-  pub reads_data : (opened : Opened) → Reads (Ok opened) → ReadsData truth p row opened.plain
-  reads_data opened u = record {
-    some = (u.envelope, u.object, u.is.0);
-    told = λ told opens. (u.envelope, u.told told opens, u.is.0);
-  }
+module _ {S D : Type 0} (Reads : RowReads S) (left : D → Option (List ℕ)) (count : D → ℕ)
+    (p : Publication) (row : Row) (from to : S) (path : List ℕ) (path_is : path ≡ row.path)
+    (old new : Caller) (dice lent after : D) (same : lent ≡ dice) where
+  pub stale_rewritten : (opened : Opened) (result : Result Step CallNo)
+      → Reads p row from (Ok opened) to → opened.stale ≡ true
+      → ResealsRow left count p row opened.plain old lent result new after
+      → RewritesOver Reads left count p row old from dice result new to after
+  stale_rewritten opened result u stale r = inl (record {
+    opened = Ok opened;
+    unseals = u;
+    rewrites = subst
+        (λ b. RewritesData left count p row opened.plain b old dice result new after) (sym stale)
+        (subst (λ d. ResealsRow left count p row opened.plain old d result new after) same r);
+  })
 
-  module _ {D : Type 0} (left : D → Option (List ℕ)) (count : D → ℕ) (path : List ℕ)
-      (path_is : path ≡ row.path) (old new : Caller) (dice lent after : D) (same : lent ≡ dice)
-    where
-      pub stale_rewritten : (opened : Opened) (result : Result Step CallNo) → Reads (Ok opened)
-          → opened.stale ≡ true
-          → ResealsRow left count p row opened.plain old lent result new after
-          → Rewrites truth link left count p row old olds dice result new news after
-      stale_rewritten opened result u stale r = inl (record {
-        opened = Ok opened;
-        unseals = u;
-        rewrites = subst
-            (λ b. RewritesData left count p row opened.plain b old dice result new after) (sym stale)
-            (subst (λ d. ResealsRow left count p row opened.plain old d result new after) same r);
-      })
+  pub fresh_rewritten : (opened : Opened) → Reads p row from (Ok opened) to
+      → opened.stale ≡ false
+      → RewritesOver Reads left count p row old from dice (Ok (step.Fresh path)) old to lent
+  fresh_rewritten opened u fresh = inl (record {
+    opened = Ok opened;
+    unseals = u;
+    rewrites = subst (λ b. RewritesData left count p row opened.plain b old dice
+        (Ok (step.Fresh path)) old lent) (sym fresh)
+        (ap (λ q. Ok (step.Fresh q)) path_is, refl, same);
+  })
 
-      pub fresh_rewritten : (opened : Opened) → Reads (Ok opened) → opened.stale ≡ false
-          → Rewrites truth link left count p row old olds dice (Ok (step.Fresh path)) old news lent
-      fresh_rewritten opened u fresh = inl (record {
-        opened = Ok opened;
-        unseals = u;
-        rewrites = subst (λ b. RewritesData left count p row opened.plain b old dice
-            (Ok (step.Fresh path)) old lent) (sym fresh)
-            (ap (λ q. Ok (step.Fresh q)) path_is, refl, same);
-      })
-
-      pub unread_rewritten : (why : UnsealNo) (result : Result Step CallNo) → Reads (Err why)
-          → result ≡ unread_step path why
-          → Rewrites truth link left count p row old olds dice result old news lent
-      unread_rewritten why result u d = inl (record {
-        opened = Err why;
-        unseals = u;
-        rewrites = (d ∙ ap (λ q. unread_step q why) path_is, refl, same);
-      })
+  pub unread_rewritten : (why : UnsealNo) (result : Result Step CallNo)
+      → Reads p row from (Err why) to → result ≡ unread_step path why
+      → RewritesOver Reads left count p row old from dice result old to lent
+  unread_rewritten why result u d = inl (record {
+    opened = Err why;
+    unseals = u;
+    rewrites = (d ∙ ap (λ q. unread_step q why) path_is, refl, same);
+  })
 
 -- ---- the row that was looked for
 
-module _ {L D : Type 0} (truth : Truth) (link : L → Link) (left : D → Option (List ℕ))
-    (count : D → ℕ) (p : Publication) (above : List ℕ) (old : Caller) (olds : List L) (dice : D)
-  where
-    pub looked_in_vain : (why : CallNo) (new : Caller) → LooksAbove above old (Err why) new
-        → Steps truth link left count p above old olds dice (Err why) new olds dice
-    looked_in_vain (refusal.Refused x) new a = absurd a
-    looked_in_vain (refusal.PluginFailed name) new a = absurd a
-    looked_in_vain refusal.DiceFailed new a = absurd a
-    looked_in_vain refusal.StoreFailed new a = absurd a
-    looked_in_vain (refusal.StoreFull needed) new a = absurd a
-    looked_in_vain (refusal.Unhealthy name field text) new a = absurd a
-    looked_in_vain refusal.Gone new a = absurd a
-    looked_in_vain refusal.Spent new a = inl (a, refl, refl)
-    looked_in_vain refusal.NoMemory new a = inl (a, refl, refl)
+module _ {S D : Type 0} (Reads : RowReads S) (left : D → Option (List ℕ)) (count : D → ℕ)
+    (p : Publication) (above : List ℕ) (old : Caller) (from : S) (dice : D) where
+  pub looked_in_vain : (why : CallNo) (new : Caller) → LooksAbove above old (Err why) new
+      → StepsOver Reads left count p above old from dice (Err why) new from dice
+  looked_in_vain (refusal.Refused x) new a = absurd a
+  looked_in_vain (refusal.PluginFailed name) new a = absurd a
+  looked_in_vain refusal.DiceFailed new a = absurd a
+  looked_in_vain refusal.StoreFailed new a = absurd a
+  looked_in_vain (refusal.StoreFull needed) new a = absurd a
+  looked_in_vain (refusal.Unhealthy name field text) new a = absurd a
+  looked_in_vain refusal.Gone new a = absurd a
+  looked_in_vain refusal.Spent new a = inl (a, refl, refl)
+  looked_in_vain refusal.NoMemory new a = inl (a, refl, refl)
 
-    pub looked_at_end : (found : Option Row) (new : Caller) → found ≡ None
-        → LooksAbove above old (Ok found) new
-        → Steps truth link left count p above old olds dice (Ok step.End) new olds dice
-    looked_at_end found new is a = inl (subst (λ f. LooksAbove above old (Ok f) new) is a, refl, refl)
+  pub looked_at_end : (found : Option Row) (new : Caller) → found ≡ None
+      → LooksAbove above old (Ok found) new
+      → StepsOver Reads left count p above old from dice (Ok step.End) new from dice
+  looked_at_end found new is a =
+      inl (subst (λ f. LooksAbove above old (Ok f) new) is a, refl, refl)
 
-    -- the row as it was lent
-    pub looked_at_row : (found : Option Row) (row lent : Row) (middle new : Caller) (news : List L)
-        (after : D) (result : Result Step CallNo) → found ≡ Some row → lent ≡ row
-        → LooksAbove above old (Ok found) middle
-        → Rewrites truth link left count p lent middle olds dice result new news after
-        → Steps truth link left count p above old olds dice result new news after
-    looked_at_row found row lent middle new news after result is same a r = inr (record {
-      row = row;
-      found = middle;
-      finds = subst (λ f. LooksAbove above old (Ok f) middle) is a;
-      rewrites = subst (λ x. Rewrites truth link left count p x middle olds dice result new news
-          after) same r;
-    })
+  -- the row as it was lent
+  pub looked_at_row : (found : Option Row) (row lent : Row) (middle new : Caller) (to : S)
+      (after : D) (result : Result Step CallNo) → found ≡ Some row → lent ≡ row
+      → LooksAbove above old (Ok found) middle
+      → RewritesOver Reads left count p lent middle from dice result new to after
+      → StepsOver Reads left count p above old from dice result new to after
+  looked_at_row found row lent middle new to after result is same a r = inr (record {
+    row = row;
+    found = middle;
+    finds = subst (λ f. LooksAbove above old (Ok f) middle) is a;
+    rewrites = subst (λ x. RewritesOver Reads left count p x middle from dice result new to after)
+        same r;
+  })
 
 -- the stages of a step, one behind another
-pub step_held : {L D : Type 0} (truth : Truth) (link : L → Link) (left : D → Option (List ℕ))
-    (count : D → ℕ) (above copy : List ℕ) (replica : ℕ) (old adopted acted new : Caller)
-    (olds lent news : List L) (dice taken after : D) (held : ℕ × Publication)
-    (published : Option Publication) (done result : Result Step CallNo)
-    → copy ≡ above → lent ≡ olds → taken ≡ dice → published ≡ Some held.1
+pub step_held : {S D : Type 0} (Reads : RowReads S) (left : D → Option (List ℕ)) (count : D → ℕ)
+    (above copy : List ℕ) (replica : ℕ) (old adopted acted new : Caller) (from lent to : S)
+    (dice taken after : D) (held : ℕ × Publication) (published : Option Publication)
+    (done result : Result Step CallNo) → copy ≡ above → lent ≡ from → taken ≡ dice
+    → published ≡ Some held.1
     → AddsEntry old (event.Adopt replica) (answer.Adopted held.0 held.1) adopted
-    → IfSome published (λ p. Steps truth link left count p copy adopted lent taken done acted news
+    → IfSome published (λ p. StepsOver Reads left count p copy adopted lent taken done acted to
     after)
     → LetsGo acted done result new
-    → IsStep truth link left count replica above old olds dice result new news after
-step_held truth link left count above copy replica old adopted acted new olds lent news dice taken
-    after held published done result own links drawn is a f g =
+    → IsStepOver Reads left count replica above old from dice result new to after
+step_held Reads left count above copy replica old adopted acted new from lent to dice taken after
+    held published done result own links drawn is a f g =
     inr (record {
       number = held.0;
       p = held.1;
@@ -135,14 +131,14 @@ step_held truth link left count above copy replica old adopted acted new olds le
       done = done;
       acted = acted;
       adopts = a;
-      does = subst (λ d. Steps truth link left count held.1 above adopted olds d done acted news
-          after) drawn
-          (subst (λ l. Steps truth link left count held.1 above adopted l taken done acted news
-          after) links
-          (subst (λ q. Steps truth link left count held.1 q adopted lent taken done acted news
-          after) own
-          (subst (λ o. IfSome o (λ p. Steps truth link left count p copy adopted lent taken done
-          acted news after)) is f)));
+      does = subst (λ d. StepsOver Reads left count held.1 above adopted from d done acted to after)
+          drawn
+          (subst (λ l. StepsOver Reads left count held.1 above adopted l taken done acted to after)
+          links
+          (subst (λ q. StepsOver Reads left count held.1 q adopted lent taken done acted to after)
+          own
+          (subst (λ o. IfSome o (λ p. StepsOver Reads left count p copy adopted lent taken done
+          acted to after)) is f)));
       lets_go = g;
     })
 

@@ -9,8 +9,6 @@ use Rattle.std.proofs.lemmas.Cmp.{nat_list_cmp_total}
 use Rattle.std.proofs.lemmas.List.{append_assoc}
 use Rattle.std.proofs.lemmas.List.Sums.{count_by-le-length}
 use Rattle.std.proofs.lemmas.Option.{slice_get-get_or}
-use Rattle.kr_kms.specs.Calls.{Link}
-use Rattle.kr_kms.specs.Truth.{Truth}
 use Rattle.kr_store.specs.Rows.{live}
 use Rattle.kr_store.specs.declared.rows.Row.{Row}
 use Rattle.kr_history.specs.declared.call.CallNo.{CallNo}
@@ -21,8 +19,11 @@ use Rattle.kr_rollout.specs.Histories.{state_of}
 use Rattle.kr_history.specs.Parts.{AddsWithin}
 use Rattle.kr_history.proofs.PartsAdd.{nothing_within}
 use Rattle.kr_opening.proofs.Walking.{count_less, itself, lt_is}
+use Rattle.kr_kms.specs.Calls.{Link}
+use Rattle.kr_kms.specs.Truth.{Truth}
 use Rattle.kr_rewrite.specs.DriveLaws.{DrivesNeedFew, LiveAmong}
-use Rattle.kr_rewrite.specs.Drives.{EndsBy, FindsRow, Walks, last_of, path_of}
+use Rattle.kr_rewrite.specs.Drives.{EndsByOver, FindsRow, StayLinks, WalksOver, last_of, path_of}
+use Rattle.kr_rewrite.specs.Rewrites.{RowReads, UnsealsRow}
 use Rattle.kr_rewrite.specs.declared.outcome.Report.{Report}
 use Rattle.kr_rewrite.specs.declared.outcome.Step.{Step}
 use Rattle.kr_rewrite.specs.declared.outcome.Step.TheVariants as step
@@ -59,32 +60,32 @@ module _ (paths : List (List ℕ)) where
       (sym (g.opening_is ∙ opening))
       (subst (λ x. IsSome x) (sym l.next.1) refl))
 
-  module _ {L D : Type 0} (truth : Truth) (link : L → Link) (left : D → Option (List ℕ))
+  module _ {S D : Type 0} (Reads : RowReads S) (left : D → Option (List ℕ))
       (count : D → ℕ) (replica : ℕ) where
-    walks_grow : (above : List ℕ) (steps : List Step) (old : Caller) (olds : List L) (dice : D)
-        (new : Caller) (news : List L) (after : D)
-        → Walks truth link left count replica above steps old olds dice new news after
+    walks_grow : (above : List ℕ) (steps : List Step) (old : Caller) (from : S) (dice : D)
+        (new : Caller) (to : S) (after : D)
+        → WalksOver Reads left count replica above steps old from dice new to after
         → Grows old new
-    walks_grow above [] old olds dice new news after w = grows_same old new w.0
-    walks_grow above (taken ∷ steps) old olds dice new news after w =
+    walks_grow above [] old from dice new to after w = grows_same old new w.0
+    walks_grow above (taken ∷ steps) old from dice new to after w =
         grows_then old w.middle new
-        (takes_step truth link left count replica above old w.middle olds w.mids dice w.between
+        (takes_step Reads left count replica above old w.middle from w.mids dice w.between
         taken w.goes).grows
-        (walks_grow (path_of above taken) steps w.middle w.mids w.between new news after w.behind)
+        (walks_grow (path_of above taken) steps w.middle w.mids w.between new to after w.behind)
 
     -- each step leaves fewer above
-    walks_rise : (above : List ℕ) (steps : List Step) (old : Caller) (olds : List L) (dice : D)
-        (new : Caller) (news : List L) (after : D) (last : Caller)
-        → Walks truth link left count replica above steps old olds dice new news after
+    walks_rise : (above : List ℕ) (steps : List Step) (old : Caller) (from : S) (dice : D)
+        (new : Caller) (to : S) (after : D) (last : Caller)
+        → WalksOver Reads left count replica above steps old from dice new to after
         → Grows new last → LiveAmong paths last
         → length steps + still_above (last_of above steps) ≤ still_above above
-    walks_rise above [] old olds dice new news after last w g among = omega arith
-    walks_rise above (taken ∷ steps) old olds dice new news after last w g among =
-        let t = takes_step truth link left count replica above old w.middle olds w.mids dice
+    walks_rise above [] old from dice new to after last w g among = omega arith
+    walks_rise above (taken ∷ steps) old from dice new to after last w g among =
+        let t = takes_step Reads left count replica above old w.middle from w.mids dice
         w.between taken w.goes in
         let further = grows_then w.middle new last (walks_grow (path_of above taken) steps w.middle
-        w.mids w.between new news after w.behind) g in
-        let rest = walks_rise (path_of above taken) steps w.middle w.mids w.between new news after
+        w.mids w.between new to after w.behind) g in
+        let rest = walks_rise (path_of above taken) steps w.middle w.mids w.between new to after
         last w.behind g among in
         let less = by w.middle w.finds t.grows further t.looks in
         omega (arith, rest, less)
@@ -99,14 +100,15 @@ module _ (paths : List (List ℕ)) where
         by middle finds g further (StepLooks.at_end e l) = absurd (subst FindsRow e finds)
 
     -- so a drive spends few
-    module _ (above : List ℕ) (steps : List Step) (old : Caller) (olds : List L) (dice : D)
-        (ended : Result Step CallNo) (report : Report) (new : Caller) (news : List L) (after : D)
-        (e : EndsBy truth link left count replica above steps old olds dice ended report new news
-        after) (among : LiveAmong paths new) where
+    module _ (Meanwhile : S → S → Type 0) (above : List ℕ) (steps : List Step) (old : Caller)
+        (from : S) (dice : D) (ended : Result Step CallNo) (report : Report) (new : Caller)
+        (to : S) (after : D)
+        (e : EndsByOver Reads Meanwhile left count replica above steps old from dice ended report
+        new to after) (among : LiveAmong paths new) where
       by_end : (g : Grows e.middle new) → StepNeeds (last_of above steps) e.middle new ended
           → Spends (4 * length paths + 3) old new ended
       by_end g (StepNeeds.at_none s) =
-          let rise = walks_rise above steps old olds dice e.middle e.mids e.between new e.walks g
+          let rise = walks_rise above steps old from dice e.middle e.mids e.between new e.walks g
           among in
           let most = count_by-le-length (λ p. is_lt (path_cmp above p)) paths in
           let walked = e.walks_few.1.left_is in
@@ -115,11 +117,12 @@ module _ (paths : List (List ℕ)) where
             spent = λ i. let less = s.spent i in omega (arith, less, rise, most, walked, few);
           }
       by_end g (StepNeeds.at_row row l opening s) =
-          let rise = walks_rise above steps old olds dice e.middle e.mids e.between new e.walks g
+          let rise = walks_rise above steps old from dice e.middle e.mids e.between new e.walks g
           among in
           let most = count_by-le-length (λ p. is_lt (path_cmp above p)) paths in
           let one = fewer_above (last_of above steps) row.path l.next.0
-          (found_among (last_of above steps) e.middle new new row l opening (grows_same new new refl)
+          (found_among (last_of above steps) e.middle new new row l opening
+          (grows_same new new refl)
           among) in
           let walked = e.walks_few.1.left_is in
           let few = e.walks_few.2.few in record {
@@ -129,9 +132,9 @@ module _ (paths : List (List ℕ)) where
 
       spends_few : Spends (4 * length paths + 3) old new ended
       spends_few = by_end
-          (step_grows truth link left count replica (last_of above steps) e.middle new e.mids news
+          (step_grows Reads left count replica (last_of above steps) e.middle new e.mids to
           e.between after ended e.ends)
-          (step_needs truth link left count replica (last_of above steps) e.middle new e.mids news
+          (step_needs Reads left count replica (last_of above steps) e.middle new e.mids to
           e.between after ended e.ends)
 
       adds_few : AddsWithin (4 * length paths + 3) 0 [] old new
@@ -154,15 +157,18 @@ pub drives_need_few : {L D : Type 0} (truth : Truth) (link : L → Link)
     (left : D → Option (List ℕ)) (count : D → ℕ) → DrivesNeedFew truth link left count
 drives_need_few {L} {D} truth link left count replica above old olds dice (Ok report) new news
     after paths d among = record {
-      few = adds_few paths truth link left count replica above d.steps old olds dice (Ok step.End)
+      few = adds_few paths (UnsealsRow truth link) left count replica (StayLinks link) above
+          d.steps old olds dice (Ok step.End)
           report new news after d.ends among;
       spent = λ r e. cc e;
     }
 drives_need_few {L} {D} truth link left count replica above old olds dice (Err cut) new news after
     paths (inl c) among = record {
-      few = adds_few paths truth link left count replica above c.steps old olds dice (Err cut.1)
+      few = adds_few paths (UnsealsRow truth link) left count replica (StayLinks link) above
+          c.steps old olds dice (Err cut.1)
           cut.0 new news after c.ends among;
-      spent = λ r e. (spends_few paths truth link left count replica above c.steps old olds dice
+      spent = λ r e. (spends_few paths (UnsealsRow truth link) left count replica (StayLinks link)
+          above c.steps old olds dice
           (Err cut.1) cut.0 new news after c.ends among).spent
           (ap (λ why. Err why) (ap (why_in cut.1) e));
     }

@@ -1,7 +1,5 @@
 -- How many entries a step spends, and that it lacks them only where fewer were left.
 use Rattle.std.proofs.Common.{◌≡◌, inl, inr, ℕ, ◌+◌, ◌<◌, ◌≤◌, Bool, true, false, List, Option, Some, Result, Ok, Err, sym, ap, ◌∙◌, arith}
-use Rattle.kr_kms.specs.Calls.{Link}
-use Rattle.kr_kms.specs.Truth.{Truth}
 use Rattle.kr_provider.specs.Publication.{Publication}
 use Rattle.kr_provider.specs.declared.refusal.Opened.{Opened}
 use Rattle.kr_provider.specs.declared.refusal.SealNo.{SealNo}
@@ -18,7 +16,7 @@ use Rattle.kr_rollout.specs.declared.event.Event.TheVariants as event
 use Rattle.kr_history.specs.Acting.{Caller, AddsEntry}
 use Rattle.kr_history.specs.Calls.{AddsNothing, AdoptsNothing, EndsEarly, LetsGo}
 use Rattle.kr_history.proofs.Nexts.{opening_is}
-use Rattle.kr_rewrite.specs.Rewrites.{FindsNone, IsStep, ReplacesBy, ResealsBy, Rewrites, RewritesBy, RewritesData, Steps, unread_step, unsealed_step}
+use Rattle.kr_rewrite.specs.Rewrites.{FindsNone, IsStepOver, ReplacesBy, ResealsBy, RewritesBy, RewritesData, RewritesOver, RowReads, StepsOver, unread_step, unsealed_step}
 use Rattle.kr_rewrite.specs.declared.outcome.Step.{Step}
 use Rattle.kr_rewrite.specs.declared.outcome.Step.TheVariants as step
 use Rattle.kr_rewrite.proofs.Growing.{LooksAt, after_finds, grows_then, lets_go_grows, looks_from, rewrites_grow}
@@ -139,14 +137,14 @@ module _ {D : Type 0} (left : D → Option (List ℕ)) (count : D → ℕ) (p : 
   opened_spends (Err why) r =
       spends_same old new result r.1 (unread_other row.path why result r.0)
 
-rewrites_spend : {L D : Type 0} (truth : Truth) (link : L → Link) (left : D → Option (List ℕ))
-    (count : D → ℕ) (p : Publication) (row : Row) (old new : Caller) (olds news : List L)
+rewrites_spend : {S D : Type 0} (Reads : RowReads S) (left : D → Option (List ℕ))
+    (count : D → ℕ) (p : Publication) (row : Row) (old new : Caller) (from to : S)
     (dice after : D) (result : Result Step CallNo)
-    → Rewrites truth link left count p row old olds dice result new news after
+    → RewritesOver Reads left count p row old from dice result new to after
     → Spends 1 old new result
-rewrites_spend truth link left count p row old new olds news dice after result (inl o) =
+rewrites_spend Reads left count p row old new from to dice after result (inl o) =
     opened_spends left count p row old new dice after result o.opened o.rewrites
-rewrites_spend truth link left count p row old new olds news dice after result (inr n) =
+rewrites_spend Reads left count p row old new from to dice after result (inr n) =
     spends_same old new result n.0.1 (memory_other result n.0.0)
 
 -- ---- none was found, or nothing was adopted
@@ -206,11 +204,11 @@ pub data StepNeeds (above : List ℕ) (old new : Caller) (result : Result Step C
   at_row : (row : Row) → LooksAt above old new (Some row) → new.opening ≡ old.opening
       → Spends 4 old new result → StepNeeds above old new result
 
-module _ {L D : Type 0} (truth : Truth) (link : L → Link) (left : D → Option (List ℕ))
-    (count : D → ℕ) (replica : ℕ) (above : List ℕ) (old new : Caller) (olds news : List L)
+module _ {S D : Type 0} (Reads : RowReads S) (left : D → Option (List ℕ))
+    (count : D → ℕ) (replica : ℕ) (above : List ℕ) (old new : Caller) (from to : S)
     (dice after : D) (result : Result Step CallNo) where
   early_needs : (result : Result Step CallNo)
-      → EndsEarly replica ((news ≡ olds) × (after ≡ dice)) old result new
+      → EndsEarly replica ((to ≡ from) × (after ≡ dice)) old result new
       → Spends 3 old new result
   early_needs (Ok done) a = absurd a
   early_needs (Err why) a = spends_up 1 3 old new (Err why) (omega arith)
@@ -219,7 +217,7 @@ module _ {L D : Type 0} (truth : Truth) (link : L → Link) (left : D → Option
   by_steps : (number : ℕ) (p : Publication) (adopted acted : Caller)
       (done : Result Step CallNo)
       → AddsEntry old (event.Adopt replica) (answer.Adopted number p) adopted
-      → Steps truth link left count p above adopted olds dice done acted news after
+      → StepsOver Reads left count p above adopted from dice done acted to after
       → LetsGo acted done result new → StepNeeds above old new result
   by_steps number p adopted acted done a (inl f) l = at_none (lets_go_spends 2 old acted new done
       result (entry_before 1 old adopted acted (event.Adopt replica) (answer.Adopted number p) done
@@ -228,18 +226,19 @@ module _ {L D : Type 0} (truth : Truth) (link : L → Link) (left : D → Option
       let asked = event.After above in
       let given = answer.Found f.row in
       let grows = grows_then f.found acted new
-      (rewrites_grow truth link left count p f.row f.found acted olds news dice after done
+      (rewrites_grow Reads left count p f.row f.found acted from to dice after done
       f.rewrites) (lets_go_grows acted new done result l) in
       at_row f.row (looks_from old adopted f.found new replica number p above given (Some f.row) a
       f.finds grows (after_finds adopted f.found above f.row f.finds))
       (grows.opening_is ∙ opening_is adopted f.found asked given f.finds
       ∙ opening_is old adopted (event.Adopt replica) (answer.Adopted number p) a)
-      (lets_go_spends 3 old acted new done result (entry_before 2 old adopted acted (event.Adopt replica)
+      (lets_go_spends 3 old acted new done result (entry_before 2 old adopted acted
+      (event.Adopt replica)
       (answer.Adopted number p) done a (entry_before 1 adopted f.found acted asked given done
-      f.finds (rewrites_spend truth link left count p f.row f.found acted olds news dice after done
+      f.finds (rewrites_spend Reads left count p f.row f.found acted from to dice after done
       f.rewrites))) l)
 
-  pub step_needs : IsStep truth link left count replica above old olds dice result new news after
+  pub step_needs : IsStepOver Reads left count replica above old from dice result new to after
       → StepNeeds above old new result
   step_needs (inl early) = at_none (early_needs result early)
   step_needs (inr h) = by_steps h.number h.p h.adopted h.acted h.done h.adopts h.does h.lets_go

@@ -4,11 +4,9 @@ use Rattle.std.specs.Prelude.{All, count_by}
 use Rattle.std.proofs.lemmas.List.Elements.{All-nil, All-cons}
 use Rattle.std.proofs.lemmas.List.Sums.{sum_by-append, sum_by-cons}
 use Rattle.kr_base.specs.Numbering.{next_number}
-use Rattle.kr_kms.specs.Calls.{Link}
-use Rattle.kr_kms.specs.Truth.{Truth}
 use Rattle.kr_history.specs.Acting.{Caller}
-use Rattle.kr_rewrite.specs.Drives.{Counts, FindsRow, IsSettled, Settles, Walks, count_of, is_changed, is_fresh, is_left, is_rewritten, last_of, path_of}
-use Rattle.kr_rewrite.specs.Rewrites.{IsStep}
+use Rattle.kr_rewrite.specs.Drives.{Counts, FindsRow, IsSettled, Settles, WalksOver, count_of, is_changed, is_fresh, is_left, is_rewritten, last_of, path_of}
+use Rattle.kr_rewrite.specs.Rewrites.{IsStepOver, RowReads}
 use Rattle.kr_rewrite.specs.declared.outcome.Report.{Report}
 use Rattle.kr_rewrite.specs.declared.outcome.Step.{Step}
 use Rattle.kr_rewrite.specs.declared.outcome.Step.TheVariants as step
@@ -151,37 +149,37 @@ last_is (step.Left path) found old new s is = ap (λ (r : Report). r.last) s.1
 
 -- ---- steps
 
-module _ {L D : Type 0} (truth : Truth) (link : L → Link) (left : D → Option (List ℕ))
+module _ {S D : Type 0} (Reads : RowReads S) (left : D → Option (List ℕ))
     (count : D → ℕ) (replica : ℕ) where
   pub walks_more : (above : List ℕ) (steps : List Step) (taken : Step) (old middle new : Caller)
-      (olds mids news : List L) (dice between after : D)
-      → Walks truth link left count replica above steps old olds dice middle mids between
+      (from mids to : S) (dice between after : D)
+      → WalksOver Reads left count replica above steps old from dice middle mids between
       → FindsRow taken
-      → IsStep truth link left count replica (last_of above steps) middle mids between (Ok taken)
-      new news after
-      → Walks truth link left count replica above (steps ++ taken ∷ []) old olds dice new news
+      → IsStepOver Reads left count replica (last_of above steps) middle mids between (Ok taken)
+      new to after
+      → WalksOver Reads left count replica above (steps ++ taken ∷ []) old from dice new to
       after
-  walks_more above [] taken old middle new olds mids news dice between after w f s = record {
+  walks_more above [] taken old middle new from mids to dice between after w f s = record {
     middle = new;
-    mids = news;
+    mids = to;
     between = after;
     finds = f;
-    goes = subst (λ (c : Caller). IsStep truth link left count replica above c olds dice (Ok taken)
-        new news after) w.0
-        (subst (λ l. IsStep truth link left count replica above middle l dice (Ok taken) new news
+    goes = subst (λ (c : Caller). IsStepOver Reads left count replica above c from dice (Ok taken)
+        new to after) w.0
+        (subst (λ l. IsStepOver Reads left count replica above middle l dice (Ok taken) new to
         after) w.1
-        (subst (λ d. IsStep truth link left count replica above middle mids d (Ok taken) new news
+        (subst (λ d. IsStepOver Reads left count replica above middle mids d (Ok taken) new to
         after) w.2 s));
     behind = (refl, refl, refl);
   }
-  walks_more above (first ∷ steps) taken old middle new olds mids news dice between after w f s =
+  walks_more above (first ∷ steps) taken old middle new from mids to dice between after w f s =
       record {
         middle = w.middle;
         mids = w.mids;
         between = w.between;
         finds = w.finds;
         goes = w.goes;
-        behind = walks_more (path_of above first) steps taken w.middle middle new w.mids mids news
+        behind = walks_more (path_of above first) steps taken w.middle middle new w.mids mids to
             w.between between after w.behind f s;
       }
 
@@ -197,12 +195,12 @@ module _ {L D : Type 0} (truth : Truth) (link : L → Link) (left : D → Option
   none_counted true n e = absurd (omega (arith, e))
   none_counted false n e = refl
 
-  settles_all : (above : List ℕ) (steps : List Step) (old new : Caller) (olds news : List L)
+  settles_all : (above : List ℕ) (steps : List Step) (old new : Caller) (from to : S)
       (dice after : D)
-      → Walks truth link left count replica above steps old olds dice new news after
+      → WalksOver Reads left count replica above steps old from dice new to after
       → count_by is_left steps ≡ 0 → count_by is_changed steps ≡ 0 → All IsSettled steps
-  settles_all above [] old new olds news dice after w l c = All-nil IsSettled
-  settles_all above (taken ∷ steps) old new olds news dice after w l c =
+  settles_all above [] old new from to dice after w l c = All-nil IsSettled
+  settles_all above (taken ∷ steps) old new from to dice after w l c =
       let one_left : cond (is_left taken) 1 0 + count_by is_left steps ≡ 0 =
       omega (arith, l, sum_by-cons (λ x. cond (is_left x) 1 0) taken steps) in
       let one_changed : cond (is_changed taken) 1 0 + count_by is_changed steps ≡ 0 =
@@ -210,17 +208,17 @@ module _ {L D : Type 0} (truth : Truth) (link : L → Link) (left : D → Option
       All-cons IsSettled taken steps
       (settled_one taken w.finds (none_counted (is_left taken) (count_by is_left steps) one_left)
       (none_counted (is_changed taken) (count_by is_changed steps) one_changed))
-      (settles_all (path_of above taken) steps w.middle new w.mids news w.between after w.behind
+      (settles_all (path_of above taken) steps w.middle new w.mids to w.between after w.behind
       (omega (arith, one_left)) (omega (arith, one_changed)))
 
   none_by : (m n : ℕ) → m ≡ count_of n → m ≡ 0 → n ≡ 0
   none_by m n e z = grind arith
 
   pub settles : (above : List ℕ) (steps : List Step) (report : Report) (old new : Caller)
-      (olds news : List L) (dice after : D) → Counts above steps report
-      → Walks truth link left count replica above steps old olds dice new news after
+      (from to : S) (dice after : D) → Counts above steps report
+      → WalksOver Reads left count replica above steps old from dice new to after
       → Settles steps report
-  settles above steps report old new olds news dice after c w l h =
-      settles_all above steps old new olds news dice after w
+  settles above steps report old new from to dice after c w l h =
+      settles_all above steps old new from to dice after w
       (none_by report.left (count_by is_left steps) c.left l)
       (none_by report.changed (count_by is_changed steps) c.changed h)

@@ -17,7 +17,7 @@ use Rattle.kr_history.specs.Calls.{IsIdleAfter}
 use Rattle.kr_rollout.specs.Callers.{holding}
 use Rattle.kr_rollout.specs.Histories.{state_of}
 use Rattle.kr_history.specs.Parts.{AddsWithin}
-use Rattle.kr_rewrite.specs.Rewrites.{IsStep}
+use Rattle.kr_rewrite.specs.Rewrites.{IsStepOver, RowReads, UnsealsRow}
 use Rattle.kr_rewrite.specs.declared.outcome.Report.{Report}
 use Rattle.kr_rewrite.specs.declared.outcome.Step.{Step}
 use Rattle.kr_rewrite.specs.declared.outcome.Step.TheVariants as step
@@ -102,73 +102,109 @@ CoversLive above steps old new = (path : List ℕ) → slice_cmp nat_cmp above p
 -- ---- a drive
 
 -- there was no memory for a copy of the path
-pub record CopiesNoPath {L D : Type 0} (old : Caller) (olds : List L) (dice : D) (why : CallNo)
-    (report : Report) (new : Caller) (news : List L) (after : D) : Type 0 where
+pub record CopiesNoPath {S D : Type 0} (old : Caller) (from : S) (dice : D) (why : CallNo)
+    (report : Report) (new : Caller) (to : S) (after : D) : Type 0 where
   pub why_is : why ≡ refusal.NoMemory
   pub report_is : report ≡ report_at []
   pub same : new ≡ old
-  pub links : news ≡ olds
+  pub links : to ≡ from
   pub dice_is : after ≡ dice
 
-module _ {L D : Type 0} (truth : Truth) (link : L → Link) (left : D → Option (List ℕ))
-    (count : D → ℕ) (replica : ℕ) where
+module _ {S D : Type 0} (Reads : RowReads S) (left : D → Option (List ℕ)) (count : D → ℕ)
+    (replica : ℕ) where
   -- a step that found a row, and what comes behind it
-  pub record Goes (above : List ℕ) (taken : Step) (old : Caller) (olds : List L) (dice : D)
-      (Behind : Caller → List L → D → Type 0) : Type 0 where
+  pub record GoesOver (above : List ℕ) (taken : Step) (old : Caller) (from : S) (dice : D)
+      (Behind : Caller → S → D → Type 0) : Type 0 where
     pub middle : Caller
-    pub mids : List L
+    pub mids : S
     pub between : D
     pub finds : FindsRow taken
-    pub goes : IsStep truth link left count replica above old olds dice (Ok taken) middle mids
+    pub goes : IsStepOver Reads left count replica above old from dice (Ok taken) middle mids
         between
     pub behind : Behind middle mids between
 
   -- these steps, one behind another
-  abbrev pub Walks : (above : List ℕ) → List Step → Caller → List L → D → Caller → List L → D
-      → Type 0
-  Walks above [] old olds dice new news after = (new ≡ old) × (news ≡ olds) × (after ≡ dice)
-  Walks above (taken ∷ steps) old olds dice new news after =
-      Goes above taken old olds dice (λ middle mids between.
-      Walks (path_of above taken) steps middle mids between new news after)
+  abbrev pub WalksOver : (above : List ℕ) → List Step → Caller → S → D → Caller → S → D → Type 0
+  WalksOver above [] old from dice new to after = (new ≡ old) × (to ≡ from) × (after ≡ dice)
+  WalksOver above (taken ∷ steps) old from dice new to after =
+      GoesOver above taken old from dice (λ middle mids between.
+      WalksOver (path_of above taken) steps middle mids between new to after)
 
-  -- these steps, and one that ended so. Each adds at most four entries; meanwhile each link stays
-  -- the same plugin's, and no count of faults falls
-  pub record EndsBy (above : List ℕ) (steps : List Step) (old : Caller) (olds : List L) (dice : D)
-      (ended : Result Step CallNo) (report : Report) (new : Caller) (news : List L) (after : D)
+module _ {S D : Type 0} (Reads : RowReads S) (Meanwhile : S → S → Type 0)
+    (left : D → Option (List ℕ)) (count : D → ℕ) (replica : ℕ) where
+  -- these steps, and one that ended so. Each adds at most four entries; meanwhile no count of
+  -- faults falls, and this holds of what answers
+  pub record EndsByOver (above : List ℕ) (steps : List Step) (old : Caller) (from : S) (dice : D)
+      (ended : Result Step CallNo) (report : Report) (new : Caller) (to : S) (after : D)
       : Type 0 where
     pub counts : Counts above steps report
     pub middle : Caller
-    pub mids : List L
+    pub mids : S
     pub between : D
-    pub walks : Walks above steps old olds dice middle mids between
+    pub walks : WalksOver Reads left count replica above steps old from dice middle mids
+        between
     pub walks_few : AddsWithin (4 * length steps) 0 [] old middle
-    pub walks_asked : AskedOnly link (names_of link olds) olds mids
+    pub walks_asked : Meanwhile from mids
     pub walks_later : count dice ≤ count between
-    pub ends : IsStep truth link left count replica (last_of above steps) middle mids between ended
-        new news after
+    pub ends : IsStepOver Reads left count replica (last_of above steps) middle mids between ended
+        new to after
     pub few : AddsWithin (4 * length steps + 4) 0 [] old new
 
   -- the report of a drive that came to the end
-  pub record Drives (above : List ℕ) (old : Caller) (olds : List L) (dice : D) (report : Report)
-      (new : Caller) (news : List L) (after : D) : Type 0 where
+  pub record DrivesOver (above : List ℕ) (old : Caller) (from : S) (dice : D) (report : Report)
+      (new : Caller) (to : S) (after : D) : Type 0 where
     pub steps : List Step
-    pub ends : EndsBy above steps old olds dice (Ok step.End) report new news after
+    pub ends : EndsByOver above steps old from dice (Ok step.End) report new to after
     pub covers : CoversLive above steps old new
     pub settles : Settles steps report
 
   -- and of one that was cut short
-  pub record IsCut (above : List ℕ) (old : Caller) (olds : List L) (dice : D) (why : CallNo)
-      (report : Report) (new : Caller) (news : List L) (after : D) : Type 0 where
+  pub record IsCutOver (above : List ℕ) (old : Caller) (from : S) (dice : D) (why : CallNo)
+      (report : Report) (new : Caller) (to : S) (after : D) : Type 0 where
     pub steps : List Step
-    pub ends : EndsBy above steps old olds dice (Err why) report new news after
+    pub ends : EndsByOver above steps old from dice (Err why) report new to after
+
+  abbrev pub IsDriveOver : (above : List ℕ) → Caller → S → D → Result Report (Report × CallNo)
+      → Caller → S → D → Type 0
+  IsDriveOver above old from dice (Ok report) new to after =
+      DrivesOver above old from dice report new to after
+  IsDriveOver above old from dice (Err cut) new to after =
+      IsCutOver above old from dice cut.1 cut.0 new to after
+      ⊎ CopiesNoPath old from dice cut.1 cut.0 new to after
+
+-- ---- by the links, as a truth has it
+
+module _ {L : Type 0} (link : L → Link) where
+  -- each link stays the same plugin's
+  abbrev pub StayLinks : List L → List L → Type 0
+  StayLinks olds news = AskedOnly link (names_of link olds) olds news
+
+module _ {L D : Type 0} (truth : Truth) (link : L → Link) (left : D → Option (List ℕ))
+    (count : D → ℕ) (replica : ℕ) where
+  abbrev pub Walks : (above : List ℕ) → List Step → Caller → List L → D → Caller → List L → D
+      → Type 0
+  Walks above steps old olds dice new news after = WalksOver (UnsealsRow truth link) left count
+      replica above steps old olds dice new news after
+
+  abbrev pub EndsBy : (above : List ℕ) → List Step → Caller → List L → D → Result Step CallNo
+      → Report → Caller → List L → D → Type 0
+  EndsBy above steps old olds dice ended report new news after = EndsByOver (UnsealsRow truth link)
+      (StayLinks link) left count replica above steps old olds dice ended report new news after
+
+  abbrev pub Drives : (above : List ℕ) → Caller → List L → D → Report → Caller → List L → D
+      → Type 0
+  Drives above old olds dice report new news after = DrivesOver (UnsealsRow truth link)
+      (StayLinks link) left count replica above old olds dice report new news after
+
+  abbrev pub IsCut : (above : List ℕ) → Caller → List L → D → CallNo → Report → Caller → List L
+      → D → Type 0
+  IsCut above old olds dice why report new news after = IsCutOver (UnsealsRow truth link)
+      (StayLinks link) left count replica above old olds dice why report new news after
 
   abbrev pub IsDrive : (above : List ℕ) → Caller → List L → D → Result Report (Report × CallNo)
       → Caller → List L → D → Type 0
-  IsDrive above old olds dice (Ok report) new news after =
-      Drives above old olds dice report new news after
-  IsDrive above old olds dice (Err cut) new news after =
-      IsCut above old olds dice cut.1 cut.0 new news after
-      ⊎ CopiesNoPath old olds dice cut.1 cut.0 new news after
+  IsDrive above old olds dice result new news after = IsDriveOver (UnsealsRow truth link)
+      (StayLinks link) left count replica above old olds dice result new news after
 
 -- afterwards the seat holds nothing, unless it could add no more lines
 abbrev pub IsIdleAtEnd : Result Report (Report × CallNo) → Caller → Type 0

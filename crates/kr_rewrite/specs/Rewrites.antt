@@ -110,44 +110,76 @@ FindsNone above old (Err refusal.NoMemory) new =
 FindsNone above old (Err refusal.Spent) new = AddsNothing old new
 FindsNone above old result new = ⊥
 
-module _ {L D : Type 0} (truth : Truth) (link : L → Link) (left : D → Option (List ℕ))
-    (count : D → ℕ) where
+-- how a row's value is unsealed by a configuration: what answers it stands so before and so behind
+abbrev pub RowReads : Type 0 → Type 1
+RowReads S = Publication → Row → (from : S) → Result Opened UnsealNo → (to : S) → Type 0
+
+module _ {S D : Type 0} (Reads : RowReads S) (left : D → Option (List ℕ)) (count : D → ℕ) where
   -- the row's value is unsealed by the configuration
-  pub record Opens (p : Publication) (row : Row) (old : Caller) (olds : List L) (dice : D)
-      (result : Result Step CallNo) (new : Caller) (news : List L) (after : D) : Type 0 where
+  pub record OpensOver (p : Publication) (row : Row) (old : Caller) (from : S) (dice : D)
+      (result : Result Step CallNo) (new : Caller) (to : S) (after : D) : Type 0 where
     pub opened : Result Opened UnsealNo
-    pub unseals : UnsealsBy truth link p.seeds (list_at p row.resource) row.path row.stored olds
-        opened news
+    pub unseals : Reads p row from opened to
     pub rewrites : RewritesBy left count p row opened old dice result new after
 
-  abbrev pub Rewrites : Publication → Row → Caller → List L → D → Result Step CallNo → Caller
-      → List L → D → Type 0
-  Rewrites p row old olds dice result new news after =
-      Opens p row old olds dice result new news after
-      ⊎ (CopiesNothing old dice result new after × (news ≡ olds))
+  abbrev pub RewritesOver : Publication → Row → Caller → S → D → Result Step CallNo → Caller → S
+      → D → Type 0
+  RewritesOver p row old from dice result new to after =
+      OpensOver p row old from dice result new to after
+      ⊎ (CopiesNothing old dice result new after × (to ≡ from))
 
   -- ---- a step, by a held configuration
 
   -- the live row with the least path above was found, and is rewritten
-  pub record FindsNext (p : Publication) (above : List ℕ) (old : Caller) (olds : List L) (dice : D)
-      (result : Result Step CallNo) (new : Caller) (news : List L) (after : D) : Type 0 where
+  pub record FindsNextOver (p : Publication) (above : List ℕ) (old : Caller) (from : S) (dice : D)
+      (result : Result Step CallNo) (new : Caller) (to : S) (after : D) : Type 0 where
     pub row : Row
     pub found : Caller
     pub finds : AddsEntry old (event.After above) (answer.Found row) found
-    pub rewrites : Rewrites p row found olds dice result new news after
+    pub rewrites : RewritesOver p row found from dice result new to after
+
+  abbrev pub StepsOver : Publication → (above : List ℕ) → Caller → S → D → Result Step CallNo
+      → Caller → S → D → Type 0
+  StepsOver p above old from dice result new to after =
+      (FindsNone above old result new × (to ≡ from) × (after ≡ dice))
+      ⊎ FindsNextOver p above old from dice result new to after
+
+  -- ---- a step, by the replica's current configuration
+
+  abbrev pub IsStepOver : (replica : ℕ) → (above : List ℕ) → Caller → S → D
+      → Result Step CallNo → Caller → S → D → Type 0
+  IsStepOver replica above old from dice result new to after =
+      EndsEarly replica ((to ≡ from) × (after ≡ dice)) old result new
+      ⊎ HoldsMeanwhile
+      (λ number p start done end. StepsOver p above start from dice done end to after) replica old
+      result new
+
+-- ---- by the links, as a truth has it
+
+module _ {L : Type 0} (truth : Truth) (link : L → Link) where
+  abbrev pub UnsealsRow : RowReads (List L)
+  UnsealsRow p row olds opened news = UnsealsBy truth link p.seeds (list_at p row.resource) row.path
+      row.stored olds opened news
+
+module _ {L D : Type 0} (truth : Truth) (link : L → Link) (left : D → Option (List ℕ))
+    (count : D → ℕ) where
+  abbrev pub Rewrites : Publication → Row → Caller → List L → D → Result Step CallNo → Caller
+      → List L → D → Type 0
+  Rewrites p row old olds dice result new news after =
+      RewritesOver (UnsealsRow truth link) left count p row old olds dice result new news after
+
+  abbrev pub FindsNext : Publication → (above : List ℕ) → Caller → List L → D
+      → Result Step CallNo → Caller → List L → D → Type 0
+  FindsNext p above old olds dice result new news after =
+      FindsNextOver (UnsealsRow truth link) left count p above old olds dice result new news after
 
   abbrev pub Steps : Publication → (above : List ℕ) → Caller → List L → D → Result Step CallNo
       → Caller → List L → D → Type 0
   Steps p above old olds dice result new news after =
-      (FindsNone above old result new × (news ≡ olds) × (after ≡ dice))
-      ⊎ FindsNext p above old olds dice result new news after
-
-  -- ---- a step, by the replica's current configuration
+      StepsOver (UnsealsRow truth link) left count p above old olds dice result new news after
 
   abbrev pub IsStep : (replica : ℕ) → (above : List ℕ) → Caller → List L → D
       → Result Step CallNo → Caller → List L → D → Type 0
   IsStep replica above old olds dice result new news after =
-      EndsEarly replica ((news ≡ olds) × (after ≡ dice)) old result new
-      ⊎ HoldsMeanwhile
-      (λ number p from done to. Steps p above from olds dice done to news after) replica old
-      result new
+      IsStepOver (UnsealsRow truth link) left count replica above old olds dice result new news
+      after

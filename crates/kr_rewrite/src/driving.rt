@@ -1,13 +1,16 @@
 //! All steps, one behind another.
 ghost use Rattle.std.specs.Prelude.{◌≡◌, ◌⊎◌, ◌<◌, ◌≤◌, length, None, []};
 ghost use Rattle.kr_base.specs.Rules.{IsPath};
-ghost use Rattle.kr_provider.specs.AskedLinks.{AskedOnly};
+ghost use Rattle.kr_base.specs.Walks.{Talk};
+ghost use Rattle.kr_provider.specs.AskedLinks.{Among, AskedOnly};
+ghost use Rattle.kr_provider.specs.BenchKeys.{LeavesKeys};
 ghost use Rattle.kr_provider.specs.KeyPages.{size_of};
 ghost use Rattle.kr_provider.specs.Names.{names_of};
 ghost use Rattle.kr_rollout.specs.Callers.{holding};
 ghost use Rattle.kr_history.specs.Calls.{AreServed, KeepsToldHonesty};
+ghost use Rattle.kr_rewrite.specs.DriveExchanges.{IsDriveBy};
 ghost use Rattle.kr_rewrite.specs.Drives.{IsDrive, IsIdleAtEnd, report_at};
-ghost use Rattle.kr_rewrite.specs.inner.Stages.{GoesOn};
+ghost use Rattle.kr_rewrite.specs.inner.Stages.{GoesOn, GoesOnBy};
 
 use crate::outcome::Report;
 use crate::step::rewrite_next;
@@ -33,12 +36,16 @@ pub fn drive<A: Acts, L: Kms, D: Dice>(
     requires pages { 64 ≤ size_of bench.old.pages }
     ensures drives { IsDrive L.truth L.link D.left D.count replica after.now (A.caller acts.old)
         bench.old.links bench.old.dice result (A.caller acts.new) bench.new.links bench.new.dice }
+    ensures exchanged { Talk (Among L.step) bench.old.links bench.new.links (IsDriveBy D.left
+        D.count replica after.now (A.caller acts.old) bench.old.cache bench.old.dice result
+        (A.caller acts.new) bench.new.cache bench.new.dice) }
     ensures honest { KeepsToldHonesty L.truth (A.caller acts.old) (A.caller acts.new) }
     ensures idle { IsIdleAtEnd result (A.caller acts.new) }
     ensures asked { AskedOnly L.link (names_of L.link bench.old.links) bench.old.links
         bench.new.links }
     ensures later { D.count bench.old.dice ≤ D.count bench.new.dice }
     ensures pages { size_of bench.new.pages ≡ size_of bench.old.pages }
+    ensures keys { LeavesKeys bench.old bench.new }
     ensures place { A.place acts.new ≡ A.place acts.old }
 {
     let Ok(last) = Text::copy(alloc, after) else {
@@ -64,12 +71,16 @@ fn go_on<A: Acts, L: Kms, D: Dice>(
     ensures goes_on { GoesOn L.truth L.link D.left D.count replica report.last
         (A.caller acts.old) bench.old.links bench.old.dice result (A.caller acts.new)
         bench.new.links bench.new.dice }
+    ensures exchanged { Talk (Among L.step) bench.old.links bench.new.links (GoesOnBy D.left
+        D.count replica report.last (A.caller acts.old) bench.old.cache bench.old.dice result
+        (A.caller acts.new) bench.new.cache bench.new.dice) }
     ensures honest { KeepsToldHonesty L.truth (A.caller acts.old) (A.caller acts.new) }
     ensures idle { IsIdleAtEnd result (A.caller acts.new) }
     ensures asked { AskedOnly L.link (names_of L.link bench.old.links) bench.old.links
         bench.new.links }
     ensures later { D.count bench.old.dice ≤ D.count bench.new.dice }
     ensures pages { size_of bench.new.pages ≡ size_of bench.old.pages }
+    ensures keys { LeavesKeys bench.old bench.new }
     ensures place { A.place acts.new ≡ A.place acts.old }
 {
     loop {

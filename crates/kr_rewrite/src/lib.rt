@@ -9,6 +9,6 @@ mod row;
 mod step;
 
 pub use driving::drive;
-pub use laws::drives_need_few;
+pub use laws::{drives_agree, drives_need_few, steps_agree};
 pub use outcome::{Report, Step};
 pub use step::rewrite_next;

@@ -1,13 +1,14 @@
 //! The row that was found, rewritten where it is stale.
 ghost use Rattle.std.specs.Prelude.{◌≡◌, ◌≤◌, [], length, IfOk, IfSome, Some};
-ghost use Rattle.kr_provider.specs.AskedLinks.{AskedOnly};
+ghost use Rattle.kr_base.specs.Walks.{Talk};
+ghost use Rattle.kr_provider.specs.AskedLinks.{Among, AskedOnly};
 ghost use Rattle.kr_provider.specs.Names.{names_of};
 ghost use Rattle.kr_store.specs.Rows.{IsRow};
 ghost use Rattle.kr_rollout.specs.Callers.{found_in, holding};
 ghost use Rattle.kr_history.specs.Calls.{KeepsToldHonesty};
 ghost use Rattle.kr_history.specs.Parts.{AddsWithin};
 ghost use Rattle.kr_rewrite.specs.Rewrites.{IsStepTo, ReplacesBy, Rewrites, unread_step, unsealed_step};
-ghost use Rattle.kr_rewrite.specs.inner.Stages.{AnswersReplace, HoldsAdopted, ReadsData, ResealsRow};
+ghost use Rattle.kr_rewrite.specs.inner.Stages.{AnswersReplace, HoldsAdopted, ReadsData, ResealsRow, RewritesRowBy};
 
 use crate::outcome::Step;
 use kr_base::{Bytes, Dice, Spent, Text};
@@ -31,6 +32,10 @@ pub(crate) fn rewrite<A: Acts, L: Kms, D: Dice>(
     ensures rewrites { IfSome bench.old.published (λ p. Rewrites L.truth L.link D.left D.count p
         row.now (A.caller acts.old) bench.old.links bench.old.dice result (A.caller acts.new)
         bench.new.links bench.new.dice) }
+    ensures exchanged { IfSome bench.old.published (λ p. Talk (Among L.step) bench.old.links
+        bench.new.links (RewritesRowBy D.left D.count p row.now (A.caller acts.old)
+        bench.old.cache bench.old.dice result (A.caller acts.new) bench.new.cache
+        bench.new.dice)) }
     ensures path { IfOk result IsStepTo }
     ensures adds { AddsWithin 1 0 [] (A.caller acts.old) (A.caller acts.new) }
     ensures honest { KeepsToldHonesty L.truth (A.caller acts.old) (A.caller acts.new) }

@@ -1,20 +1,23 @@
 //! One step: the next live row above a path.
 ghost use Rattle.std.specs.Prelude.{◌≡◌, ◌⊎◌, ◌<◌, ◌≤◌, length, None, Some, IfOk, IfSome, IsSome, []};
 ghost use Rattle.kr_base.specs.Rules.{IsPath};
-ghost use Rattle.kr_provider.specs.AskedLinks.{AskedOnly};
+ghost use Rattle.kr_base.specs.Walks.{Talk};
+ghost use Rattle.kr_provider.specs.AskedLinks.{Among, AskedOnly};
+ghost use Rattle.kr_provider.specs.BenchKeys.{LeavesKeys};
 ghost use Rattle.kr_provider.specs.KeyPages.{size_of};
 ghost use Rattle.kr_provider.specs.Names.{names_of};
 ghost use Rattle.kr_store.specs.Rows.{IsRow};
 ghost use Rattle.kr_rollout.specs.Callers.{found_in, holding};
 ghost use Rattle.kr_history.specs.Calls.{AreServed, IsIdle, KeepsHonesty, KeepsToldHonesty};
 ghost use Rattle.kr_history.specs.Parts.{AddsWithin};
+ghost use Rattle.kr_rewrite.specs.DriveExchanges.{IsStepBy};
 ghost use Rattle.kr_rewrite.specs.Rewrites.{IsStep, IsStepTo, Steps};
-ghost use Rattle.kr_rewrite.specs.inner.Stages.{AnswersAfter, FindsBy, HoldsAdopted, LooksAbove};
+ghost use Rattle.kr_rewrite.specs.inner.Stages.{AnswersAfter, FindsBy, HoldsAdopted, LooksAbove, StepsBy};
 
 use crate::outcome::Step;
 use crate::row::rewrite;
 use kr_base::{Dice, Shared, Spent, Text};
-use kr_history::{Acts, CallNo, adopt, let_go, take_up};
+use kr_history::{Acts, CallNo, adopt, lay_down, let_go, take_up};
 use kr_kms::Kms;
 use kr_provider::Bench;
 use kr_rollout::{Answer, Event};
@@ -22,7 +25,8 @@ use kr_store::Row;
 use std::alloc::Global;
 
 /// Rewrites the live row with the least path above this one, which may be empty, where that row is
-/// stale, by the replica's current generation, which the seat holds meanwhile.
+/// stale, by the replica's current generation, which the seat holds meanwhile. The bench's
+/// keys are laid down before the LetGo, so none stands while that waits, nor between calls.
 pub fn rewrite_next<A: Acts, L: Kms, D: Dice>(
     alloc: Global,
     acts: &mut A,
@@ -37,6 +41,9 @@ pub fn rewrite_next<A: Acts, L: Kms, D: Dice>(
     requires pages { 64 ≤ size_of bench.old.pages }
     ensures steps { IsStep L.truth L.link D.left D.count replica after.now (A.caller acts.old)
         bench.old.links bench.old.dice result (A.caller acts.new) bench.new.links bench.new.dice }
+    ensures exchanged { Talk (Among L.step) bench.old.links bench.new.links (IsStepBy D.left
+        D.count replica after.now (A.caller acts.old) bench.old.cache bench.old.dice result
+        (A.caller acts.new) bench.new.cache bench.new.dice) }
     ensures path { IfOk result IsStepTo }
     ensures adds { AddsWithin 4 0 [] (A.caller acts.old) (A.caller acts.new) }
     ensures honest { KeepsToldHonesty L.truth (A.caller acts.old) (A.caller acts.new) }
@@ -45,6 +52,7 @@ pub fn rewrite_next<A: Acts, L: Kms, D: Dice>(
         bench.new.links }
     ensures later { D.count bench.old.dice ≤ D.count bench.new.dice }
     ensures pages { size_of bench.new.pages ≡ size_of bench.old.pages }
+    ensures keys { LeavesKeys bench.old bench.new }
     ensures place { A.place acts.new ≡ A.place acts.old }
 {
     let Ok(copy) = Text::copy(alloc, after) else {
@@ -57,6 +65,7 @@ pub fn rewrite_next<A: Acts, L: Kms, D: Dice>(
     };
     take_up(bench, held.1);
     let done = step(alloc, acts, bench, copy);
+    lay_down(bench);
     let_go(acts, done)
 }
 
@@ -72,6 +81,9 @@ fn step<A: Acts, L: Kms, D: Dice>(
     ensures steps { IfSome bench.old.published (λ p. Steps L.truth L.link D.left D.count p above
         (A.caller acts.old) bench.old.links bench.old.dice result (A.caller acts.new)
         bench.new.links bench.new.dice) }
+    ensures exchanged { IfSome bench.old.published (λ p. Talk (Among L.step) bench.old.links
+        bench.new.links (StepsBy D.left D.count p above (A.caller acts.old) bench.old.cache
+        bench.old.dice result (A.caller acts.new) bench.new.cache bench.new.dice)) }
     ensures path { IfOk result IsStepTo }
     ensures adds { AddsWithin 2 0 [] (A.caller acts.old) (A.caller acts.new) }
     ensures honest { KeepsToldHonesty L.truth (A.caller acts.old) (A.caller acts.new) }

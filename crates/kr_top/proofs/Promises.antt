@@ -2,6 +2,7 @@
 -- by why they weren't.
 use Rattle.std.proofs.Common.{◌≡◌, ℕ, ◌≤◌, List, Option, Err, refl, inl, arith}
 use Rattle.kr_kms.specs.Calls.{Link}
+use Rattle.kr_kms.specs.Exchanges.{Exchange}
 use Rattle.kr_kms.specs.Truth.{Truth}
 use Rattle.kr_cmd_messages.specs.FleetAsked.{AskNoFleet, AsksFleet}
 use Rattle.kr_cmd_messages.specs.LoadAsked.{AskNoLoad, AsksLoad}
@@ -38,12 +39,13 @@ use Rattle.kr_top.specs.inner.Parts.{RunsAlone, RunsOther, RunsUnloaded}
 -- ---- the words were read
 
 module _ (T : Type 0) {L D : Type 0} (truth : Truth) (link : L → Link)
+    (step : L → Exchange → L → Type 0)
     (left : D → Option (List ℕ)) (count : D → ℕ) (words : List (List ℕ)) (old new : Around)
     (output errors : Receipt) (status : ℕ) where
   -- as a watch
   pub watch_promised : (read : WatchWords) → AsksWatch words read
-      → RanWatch T truth link left count read old new output errors status
-      → RunsUnloaded T truth link left count words old new output errors status
+      → RanWatch T truth link step left count read old new output errors status
+      → RunsUnloaded T truth link step left count words old new output errors status
   watch_promised read is ran = record {
     ran = λ none. absurd (none read is);
     readings = λ none. absurd (none read is);
@@ -53,7 +55,7 @@ module _ (T : Type 0) {L D : Type 0} (truth : Truth) (link : L → Link)
 
   -- as no watch
   pub unwatched : AskNoWatch words → RunsAlone words old new output errors status
-      → RunsUnloaded T truth link left count words old new output errors status
+      → RunsUnloaded T truth link step left count words old new output errors status
   unwatched none alone = record {
     ran = λ _. alone.ran;
     readings = λ _. alone.readings;
@@ -63,24 +65,24 @@ module _ (T : Type 0) {L D : Type 0} (truth : Truth) (link : L → Link)
 
   -- as a load
   pub load_promised : (read : LoadWords) → AsksLoad words read
-      → RanLoad T truth link read old new output errors status
-      → RunsOther T truth link left count words old new output errors status
+      → RanLoad T truth link step read old new output errors status
+      → RunsOther T truth link step left count words old new output errors status
   load_promised read is ran = record {
     ran = λ none. absurd (none.0 read is);
     readings = λ none. absurd (none.0 read is);
     tapes = λ none. absurd (none.0 read is);
     watch = λ asked asks. absurd (not_load_and_watch words read asked is asks);
-    load_headline = λ asked asks. load_headline T truth link asked old new output errors status
+    load_headline = λ asked asks. load_headline T truth link step asked old new output errors status
         (for_load (one_load words read asked is asks) ran);
     load = λ asked asks. for_load (one_load words read asked is asks) ran;
-    load_readings = λ asked asks. load_readings T truth link asked old new output errors status
+    load_readings = λ asked asks. load_readings T truth link step asked old new output errors status
         (asked_small asks) (for_load (one_load words read asked is asks) ran);
   }
 
   -- as no load
   pub other_promised : AskNoLoad words
-      → RunsUnloaded T truth link left count words old new output errors status
-      → RunsOther T truth link left count words old new output errors status
+      → RunsUnloaded T truth link step left count words old new output errors status
+      → RunsOther T truth link step left count words old new output errors status
   other_promised none other = record {
     ran = λ asked. other.ran asked.1;
     readings = λ asked. other.readings asked.1;
@@ -93,17 +95,17 @@ module _ (T : Type 0) {L D : Type 0} (truth : Truth) (link : L → Link)
 
   -- as a fleet
   pub fleet_promised : (read : FleetWords) → AsksFleet words read
-      → RanFleet T truth link left count read old new output errors status
-      → Runs T truth link left count words old new output errors status
+      → RanFleet T truth link step left count read old new output errors status
+      → Runs T truth link step left count words old new output errors status
   fleet_promised read is ran = record {
-    headline = λ asked asks. runs_have_headlines T truth link left count asked old new output
+    headline = λ asked asks. runs_have_headlines T truth link step left count asked old new output
         errors status (for_asked (one_fleet words read asked is asks) ran);
     ran = λ none. absurd (none.0 read is);
     readings = λ none. absurd (none.0 read is);
     tapes = λ none. absurd (none.0 read is);
     fleet = λ asked asks. for_asked (one_fleet words read asked is asks) ran;
     watch = λ asked asks. absurd (not_fleet_and_watch words read asked is asks);
-    fleet_readings = λ asked asks. fleet_readings T truth link left count asked old new output
+    fleet_readings = λ asked asks. fleet_readings T truth link step left count asked old new output
         errors status (for_asked (one_fleet words read asked is asks) ran);
     load_headline = λ asked asks. absurd (not_both words read asked is asks);
     load = λ asked asks. absurd (not_both words read asked is asks);
@@ -112,8 +114,8 @@ module _ (T : Type 0) {L D : Type 0} (truth : Truth) (link : L → Link)
 
   -- as no fleet
   pub unfleeted : AskNoFleet words
-      → RunsOther T truth link left count words old new output errors status
-      → Runs T truth link left count words old new output errors status
+      → RunsOther T truth link step left count words old new output errors status
+      → Runs T truth link step left count words old new output errors status
   unfleeted none other = record {
     headline = λ asked asks. absurd (none asked asks);
     ran = λ alone. other.ran (alone.1, alone.2);
@@ -152,20 +154,21 @@ module _ (words : List (List ℕ)) (a : Around) (output errors : Receipt) (statu
   }
 
   module _ (T : Type 0) {L D : Type 0} (truth : Truth) (link : L → Link)
+      (step : L → Exchange → L → Type 0)
       (left : D → Option (List ℕ)) (count : D → ℕ) where
     ran_watch : ((asked : WatchWords) → AsksWatch words asked → stop ≡ NoMemory)
         → (asked : WatchWords) → AsksWatch words asked
-        → RanWatch T truth link left count asked a a output errors status
+        → RanWatch T truth link step left count asked a a output errors status
     ran_watch lacks asked asks = record {
       result = Err stop;
-      did = watch_unread T truth link left count asked stop (lacks asked asks) a output idle;
+      did = watch_unread T truth link step left count asked stop (lacks asked asks) a output idle;
       tells = tells;
       written = written_later;
       told = later;
     }
 
     pub watch_not_read : IsWatchAsked words (Err stop)
-        → RunsUnloaded T truth link left count words a a output errors status
+        → RunsUnloaded T truth link step left count words a a output errors status
     watch_not_read read = let alone = alone_unread (watch_at_once words stop read) in record {
       ran = λ none. alone.ran;
       readings = λ none. alone.readings;
@@ -174,65 +177,65 @@ module _ (words : List (List ℕ)) (a : Around) (output errors : Receipt) (statu
     }
 
     ran_load : IsLoadAsked words (Err stop) → (asked : LoadWords) → AsksLoad words asked
-        → RanLoad T truth link asked a a output errors status
+        → RanLoad T truth link step asked a a output errors status
     ran_load read asked asks = record {
       result = Err stop;
-      did = load_unread T truth link words asked asks stop read a output idle;
+      did = load_unread T truth link step words asked asks stop read a output idle;
       tells = tells;
       written = written_later;
       told = later;
     }
 
     pub other_unread : IsLoadAsked words (Err stop)
-        → RunsOther T truth link left count words a a output errors status
+        → RunsOther T truth link step left count words a a output errors status
     other_unread read = let alone = alone_unread (load_at_once words stop read) in record {
       ran = λ none. alone.ran;
       readings = λ none. alone.readings;
       tapes = λ none. alone.tapes;
       watch = ran_watch (no_watch_by_load words stop read);
-      load_headline = λ asked asks. load_headline T truth link asked a a output errors status
+      load_headline = λ asked asks. load_headline T truth link step asked a a output errors status
           (ran_load read asked asks);
       load = ran_load read;
-      load_readings = λ asked asks. load_readings T truth link asked a a output errors status
+      load_readings = λ asked asks. load_readings T truth link step asked a a output errors status
           (asked_small asks) (ran_load read asked asks);
     }
 
     -- read as a fleet's
     load_by_fleet : IsFleetAsked words (Err stop) → (asked : LoadWords) → AsksLoad words asked
-        → RanLoad T truth link asked a a output errors status
+        → RanLoad T truth link step asked a a output errors status
     load_by_fleet read asked asks = record {
       result = Err stop;
-      did = fleet_unread T truth link words asked asks stop read a output idle;
+      did = fleet_unread T truth link step words asked asks stop read a output idle;
       tells = tells;
       written = written_later;
       told = later;
     }
 
     ran_fleet : IsFleetAsked words (Err stop) → (asked : FleetWords) → AsksFleet words asked
-        → RanFleet T truth link left count asked a a output errors status
+        → RanFleet T truth link step left count asked a a output errors status
     ran_fleet read asked asks = record {
       result = Err stop;
-      did = unread T truth link left count words asked asks stop read a output idle;
+      did = unread T truth link step left count words asked asks stop read a output idle;
       tells = tells;
       written = written_later;
       told = later;
     }
 
     pub run_unread : IsFleetAsked words (Err stop)
-        → Runs T truth link left count words a a output errors status
+        → Runs T truth link step left count words a a output errors status
     run_unread read = let alone = alone_unread (at_once words stop read) in record {
-      headline = λ asked asks. runs_have_headlines T truth link left count asked a a output
+      headline = λ asked asks. runs_have_headlines T truth link step left count asked a a output
           errors status (ran_fleet read asked asks);
       ran = λ none. alone.ran;
       readings = λ none. alone.readings;
       tapes = λ none. alone.tapes;
       fleet = ran_fleet read;
       watch = ran_watch (no_watch_by_fleet words stop read);
-      fleet_readings = λ asked asks. fleet_readings T truth link left count asked a a output
+      fleet_readings = λ asked asks. fleet_readings T truth link step left count asked a a output
           errors status (ran_fleet read asked asks);
-      load_headline = λ asked asks. load_headline T truth link asked a a output errors status
+      load_headline = λ asked asks. load_headline T truth link step asked a a output errors status
           (load_by_fleet read asked asks);
       load = load_by_fleet read;
-      load_readings = λ asked asks. load_readings T truth link asked a a output errors status
+      load_readings = λ asked asks. load_readings T truth link step asked a a output errors status
           (asked_small asks) (load_by_fleet read asked asks);
     }

@@ -5,6 +5,7 @@
 -- a link tells, and what a random source has left and how often it failed.
 use Rattle.std.specs.Prelude.{ℕ, List, Option}
 use Rattle.kr_kms.specs.Calls.{Link}
+use Rattle.kr_kms.specs.Exchanges.{Exchange}
 use Rattle.kr_kms.specs.Truth.{Truth}
 use Rattle.kr_cmd_messages.specs.FleetAsked.{AskAlone, AsksFleet}
 use Rattle.kr_cmd_messages.specs.LoadAsked.{AsksLoad}
@@ -25,39 +26,40 @@ use Rattle.kr_cmd_laws.specs.RunHeadlines.{RunHeadline}
 use Rattle.kr_cmd_watch.specs.Watchings.{RanWatch}
 
 pub record Runs (T : Type 0) {L D : Type 0} (truth : Truth) (link : L → Link)
+    (step : L → Exchange → L → Type 0)
     (left : D → Option (List ℕ)) (count : D → ℕ) (words : List (List ℕ)) (old new : Around)
     (output errors : Receipt) (status : ℕ) : Type 0 where
   -- `fleet`, for its operator: a `get` by any replica is answered with the bytes that were put last
   -- at its path, or with a reply that has its cause
   pub headline : (asked : FleetWords) → AsksFleet words asked
-      → RunHeadline T truth link left count asked old new output errors status
+      → RunHeadline T truth link step left count asked old new output errors status
   -- each command but `fleet`, `watch` and `gen`, and words that mean none: its steps, one behind
   -- another, what they consumed and said, and how they ended
   pub ran : AskAlone words → Ran words old new output errors status
   -- what follows from `ran`: from what each status comes, and when it must come
   pub readings : AskAlone words → Readings words old new output errors status
   -- and what is left of the stores' tapes, whatever the status is
-  pub tapes : AskAlone words → AreLeft words old new status
+  pub tapes : AskAlone words → AreLeft words old new output status
   -- `fleet`: the steps up to its workers; from there one history in which each worker's lines
   -- stand; just this journal and these replies on the output; and the status that they decide
   pub fleet : (asked : FleetWords) → AsksFleet words asked
-      → RanFleet T truth link left count asked old new output errors status
+      → RanFleet T truth link step left count asked old new output errors status
   -- what follows from `fleet`: from what each status comes, and when it must come
   pub fleet_readings : (asked : FleetWords) → AsksFleet words asked
-      → FleetReadings T truth link left count asked old new output errors status
+      → FleetReadings T truth link step left count asked old new output errors status
   -- `watch`: the steps of a fleet, at which the live rows are read too; its one history; just the
   -- text of what is shown of it on the output, in pages or as the changes since a revision; and
   -- the fleet's status, with 1 for 0 at a revision that is gone or ahead
   pub watch : (asked : WatchWords) → AsksWatch words asked
-      → RanWatch T truth link left count asked old new output errors status
+      → RanWatch T truth link step left count asked old new output errors status
   -- `gen`, for its operator: the same headline over the lines that the seed and the size decide
   pub load_headline : (asked : LoadWords) → AsksLoad words asked
-      → LoadHeadline T truth link asked old new output errors status
+      → LoadHeadline T truth link step asked old new output errors status
   -- `gen`: what `fleet` says, over the load that the seed and the size decide, with one summary of
   -- it on the output
   pub load : (asked : LoadWords) → AsksLoad words asked
-      → RanLoad T truth link asked old new output errors status
+      → RanLoad T truth link step asked old new output errors status
   -- what follows from `load`: the statuses, that a load over an empty store is done whole, and that
   -- each put that was counted has its row
   pub load_readings : (asked : LoadWords) → AsksLoad words asked
-      → LoadReadings T truth link asked old new output errors status
+      → LoadReadings T truth link step asked old new output errors status

@@ -2,7 +2,6 @@
 ghost use Rattle.std.specs.Prelude.{◌≡◌, ◌≤◌, Some, None};
 ghost use Rattle.kr_words.specs.Grammar.{texts};
 ghost use Rattle.kr_cmd_steps.specs.Around.{Around, around, with_world};
-ghost use Rattle.kr_cmd_steps.specs.Commands.{steps};
 ghost use Rattle.kr_cmd_messages.specs.FleetAsked.{AskNoFleet};
 ghost use Rattle.kr_cmd_messages.specs.LoadAsked.{AskNoLoad};
 ghost use Rattle.kr_cmd_fleet.specs.Fleets.{RanAlone, RanFleet};
@@ -15,9 +14,8 @@ ghost use Rattle.kr_cmd_messages.specs.Receipts.{Tells, receipt};
 ghost use Rattle.kr_cmd_messages.specs.declared.fleet_words.FleetWords.{FleetWords};
 ghost use Rattle.kr_cmd_messages.specs.declared.load_words.LoadWords.{LoadWords};
 ghost use Rattle.kr_cmd_messages.specs.declared.watch_words.WatchWords.{WatchWords};
-ghost use Rattle.kr_cmd_steps.specs.inner.Phases.{Does};
 ghost use Rattle.kr_cmd_messages.specs.inner.Asking.{KeepsRules};
-ghost use Rattle.kr_cmd_steps.specs.inner.Reporting.{saying};
+ghost use Rattle.kr_cmd_steps.specs.inner.Reporting.{DoesAll, saying};
 ghost use Rattle.kr_top.specs.Run.{Runs};
 ghost use Rattle.kr_top.specs.inner.Parts.{RunsAlone, RunsOther, RunsUnloaded};
 
@@ -61,7 +59,8 @@ pub fn run<R: Threads + Wait + Sync, W: World, I: Source, O: Sink, E: Sink>(
     output: &mut O,
     errors: &mut E,
 ) -> u8
-    ensures { Runs W.Tap W.Link.truth W.Link.link W.Rand.left W.Rand.count (texts words.now)
+    ensures { Runs W.Tap W.Link.truth W.Link.link W.Link.step W.Rand.left W.Rand.count
+        (texts words.now)
         (around W.Link.truth (W.told world.old) (I.left input.old) (I.count input.old))
         (around W.Link.truth (W.told world.new) (I.left input.new) (I.count input.new))
         (receipt (O.held output.old) (O.held output.new) (O.count output.old) (O.count output.new))
@@ -89,7 +88,8 @@ fn run_other<R: Threads + Wait + Sync, W: World, I: Source, O: Sink, E: Sink>(
     output: &mut O,
     errors: &mut E,
 ) -> u8
-    ensures { RunsOther W.Tap W.Link.truth W.Link.link W.Rand.left W.Rand.count (texts words.now)
+    ensures { RunsOther W.Tap W.Link.truth W.Link.link W.Link.step W.Rand.left W.Rand.count
+        (texts words.now)
         (around W.Link.truth (W.told world.old) (I.left input.old) (I.count input.old))
         (around W.Link.truth (W.told world.new) (I.left input.new) (I.count input.new))
         (receipt (O.held output.old) (O.held output.new) (O.count output.old) (O.count output.new))
@@ -117,7 +117,7 @@ fn run_unloaded<R: Threads + Wait + Sync, W: World, I: Source, O: Sink, E: Sink>
     output: &mut O,
     errors: &mut E,
 ) -> u8
-    ensures { RunsUnloaded W.Tap W.Link.truth W.Link.link W.Rand.left W.Rand.count
+    ensures { RunsUnloaded W.Tap W.Link.truth W.Link.link W.Link.step W.Rand.left W.Rand.count
         (texts words.now)
         (around W.Link.truth (W.told world.old) (I.left input.old) (I.count input.old))
         (around W.Link.truth (W.told world.new) (I.left input.new) (I.count input.new))
@@ -148,7 +148,7 @@ fn run_watch<R: Threads + Wait + Sync, W: World, O: Sink, E: Sink>(
 ) -> u8
     requires means { AsksWatch (texts words.now) asked.now }
     ensures { (a : Around) → a.truth ≡ W.Link.truth
-        → RanWatch W.Tap W.Link.truth W.Link.link W.Rand.left W.Rand.count asked.now
+        → RanWatch W.Tap W.Link.truth W.Link.link W.Link.step W.Rand.left W.Rand.count asked.now
         (with_world (W.told world.old) a) (with_world (W.told world.new) a)
         (receipt (O.held output.old) (O.held output.new) (O.count output.old) (O.count output.new))
         (receipt (E.held errors.old) (E.held errors.new) (E.count errors.old) (E.count errors.new))
@@ -170,7 +170,7 @@ fn run_load<R: Threads + Wait + Sync, W: World, O: Sink, E: Sink>(
     errors: &mut E,
 ) -> u8
     ensures { (a : Around) → a.truth ≡ W.Link.truth
-        → RanLoad W.Tap W.Link.truth W.Link.link asked.now
+        → RanLoad W.Tap W.Link.truth W.Link.link W.Link.step asked.now
         (with_world (W.told world.old) a) (with_world (W.told world.new) a)
         (receipt (O.held output.old) (O.held output.new) (O.count output.old) (O.count output.new))
         (receipt (E.held errors.old) (E.held errors.new) (E.count errors.old) (E.count errors.new))
@@ -274,7 +274,7 @@ fn run_fleet<R: Threads + Wait + Sync, W: World, O: Sink, E: Sink>(
     errors: &mut E,
 ) -> u8
     ensures { (a : Around) → a.truth ≡ W.Link.truth
-        → RanFleet W.Tap W.Link.truth W.Link.link W.Rand.left W.Rand.count asked.now
+        → RanFleet W.Tap W.Link.truth W.Link.link W.Link.step W.Rand.left W.Rand.count asked.now
         (with_world (W.told world.old) a) (with_world (W.told world.new) a)
         (receipt (O.held output.old) (O.held output.new) (O.count output.old) (O.count output.new))
         (receipt (E.held errors.old) (E.held errors.new) (E.count errors.old) (E.count errors.new))
@@ -339,7 +339,7 @@ fn perform<W: World, I: Source>(
     input: &mut I,
 ) -> Ended
     requires path { KeepsRules (Some command.now) }
-    ensures { Does (steps command.now)
+    ensures { DoesAll command.now
         (around W.Link.truth (W.told world.old) (I.left input.old) (I.count input.old))
         (saying result.said
         (around W.Link.truth (W.told world.new) (I.left input.new) (I.count input.new)))

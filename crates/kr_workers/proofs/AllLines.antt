@@ -3,11 +3,13 @@ use Rattle.std.proofs.Common.{◌≡◌, ℕ, suc, ◌<◌, ◌≤◌, ◌+◌, 
 use Rattle.std.proofs.lemmas.List.{take_more, map-append, take-append-drop}
 use Rattle.kr_base.specs.declared.errors.Spent.{Spent}
 use Rattle.kr_kms.specs.Calls.{Link}
+use Rattle.kr_kms.specs.Exchanges.{Exchange}
 use Rattle.kr_kms.specs.Truth.{Truth}
 use Rattle.kr_provider.specs.AskedLinks.{AskedOnly}
 use Rattle.kr_provider.specs.BenchState.{BenchState}
 use Rattle.kr_provider.specs.Names.{names_of}
 use Rattle.kr_provider.proofs.AskedLists.{asked_none, asked_then, names_stay}
+use Rattle.kr_provider.proofs.LeftKeys.{leaves_same, leaves_then}
 use Rattle.kr_rollout.specs.declared.opening.Opening.{Opening}
 use Rattle.kr_history.specs.Acting.{Caller, IsCaller}
 use Rattle.kr_rollout.specs.Callers.{reloads_in}
@@ -24,21 +26,21 @@ use Rattle.kr_workers.specs.inner.Serving.{IsReadyFor, Serves, place_of}
 use Rattle.kr_workers.specs.inner.Going.{IsGoing}
 use Rattle.kr_workers.proofs.Making.{made}
 
-module _ {L D : Type 0} (truth : Truth) (link : L → Link) (left : D → Option (List ℕ))
+module _ {L D : Type 0} (truth : Truth) (link : L → Link) (step : L → Exchange → L → Type 0) (left : D → Option (List ℕ))
     (count : D → ℕ) (files : List SettingsFile) (replica : ℕ) where
   pub does_more : (old : Workplace L D) (run : List LineDone) (middle : Workplace L D)
       (done : LineDone) (new : Workplace L D)
-      → DoesAll truth link left count files replica old run middle
-      → IsDone truth link left count files replica middle done new
-      → DoesAll truth link left count files replica old (run ++ done ∷ []) new
+      → DoesAll truth link step left count files replica old run middle
+      → IsDone truth link step left count files replica middle done new
+      → DoesAll truth link step left count files replica old (run ++ done ∷ []) new
   does_more old [] middle done new all one =
-      (new, subst (λ m. IsDone truth link left count files replica m done new) all one, refl)
+      (new, subst (λ m. IsDone truth link step left count files replica m done new) all one, refl)
   does_more old (first ∷ run) middle done new all one =
       (all.0, all.1, does_more all.0 run middle done new all.2 one)
 
   module _ (lines : List ScriptLine) (old : Caller) (bench : BenchState L D)
       (ready : AreReady link files replica lines old bench) where
-    pub begins : IsGoing truth link left count files replica lines 0 old bench [] old bench
+    pub begins : IsGoing truth link step left count files replica lines 0 old bench [] old bench
     begins = record {
       run = [];
       replies_are = refl;
@@ -52,12 +54,13 @@ module _ {L D : Type 0} (truth : Truth) (link : L → Link) (left : D → Option
       asked_only = asked_none link (names_of link bench.links) bench.links;
       later = omega arith;
       pages = refl;
+      keys = leaves_same bench bench refl refl;
     }
 
     module _ (asked : ScriptLine) (k : ℕ) (below : k < length lines)
         (at : asked ≡ get_or lines k asked) (replies : List Told) (c : Caller)
         (now : BenchState L D)
-        (going : IsGoing truth link left count files replica lines k old bench replies c now)
+        (going : IsGoing truth link step left count files replica lines k old bench replies c now)
       where
         rest_is : drop k lines ≡ asked ∷ drop (suc k) lines
         rest_is = drop-cons lines k asked below
@@ -90,7 +93,7 @@ module _ {L D : Type 0} (truth : Truth) (link : L → Link) (left : D → Option
 
         module _ (new : Caller) (after : BenchState L D) where
           asked_on : (reply : Result Told Spent)
-              → Serves truth link left count files replica asked c now reply new after
+              → Serves truth link step left count files replica asked c now reply new after
               → AskedOnly link (names_of link bench.links) bench.links after.links
           asked_on reply s = asked_then link (names_of link bench.links) bench.links now.links
               after.links going.asked_only (subst
@@ -99,18 +102,23 @@ module _ {L D : Type 0} (truth : Truth) (link : L → Link) (left : D → Option
               s.asked_only)
 
           honest_on : (reply : Result Told Spent)
-              → Serves truth link left count files replica asked c now reply new after
+              → Serves truth link step left count files replica asked c now reply new after
               → KeepsToldHonesty truth old new
           honest_on reply s = λ told kept. s.honest told (going.honest told kept)
 
           -- it was done
           pub goes_on : (reply : Told) → IsCaller c
-              → Serves truth link left count files replica asked c now (Ok reply) new after
-              → IsGoing truth link left count files replica lines (k + 1) old bench
+              → Serves truth link step left count files replica asked c now (Ok reply) new after
+              → IsGoing truth link step left count files replica lines (k + 1) old bench
               (replies ++ reply ∷ []) new after
           goes_on reply is_caller s =
               let part = s.adds.0 in
-              let done : LineDone = record { line = asked; part = part; reply = reply } in
+              let done : LineDone = record {
+                line = asked;
+                part = part;
+                reply = reply;
+                exchanges = s.asks.steps;
+              } in
               let brought : reloads_in new.mine ≡ reloads_in c.mine + reloads_in part =
               ap (λ (d : Caller). reloads_in d.mine) s.adds.1.new_is
               ∙ parts_add_up.reloads c.mine part in record {
@@ -132,6 +140,8 @@ module _ {L D : Type 0} (truth : Truth) (link : L → Link) (left : D → Option
                       within = s.adds.2;
                       asked_only = s.asked_only;
                       later = s.later;
+                      walk = s.asks.walk;
+                      asks = s.asks.are;
                     });
                 opening = ap (λ (d : Caller). d.opening) s.adds.1.new_is ∙ going.opening;
                 seat = ap (λ (d : Caller). d.seat) s.adds.1.new_is ∙ going.seat;
@@ -144,12 +154,13 @@ module _ {L D : Type 0} (truth : Truth) (link : L → Link) (left : D → Option
                 asked_only = asked_on (Ok reply) s;
                 later = omega (arith, going.later, s.later);
                 pages = s.pages ∙ going.pages;
+                keys = leaves_then bench now after going.keys s.keys;
               }
 
           -- it was cut short
-          pub cut_short : Serves truth link left count files replica asked c now
+          pub cut_short : Serves truth link step left count files replica asked c now
               (Err (record {})) new after
-              → Runs truth link left count files replica lines old bench replies (Err (record {}))
+              → Runs truth link step left count files replica lines old bench replies (Err (record {}))
               new
               after
           cut_short s = record {
@@ -175,13 +186,14 @@ module _ {L D : Type 0} (truth : Truth) (link : L → Link) (left : D → Option
             asked_only = asked_on (Err (record {})) s;
             later = omega (arith, going.later, s.later);
             pages = s.pages ∙ going.pages;
+            keys = leaves_then bench now after going.keys s.keys;
           }
 
     -- all were done
     pub ends_well : (k : ℕ) (replies : List Told) (new : Caller) (after : BenchState L D)
         → take k lines ≡ lines
-        → IsGoing truth link left count files replica lines k old bench replies new after
-        → Runs truth link left count files replica lines old bench replies (Ok tt) new after
+        → IsGoing truth link step left count files replica lines k old bench replies new after
+        → Runs truth link step left count files replica lines old bench replies (Ok tt) new after
     ends_well k replies new after whole going = record {
       run = going.run;
       replies_are = going.replies_are;
@@ -194,4 +206,5 @@ module _ {L D : Type 0} (truth : Truth) (link : L → Link) (left : D → Option
       asked_only = going.asked_only;
       later = going.later;
       pages = going.pages;
+      keys = going.keys;
     }

@@ -10,8 +10,10 @@ use Rattle.std.proofs.lemmas.Option.{same_Some, slice_get-get_or}
 use Rattle.kr_base.specs.Lines.{of_seat, Stands}
 use Rattle.kr_base.specs.declared.errors.Spent.{Spent}
 use Rattle.kr_kms.specs.Calls.{Link}
+use Rattle.kr_kms.specs.Exchanges.{Exchange}
 use Rattle.kr_kms.specs.Truth.{Opens, Truth}
 use Rattle.kr_provider.specs.AskedLinks.{AskedOnly}
+use Rattle.kr_provider.specs.BenchKeys.{LeavesKeys}
 use Rattle.kr_provider.specs.BenchState.{BenchState}
 use Rattle.kr_provider.specs.Names.{names_of}
 use Rattle.kr_store.specs.declared.rows.LogRow.{LogRow}
@@ -85,32 +87,34 @@ module _ {S L D : Type 0} where
     };
     links = bench.links;
     dice = bench.dice;
+    cache = bench.cache;
   }
 
 -- ---- a run in the history
 
-module _ {L D : Type 0} (truth : Truth) (link : L → Link) (left : D → Option (List ℕ))
+module _ {L D : Type 0} (truth : Truth) (link : L → Link) (step : L → Exchange → L → Type 0) (left : D → Option (List ℕ))
     (count : D → ℕ) (files : List SettingsFile) (history : List Entry) where
   -- a run from the first place that wasn't cut short stands in the history
   pub run_stands : (part : Part) (first : Workplace L D) (old new : Caller)
       (bench after : BenchState L D) (replies : List Told)
-      → Runs truth link left count files part.replica part.lines.0 old bench replies (Ok tt) new
+      → Runs truth link step left count files part.replica part.lines.0 old bench replies (Ok tt) new
       after → place_of old bench ≡ first → old.mine ≡ []
       → Stands seat_of history new.seat new.seen new.mine → new.seat ≡ first.caller.seat
-      → StandsIn truth link left count files history part first replies after
+      → StandsIn truth link step left count files history part first replies after
   run_stands part first old new bench after replies runs from none stands seat =
       let last : place_of new after ≡ runs.middle = runs.ends.1 in
-      let added = parts_added truth link left count files part.replica (place_of old bench) runs.run
+      let added = parts_added truth link step left count files part.replica (place_of old bench) runs.run
       runs.middle runs.does in
       record {
         run = runs.run;
         lines_are = runs.ends.0;
         replies_are = runs.replies_are;
         last = runs.middle;
-        does = subst (λ (w : Workplace L D). DoesAll truth link left count files part.replica w
+        does = subst (λ (w : Workplace L D). DoesAll truth link step left count files part.replica w
             runs.run runs.middle) from runs.does;
         links_are = ap (λ (w : Workplace L D). w.links) last;
         dice_are = ap (λ (w : Workplace L D). w.dice) last;
+        cache_is = ap (λ (w : Workplace L D). w.cache) last;
         front = subst (λ (w : Workplace L D). IsPrefix w.caller.seen history) last stands.front;
         parts_are = sym (subst (λ l. l ≡ entries_in runs.run)
             (sym (ap (λ (w : Workplace L D). w.caller.mine) last)
@@ -256,14 +260,14 @@ module _ {T L D : Type 0} (link : L → Link) (files : List SettingsFile) (parts
 -- ---- after they have worked
 
 -- each has its seat again
-pub done_seated : {T L D : Type 0} (truth : Truth) (link : L → Link) (left : D → Option (List ℕ))
+pub done_seated : {T L D : Type 0} (truth : Truth) (link : L → Link) (step : L → Exchange → L → Type 0) (left : D → Option (List ℕ))
     (count : D → ℕ) (files : List SettingsFile) (parts : List Part) (home : Home Opening)
     (sitting done : List (Worker T L D)) → length done ≡ length sitting
     → ((i : ℕ) (d : Worker T L D) → i < length sitting
-    → HasWorked home files parts truth link left count (slice_index_or sitting i d)
+    → HasWorked home files parts truth link step left count (slice_index_or sitting i d)
     (slice_index_or done i d))
     → All (λ (w : Worker T L D). IsSome w.seat) done
-done_seated truth link left count files parts home sitting done long worked = λ k d l.
+done_seated truth link step left count files parts home sitting done long worked = λ k d l.
     let h = worked k d (omega (arith, l, long)) in
     subst (λ s. IsSome s) (sym h.after_is) refl
 
@@ -272,7 +276,7 @@ pub budgets_many : (rows : List LogRow) (parts : List Part) (budgets : List ℕ)
 budgets_many rows parts budgets are = ap length are.2
     ∙ length-map parts (λ (p : Part). budget_of (are.0 + put_lines parts) p.lines.0)
 
-module _ {T L D : Type 0} (truth : Truth) (link : L → Link) (left : D → Option (List ℕ))
+module _ {T L D : Type 0} (truth : Truth) (link : L → Link) (step : L → Exchange → L → Type 0) (left : D → Option (List ℕ))
     (count : D → ℕ) (files : List SettingsFile) (parts : List Part) (home : Home Opening)
     (o : Opening) (budgets : List ℕ) (seats : List (Place (SharedCore T) Entry Opening))
     (workers done : List (Worker T L D)) (back : List (Place (SharedCore T) Entry Opening)) where
@@ -285,7 +289,7 @@ module _ {T L D : Type 0} (truth : Truth) (link : L → Link) (left : D → Opti
     pub many : length workers ≡ length parts
     pub long : length done ≡ length (with_seats seats workers)
     pub worked : (i : ℕ) (d : Worker T L D) → i < length (with_seats seats workers)
-        → HasWorked home files parts truth link left count
+        → HasWorked home files parts truth link step left count
         (slice_index_or (with_seats seats workers) i d) (slice_index_or done i d)
     pub back_are : map Some back ≡ map (λ (w : Worker T L D). w.seat) done
 
@@ -295,7 +299,7 @@ module _ {T L D : Type 0} (truth : Truth) (link : L → Link) (left : D → Opti
       → length workers ≡ length parts → sitting ≡ with_seats seats workers
       → length done ≡ length sitting
       → ((i : ℕ) (d : Worker T L D) → i < length sitting
-      → HasWorked home files parts truth link left count (slice_index_or sitting i d)
+      → HasWorked home files parts truth link step left count (slice_index_or sitting i d)
       (slice_index_or done i d))
       → map Some back ≡ map (λ (w : Worker T L D). w.seat) done → HaveWorked
   have_worked rows room sitting terms are fresh many is long worked back_are = record {
@@ -306,16 +310,16 @@ module _ {T L D : Type 0} (truth : Truth) (link : L → Link) (left : D → Opti
     many = many;
     long = long ∙ ap length is;
     worked = subst (λ ws. (i : ℕ) (d : Worker T L D) → i < length ws
-        → HasWorked home files parts truth link left count (slice_index_or ws i d)
+        → HasWorked home files parts truth link step left count (slice_index_or ws i d)
         (slice_index_or done i d)) is worked;
     back_are = back_are;
   }
 
-module _ {T L D : Type 0} (truth : Truth) (link : L → Link) (left : D → Option (List ℕ))
+module _ {T L D : Type 0} (truth : Truth) (link : L → Link) (step : L → Exchange → L → Type 0) (left : D → Option (List ℕ))
     (count : D → ℕ) (files : List SettingsFile) (parts : List Part) (home : Home Opening)
     (o : Opening) (budgets : List ℕ) (seats : List (Place (SharedCore T) Entry Opening))
     (workers done : List (Worker T L D)) (back : List (Place (SharedCore T) Entry Opening))
-    (all : HaveWorked truth link left count files parts home o budgets seats workers done back)
+    (all : HaveWorked truth link step left count files parts home o budgets seats workers done back)
   where
     these_long : length (with_seats seats workers) ≡ length parts
     these_long = seated_long seats workers
@@ -331,7 +335,7 @@ module _ {T L D : Type 0} (truth : Truth) (link : L → Link) (left : D → Opti
     -- a worker with its number
     record WorkedAt (k : ℕ) (d : Worker T L D) : Type 0 where
       bench : (get_or (with_seats seats workers) k d).bench ≡ (get_or workers k d).bench
-      has : HasWorked home files parts truth link left count (get_or (with_seats seats workers) k d)
+      has : HasWorked home files parts truth link step left count (get_or (with_seats seats workers) k d)
           (get_or done k d)
       number : number_of has.before ≡ k
       fresh : IsFresh home has.before
@@ -462,7 +466,7 @@ module _ {T L D : Type 0} (truth : Truth) (link : L → Link) (left : D → Opti
           let h = b.at.has in
           let own = puts_with_entry (mine a.0) p.entry d a.3 p.puts in
           put_in_part parts (number_of h.before) h.part path h.part_is
-          (runs_put path resource plain truth link left count files h.part.replica h.part.lines.0
+          (runs_put path resource plain truth link step left count files h.part.replica h.part.lines.0
           (caller_of home h.before) (get_or (with_seats seats workers) a.1.0 b.worker).bench
           (get_or done a.1.0 b.worker).told.0 (caller_of home h.after)
           (get_or done a.1.0 b.worker).bench b.at.fresh.none_mine
@@ -486,7 +490,7 @@ module _ {T L D : Type 0} (truth : Truth) (link : L → Link) (left : D → Opti
 
         -- a worker stands in the history with what it did
         worker_stands : (i : ℕ) (part : Part) (d : Worker T L D) → i < length parts
-            → StandsIn truth link left count files history (get_or parts i part)
+            → StandsIn truth link step left count files history (get_or parts i part)
             (first_place o i (slice_index budgets i) (get_or workers i d).bench)
             (get_or done i d).told.0 (get_or done i d).bench
         worker_stands i part d l =
@@ -506,7 +510,7 @@ module _ {T L D : Type 0} (truth : Truth) (link : L → Link) (left : D → Opti
             (get_or (with_seats seats workers) i d).bench all.basis w.number w.fresh.none_seen
             w.fresh.none_mine w.left_is
             ∙ ap (first_place o i (slice_index budgets i)) w.bench in
-            subst (λ p. StandsIn truth link left count files history p
+            subst (λ p. StandsIn truth link step left count files history p
             (first_place o i (slice_index budgets i) (get_or workers i d).bench)
             (get_or done i d).told.0 (get_or done i d).bench) (sym there)
             (ended i d h w.fresh w.number from stands (budget_at i part h.part l there)
@@ -525,7 +529,7 @@ module _ {T L D : Type 0} (truth : Truth) (link : L → Link) (left : D → Opti
                 let f = ap (λ n. budget_of n there.lines.0) paths_long in
                 omega (arith, e, f)
 
-            ended : (i : ℕ) (d : Worker T L D) (h : HasWorked home files parts truth link left count
+            ended : (i : ℕ) (d : Worker T L D) (h : HasWorked home files parts truth link step left count
                 (get_or (with_seats seats workers) i d) (get_or done i d))
                 → IsFresh home h.before → number_of h.before ≡ i
                 → place_of (caller_of home h.before) (get_or (with_seats seats workers) i d).bench
@@ -533,29 +537,29 @@ module _ {T L D : Type 0} (truth : Truth) (link : L → Link) (left : D → Opti
                 → Stands seat_of history (number_of h.after) (lines_seen h.after) (mine h.after)
                 → budget_of (length paths) h.part.lines.0 ≤ slice_index budgets i
                 → (end : Result (Unit {0}) Spent)
-                → Runs truth link left count files h.part.replica h.part.lines.0
+                → Runs truth link step left count files h.part.replica h.part.lines.0
                 (caller_of home h.before) (get_or (with_seats seats workers) i d).bench
                 (get_or done i d).told.0 end (caller_of home h.after) (get_or done i d).bench
-                → StandsIn truth link left count files history h.part
+                → StandsIn truth link step left count files history h.part
                 (first_place o i (slice_index budgets i) (get_or workers i d).bench)
                 (get_or done i d).told.0 (get_or done i d).bench
             ended i d h fresh number from stands fits (Ok ok) runs =
-                run_stands truth link left count files history h.part
+                run_stands truth link step left count files history h.part
                 (first_place o i (slice_index budgets i) (get_or workers i d).bench)
                 (caller_of home h.before) (caller_of home h.after)
                 (get_or (with_seats seats workers) i d).bench (get_or done i d).bench
                 (get_or done i d).told.0 runs from fresh.none_mine stands (h.same ∙ number)
             ended i d h fresh number from stands fits (Err spent) runs =
-                absurd (none_cut truth link left count files h.part.replica paths o history lives
+                absurd (none_cut truth link step left count files h.part.replica paths o history lives
                 h.part.lines.0
                 (first_place o i (slice_index budgets i) (get_or workers i d).bench) runs.middle
                 (place_of (caller_of home h.after) (get_or done i d).bench) runs.run fits
-                (subst (λ (w : Workplace L D). DoesAll truth link left count files h.part.replica w
+                (subst (λ (w : Workplace L D). DoesAll truth link step left count files h.part.replica w
                 runs.run runs.middle) from runs.does) runs.ends all.basis stands.front)
 
         -- the history with all workers' lines
         pub one_history : HonestIfSeatsAre home back history
-            → IsOneHistory truth link left count files history o parts budgets workers
+            → IsOneHistory truth link step left count files history o parts budgets workers
             (map without_seat done)
         one_history honest = record {
           legal = legal;
@@ -569,10 +573,20 @@ module _ {T L D : Type 0} (truth : Truth) (link : L → Link) (left : D → Opti
               let done_is = done_long in
               let same : get_or (map without_seat done) i worker ≡ without_seat (get_or done i worker) =
               get_or-map without_seat done i worker worker (omega (arith, l, done_is)) in
-              subst (λ (w : Worker T L D). StandsIn truth link left count files history
+              subst (λ (w : Worker T L D). StandsIn truth link step left count files history
               (get_or parts i part)
               (first_place o i (slice_index budgets i) (get_or workers i worker).bench) w.told.0
               w.bench) (sym same) (worker_stands i part worker l);
+          keys = λ i worker l.
+              let done_is = done_long in
+              let whole_is = all.many in
+              let below : i < length parts = omega (arith, l, whole_is) in
+              let w = worked_at i worker below in
+              let same : get_or (map without_seat done) i worker ≡ without_seat (get_or done i worker) =
+              get_or-map without_seat done i worker worker (omega (arith, below, done_is)) in
+              subst (λ (v : Worker T L D). LeavesKeys (get_or workers i worker).bench v.bench)
+              (sym same) (subst (λ (b : BenchState L D). LeavesKeys b (get_or done i worker).bench)
+              w.bench w.has.runs.keys);
           no_other = no_other;
         }
 

@@ -3,6 +3,7 @@
 use Rattle.std.proofs.Common.{◌≡◌, ℕ, ◌<◌, ◌≤◌, ◌+◌, List, [], ◌∷◌, ◌++◌, length, append-nil, Option, Result, Ok, Err, refl, ap, sym, ◌∙◌, arith}
 use Rattle.std.proofs.lemmas.List.{append_assoc}
 use Rattle.kr_kms.specs.Calls.{Link}
+use Rattle.kr_kms.specs.Exchanges.{Exchange}
 use Rattle.kr_kms.specs.Truth.{Truth}
 use Rattle.kr_history.specs.declared.call.CallNo.{CallNo}
 use Rattle.kr_history.specs.declared.call.CallNo.TheVariants as refusal
@@ -63,17 +64,17 @@ adds_front : (old : Caller) (part : List Entry) (new : Caller) → Adds old part
     → IsPrefix old.seen new.seen
 adds_front old part new a = (a.more, sym (ap (λ (c : Caller). c.seen) a.new_is))
 
-module _ {L D : Type 0} (truth : Truth) (link : L → Link) (left : D → Option (List ℕ))
+module _ {L D : Type 0} (truth : Truth) (link : L → Link) (step : L → Exchange → L → Type 0) (left : D → Option (List ℕ))
     (count : D → ℕ) (files : List SettingsFile) (replica : ℕ) where
   does_opening : (first : Workplace L D) (run : List LineDone) (last : Workplace L D)
-      → DoesAll truth link left count files replica first run last
+      → DoesAll truth link step left count files replica first run last
       → last.caller.opening ≡ first.caller.opening
   does_opening first [] last same = ap (λ (w : Workplace L D). w.caller.opening) same
   does_opening first (done ∷ run) last does = does_opening does.0 run last does.2
       ∙ ap (λ (c : Caller). c.opening) does.1.adds.new_is
 
   does_front : (first : Workplace L D) (run : List LineDone) (last : Workplace L D)
-      → DoesAll truth link left count files replica first run last
+      → DoesAll truth link step left count files replica first run last
       → IsPrefix first.caller.seen last.caller.seen
   does_front first [] last same = (
     [],
@@ -132,7 +133,7 @@ module _ {L D : Type 0} (truth : Truth) (link : L → Link) (left : D → Option
     module _ (o : Opening) (history : List Entry) (lives : LivesIn o history paths) where
       -- what was added is no more than the lines' budget
       left_enough : (first : Workplace L D) (run : List LineDone) (last : Workplace L D)
-          → DoesAll truth link left count files replica first run last
+          → DoesAll truth link step left count files replica first run last
           → last.caller.opening ≡ o → IsPrefix last.caller.seen history
           → first.caller.left ≤ last.caller.left + budget_of (length paths) (lines_in run)
       left_enough first [] last same opening front =
@@ -152,8 +153,8 @@ module _ {L D : Type 0} (truth : Truth) (link : L → Link) (left : D → Option
 
       pub none_cut : (lines : List ScriptLine) (first middle new : Workplace L D)
           (run : List LineDone) → budget_of (length paths) lines ≤ first.caller.left
-          → DoesAll truth link left count files replica first run middle
-          → IsCutShort truth link left count files replica lines run middle new
+          → DoesAll truth link step left count files replica first run middle
+          → IsCutShort truth link step left count files replica lines run middle new
           → new.caller.opening ≡ o → IsPrefix new.caller.seen history → ⊥
       none_cut lines first middle new run fits does cut opening front =
           let same : new.caller.opening ≡ middle.caller.opening =

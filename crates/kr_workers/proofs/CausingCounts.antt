@@ -12,6 +12,7 @@ use Rattle.std.proofs.lemmas.Slice.Eq.{bytes_eq-Decides}
 use Rattle.kr_base.specs.Faults.{Rose}
 use Rattle.kr_base.specs.Lines.{of_seat}
 use Rattle.kr_kms.specs.Calls.{IsSameLink, Link}
+use Rattle.kr_kms.specs.Exchanges.{Exchange}
 use Rattle.kr_kms.specs.Truth.{Truth}
 use Rattle.kr_provider.specs.AskedLinks.{AskedOnly, FaultRose}
 use Rattle.kr_provider.specs.BenchState.{BenchState}
@@ -209,10 +210,10 @@ stores_more false rest part more named l = omega (arith, l)
 
 -- ---- all replies of a run
 
-module _ {L D : Type 0} (truth : Truth) (link : L → Link) (left : D → Option (List ℕ))
+module _ {L D : Type 0} (truth : Truth) (link : L → Link) (step : L → Exchange → L → Type 0) (left : D → Option (List ℕ))
     (count : D → ℕ) (files : List SettingsFile) (replica : ℕ) where
   dice_counted : (first : Workplace L D) (run : List LineDone) (last : Workplace L D)
-      → DoesAll truth link left count files replica first run last
+      → DoesAll truth link step left count files replica first run last
       → CountsFaults (count_by names_dice (replies_in run)) (count first.dice) (count last.dice)
   dice_counted first [] last same = λ small.
       omega (arith, ap (λ (w : Workplace L D). count w.dice) same)
@@ -227,7 +228,7 @@ module _ {L D : Type 0} (truth : Truth) (link : L → Link) (left : D → Option
       all.1.does)) all.1.later (dice_counted next run last all.2))
 
   stores_counted : (first : Workplace L D) (run : List LineDone) (last : Workplace L D)
-      → DoesAll truth link left count files replica first run last
+      → DoesAll truth link step left count files replica first run last
       → count_by names_store (replies_in run) ≤ count_by has_failed (entries_in run)
   stores_counted first [] last same = omega arith
   stores_counted first (done ∷ run) last all =
@@ -254,7 +255,7 @@ module _ {L D : Type 0} (truth : Truth) (link : L → Link) (left : D → Option
       all_told
 
   plugins_counted : (first : Workplace L D) (run : List LineDone) (last : Workplace L D)
-      → DoesAll truth link left count files replica first run last → AreDistinct link first.links
+      → DoesAll truth link step left count files replica first run last → AreDistinct link first.links
       → (at : ℕ) (it now : L) → slice_get first.links at ≡ Some it
       → slice_get last.links at ≡ Some now
       → CountsFaults (count_by (names_plugin (link it).name) (replies_in run)) (link it).count
@@ -284,14 +285,14 @@ module _ {L D : Type 0} (truth : Truth) (link : L → Link) (left : D → Option
       (line_caused truth link left count files replica done.line first next done.reply
       all.1.does) is)) m.2.later rest)
 
-pub often_caused : {L D : Type 0} → (truth : Truth) (link : L → Link)
+pub often_caused : {L D : Type 0} → (truth : Truth) (link : L → Link) (step : L → Exchange → L → Type 0)
     (left : D → Option (List ℕ)) (count : D → ℕ) (files : List SettingsFile)
     (history : List Entry) (part : Part) (first : Workplace L D) (replies : List Told)
     (after : BenchState L D)
-    → (stands : StandsIn truth link left count files history part first replies after)
+    → (stands : StandsIn truth link step left count files history part first replies after)
     → AreCounted link count replies (of_seat seat_of first.caller.seat history) first.links
     first.dice after.links after.dice
-often_caused {L} {D} truth link left count files history part first replies after stands =
+often_caused {L} {D} truth link step left count files history part first replies after stands =
     let its = of_seat seat_of first.caller.seat history in
     subst (λ (ts : List Told). AreCounted link count ts its first.links first.dice after.links
     after.dice) (sym stands.replies_are)
@@ -301,10 +302,10 @@ often_caused {L} {D} truth link left count files history part first replies afte
     stands.last.links d) (sym stands.dice_are) (record {
       stored = subst (λ (es : List Entry). count_by names_store (replies_in stands.run)
           ≤ count_by has_failed es) stands.parts_are
-          (stores_counted truth link left count files part.replica first stands.run stands.last
+          (stores_counted truth link step left count files part.replica first stands.run stands.last
           stands.does);
-      drawn = dice_counted truth link left count files part.replica first stands.run stands.last
+      drawn = dice_counted truth link step left count files part.replica first stands.run stands.last
           stands.does;
-      asked = plugins_counted truth link left count files part.replica first stands.run stands.last
+      asked = plugins_counted truth link step left count files part.replica first stands.run stands.last
           stands.does;
     })))

@@ -1,11 +1,13 @@
 -- A reply to a `get` tells the content before the line's own Fetch.
 use Rattle.std.specs.Prelude.{⊤}
-use Rattle.std.proofs.Common.{◌≡◌, ℕ, ◌==◌, List, [], ◌∷◌, ◌++◌, Option, None, Result, Ok, Err, inl, inr, append-nil, ap, sym, subst, ◌∙◌}
+use Rattle.std.proofs.Common.{◌≡◌, ℕ, ◌==◌, List, [], ◌∷◌, ◌++◌, Option, None, Result, Ok, Err, inl, inr, append-nil, ap, sym, subst, ◌∙◌, ◌⊎◌, refl}
 use Rattle.std.proofs.lemmas.List.{append_assoc, append_cancel_left}
 use Rattle.std.proofs.lemmas.List.Elements.{filter-append}
 use Rattle.kr_base.specs.Lines.{of_seat}
 use Rattle.kr_kms.specs.Calls.{Link}
+use Rattle.kr_kms.specs.Exchanges.{Exchange}
 use Rattle.kr_kms.specs.Truth.{Opens, Truth}
+use Rattle.kr_provider.specs.BenchState.{BenchState}
 use Rattle.kr_provider.specs.Publication.{Publication}
 use Rattle.kr_provider.specs.Reading.{data_of, refused}
 use Rattle.kr_provider.specs.declared.refusal.Opened.{Opened}
@@ -20,18 +22,22 @@ use Rattle.kr_rollout.specs.declared.event.Event.TheVariants as event
 use Rattle.kr_rollout.specs.declared.line.Gave.TheVariants as gave
 use Rattle.kr_rollout.specs.declared.opening.Entry.{Entry}
 use Rattle.kr_rollout.specs.declared.opening.Opening.{Opening}
-use Rattle.kr_history.specs.Acting.{Caller, AddsEntry}
-use Rattle.kr_history.specs.Calls.{LetsGo}
+use Rattle.kr_history.specs.Acting.{Caller, AddsEntry, IsCaller}
+use Rattle.kr_history.specs.Calls.{AdoptsNothing, EndsEarly, HoldsMeanwhile, LetsGo}
 use Rattle.kr_history.specs.Contents.{IsContent}
 use Rattle.kr_rollout.specs.Entries.{seat_of}
 use Rattle.kr_history.specs.Parts.{Adds}
 use Rattle.kr_history.proofs.PartsAdd.{parts_follow}
 use Rattle.kr_fleet.specs.declared.outcome.Read.{Read}
 use Rattle.kr_fleet.specs.declared.outcome.Read.TheVariants as found
-use Rattle.kr_fleet.specs.ReadCalls.{Finds, FindsRow, IsRead}
+use Rattle.kr_fleet.specs.ReadCalls.{Finds, FindsRow}
+use Rattle.kr_script.specs.declared.script.Part.{Part}
+use Rattle.kr_script.specs.declared.script.ScriptLine.TheVariants as line
 use Rattle.kr_script.specs.declared.told.Told.{Told}
+use Rattle.kr_script.specs.declared.told.Told.TheVariants as told
 use Rattle.kr_workers.specs.declared.files.SettingsFile.{SettingsFile}
-use Rattle.kr_workers.specs.Gets.{FetchesWhere, GetsTellContent, ReadsContent, TellsContent}
+use Rattle.kr_workers.specs.Gets.{FetchesWhere, ReadsContent}
+use Rattle.kr_workers.specs.Histories.{StandsIn}
 use Rattle.kr_workers.specs.Replies.{Reply, told_of_read, told_of_refusal}
 use Rattle.kr_workers.specs.Runs.{DoesAll, IsDone, LineDone, entries_in}
 use Rattle.kr_workers.specs.ScriptLines.{Does, Workplace}
@@ -39,13 +45,14 @@ use Rattle.kr_workers.specs.ScriptLines.{Does, Workplace}
 -- ---- a line's place in a run
 
 -- a worker's place later on
-record IsLater {L D : Type 0} (old new : Workplace L D) : Type 0 where
-  more : List Entry
-  seen_is : new.caller.seen ≡ old.caller.seen ++ more
-  opening : new.caller.opening ≡ old.caller.opening
-  seat : new.caller.seat ≡ old.caller.seat
+pub record IsLater {L D : Type 0} (old new : Workplace L D) : Type 0 where
+  pub more : List Entry
+  pub seen_is : new.caller.seen ≡ old.caller.seen ++ more
+  pub opening : new.caller.opening ≡ old.caller.opening
+  pub seat : new.caller.seat ≡ old.caller.seat
 
-module _ {L D : Type 0} (truth : Truth) (link : L → Link) (left : D → Option (List ℕ))
+module _ {L D : Type 0} (truth : Truth) (link : L → Link) (step : L → Exchange → L → Type 0)
+    (left : D → Option (List ℕ))
     (count : D → ℕ) (files : List SettingsFile) (replica : ℕ) where
   then_later : (a b c : Workplace L D) → IsLater a b → IsLater b c → IsLater a c
   then_later a b c s t = record {
@@ -57,7 +64,7 @@ module _ {L D : Type 0} (truth : Truth) (link : L → Link) (left : D → Option
   }
 
   done_later : (a b : Workplace L D) (done : LineDone)
-      → IsDone truth link left count files replica a done b → IsLater a b
+      → IsDone truth link step left count files replica a done b → IsLater a b
   done_later a b done d = record {
     more = d.adds.more;
     seen_is = ap (λ (c : Caller). c.seen) d.adds.new_is;
@@ -66,7 +73,7 @@ module _ {L D : Type 0} (truth : Truth) (link : L → Link) (left : D → Option
   }
 
   run_later : (a : Workplace L D) (run : List LineDone) (b : Workplace L D)
-      → DoesAll truth link left count files replica a run b → IsLater a b
+      → DoesAll truth link step left count files replica a run b → IsLater a b
   run_later a [] b same = record {
     more = [];
     seen_is = ap (λ (w : Workplace L D). w.caller.seen) same ∙ sym (append-nil a.caller.seen);
@@ -77,22 +84,24 @@ module _ {L D : Type 0} (truth : Truth) (link : L → Link) (left : D → Option
       (run_later all.0 run b all.2)
 
   -- a line was done behind those ahead of it
-  record IsDoneBehind (first : Workplace L D) (ahead : List LineDone) (done : LineDone)
+  pub record IsDoneBehind (first : Workplace L D) (ahead : List LineDone) (done : LineDone)
       (last : Workplace L D) : Type 0 where
-    before : Workplace L D
-    after : Workplace L D
-    ran : Adds first.caller (entries_in ahead) before.caller
-    is_done : IsDone truth link left count files replica before done after
-    ended : IsLater after last
+    pub before : Workplace L D
+    pub after : Workplace L D
+    pub ran : Adds first.caller (entries_in ahead) before.caller
+    pub does_ahead : DoesAll truth link step left count files replica first ahead before
+    pub is_done : IsDone truth link step left count files replica before done after
+    pub ended : IsLater after last
 
-  done_behind : (first : Workplace L D) (ahead : List LineDone) (done : LineDone)
+  pub done_behind : (first : Workplace L D) (ahead : List LineDone) (done : LineDone)
       (behind : List LineDone) (last : Workplace L D)
-      → DoesAll truth link left count files replica first (ahead ++ done ∷ behind) last
+      → DoesAll truth link step left count files replica first (ahead ++ done ∷ behind) last
       → IsDoneBehind first ahead done last
   done_behind first [] done behind last all = record {
     before = first;
     after = all.0;
     ran = parts_follow.none first.caller;
+    does_ahead = refl;
     is_done = all.1;
     ended = run_later all.0 behind last all.2;
   }
@@ -102,17 +111,18 @@ module _ {L D : Type 0} (truth : Truth) (link : L → Link) (left : D → Option
         after = w.after;
         ran = parts_follow.both first.caller all.0.caller w.before.caller one.part
             (entries_in ahead) all.1.adds w.ran;
+        does_ahead = (all.0, all.1, w.does_ahead);
         is_done = w.is_done;
         ended = w.ended;
       }
 
 -- ---- replies
 
-abbrev is_ok : Reply → Type 0
+abbrev pub is_ok : Reply → Type 0
 is_ok (Ok reply) = ⊤
 is_ok (Err spent) = ⊥
 
-ok_no_err : (reply other : Reply) → is_ok reply → other ≡ reply → is_ok other
+pub ok_no_err : (reply other : Reply) → is_ok reply → other ≡ reply → is_ok other
 ok_no_err reply other ok is = subst is_ok (sym is) ok
 
 -- ---- the Fetch of a `get`
@@ -124,18 +134,19 @@ same_part old new p q x y = append_cancel_left old.mine p q
 
 -- a line whose part stands in a history behind those ahead of it: an Adopt, what is done by what
 -- was adopted, and a LetGo
-record IsLineIn (history : List Entry) (o : Opening) (seat : ℕ) (ahead part : List Entry)
+pub record IsLineIn (history : List Entry) (o : Opening) (seat : ℕ) (ahead part : List Entry)
     (p : Publication) (before adopted acted after : Caller) : Type 0 where
-  replica : ℕ
-  number : ℕ
-  adopts : AddsEntry before (event.Adopt replica) (answer.Adopted number p) adopted
-  lets_go : AddsEntry acted event.LetGo answer.Released after
-  more : List Entry
-  is : history ≡ after.seen ++ more
-  opening : before.opening ≡ o
-  own : before.seat ≡ seat
-  seen_own : of_seat seat_of before.seat before.seen ≡ ahead
-  adds : Adds before part after
+  pub replica : ℕ
+  pub number : ℕ
+  pub adopts : AddsEntry before (event.Adopt replica) (answer.Adopted number p) adopted
+  pub lets_go : AddsEntry acted event.LetGo answer.Released after
+  pub more : List Entry
+  pub is : history ≡ after.seen ++ more
+  pub opening : before.opening ≡ o
+  pub own : before.seat ≡ seat
+  pub seen_own : of_seat seat_of before.seat before.seen ≡ ahead
+  pub adds : Adds before part after
+  pub known : IsCaller before
 
 module _ (history : List Entry) (o : Opening) (seat : ℕ) (ahead part : List Entry)
     (p : Publication) (before adopted acted after : Caller) (path : List ℕ) (given : Answer)
@@ -167,7 +178,7 @@ module _ (history : List Entry) (o : Opening) (seat : ℕ) (ahead part : List En
       filter-append (λ (e : Entry). seat_of e == before.seat) adopted.seen a.others
       ∙ (λ i. first i ++ apart i) ∙ append-nil (ahead ++ it.adopts.entry ∷ [])
 
-  fetch_there : (Holds : Opening → List Entry → Entry → Type 0)
+  pub fetch_there : (Holds : Opening → List Entry → Entry → Type 0)
       → Holds adopted.opening (adopted.seen ++ a.others) a.entry
       → FetchesWhere history seat path ahead part (Holds o)
   fetch_there Holds holds =
@@ -192,7 +203,65 @@ module _ (history : List Entry) (o : Opening) (seat : ℕ) (ahead part : List En
             (ap (λ (c : Caller). c.opening) it.adopts.new_is ∙ it.opening) holds;
       }
 
--- what is told behind a call that let its generation go
+-- ---- a call, with the LetGo behind what is done
+
+module _ (history : List Entry) (o : Opening) (seat : ℕ) (ahead part : List Entry)
+    (Found : Publication → Caller → Result Read CallNo → Caller → Type 0) (Stays : Type 0)
+    (Tells : Result Read CallNo → Type 0)
+    (found_tells : (p : Publication) (before adopted acted after : Caller)
+    → IsLineIn history o seat ahead part p before adopted acted after
+    → (done : Result Read CallNo) → Found p adopted done acted → Tells done)
+    (replica : ℕ) (old new : Caller)
+    (early : (why : CallNo) → AdoptsNothing replica old why new → Tells (Err why))
+    (spent : Tells (Err refusal.Spent)) (more : List Entry) (is : history ≡ new.seen ++ more)
+    (opening : old.opening ≡ o) (own : old.seat ≡ seat)
+    (seen_own : of_seat seat_of old.seat old.seen ≡ ahead) (adds : Adds old part new)
+    (known : IsCaller old) where
+  let_go_tells : (number : ℕ) (p : Publication) (adopted acted : Caller)
+      (done result : Result Read CallNo)
+      → AddsEntry old (event.Adopt replica) (answer.Adopted number p) adopted
+      → Found p adopted done acted → LetsGo acted done result new → Tells result
+  let_go_tells number p adopted acted done result adopts d (inl g) =
+      subst (λ (r : Result Read CallNo). Tells r) (sym g.1)
+      (found_tells p old adopted acted new (record {
+        replica = replica;
+        number = number;
+        adopts = adopts;
+        lets_go = g.0;
+        more = more;
+        is = is;
+        opening = opening;
+        own = own;
+        seen_own = seen_own;
+        adds = adds;
+        known = known;
+      }) done d)
+  let_go_tells number p adopted acted done result adopts d (inr n) =
+      subst (λ (r : Result Read CallNo). Tells r) (sym n.1) spent
+
+  pub call_tells : (result : Result Read CallNo) → EndsEarly replica Stays old result new
+      ⊎ HoldsMeanwhile (λ number p from done to. Found p from done to) replica old result new
+      → Tells result
+  call_tells (Ok done) (inl e) = absurd e
+  call_tells (Err why) (inl e) = early why e.0
+  call_tells result (inr h) = let_go_tells h.number h.p h.adopted h.acted h.done result h.adopts
+      h.does h.lets_go
+
+-- ---- what the reply tells, but for what plugins told
+
+abbrev pub ToldContent : Truth → Opening → (history : List Entry) → (seat : ℕ)
+    → (path : List ℕ) → (ahead part : List Entry) → Told → Type 0
+ToldContent truth o history seat path ahead part (told.Got revision plain) =
+    FetchesWhere history seat path ahead part (λ front fetch.
+    (fetch.line.gave ≡ gave.Found revision) × ReadsContent truth o path (data_of plain) front fetch)
+ToldContent truth o history seat path ahead part told.Absent =
+    FetchesWhere history seat path ahead part (λ front fetch. (fetch.line.gave ≡ gave.Absent)
+    × ((opens : Opens) → IsContent opens o front path None))
+ToldContent truth o history seat path ahead part (told.Value why) =
+    FetchesWhere history seat path ahead part (λ front fetch. (revision : ℕ)
+    × (fetch.line.gave ≡ gave.Found revision) × ReadsContent truth o path (refused why) front fetch)
+ToldContent truth o history seat path ahead part reply = ⊤
+
 module _ {L : Type 0} (truth : Truth) (link : L → Link) (path : List ℕ) (olds news : List L)
     (history : List Entry) (o : Opening) (seat : ℕ) (ahead part : List Entry) where
   -- what was found tells the content
@@ -274,46 +343,11 @@ module _ {L : Type 0} (truth : Truth) (link : L → Link) (path : List ℕ) (old
   found_tells p before adopted acted after it (Err refusal.Spent) d = tt
   found_tells p before adopted acted after it (Err refusal.NoMemory) d = tt
 
-  module _ (replica : ℕ) (old new : Caller) (more : List Entry) (is : history ≡ new.seen ++ more)
-      (opening : old.opening ≡ o) (own : old.seat ≡ seat)
-      (seen_own : of_seat seat_of old.seat old.seen ≡ ahead) (adds : Adds old part new) where
-    -- with the LetGo behind it
-    let_go_tells : (number : ℕ) (p : Publication) (adopted acted : Caller)
-        (done result : Result Read CallNo)
-        → AddsEntry old (event.Adopt replica) (answer.Adopted number p) adopted
-        → Finds truth link path p adopted olds done acted news → LetsGo acted done result new
-        → TellsFound result
-    let_go_tells number p adopted acted done result adopts d (inl g) = subst
-        (λ (r : Result Read CallNo). TellsFound r) (sym g.1)
-        (found_tells p old adopted acted new (record {
-          replica = replica;
-          number = number;
-          adopts = adopts;
-          lets_go = g.0;
-          more = more;
-          is = is;
-          opening = opening;
-          own = own;
-          seen_own = seen_own;
-          adds = adds;
-        }) done d)
-    let_go_tells number p adopted acted done result adopts d (inr n) = subst
-        (λ (r : Result Read CallNo). TellsFound r) (sym n.1) tt
-
-    call_tells : (result : Result Read CallNo)
-        → IsRead truth link path replica old olds result new news → TellsFound result
-    call_tells (Ok done) (inl e) = absurd e
-    call_tells (Err (refusal.Refused why)) (inl e) = absurd e.0
-    call_tells (Err (refusal.PluginFailed name)) (inl e) = tt
-    call_tells (Err refusal.DiceFailed) (inl e) = tt
-    call_tells (Err refusal.StoreFailed) (inl e) = tt
-    call_tells (Err (refusal.StoreFull needed)) (inl e) = tt
-    call_tells (Err (refusal.Unhealthy name field text)) (inl e) = tt
-    call_tells (Err refusal.Gone) (inl e) = tt
-    call_tells (Err refusal.Spent) (inl e) = tt
-    call_tells (Err refusal.NoMemory) (inl e) = tt
-    call_tells result (inr h) = let_go_tells h.number h.p h.adopted h.acted h.done result h.adopts
-        h.does h.lets_go
+  -- where nothing was adopted
+  early_tells : (replica : ℕ) (old new : Caller) (why : CallNo)
+      → AdoptsNothing replica old why new → TellsFound (Err why)
+  early_tells replica old new (refusal.Refused why) e = absurd e
+  early_tells replica old new why e = tt
 
   -- the reply tells what was found
   abbrev reply_in : Told → Reply → Told
@@ -322,58 +356,98 @@ module _ {L : Type 0} (truth : Truth) (link : L → Link) (path : List ℕ) (old
 
   refused_tells : (number : ℕ) (why : CallNo) (reply : Told)
       → Ok reply ≡ told_of_refusal number why → TellsFound (Err why)
-      → TellsContent truth o history seat path ahead part reply
+      → ToldContent truth o history seat path ahead part reply
   refused_tells number (refusal.Refused why) reply is t = subst
-      (λ r. TellsContent truth o history seat path ahead part r) (sym (ap (reply_in reply) is)) t
+      (λ r. ToldContent truth o history seat path ahead part r) (sym (ap (reply_in reply) is)) t
   refused_tells number (refusal.PluginFailed name) reply is t = subst
-      (λ r. TellsContent truth o history seat path ahead part r) (sym (ap (reply_in reply) is)) tt
+      (λ r. ToldContent truth o history seat path ahead part r) (sym (ap (reply_in reply) is)) tt
   refused_tells number refusal.DiceFailed reply is t = subst
-      (λ r. TellsContent truth o history seat path ahead part r) (sym (ap (reply_in reply) is)) tt
+      (λ r. ToldContent truth o history seat path ahead part r) (sym (ap (reply_in reply) is)) tt
   refused_tells number refusal.StoreFailed reply is t = subst
-      (λ r. TellsContent truth o history seat path ahead part r) (sym (ap (reply_in reply) is)) tt
+      (λ r. ToldContent truth o history seat path ahead part r) (sym (ap (reply_in reply) is)) tt
   refused_tells number (refusal.StoreFull needed) reply is t = subst
-      (λ r. TellsContent truth o history seat path ahead part r) (sym (ap (reply_in reply) is)) tt
+      (λ r. ToldContent truth o history seat path ahead part r) (sym (ap (reply_in reply) is)) tt
   refused_tells number (refusal.Unhealthy name field text) reply is t = subst
-      (λ r. TellsContent truth o history seat path ahead part r) (sym (ap (reply_in reply) is)) tt
+      (λ r. ToldContent truth o history seat path ahead part r) (sym (ap (reply_in reply) is)) tt
   refused_tells number refusal.Gone reply is t = subst
-      (λ r. TellsContent truth o history seat path ahead part r) (sym (ap (reply_in reply) is)) tt
+      (λ r. ToldContent truth o history seat path ahead part r) (sym (ap (reply_in reply) is)) tt
   refused_tells number refusal.Spent reply is t = absurd
       (ok_no_err (Ok reply) (Err (record {})) tt (sym is))
   refused_tells number refusal.NoMemory reply is t = subst
-      (λ r. TellsContent truth o history seat path ahead part r) (sym (ap (reply_in reply) is)) tt
+      (λ r. ToldContent truth o history seat path ahead part r) (sym (ap (reply_in reply) is)) tt
 
   read_tells : (number : ℕ) (result : Result Read CallNo) (reply : Told)
       → Ok reply ≡ told_of_read number result → TellsFound result
-      → TellsContent truth o history seat path ahead part reply
+      → ToldContent truth o history seat path ahead part reply
   read_tells number (Ok found.Absent) reply is t = subst
-      (λ r. TellsContent truth o history seat path ahead part r) (sym (ap (reply_in reply) is)) t
+      (λ r. ToldContent truth o history seat path ahead part r) (sym (ap (reply_in reply) is)) t
   read_tells number (Ok (found.Value revision plain stale)) reply is t = subst
-      (λ r. TellsContent truth o history seat path ahead part r) (sym (ap (reply_in reply) is)) t
+      (λ r. ToldContent truth o history seat path ahead part r) (sym (ap (reply_in reply) is)) t
   read_tells number (Err why) reply is t = refused_tells number why reply is t
 
-pub gets_tell_content : {L D : Type 0} → (truth : Truth) (link : L → Link)
-    (left : D → Option (List ℕ)) (count : D → ℕ) (files : List SettingsFile)
-    → GetsTellContent truth link left count files
-gets_tell_content truth link left count files history part first replies after stands nothing ahead
-    done behind run_is path asked =
-    let w = done_behind truth link left count files part.replica first ahead done behind stands.last
-    (subst (λ run. DoesAll truth link left count files part.replica first run stands.last) run_is
-    stands.does) in
-    let does = subst (λ l. Does truth link left count files part.replica l w.before (Ok done.reply)
-    w.after) asked w.is_done.does in
-    let rest = stands.front.0 in
-    let is : history ≡ w.after.caller.seen ++ (w.ended.more ++ rest) =
-    sym stands.front.1 ∙ ap (λ l. l ++ rest) w.ended.seen_is
-    ∙ append_assoc w.after.caller.seen w.ended.more rest in
-    let own : w.before.caller.seat ≡ first.caller.seat =
-    ap (λ (c : Caller). c.seat) w.ran.new_is in
-    let seen_own : of_seat seat_of first.caller.seat w.before.caller.seen ≡ entries_in ahead =
-    ap (of_seat seat_of first.caller.seat) (ap (λ (c : Caller). c.seen) w.ran.new_is
-    ∙ ap (λ l. l ++ w.ran.more) nothing) ∙ w.ran.own in
-    read_tells truth link path w.before.links w.after.links history first.caller.opening
-    first.caller.seat (entries_in ahead) done.part w.before.caller.seat does.0 done.reply does.1
-    (call_tells truth link path w.before.links w.after.links history first.caller.opening
-    first.caller.seat (entries_in ahead) done.part part.replica w.before.caller w.after.caller
-    (w.ended.more ++ rest) is (ap (λ (c : Caller). c.opening) w.ran.new_is) own
-    (subst (λ n. of_seat seat_of n w.before.caller.seen ≡ entries_in ahead) (sym own) seen_own)
-    w.is_done.adds does.0 does.2)
+-- ---- a line of a run, in a history
+
+-- its call stands there: what its seat saw before it are the parts ahead
+pub record IsCallIn {L D : Type 0} (history : List Entry) (first : Workplace L D)
+    (ahead : List Entry) (before after : Workplace L D) : Type 0 where
+  pub more : List Entry
+  pub is : history ≡ after.caller.seen ++ more
+  pub opening : before.caller.opening ≡ first.caller.opening
+  pub own : before.caller.seat ≡ first.caller.seat
+  pub seen_own : of_seat seat_of before.caller.seat before.caller.seen ≡ ahead
+
+module _ {L D : Type 0} (truth : Truth) (link : L → Link)
+    (step : L → Exchange → L → Type 0) (left : D → Option (List ℕ)) (count : D → ℕ)
+    (files : List SettingsFile) (history : List Entry) (part : Part) (first : Workplace L D)
+    (replies : List Told) (after : BenchState L D)
+    (stands : StandsIn truth link step left count files history part first replies after)
+    (ahead : List LineDone) (done : LineDone) (behind : List LineDone)
+    (run_is : stands.run ≡ ahead ++ done ∷ behind) where
+  abbrev pub IsThere : Type 0
+  IsThere = IsDoneBehind truth link step left count files part.replica first ahead done stands.last
+
+  pub done_there : IsThere
+  done_there = done_behind truth link step left count files part.replica first ahead done behind
+      stands.last (subst (λ run. DoesAll truth link step left count files part.replica first run
+      stands.last) run_is stands.does)
+
+  pub call_there : (w : IsThere) → first.caller.seen ≡ []
+      → IsCallIn history first (entries_in ahead) w.before w.after
+  call_there w nothing =
+      let rest = stands.front.0 in
+      let own : w.before.caller.seat ≡ first.caller.seat =
+      ap (λ (c : Caller). c.seat) w.ran.new_is in
+      let seen_own : of_seat seat_of first.caller.seat w.before.caller.seen ≡ entries_in ahead =
+      ap (of_seat seat_of first.caller.seat) (ap (λ (c : Caller). c.seen) w.ran.new_is
+      ∙ ap (λ l. l ++ w.ran.more) nothing) ∙ w.ran.own in
+      record {
+        more = w.ended.more ++ rest;
+        is = sym stands.front.1 ∙ ap (λ l. l ++ rest) w.ended.seen_is
+            ∙ append_assoc w.after.caller.seen w.ended.more rest;
+        opening = ap (λ (c : Caller). c.opening) w.ran.new_is;
+        own = own;
+        seen_own = subst (λ n. of_seat seat_of n w.before.caller.seen ≡ entries_in ahead)
+            (sym own) seen_own;
+      }
+
+  pub get_told : (w : IsThere) → first.caller.seen ≡ [] → (path : List ℕ)
+      → done.line ≡ line.Get path → ToldContent truth first.caller.opening history
+      first.caller.seat path (entries_in ahead) done.part done.reply
+  get_told w nothing path asked =
+      let does = subst (λ l. Does truth link left count files part.replica l w.before
+      (Ok done.reply) w.after) asked w.is_done.does in
+      let c = call_there w nothing in
+      let o = first.caller.opening in
+      let seat = first.caller.seat in
+      let entries = entries_in ahead in
+      read_tells truth link path w.before.links w.after.links history o seat entries done.part
+      w.before.caller.seat does.0 done.reply does.1
+      (call_tells history o seat entries done.part
+      (λ p from found to. Finds truth link path p from w.before.links found to w.after.links)
+      (w.after.links ≡ w.before.links)
+      (TellsFound truth link path w.before.links w.after.links history o seat entries done.part)
+      (found_tells truth link path w.before.links w.after.links history o seat entries done.part)
+      part.replica w.before.caller w.after.caller
+      (early_tells truth link path w.before.links w.after.links history o seat entries done.part
+      part.replica w.before.caller w.after.caller) tt c.more c.is c.opening c.own c.seen_own
+      w.is_done.adds w.is_done.known does.0 does.2)

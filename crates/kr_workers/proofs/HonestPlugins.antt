@@ -13,6 +13,7 @@ use Rattle.kr_envelope.specs.declared.object.EncryptedObject.{EncryptedObject}
 use Rattle.kr_envelope.specs.declared.object.ObjectNo.{ObjectNo}
 use Rattle.kr_kms.specs.Cache.{key_eq}
 use Rattle.kr_kms.specs.Calls.{Link}
+use Rattle.kr_kms.specs.Exchanges.{Exchange}
 use Rattle.kr_kms.specs.Truth.{OpenAll, Opens, Truth, key_of}
 use Rattle.kr_kms.specs.declared.seeds.SeedRow.{SeedRow}
 use Rattle.kr_kms.proofs.Keys.{same_key}
@@ -53,7 +54,7 @@ front_of : {X : Type 0} (P : X → Type 0) (xs ys : List X) → All P (xs ++ ys)
 front_of P xs ys a k d l = subst P (get_or_append_left xs ys d k l)
     (a k d (omega (arith, l, length-append xs ys)))
 
-at_middle : {X : Type 0} (P : X → Type 0) (xs : List X) (x : X) (ys : List X)
+pub at_middle : {X : Type 0} (P : X → Type 0) (xs : List X) (x : X) (ys : List X)
     → All P (xs ++ x ∷ ys) → P x
 at_middle P [] x ys a = a 0 x (omega arith)
 at_middle P (y ∷ xs) x ys a = at_middle P xs x ys (λ k d l. a (suc k) d (omega arith))
@@ -65,7 +66,7 @@ first_in (x ∷ xs) n l = x
 -- ---- each row that was replaced stands on an unsealing
 
 -- an own entry is one of its seat's
-own_there : (P : Entry → Type 0) (front : List Entry) (e : Entry) (rest : List Entry)
+pub own_there : (P : Entry → Type 0) (front : List Entry) (e : Entry) (rest : List Entry)
     → All P (of_seat seat_of e.line.seat (front ++ e ∷ rest)) → P e
 own_there P front e rest all = at_middle P (of_seat seat_of e.line.seat front) e
     (of_seat seat_of e.line.seat rest)
@@ -80,10 +81,11 @@ step_there : (o : Opening) (st : State) (front : List Entry) (e : Entry) (rest :
 step_there o st [] e rest r = r.0
 step_there o st (x ∷ front) e rest r = step_there o (after st x) front e rest r.1
 
-module _ {L D : Type 0} (truth : Truth) (link : L → Link) (left : D → Option (List ℕ))
+module _ {L D : Type 0} (truth : Truth) (link : L → Link) (step : L → Exchange → L → Type 0)
+    (left : D → Option (List ℕ))
     (count : D → ℕ) (files : List SettingsFile) where
-  run_adds : (replica : ℕ) (first : Workplace L D) (run : List LineDone) (last : Workplace L D)
-      → DoesAll truth link left count files replica first run last
+  pub run_adds : (replica : ℕ) (first : Workplace L D) (run : List LineDone) (last : Workplace L D)
+      → DoesAll truth link step left count files replica first run last
       → Adds first.caller (entries_in run) last.caller
   run_adds replica first [] last same =
       subst (λ (w : Workplace L D). Adds first.caller [] w.caller) (sym same)
@@ -93,14 +95,14 @@ module _ {L D : Type 0} (truth : Truth) (link : L → Link) (left : D → Option
       all.1.adds (run_adds replica all.0 run last all.2)
 
   run_mine : (replica : ℕ) (first : Workplace L D) (run : List LineDone) (last : Workplace L D)
-      → DoesAll truth link left count files replica first run last
+      → DoesAll truth link step left count files replica first run last
       → last.caller.mine ≡ first.caller.mine ++ entries_in run
   run_mine replica first run last all =
       ap (λ (c : Caller). c.mine) (run_adds replica first run last all).new_is
 
   module _ {T : Type 0} (history : List Entry) (o : Opening) (parts : List Part)
       (budgets : List ℕ) (old new : List (Worker T L D))
-      (one : IsOneHistory truth link left count files history o parts budgets old new) where
+      (one : IsOneHistory truth link step left count files history o parts budgets old new) where
     seat_known : (seat : ℕ) → seat < length parts → seat < length o.reloads
         → All (IsKnown) (of_seat seat_of seat history)
     seat_known seat within there =
@@ -110,7 +112,8 @@ module _ {L D : Type 0} (truth : Truth) (link : L → Link) (left : D → Option
         let replica = (slice_index_or parts seat part).replica in
         let place = first_place o seat (slice_index budgets seat)
         (slice_index_or old seat worker).bench in
-        let known = (run_keeps truth link left count files replica place s.run s.last s.does).all
+        let known = (run_keeps truth link step left count files replica place s.run s.last
+        s.does).all
         (record {
           legal = front_law o [] history one.legal;
           own = refl;
@@ -355,9 +358,10 @@ module _ (opens : Opens) (o : Opening)
       (All-cons (IsHonestEntry opens) e [] own (All-nil (IsHonestEntry opens))))
 
 pub honest_of_plugins : (T : Type 0) → {L D : Type 0} → (truth : Truth) (link : L → Link)
-    (left : D → Option (List ℕ)) (count : D → ℕ) → HonestOfPlugins T truth link left count
-honest_of_plugins T truth link left count files history o parts budgets old new one =
-    let reseals = resealed truth link left count files history o parts budgets old new one in
+    (step : L → Exchange → L → Type 0)
+    (left : D → Option (List ℕ)) (count : D → ℕ) → HonestOfPlugins T truth link step left count
+honest_of_plugins T truth link step left count files history o parts budgets old new one =
+    let reseals = resealed truth link step left count files history o parts budgets old new one in
     record {
       reseals = reseals;
       honest = λ opens all unwrapped. record {

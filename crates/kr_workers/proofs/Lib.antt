@@ -9,7 +9,10 @@ pub mod Shaping
 pub mod ShapingLoads
 pub mod ShapingRewrites
 pub mod ShapingLines
+pub mod Hearing
 pub mod Getting
+pub mod HeardGets
+pub mod HeardRuns
 pub mod Causing
 pub mod CausingLoads
 pub mod CausingRewrites

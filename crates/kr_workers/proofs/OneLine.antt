@@ -2,13 +2,17 @@
 use Rattle.std.proofs.Common.{◌≡◌, ℕ, ◌≤◌, ◌+◌, ◌*◌, length, List, [], ◌∷◌, Option, None, Some, Result, Ok, Err, inl, inr, refl, ap, sym, subst, ◌∙◌, arith}
 use Rattle.std.proofs.lemmas.Option.{same_Some}
 use Rattle.kr_config.specs.Kept.{Row, plugins_in}
+use Rattle.kr_base.specs.Walks.{Talk}
 use Rattle.kr_kms.specs.Calls.{Link}
+use Rattle.kr_kms.specs.Exchanges.{Exchange}
 use Rattle.kr_kms.specs.Truth.{Truth}
-use Rattle.kr_provider.specs.AskedLinks.{AskedOnly}
+use Rattle.kr_provider.specs.AskedLinks.{Among, AskedOnly}
+use Rattle.kr_provider.specs.BenchKeys.{LeavesKeys}
 use Rattle.kr_provider.specs.BenchState.{BenchState}
 use Rattle.kr_provider.specs.KeyPages.{size_of}
 use Rattle.kr_provider.specs.Names.{names_of}
 use Rattle.kr_provider.proofs.AskedLists.{asked_none}
+use Rattle.kr_provider.proofs.LeftKeys.{leaves_same}
 use Rattle.kr_history.specs.declared.call.CallNo.{CallNo}
 use Rattle.kr_history.specs.declared.call.CallNo.TheVariants as refusal
 use Rattle.kr_rollout.specs.Openings.{NamesAmong}
@@ -21,10 +25,12 @@ use Rattle.kr_history.proofs.PartsAdd.{parts_follow}
 use Rattle.kr_fleet.specs.declared.outcome.Joining.{Joining}
 use Rattle.kr_fleet.specs.declared.outcome.Loaded.{Loaded}
 use Rattle.kr_fleet.specs.declared.outcome.Read.{Read}
+use Rattle.kr_fleet.specs.CallExchanges.{IsJoinBy, IsReadBy, IsRefreshBy, IsReloadBy}
 use Rattle.kr_fleet.specs.SingleCalls.{IsDelete, IsLeave}
 use Rattle.kr_fleet.specs.LoadCalls.{IsJoin, IsRefresh, IsReload}
 use Rattle.kr_fleet.specs.ReadCalls.{IsRead}
 use Rattle.kr_fleet.specs.WriteCalls.{IsWrite}
+use Rattle.kr_rewrite.specs.DriveExchanges.{IsDriveBy}
 use Rattle.kr_rewrite.specs.declared.outcome.Report.{Report}
 use Rattle.kr_rewrite.specs.Drives.{IsDrive, IsIdleAtEnd}
 use Rattle.kr_script.specs.declared.script.ScriptLine.{ScriptLine}
@@ -32,6 +38,7 @@ use Rattle.kr_script.specs.declared.script.ScriptLine.TheVariants as line
 use Rattle.kr_script.specs.declared.told.Told.TheVariants as told
 use Rattle.kr_workers.specs.declared.files.SettingsFile.{SettingsFile}
 use Rattle.kr_workers.specs.Files.{rows_at}
+use Rattle.kr_workers.specs.LineExchanges.{DoesBy, DoesJoinBy, DoesReloadBy}
 use Rattle.kr_workers.specs.Replies.{Reply, told_of_delete, told_of_drive, told_of_join, told_of_leave, told_of_read, told_of_refresh, told_of_reload, told_of_write}
 use Rattle.kr_history.proofs.AskedReaders.{asked_all}
 use Rattle.kr_workers.specs.ScriptLines.{Does, DoesJoin, DoesReload, IfRead}
@@ -78,15 +85,18 @@ told_honesty : (truth : Truth) (old new : Caller) → KeepsHonesty old new
     → KeepsToldHonesty truth old new
 told_honesty truth old new h = λ told. h truth.opens
 
-module _ {L D : Type 0} (truth : Truth) (link : L → Link) (left : D → Option (List ℕ))
+module _ {L D : Type 0} (truth : Truth) (link : L → Link) (step : L → Exchange → L → Type 0) (left : D → Option (List ℕ))
     (count : D → ℕ) (files : List SettingsFile) (replica : ℕ) where
   -- nothing was done
   pub serves_nothing : (asked : ScriptLine) (c : Caller) (b : BenchState L D)
       → Does truth link left count files replica asked (place_of c b) (Ok told.Memory)
-      (place_of c b) → holding c.mine ≡ None
-      → Serves truth link left count files replica asked c b (Ok told.Memory) c b
-  serves_nothing asked c b d idle = record {
+      (place_of c b)
+      → DoesBy left count files replica asked (place_of c b) (Ok told.Memory) (place_of c b) []
+      → holding c.mine ≡ None
+      → Serves truth link step left count files replica asked c b (Ok told.Memory) c b
+  serves_nothing asked c b d asks idle = record {
     does = d;
+    asks = record { steps = []; walk = refl; are = asks };
     adds = nothing_for asked c;
     spent = tt;
     honest = λ told kept. kept;
@@ -94,6 +104,7 @@ module _ {L D : Type 0} (truth : Truth) (link : L → Link) (left : D → Option
     asked_only = asked_none link (names_of link b.links) b.links;
     later = omega arith;
     pages = refl;
+    keys = leaves_same b b refl refl;
   }
 
   module _ (old new : Caller) (b after : BenchState L D) (reply : Reply) where
@@ -102,11 +113,12 @@ module _ {L D : Type 0} (truth : Truth) (link : L → Link) (left : D → Option
         → IsWrite left count resource path plain replica old b.dice result new after.dice
         → AddsWithin 3 0 (did.Put path resource plain ∷ []) old new → KeepsHonesty old new
         → IsIdle result new → after.links ≡ b.links → count b.dice ≤ count after.dice
-        → size_of after.pages ≡ size_of b.pages
-        → Serves truth link left count files replica (line.Put resource path plain) old b reply new
+        → size_of after.pages ≡ size_of b.pages → after.cache ≡ b.cache → LeavesKeys b after
+        → Serves truth link step left count files replica (line.Put resource path plain) old b reply new
         after
-    serves_put resource path plain result is does adds honest idle links later pages = record {
+    serves_put resource path plain result is does adds honest idle links later pages cache keys = record {
       does = (result, is, does, links);
+      asks = record { steps = []; walk = links; are = (refl, cache) };
       adds = adds;
       spent = subst (λ r. EndsFor (line.Put resource path plain) old r) (sym is)
           (ends_write (line.Put resource path plain) old old.seat result
@@ -117,6 +129,7 @@ module _ {L D : Type 0} (truth : Truth) (link : L → Link) (left : D → Option
       asked_only = asked_same link b.links after.links links;
       later = later;
       pages = pages;
+      keys = keys;
     }
 
     pub serves_get : (path : List ℕ) (result : Result Read CallNo)
@@ -125,9 +138,16 @@ module _ {L D : Type 0} (truth : Truth) (link : L → Link) (left : D → Option
         → AddsWithin 3 0 [] old new → KeepsHonesty old new → IsIdle result new
         → AskedOnly link (names_of link b.links) b.links after.links → after.dice ≡ b.dice
         → size_of after.pages ≡ size_of b.pages
-        → Serves truth link left count files replica (line.Get path) old b reply new after
-    serves_get path result is does adds honest idle asked dice pages = record {
+        → Talk (Among step) b.links after.links
+        (IsReadBy path replica old b.cache result new after.cache) → LeavesKeys b after
+        → Serves truth link step left count files replica (line.Get path) old b reply new after
+    serves_get path result is does adds honest idle asked dice pages talk keys = record {
       does = (result, is, does, dice);
+      asks = record {
+        steps = talk.steps;
+        walk = talk.walk;
+        are = (result, is, talk.are);
+      };
       adds = adds;
       spent = subst (λ r. EndsFor (line.Get path) old r) (sym is)
           (ends_read (line.Get path) old old.seat result
@@ -137,6 +157,7 @@ module _ {L D : Type 0} (truth : Truth) (link : L → Link) (left : D → Option
       asked_only = asked;
       later = let e : count after.dice ≡ count b.dice = ap count dice in omega (arith, e);
       pages = pages;
+      keys = keys;
     }
 
     pub serves_refresh : (result : Result Loaded CallNo) → reply ≡ told_of_refresh old.seat result
@@ -145,9 +166,16 @@ module _ {L D : Type 0} (truth : Truth) (link : L → Link) (left : D → Option
         → IsIdle result new → AskedOnly link (names_of link b.links) b.links after.links
         → count b.dice ≤ count after.dice
         → after ≡ record b { links = after.links; dice = after.dice }
-        → Serves truth link left count files replica line.Refresh old b reply new after
-    serves_refresh result is does adds honest idle asked later kept = record {
+        → Talk (Among step) b.links after.links
+        (IsRefreshBy left count replica old b.dice result new after.dice) → LeavesKeys b after
+        → Serves truth link step left count files replica line.Refresh old b reply new after
+    serves_refresh result is does adds honest idle asked later kept talk keys = record {
       does = (result, is, does);
+      asks = record {
+        steps = talk.steps;
+        walk = talk.walk;
+        are = (result, is, talk.are, ap (λ (s : BenchState L D). s.cache) kept);
+      };
       adds = adds;
       spent = subst (λ r. EndsFor line.Refresh old r) (sym is)
           (ends_refresh line.Refresh old old.seat result
@@ -158,6 +186,7 @@ module _ {L D : Type 0} (truth : Truth) (link : L → Link) (left : D → Option
       asked_only = asked;
       later = later;
       pages = ap (λ (s : BenchState L D). size_of s.pages) kept;
+      keys = keys;
     }
 
     drive_adds : (result : Result Report (Report × CallNo))
@@ -174,9 +203,17 @@ module _ {L D : Type 0} (truth : Truth) (link : L → Link) (left : D → Option
         after.dice → KeepsToldHonesty truth old new → IsIdleAtEnd result new
         → AskedOnly link (names_of link b.links) b.links after.links
         → count b.dice ≤ count after.dice → size_of after.pages ≡ size_of b.pages
-        → Serves truth link left count files replica line.Rewrite old b reply new after
-    serves_rewrite result is does honest idle asked later pages = record {
+        → Talk (Among step) b.links after.links
+        (IsDriveBy left count replica [] old b.cache b.dice result new after.cache after.dice)
+        → LeavesKeys b after
+        → Serves truth link step left count files replica line.Rewrite old b reply new after
+    serves_rewrite result is does honest idle asked later pages talk keys = record {
       does = (result, is, does);
+      asks = record {
+        steps = talk.steps;
+        walk = talk.walk;
+        are = (result, is, talk.are);
+      };
       adds = drive_adds result does;
       spent = subst (λ r. EndsFor line.Rewrite old r) (sym is) (ends_drive old old.seat result);
       honest = honest;
@@ -184,6 +221,7 @@ module _ {L D : Type 0} (truth : Truth) (link : L → Link) (left : D → Option
       asked_only = asked;
       later = later;
       pages = pages;
+      keys = keys;
     }
 
     pub serves_reload : (named : ℕ) (file : List ℕ) (rows : List Row)
@@ -194,13 +232,23 @@ module _ {L D : Type 0} (truth : Truth) (link : L → Link) (left : D → Option
         → holding new.mine ≡ None → AskedOnly link (plugins_in rows) b.links after.links
         → count b.dice ≤ count after.dice
         → after ≡ record b { links = after.links; dice = after.dice }
-        → Serves truth link left count files replica (line.Reload named file) old b reply new after
-    serves_reload named file rows result read is does adds honest idle asked later kept =
+        → Talk (Among step) b.links after.links
+        (IsReloadBy left count rows named old b.dice result new after.dice)
+        → Serves truth link step left count files replica (line.Reload named file) old b reply new after
+    serves_reload named file rows result read is does adds honest idle asked later kept talk =
         record {
           does = subst (λ (r : Option (List Row)). IfRead r (λ rows.
               DoesReload truth link left count named rows (place_of old b) reply
               (place_of new after)))
               (sym read) (inr (result, is, does, asked));
+          asks = record {
+            steps = talk.steps;
+            walk = talk.walk;
+            are = subst (λ (r : Option (List Row)). IfRead r (λ rows.
+                DoesReloadBy left count named rows (place_of old b) reply (place_of new after)
+                talk.steps)) (sym read)
+                (inr (result, is, talk.are, ap (λ (s : BenchState L D). s.cache) kept));
+          };
           adds = adds;
           spent = subst (λ r. EndsFor (line.Reload named file) old r) (sym is)
               (ends_reload (line.Reload named file) old old.seat result
@@ -211,6 +259,8 @@ module _ {L D : Type 0} (truth : Truth) (link : L → Link) (left : D → Option
           asked_only = asked_all link (plugins_in rows) b.links after.links asked;
           later = later;
           pages = ap (λ (s : BenchState L D). size_of s.pages) kept;
+          keys = leaves_same b after (ap (λ (s : BenchState L D). s.published) kept)
+              (ap (λ (s : BenchState L D). s.pages) kept);
         }
 
     pub serves_join : (named : ℕ) (file : List ℕ) (rows : List Row)
@@ -221,13 +271,23 @@ module _ {L D : Type 0} (truth : Truth) (link : L → Link) (left : D → Option
         → holding new.mine ≡ None → AskedOnly link (plugins_in rows) b.links after.links
         → count b.dice ≤ count after.dice
         → after ≡ record b { links = after.links; dice = after.dice }
-        → Serves truth link left count files replica (line.Join named file) old b reply new after
-    serves_join named file rows result read is does adds honest idle asked later kept =
+        → Talk (Among step) b.links after.links
+        (IsJoinBy left count rows named old b.dice result new after.dice)
+        → Serves truth link step left count files replica (line.Join named file) old b reply new after
+    serves_join named file rows result read is does adds honest idle asked later kept talk =
         record {
           does = subst (λ (r : Option (List Row)). IfRead r (λ rows.
               DoesJoin truth link left count named rows (place_of old b) reply
               (place_of new after)))
               (sym read) (inr (result, is, does, asked));
+          asks = record {
+            steps = talk.steps;
+            walk = talk.walk;
+            are = subst (λ (r : Option (List Row)). IfRead r (λ rows.
+                DoesJoinBy left count named rows (place_of old b) reply (place_of new after)
+                talk.steps)) (sym read)
+                (inr (result, is, talk.are, ap (λ (s : BenchState L D). s.cache) kept));
+          };
           adds = adds;
           spent = subst (λ r. EndsFor (line.Join named file) old r) (sym is)
               (ends_join (line.Join named file) old old.seat result
@@ -238,15 +298,18 @@ module _ {L D : Type 0} (truth : Truth) (link : L → Link) (left : D → Option
           asked_only = asked_all link (plugins_in rows) b.links after.links asked;
           later = later;
           pages = ap (λ (s : BenchState L D). size_of s.pages) kept;
+          keys = leaves_same b after (ap (λ (s : BenchState L D). s.published) kept)
+              (ap (λ (s : BenchState L D). s.pages) kept);
         }
 
   module _ (old new : Caller) (b : BenchState L D) (reply : Reply) where
     pub serves_delete : (path : List ℕ) (result : Result (Option ℕ) CallNo)
         → reply ≡ told_of_delete old.seat result → IsDelete path old result new
         → AddsWithin 1 0 [] old new → KeepsHonesty old new → holding new.mine ≡ None
-        → Serves truth link left count files replica (line.Delete path) old b reply new b
+        → Serves truth link step left count files replica (line.Delete path) old b reply new b
     serves_delete path result is does adds honest idle = record {
       does = (result, is, does, (refl, refl));
+      asks = record { steps = []; walk = refl; are = (refl, refl) };
       adds = adds;
       spent = subst (λ r. EndsFor (line.Delete path) old r) (sym is)
           (ends_delete (line.Delete path) old old.seat result
@@ -256,14 +319,16 @@ module _ {L D : Type 0} (truth : Truth) (link : L → Link) (left : D → Option
       asked_only = asked_none link (names_of link b.links) b.links;
       later = omega arith;
       pages = refl;
+      keys = leaves_same b b refl refl;
     }
 
     pub serves_leave : (named : ℕ) (result : Result (Option ℕ) CallNo)
         → reply ≡ told_of_leave old.seat result → IsLeave named old result new
         → AddsWithin 1 0 [] old new → KeepsHonesty old new → holding new.mine ≡ None
-        → Serves truth link left count files replica (line.Leave named) old b reply new b
+        → Serves truth link step left count files replica (line.Leave named) old b reply new b
     serves_leave named result is does adds honest idle = record {
       does = (result, is, does, (refl, refl));
+      asks = record { steps = []; walk = refl; are = (refl, refl) };
       adds = adds;
       spent = subst (λ r. EndsFor (line.Leave named) old r) (sym is)
           (ends_leave (line.Leave named) old old.seat result
@@ -273,6 +338,7 @@ module _ {L D : Type 0} (truth : Truth) (link : L → Link) (left : D → Option
       asked_only = asked_none link (names_of link b.links) b.links;
       later = omega arith;
       pages = refl;
+      keys = leaves_same b b refl refl;
     }
 
 -- ---- settings that were read
@@ -283,44 +349,48 @@ pub read_rows : (names : List (List ℕ)) (files : List SettingsFile) (file lent
 read_rows names files file lent rows found same read is h = subst (NamesAmong names)
     (same_Some rows found (sym read ∙ ap (rows_at files) (sym same) ∙ is)) h
 
-module _ {L D : Type 0} (truth : Truth) (link : L → Link) (left : D → Option (List ℕ))
+module _ {L D : Type 0} (truth : Truth) (link : L → Link) (step : L → Exchange → L → Type 0) (left : D → Option (List ℕ))
     (count : D → ℕ) (files : List SettingsFile) (replica : ℕ) (c : Caller) (b : BenchState L D)
   where
     pub unread_reload : (named : ℕ) (file : List ℕ) (rows : List Row)
         → rows_at files file ≡ Some rows → holding c.mine ≡ None
-        → Serves truth link left count files replica (line.Reload named file) c b (Ok told.Memory) c
+        → Serves truth link step left count files replica (line.Reload named file) c b (Ok told.Memory) c
         b
-    unread_reload named file rows read idle = serves_nothing truth link left count files replica
+    unread_reload named file rows read idle = serves_nothing truth link step left count files replica
         (line.Reload named file) c b (subst (λ (r : Option (List Row)). IfRead r (λ rows.
         DoesReload truth link left count named rows (place_of c b) (Ok told.Memory) (place_of c b)))
-        (sym read) (inl (refl, refl))) idle
+        (sym read) (inl (refl, refl))) (subst (λ (r : Option (List Row)). IfRead r (λ rows.
+        DoesReloadBy left count named rows (place_of c b) (Ok told.Memory) (place_of c b) []))
+        (sym read) (inl ((refl, refl), refl))) idle
 
     pub unread_join : (named : ℕ) (file : List ℕ) (rows : List Row)
         → rows_at files file ≡ Some rows → holding c.mine ≡ None
-        → Serves truth link left count files replica (line.Join named file) c b (Ok told.Memory) c b
-    unread_join named file rows read idle = serves_nothing truth link left count files replica
+        → Serves truth link step left count files replica (line.Join named file) c b (Ok told.Memory) c b
+    unread_join named file rows read idle = serves_nothing truth link step left count files replica
         (line.Join named file) c b (subst (λ (r : Option (List Row)). IfRead r (λ rows.
         DoesJoin truth link left count named rows (place_of c b) (Ok told.Memory) (place_of c b)))
-        (sym read) (inl (refl, refl))) idle
+        (sym read) (inl (refl, refl))) (subst (λ (r : Option (List Row)). IfRead r (λ rows.
+        DoesJoinBy left count named rows (place_of c b) (Ok told.Memory) (place_of c b) []))
+        (sym read) (inl ((refl, refl), refl))) idle
 
     -- no copy of the data
     pub uncopied_put : (resource path plain : List ℕ) → holding c.mine ≡ None
-        → Serves truth link left count files replica (line.Put resource path plain) c b
+        → Serves truth link step left count files replica (line.Put resource path plain) c b
         (Ok told.Memory) c b
-    uncopied_put resource path plain idle = serves_nothing truth link left count files replica
+    uncopied_put resource path plain idle = serves_nothing truth link step left count files replica
         (line.Put resource path plain) c b (Err refusal.NoMemory, refl, inl (inl refl, refl), refl)
-        idle
+        (refl, refl) idle
 
     -- what was lent is what stands in the line
     pub put_as_lent : (new : Caller) (after : BenchState L D) (reply : Reply)
         (resource path plain own at it : List ℕ) → resource ≡ own → path ≡ at → plain ≡ it
-        → Serves truth link left count files replica (line.Put resource path plain) c b reply new
+        → Serves truth link step left count files replica (line.Put resource path plain) c b reply new
         after
-        → Serves truth link left count files replica (line.Put own at it) c b reply new after
+        → Serves truth link step left count files replica (line.Put own at it) c b reply new after
     put_as_lent new after reply resource path plain own at it r p d s = subst
-        (λ x. Serves truth link left count files replica (line.Put own at x) c b reply new after) d
-        (subst (λ x. Serves truth link left count files replica (line.Put own x plain) c b reply new
+        (λ x. Serves truth link step left count files replica (line.Put own at x) c b reply new after) d
+        (subst (λ x. Serves truth link step left count files replica (line.Put own x plain) c b reply new
         after) p
-        (subst (λ x. Serves truth link left count files replica (line.Put x path plain) c b reply
+        (subst (λ x. Serves truth link step left count files replica (line.Put x path plain) c b reply
         new
         after) r s))

@@ -7,6 +7,7 @@ use Rattle.std.proofs.lemmas.List.Elements.{All-append, All-cons, All-nil}
 use Rattle.std.proofs.lemmas.Option.{same_Some}
 use Rattle.kr_config.specs.Kept.{Row as setting}
 use Rattle.kr_kms.specs.Calls.{Link}
+use Rattle.kr_kms.specs.Exchanges.{Exchange}
 use Rattle.kr_kms.specs.Truth.{Truth}
 use Rattle.kr_provider.specs.Publication.{Publication, list_at}
 use Rattle.kr_provider.specs.Sealing.{IsSealing}
@@ -47,7 +48,7 @@ use Rattle.kr_fleet.specs.WriteCalls.{IsWrite, Puts}
 use Rattle.kr_provider.specs.AskedLinks.{AskedOnly}
 use Rattle.kr_rewrite.specs.declared.outcome.Report.{Report}
 use Rattle.kr_rewrite.specs.declared.outcome.Step.{Step}
-use Rattle.kr_rewrite.specs.declared.outcome.Step.TheVariants as step
+use Rattle.kr_rewrite.specs.declared.outcome.Step.TheVariants as taken_step
 use Rattle.kr_rewrite.specs.Drives.{EndsBy, IsDrive, Walks, last_of, path_of}
 use Rattle.kr_rewrite.specs.Rewrites.{FindsNone, IsStep, ResealsBy, Rewrites, RewritesBy, RewritesData, Steps}
 use Rattle.kr_script.specs.declared.script.ScriptLine.{ScriptLine}
@@ -77,7 +78,7 @@ is_written other = false
 abbrev pub IsKnown : Entry → Type 0
 IsKnown e = (path : List ℕ) → IsReplaced path e → Reseals path e
 
-module _ {L D : Type 0} (truth : Truth) (link : L → Link) (left : D → Option (List ℕ))
+module _ {L D : Type 0} (truth : Truth) (link : L → Link) (step : L → Exchange → L → Type 0) (left : D → Option (List ℕ))
     (count : D → ℕ) where
   -- a caller stays one, and each own entry that replaced a row stands on an unsealing still
   pub record Keeps (old new : Caller) : Type 0 where
@@ -519,12 +520,12 @@ module _ {L D : Type 0} (truth : Truth) (link : L → Link) (left : D → Option
 
   none_found : (above : List ℕ) (old new : Caller) (result : Result Step CallNo)
       → FindsNone above old result new → Keeps old new
-  none_found above old new (Ok step.End) n =
+  none_found above old new (Ok taken_step.End) n =
       quiet_keeps old new (event.After above) answer.Absent refl n
-  none_found above old new (Ok (step.Rewritten path)) n = absurd n
-  none_found above old new (Ok (step.Fresh path)) n = absurd n
-  none_found above old new (Ok (step.Changed path)) n = absurd n
-  none_found above old new (Ok (step.Left path)) n = absurd n
+  none_found above old new (Ok (taken_step.Rewritten path)) n = absurd n
+  none_found above old new (Ok (taken_step.Fresh path)) n = absurd n
+  none_found above old new (Ok (taken_step.Changed path)) n = absurd n
+  none_found above old new (Ok (taken_step.Left path)) n = absurd n
   none_found above old new (Err (refusal.Refused why)) n = absurd n
   none_found above old new (Err (refusal.PluginFailed name)) n = absurd n
   none_found above old new (Err refusal.DiceFailed) n = absurd n
@@ -588,7 +589,7 @@ module _ {L D : Type 0} (truth : Truth) (link : L → Link) (left : D → Option
       → IsDrive truth link left count replica above old olds dice result new news after
       → Keeps old new
   drive_keeps replica above old new olds news dice after (Ok report) d =
-      ends_keep replica above d.steps old new olds news dice after (Ok step.End) report d.ends
+      ends_keep replica above d.steps old new olds news dice after (Ok taken_step.End) report d.ends
   drive_keeps replica above old new olds news dice after (Err cut) (inl d) =
       ends_keep replica above d.steps old new olds news dice after (Err cut.1) cut.0 d.ends
   drive_keeps replica above old new olds news dice after (Err cut) (inr n) =
@@ -637,7 +638,7 @@ module _ {L D : Type 0} (truth : Truth) (link : L → Link) (left : D → Option
 
   pub run_keeps : (files : List SettingsFile) (replica : ℕ) (first : Workplace L D)
       (run : List LineDone) (last : Workplace L D)
-      → DoesAll truth link left count files replica first run last
+      → DoesAll truth link step left count files replica first run last
       → Keeps first.caller last.caller
   run_keeps files replica first [] last same =
       same_keeps first.caller last.caller (ap (λ (w : Workplace L D). w.caller) same)

@@ -6,6 +6,7 @@ use Rattle.std.proofs.lemmas.Bool.{false≢true}
 use Rattle.std.proofs.lemmas.List.{length-map}
 use Rattle.std.proofs.lemmas.Option.{same_Some}
 use Rattle.kr_kms.specs.Calls.{Link}
+use Rattle.kr_kms.specs.Exchanges.{Exchange}
 use Rattle.kr_kms.specs.Truth.{Truth}
 use Rattle.kr_rollout.specs.declared.opening.Entry.{Entry}
 use Rattle.kr_rollout.specs.declared.opening.Opening.{Opening}
@@ -17,11 +18,14 @@ use Rattle.kr_script.specs.declared.told.Told.{Told}
 use Rattle.kr_workers.specs.declared.files.SettingsFile.{SettingsFile}
 use Rattle.kr_workers.specs.declared.worker.Worker.{Worker}
 use Rattle.kr_workers.specs.Causes.{HasCause}
+use Rattle.kr_workers.specs.Gets.{TellContents}
+use Rattle.kr_workers.specs.Heard.{Heard, WasHeard}
 use Rattle.kr_workers.specs.Histories.{IsOneHistory, StandsIn, first_place}
 use Rattle.kr_workers.specs.Runs.{LineDone, lines_in, replies_in}
-use Rattle.kr_workers.specs.Sentences.{HistoriesTell, Replies, RepliesAreTrue}
+use Rattle.kr_workers.specs.Sentences.{HistoriesTell, Replies, RepliesAreTrue, TellsRun}
 use Rattle.kr_workers.proofs.CausingRuns.{replies_have_causes}
-use Rattle.kr_workers.proofs.Getting.{gets_tell_content}
+use Rattle.kr_workers.proofs.HeardGets.{gets_tell_content}
+use Rattle.kr_workers.proofs.HeardRuns.{HeardAt, agreed_honest, heard_at, heard_in, none_heard, was_heard}
 use Rattle.kr_workers.proofs.HonestPlugins.{honest_of_plugins}
 use Rattle.kr_workers.proofs.Resting.{ending_rests}
 
@@ -64,33 +68,34 @@ done_at (done ∷ run) (suc at) asked reply l r = let d = done_at run at asked r
 
 -- ---- one worker's replies
 
-module _ {L D : Type 0} (truth : Truth) (link : L → Link) (left : D → Option (List ℕ))
+module _ {L D : Type 0} (truth : Truth) (link : L → Link) (step : L → Exchange → L → Type 0)
+    (left : D → Option (List ℕ))
     (count : D → ℕ) (files : List SettingsFile) where
   module _ {T : Type 0} (history : List Entry) (o : Opening) (parts : List Part)
       (budgets : List ℕ) (old new : List (Worker T L D))
-      (one : IsOneHistory truth link left count files history o parts budgets old new) where
+      (one : IsOneHistory truth link step left count files history o parts budgets old new) where
     -- the run of a worker, by what stands at its number
     stands_there : (number : ℕ) (part : Part) (before after : Worker T L D)
         → slice_get parts number ≡ Some part → get_or old number before ≡ before
         → slice_get new number ≡ Some after
-        → StandsIn truth link left count files history part
+        → StandsIn truth link step left count files history part
         (first_place o number (slice_index budgets number) before.bench) after.told.0 after.bench
     stands_there number part before after part_is before_is after_is = subst
-        (λ (p : Part). StandsIn truth link left count files history p
+        (λ (p : Part). StandsIn truth link step left count files history p
         (first_place o number (slice_index budgets number) before.bench) after.told.0 after.bench)
         (there_of parts number part part part_is)
-        (subst (λ (w : Worker T L D). StandsIn truth link left count files history
+        (subst (λ (w : Worker T L D). StandsIn truth link step left count files history
         (get_or parts number part)
         (first_place o number (slice_index budgets number) before.bench) w.told.0 w.bench)
         (there_of new number after before after_is)
-        (subst (λ (w : Worker T L D). StandsIn truth link left count files history
+        (subst (λ (w : Worker T L D). StandsIn truth link step left count files history
         (get_or parts number part)
         (first_place o number (slice_index budgets number) w.bench)
         (get_or new number before).told.0 (get_or new number before).bench) before_is
         (one.each number part before (below_of parts number part part_is))))
 
     as_many : (part : Part) (before after : Worker T L D) (number : ℕ)
-        → StandsIn truth link left count files history part
+        → StandsIn truth link step left count files history part
         (first_place o number (slice_index budgets number) before.bench) after.told.0 after.bench
         → length after.told.0 ≡ length part.lines.0
     as_many part before after number s = ap length s.replies_are
@@ -100,7 +105,7 @@ module _ {L D : Type 0} (truth : Truth) (link : L → Link) (left : D → Option
     -- the line at a place of its part was done
     done_there : (number at : ℕ) (asked : ScriptLine) (reply : Told) (before : Worker T L D)
         (r : Replies parts new number at asked reply)
-        → (s : StandsIn truth link left count files history r.part
+        → (s : StandsIn truth link step left count files history r.part
         (first_place o number (slice_index budgets number) before.bench) r.worker.told.0
         r.worker.bench) → IsDoneAt s.run asked reply
     done_there number at asked reply before r s = done_at s.run at asked reply
@@ -143,28 +148,89 @@ module _ {L D : Type 0} (truth : Truth) (link : L → Link) (left : D → Option
         (subst (λ (t : Told). HasCause link count d.done.line
         (first_place o number (slice_index budgets number) before.bench) t history
         r.worker.bench.links r.worker.bench.dice) d.reply_is
-        ((replies_have_causes truth link left count files).whole history r.part
+        ((replies_have_causes truth link step left count files).whole history r.part
         (first_place o number (slice_index budgets number) before.bench) r.worker.told.0
         r.worker.bench s d.done d.there))
 
-    pub replies_are_true : RepliesAreTrue truth link left count files history o parts budgets old new
+    -- ---- what was heard
+
+    abbrev heard : (number : ℕ) → Heard
+    heard number =
+        heard_in truth link step left count files history o parts budgets old new one number
+
+    abbrev IsTheirs : ℕ → Heard → Type 0
+    IsTheirs number it =
+        HeardAt truth link step left count files history o parts budgets old new one number it
+
+    its_heard : (number : ℕ) → number < length parts → IsTheirs number (heard number)
+    its_heard number within =
+        heard_at truth link step left count files history o parts budgets old new one number within
+
+    heard_there : (number : ℕ) → IsTheirs number (heard number) → (before after : Worker T L D)
+        → slice_get old number ≡ Some before → slice_get new number ≡ Some after
+        → WasHeard step (heard number) before.bench after.bench
+    heard_there number h before after before_is after_is = subst
+        (λ (w : Worker T L D). WasHeard step (heard number) w.bench after.bench)
+        (same_Some h.before before (sym h.before_is ∙ before_is))
+        (subst (λ (w : Worker T L D). WasHeard step (heard number) h.before.bench w.bench)
+        (same_Some h.after after (sym h.after_is ∙ after_is))
+        (was_heard truth link step left count files history o parts budgets old new one number h))
+
+    tells_there : (number : ℕ) → (h : IsTheirs number (heard number))
+        → TellsRun truth link step left count files (heard number) o history number h.part
+        (first_place o number (slice_index budgets number) h.before.bench) h.after.told.0
+        h.after.bench
+    tells_there number h =
+        let first = first_place o number (slice_index budgets number) h.before.bench in record {
+          stands = h.stands;
+          exchanges = h.exchanges;
+          tell = subst (λ kept. TellContents truth kept o history number h.stands.run) (sym h.kept)
+              (gets_tell_content truth link step left count files history h.part first
+              h.after.told.0 h.after.bench h.stands refl);
+        }
+
+    gets_there : (number : ℕ) → IsTheirs number (heard number) → (part : Part)
+        (before after : Worker T L D) → slice_get parts number ≡ Some part
+        → slice_get old number ≡ Some before → slice_get new number ≡ Some after
+        → TellsRun truth link step left count files (heard number) o history number part
+        (first_place o number (slice_index budgets number) before.bench) after.told.0 after.bench
+    gets_there number h part before after part_is before_is after_is = subst
+        (λ (p : Part). TellsRun truth link step left count files (heard number) o history number p
+        (first_place o number (slice_index budgets number) before.bench) after.told.0 after.bench)
+        (same_Some h.part part (sym h.part_is ∙ part_is))
+        (subst (λ (w : Worker T L D). TellsRun truth link step left count files (heard number) o
+        history number h.part (first_place o number (slice_index budgets number) w.bench)
+        after.told.0 after.bench) (same_Some h.before before (sym h.before_is ∙ before_is))
+        (subst (λ (w : Worker T L D). TellsRun truth link step left count files (heard number) o
+        history number h.part (first_place o number (slice_index budgets number) h.before.bench)
+        w.told.0 w.bench) (same_Some h.after after (sym h.after_is ∙ after_is))
+        (tells_there number h)))
+
+    pub replies_are_true : RepliesAreTrue truth link step left count files history o parts budgets
+        old new
     replies_are_true = record {
       each = all_told;
+      heard = heard;
+      was_heard = λ number before after before_is after_is.
+          let below = below_of old number before before_is in
+          heard_there number (its_heard number (omega (arith, below, one.whole))) before after
+          before_is after_is;
+      no_more = λ number past. none_heard truth link step left count files history o parts budgets
+          old new one number past;
       gets = λ number part before after part_is before_is after_is.
-          let s = stands_there number part before after part_is
-          (there_of old number before before before_is) after_is in record {
-            stands = s;
-            tell = gets_tell_content truth link left count files history part
-                (first_place o number (slice_index budgets number) before.bench) after.told.0
-                after.bench s refl;
-          };
+          gets_there number (its_heard number (below_of parts number part part_is)) part before
+          after part_is before_is after_is;
+      agreed = λ opens agrees begun front rest is. honest_by_entries.front opens o front rest
+          (subst (λ (l : List Entry). IsHonest opens o l) is
+          (agreed_honest truth link step left count files history o parts budgets old new one opens
+          agrees begun));
       honest = λ told begun front rest is. honest_by_entries.front truth.opens o front rest
           (subst (λ (l : List Entry). IsHonest truth.opens o l) is (one.honest told begun));
-      plugins = honest_of_plugins T truth link left count files history o parts budgets old new
+      plugins = honest_of_plugins T truth link step left count files history o parts budgets old new
           one;
       causes = all_caused;
       often = λ number part before after part_is before_is after_is.
-          (replies_have_causes truth link left count files).often history part
+          (replies_have_causes truth link step left count files).often history part
           (first_place o number (slice_index budgets number) before.bench) after.told.0 after.bench
           (stands_there number part before after part_is
           (there_of old number before before before_is) after_is);
@@ -173,6 +239,7 @@ module _ {L D : Type 0} (truth : Truth) (link : L → Link) (left : D → Option
     }
 
 pub histories_tell : (T : Type 0) → {L D : Type 0} → (truth : Truth) (link : L → Link)
-    (left : D → Option (List ℕ)) (count : D → ℕ) → HistoriesTell T truth link left count
-histories_tell T truth link left count files history o parts budgets old new one =
-    replies_are_true truth link left count files history o parts budgets old new one
+    (step : L → Exchange → L → Type 0)
+    (left : D → Option (List ℕ)) (count : D → ℕ) → HistoriesTell T truth link step left count
+histories_tell T truth link step left count files history o parts budgets old new one =
+    replies_are_true truth link step left count files history o parts budgets old new one

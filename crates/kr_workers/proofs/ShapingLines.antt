@@ -3,6 +3,7 @@ use Rattle.std.proofs.Common.{◌≡◌, ℕ, List, [], Option, None, Some, Ok, 
 use Rattle.kr_base.specs.Faults.{Rose}
 use Rattle.kr_config.specs.Kept.{Row as setting}
 use Rattle.kr_kms.specs.Calls.{Link}
+use Rattle.kr_kms.specs.Exchanges.{Exchange}
 use Rattle.kr_kms.specs.Health.{HasBreach}
 use Rattle.kr_kms.specs.Truth.{Truth}
 use Rattle.kr_provider.specs.AskedLinks.{FaultRose, HasLinkWith}
@@ -141,9 +142,9 @@ module _ {L D : Type 0} (truth : Truth) (link : L → Link) (left : D → Option
       idle old.links new.links old.dice new.dice RewriteDone part adds (rows_at files) named d.0 reply
       d.1 d.2
 
-pub parts_have_shape : {L D : Type 0} → (truth : Truth) (link : L → Link)
+pub parts_have_shape : {L D : Type 0} → (truth : Truth) (link : L → Link) (step : L → Exchange → L → Type 0)
     (left : D → Option (List ℕ)) (count : D → ℕ) (files : List SettingsFile)
-    → PartsHaveShape truth link left count files
-parts_have_shape truth link left count files replica old new done d =
+    → PartsHaveShape truth link step left count files
+parts_have_shape truth link step left count files replica old new done d =
     line_part truth link left count files replica old new d.known d.idle done.part d.adds
     done.reply done.line d.does

@@ -2,7 +2,9 @@
 use Rattle.std.specs.Prelude.{◌≡◌, ℕ, List, [], ◌∷◌, ◌++◌, Option, None, Some, ⊤}
 use Rattle.kr_base.specs.Lines.{of_seat}
 use Rattle.kr_kms.specs.Calls.{Link}
+use Rattle.kr_kms.specs.Exchanges.{Exchange}
 use Rattle.kr_kms.specs.Truth.{Opens, Truth}
+use Rattle.kr_kms.specs.declared.seeds.SeedKey.{SeedKey}
 use Rattle.kr_provider.specs.BenchState.{BenchState}
 use Rattle.kr_provider.specs.Envelopes.{Envelope, HasObject}
 use Rattle.kr_provider.specs.Publication.{Publication, list_at}
@@ -15,6 +17,7 @@ use Rattle.kr_rollout.specs.declared.line.Gave.TheVariants as gave
 use Rattle.kr_rollout.specs.declared.opening.Entry.{Entry}
 use Rattle.kr_rollout.specs.declared.opening.Opening.{Opening}
 use Rattle.kr_history.specs.Contents.{IsContent}
+use Rattle.kr_history.specs.Honesty.{IsHonest}
 use Rattle.kr_rollout.specs.Entries.{seat_of}
 use Rattle.kr_fleet.specs.ReadCalls.{IsContentByAny, IsKnownContent}
 use Rattle.kr_script.specs.declared.script.Part.{Part}
@@ -22,8 +25,9 @@ use Rattle.kr_script.specs.declared.script.ScriptLine.TheVariants as line
 use Rattle.kr_script.specs.declared.told.Told.{Told}
 use Rattle.kr_script.specs.declared.told.Told.TheVariants as told
 use Rattle.kr_workers.specs.declared.files.SettingsFile.{SettingsFile}
+use Rattle.kr_workers.specs.Heard.{AgreesWithHeard, Heard}
 use Rattle.kr_workers.specs.Histories.{StandsIn}
-use Rattle.kr_workers.specs.Runs.{LineDone, entries_in}
+use Rattle.kr_workers.specs.Runs.{LineDone, entries_in, exchanges_in}
 use Rattle.kr_workers.specs.ScriptLines.{Workplace}
 
 -- a line's own Fetch of the path: the line's part is an Adopt, this Fetch and a LetGo, and before
@@ -64,34 +68,49 @@ pub record ReadsContent (truth : Truth) (o : Opening) (path : List ℕ) (reading
   pub reads : value_reading envelope (list_at p row.resource) path row.stored ≡ reading
   pub by_any : IsContentByAny o front (list_at p row.resource) path row.stored envelope reading
 
+-- by any truth that agrees with what plugins told the worker up to this reply, and by which what
+-- stands before is honest, this is the content
+abbrev pub IsHeardContent : Heard → Opening → (path : List ℕ) → Reading → (front : List Entry)
+    → Type 0
+IsHeardContent heard o path reading front = (opens : Opens) → AgreesWithHeard opens heard
+    → IsHonest opens o front → IsContent opens o front path (Some reading)
+
 -- `got` tells the revision that was found and the content, `absent` that there is none, by any
 -- truth, and a refusal is that of the content
-abbrev pub TellsContent : Truth → Opening → (history : List Entry) → (seat : ℕ) → (path : List ℕ)
-    → (ahead part : List Entry) → Told → Type 0
-TellsContent truth o history seat path ahead part (told.Got revision plain) =
+abbrev pub TellsContent : Truth → Heard → Opening → (history : List Entry) → (seat : ℕ)
+    → (path : List ℕ) → (ahead part : List Entry) → Told → Type 0
+TellsContent truth heard o history seat path ahead part (told.Got revision plain) =
     FetchesWhere history seat path ahead part (λ front fetch.
-    (fetch.line.gave ≡ gave.Found revision) × ReadsContent truth o path (data_of plain) front fetch)
-TellsContent truth o history seat path ahead part told.Absent =
+    (fetch.line.gave ≡ gave.Found revision) × ReadsContent truth o path (data_of plain) front fetch
+    × IsHeardContent heard o path (data_of plain) front)
+TellsContent truth heard o history seat path ahead part told.Absent =
     FetchesWhere history seat path ahead part (λ front fetch. (fetch.line.gave ≡ gave.Absent)
     × ((opens : Opens) → IsContent opens o front path None))
-TellsContent truth o history seat path ahead part (told.Value why) =
+TellsContent truth heard o history seat path ahead part (told.Value why) =
     FetchesWhere history seat path ahead part (λ front fetch. (revision : ℕ)
-    × (fetch.line.gave ≡ gave.Found revision) × ReadsContent truth o path (refused why) front fetch)
-TellsContent truth o history seat path ahead part reply = ⊤
+    × (fetch.line.gave ≡ gave.Found revision) × ReadsContent truth o path (refused why) front fetch
+    × IsHeardContent heard o path (refused why) front)
+TellsContent truth heard o history seat path ahead part reply = ⊤
+
+-- what was heard up to a line, where the bench had kept these seeds before the run
+abbrev pub heard_by : (kept : List (SeedKey × List ℕ)) → (ahead : List LineDone) → LineDone → Heard
+heard_by kept ahead done =
+    record { kept = kept; exchanges = exchanges_in ahead ++ done.exchanges }
 
 -- so does each reply to a `get` of a seat's run
-abbrev pub TellContents : Truth → Opening → (history : List Entry) → (seat : ℕ) → List LineDone
-    → Type 0
-TellContents truth o history seat run = (ahead : List LineDone) (done : LineDone)
+abbrev pub TellContents : Truth → (kept : List (SeedKey × List ℕ)) → Opening
+    → (history : List Entry) → (seat : ℕ) → List LineDone → Type 0
+TellContents truth kept o history seat run = (ahead : List LineDone) (done : LineDone)
     (behind : List LineDone) → run ≡ ahead ++ done ∷ behind
     → (path : List ℕ) → done.line ≡ line.Get path
-    → TellsContent truth o history seat path (entries_in ahead) done.part done.reply
+    → TellsContent truth (heard_by kept ahead done) o history seat path (entries_in ahead) done.part
+    done.reply
 
 -- and of a worker that saw nothing before and whose lines stand in a history
-abbrev pub GetsTellContent : {L D : Type 0} → Truth → (L → Link) → (D → Option (List ℕ))
-    → (D → ℕ) → List SettingsFile → Type 0
-GetsTellContent {L} {D} truth link left count files = (history : List Entry) (part : Part)
+abbrev pub GetsTellContent : {L D : Type 0} → Truth → (L → Link) → (L → Exchange → L → Type 0)
+    → (D → Option (List ℕ)) → (D → ℕ) → List SettingsFile → Type 0
+GetsTellContent {L} {D} truth link step left count files = (history : List Entry) (part : Part)
     (first : Workplace L D) (replies : List Told) (after : BenchState L D)
-    → (stands : StandsIn truth link left count files history part first replies after)
+    → (stands : StandsIn truth link step left count files history part first replies after)
     → first.caller.seen ≡ []
-    → TellContents truth first.caller.opening history first.caller.seat stands.run
+    → TellContents truth first.cache.rows first.caller.opening history first.caller.seat stands.run

@@ -2,8 +2,10 @@
 use Rattle.std.specs.Prelude.{◌≡◌, ◌<◌, ◌≤◌, ℕ, true, List, [], length, slice_index, slice_index_or, All, Option}
 use Rattle.kr_base.specs.Lines.{of_seat}
 use Rattle.kr_kms.specs.Calls.{Link}
+use Rattle.kr_kms.specs.Exchanges.{Exchange}
 use Rattle.kr_kms.specs.Truth.{Truth}
 use Rattle.kr_provider.specs.AskedLinks.{AskedOnly}
+use Rattle.kr_provider.specs.BenchKeys.{LeavesKeys}
 use Rattle.kr_provider.specs.BenchState.{BenchState}
 use Rattle.kr_provider.specs.Names.{names_of}
 use Rattle.kr_rollout.specs.declared.opening.Entry.{Entry}
@@ -26,10 +28,12 @@ module _ {L D : Type 0} where
     caller = record { opening = o; seat = seat; seen = []; mine = []; left = budget };
     links = bench.links;
     dice = bench.dice;
+    cache = bench.cache;
   }
 
-module _ {L D : Type 0} (truth : Truth) (link : L → Link) (left : D → Option (List ℕ))
-    (count : D → ℕ) (files : List SettingsFile) (history : List Entry) where
+module _ {L D : Type 0} (truth : Truth) (link : L → Link)
+    (step : L → Exchange → L → Type 0) (left : D → Option (List ℕ)) (count : D → ℕ)
+    (files : List SettingsFile) (history : List Entry) where
   -- a worker's lines were done, each once, in order and with one reply, and the history has their
   -- parts: what the worker saw at last begins the history, which has of its seat just these
   -- entries. Its links are those of before, asked or not
@@ -39,9 +43,10 @@ module _ {L D : Type 0} (truth : Truth) (link : L → Link) (left : D → Option
     pub lines_are : lines_in run ≡ part.lines.0
     pub replies_are : replies ≡ replies_in run
     pub last : Workplace L D
-    pub does : DoesAll truth link left count files part.replica first run last
+    pub does : DoesAll truth link step left count files part.replica first run last
     pub links_are : after.links ≡ last.links
     pub dice_are : after.dice ≡ last.dice
+    pub cache_is : after.cache ≡ last.cache
     pub front : IsPrefix last.caller.seen history
     pub parts_are : entries_in run ≡ of_seat seat_of first.caller.seat history
     pub asked_only : AskedOnly link (names_of link first.links) first.links last.links
@@ -56,6 +61,11 @@ module _ {L D : Type 0} (truth : Truth) (link : L → Link) (left : D → Option
       (first_place o i (slice_index budgets i) (slice_index_or old i worker).bench)
       (slice_index_or new i worker).told.0 (slice_index_or new i worker).bench
 
+  -- what the run leaves of each worker's key pages: they are as they were, or hold no key
+  abbrev pub AllLeaveKeys : {T : Type 0} → (old new : List (Worker T L D)) → Type 0
+  AllLeaveKeys {T} old new = (i : ℕ) (worker : Worker T L D) → i < length old
+      → LeavesKeys (slice_index_or old i worker).bench (slice_index_or new i worker).bench
+
   -- One history: legal from the opening; honest, where the truth is told and the opening is;
   -- with the lines of each worker, and with nothing else.
   pub record IsOneHistory {T : Type 0} (o : Opening) (parts : List Part) (budgets : List ℕ)
@@ -65,4 +75,5 @@ module _ {L D : Type 0} (truth : Truth) (link : L → Link) (left : D → Option
     pub many : length new ≡ length old
     pub whole : length old ≡ length parts
     pub each : AllStandIn o parts budgets old new
+    pub keys : AllLeaveKeys old new
     pub no_other : All (λ e. seat_of e < length parts) history

@@ -2,11 +2,13 @@
 pub mod Replies
 pub mod Files
 pub mod ScriptLines
+pub mod LineExchanges
 pub mod Changes
 pub mod Runs
 pub mod Workers
 pub mod Budgets
 pub mod Histories
+pub mod Heard
 pub mod Plugins
 pub mod Gets
 pub mod Causes

@@ -1,6 +1,7 @@
 -- Honest histories over plugins whose truth no link tells: what has to be supposed of the plugins.
 use Rattle.std.specs.Prelude.{◌≡◌, ℕ, List, ◌∷◌, ◌++◌, All, Option, None, Some, Ok, ⊤}
 use Rattle.kr_kms.specs.Calls.{Link}
+use Rattle.kr_kms.specs.Exchanges.{Exchange}
 use Rattle.kr_kms.specs.Truth.{Opens, Truth}
 use Rattle.kr_config.specs.declared.who.Who.{Who}
 use Rattle.kr_provider.specs.Envelopes.{Envelope, HasObject, IsEnvelopeOf}
@@ -88,9 +89,9 @@ pub record FollowsPlugins (o : Opening) (history : List Entry) : Type 0 where
 
 -- so is that of workers whose lines stand in it
 abbrev pub HonestOfPlugins : (T : Type 0) → {L D : Type 0} → Truth → (L → Link)
-    → (D → Option (List ℕ)) → (D → ℕ) → Type 0
-HonestOfPlugins T {L} {D} truth link left count = (files : List SettingsFile)
+    → (L → Exchange → L → Type 0) → (D → Option (List ℕ)) → (D → ℕ) → Type 0
+HonestOfPlugins T {L} {D} truth link step left count = (files : List SettingsFile)
     (history : List Entry) (o : Opening) (parts : List Part) (budgets : List ℕ)
     (old new : List (Worker T L D))
-    → IsOneHistory truth link left count files history o parts budgets old new
+    → IsOneHistory truth link step left count files history o parts budgets old new
     → FollowsPlugins o history

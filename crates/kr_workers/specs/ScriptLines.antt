@@ -2,6 +2,7 @@
 use Rattle.std.specs.Prelude.{◌≡◌, ◌⊎◌, ◌<◌, ℕ, List, [], length, Option, None, Some, Result, Ok, ⊤}
 use Rattle.kr_base.specs.Rules.{IsPath, IsResource}
 use Rattle.kr_config.specs.Kept.{Row, plugins_in}
+use Rattle.kr_kms.specs.Cache.{CacheState}
 use Rattle.kr_kms.specs.Calls.{Link}
 use Rattle.kr_kms.specs.Truth.{Truth}
 use Rattle.kr_provider.specs.AskedLinks.{AskedOnly}
@@ -50,6 +51,7 @@ pub record Workplace (L D : Type 0) : Type 0 where
   pub caller : Caller
   pub links : List L
   pub dice : D
+  pub cache : CacheState
 
 module _ {L D : Type 0} where
   -- the number of the seat

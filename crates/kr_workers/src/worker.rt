@@ -99,8 +99,8 @@ pub(crate) fn work<R: Wait, T: Tape, L: Kms, D: Dice>(
     worker: &mut Worker<T, L, D>,
 )
     requires { IsReadyWorker fleet.now files.now parts.now L.link worker.old }
-    ensures { HasWorked fleet.now files.now parts.now L.truth L.link D.left D.count worker.old
-        worker.new }
+    ensures { HasWorked fleet.now files.now parts.now L.truth L.link L.step D.left D.count
+        worker.old worker.new }
 {
     let seat = worker.stand_up();
     let part = &parts[seat.number() as usize];
@@ -136,9 +136,9 @@ fn work_at<R: Wait, T: Tape, L: Kms, D: Dice>(
     requires room { length part.now.lines.0 ≤ told.old.1 }
     ensures its { IsFleetSeat fleet.now result.0 }
     ensures same { number_of result.0 ≡ number_of seat }
-    ensures runs { Runs L.truth L.link D.left D.count files.now part.now.replica part.now.lines.0
-        (caller_of fleet.now seat) bench.old told.new.0 result.1 (caller_of fleet.now result.0)
-        bench.new }
+    ensures runs { Runs L.truth L.link L.step D.left D.count files.now part.now.replica
+        part.now.lines.0 (caller_of fleet.now seat) bench.old told.new.0 result.1
+        (caller_of fleet.now result.0) bench.new }
 {
     let mut at = fleet.at(rt, seat);
     let ended = serve_lines(

@@ -10,6 +10,7 @@ use Rattle.std.proofs.lemmas.Option.{none-some, same_Some, slice_get_within}
 use Rattle.kr_base.specs.Lines.{of_seat}
 use Rattle.kr_config.specs.Kept.{Row, rows_of}
 use Rattle.kr_kms.specs.Calls.{Link}
+use Rattle.kr_kms.specs.Exchanges.{Exchange}
 use Rattle.kr_kms.specs.Truth.{Truth}
 use Rattle.kr_provider.specs.Publication.{Publication}
 use Rattle.kr_rollout.specs.Answers.{IsAnswer}
@@ -271,30 +272,35 @@ module _ (seed size worker number revision : ℕ) (o : Opening) (front : List En
 -- ---- a reply
 
 module _ (T : Type 0) {L D : Type 0} (truth : Truth) (link : L → Link)
+    (step : L → Exchange → L → Type 0)
     (left : D → Option (List ℕ)) (count : D → ℕ) (seed size : ℕ) (files : List SettingsFile)
     (history : List Entry) (o : Opening) (parts : List Part) (budgets : List ℕ)
     (old new : List (Worker T L D))
-    (r : IsLoadRun truth link left count seed size files history o parts budgets old new) where
+    (r : IsLoadRun truth link step left count seed size files history o parts budgets old new) where
   brought : (worker : ℕ) → worker < 4
       → All (λ (e : Entry). Brings seed e.line.did) (of_seat seat_of worker history)
   brought worker few =
-      let part = its_part T truth link left count seed size files history o parts budgets old new
+      let part = its_part T truth link step left count seed size files history o parts budgets old
+      new
       r worker few in
-      let before = was T truth link left count seed size files history o parts budgets old new r
+      let before = was T truth link step left count seed size files history o parts budgets old new
+      r
       worker few in
-      let after = now T truth link left count seed size files history o parts budgets old new r
+      let after = now T truth link step left count seed size files history o parts budgets old new r
       worker few in
-      entries_owned truth link left count files history o seed size worker
+      entries_owned truth link step left count files history o seed size worker
       (slice_index budgets worker) part.x before.x.bench after.x.bench after.x.told.0
-      (run_of T truth link left count seed size files history o parts budgets old new r worker
+      (run_of T truth link step left count seed size files history o parts budgets old new r worker
       few).stands
-      (its_lines T truth link left count seed size files history o parts budgets old new r worker
+      (its_lines T truth link step left count seed size files history o parts budgets old new r
+      worker
       few) (Brings seed)
       (λ asked own done is. brings_of seed files r.files_are asked done is)
 
   all_brought : All (λ (e : Entry). Brings seed e.line.did) history
   all_brought = own_there (λ seat e. Brings seed e.line.did) history
-      (of_four T truth link left count seed size files history o parts budgets old new r) brought
+      (of_four T truth link step left count seed size files history o parts budgets old new r)
+      brought
 
   opening : All (LoadGeneration seed) (start_of o).generations
   opening = opening_all seed 0 o.replicas (subst
@@ -318,20 +324,25 @@ module _ (T : Type 0) {L D : Type 0} (truth : Truth) (link : L → Link)
     few : worker < 4
     few =
         let l = slice_get_within parts worker rep.part rep.part_is in
-        let four = four_parts T truth link left count seed size files history o parts budgets old
+        let four = four_parts T truth link step left count seed size files history o parts budgets
+        old
         new r in omega (arith, l, four)
 
     kept : HasRow seed size (state_of o history).rows worker number revision
     kept =
-        let part = its_part T truth link left count seed size files history o parts budgets old
+        let part = its_part T truth link step left count seed size files history o parts budgets old
         new r worker few in
-        let before = was T truth link left count seed size files history o parts budgets old new
+        let before = was T truth link step left count seed size files history o parts budgets old
+        new
         r worker few in
-        let after = now T truth link left count seed size files history o parts budgets old new r
+        let after = now T truth link step left count seed size files history o parts budgets old new
+        r
         worker few in
-        let stands = (run_of T truth link left count seed size files history o parts budgets old
+        let stands = (run_of T truth link step left count seed size files history o parts budgets
+        old
         new r worker few).stands in
-        let lines = its_lines T truth link left count seed size files history o parts budgets old
+        let lines = its_lines T truth link step left count seed size files history o parts budgets
+        old
         new r worker few in
         let same_part : part.x ≡ rep.part =
         same_Some part.x rep.part (sym part.is ∙ rep.part_is) in
@@ -342,7 +353,7 @@ module _ (T : Type 0) {L D : Type 0} (truth : Truth) (link : L → Link)
         ∙ rep.line_is)
         (ap (λ l. slice_get l at) (sym stands.replies_are
         ∙ ap (λ (w : Worker T L D). w.told.0) same_worker) ∙ rep.reply_is) in
-        let tells = put_told truth link left count files history o seed size worker
+        let tells = put_told truth link step left count files history o seed size worker
         (slice_index budgets worker) part.x before.x.bench after.x.bench after.x.told.0 stands
         lines d.done d.there number d.line_is in
         let written : HasWritten secrets (path_of worker number)
@@ -350,7 +361,7 @@ module _ (T : Type 0) {L D : Type 0} (truth : Truth) (link : L → Link)
         subst (λ (t : Told). TellsPut secrets (path_of worker number)
         (plain_of seed size worker number) d.done.part t) d.reply_is tells in
         let at_it = parted history written.entry
-        (entry_in truth link left count files history o seed size worker
+        (entry_in truth link step left count files history o seed size worker
         (slice_index budgets worker) part.x before.x.bench after.x.bench after.x.told.0 stands
         lines d.done d.there written.entry written.there) in
         subst (λ (l : List Entry). HasRow seed size (state_of o l).rows worker number revision)
@@ -361,7 +372,9 @@ module _ (T : Type 0) {L D : Type 0} (truth : Truth) (link : L → Link)
         written.did_is written.gave_is)
 
 pub puts_are_kept : (T : Type 0) → {L D : Type 0} → (truth : Truth) (link : L → Link)
-    (left : D → Option (List ℕ)) (count : D → ℕ) → PutsAreKept T truth link left count
-puts_are_kept T truth link left count seed size files history o parts budgets old new r worker at
-    number revision rep = kept T truth link left count seed size files history o parts budgets
+    (step : L → Exchange → L → Type 0)
+    (left : D → Option (List ℕ)) (count : D → ℕ) → PutsAreKept T truth link step left count
+puts_are_kept T truth link step left count seed size files history o parts budgets old new r worker
+    at
+    number revision rep = kept T truth link step left count seed size files history o parts budgets
     old new r worker at number revision rep

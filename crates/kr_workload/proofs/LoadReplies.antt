@@ -27,6 +27,7 @@ use Rattle.kr_script.specs.declared.told.Told.TheVariants as told
 use Rattle.kr_workers.specs.Causes.{HasCause, OwnGave, StoreFails, TellsAnswer}
 use Rattle.kr_workers.specs.Endings.{is_same, kind_of}
 use Rattle.kr_workers.specs.Gets.{TellsContent}
+use Rattle.kr_workers.specs.Heard.{Heard}
 use Rattle.kr_workers.specs.ScriptLines.{Workplace}
 use Rattle.kr_workers.specs.declared.ending.Ending.TheVariants as ending
 use Rattle.kr_workload.proofs.LoadHistories.{WritesByKey, secrets}
@@ -202,7 +203,7 @@ module _ {L D : Type 0} (link : L → Link) (count : D → ℕ) (history : List 
 
       -- ---- a get
 
-      module _ (truth : Truth) (o : Opening) (seat : ℕ) (path plain : List ℕ)
+      module _ (truth : Truth) (heard : Heard) (o : Opening) (seat : ℕ) (path plain : List ℕ)
           (ahead part : List Entry)
           (no_names : (front rest : List Entry) → history ≡ front ++ rest → NamesNoPlugin o front)
           (known : (front : List Entry) (fetch : Entry) (rest : List Entry) (adopt : Entry)
@@ -231,7 +232,7 @@ module _ {L D : Type 0} (link : L → Link) (count : D → ℕ) (history : List 
         has_data (Some unopened) = false
 
         pub get_ends : (reply : Told) → Caused (line.Get path) reply
-            → TellsContent truth o history seat path ahead part reply
+            → TellsContent truth heard o history seat path ahead part reply
             → IsReply Said (line.Get path) reply
         get_ends (told.Put revision) c t = absurd c.0
         get_ends (told.Got revision found) c t =

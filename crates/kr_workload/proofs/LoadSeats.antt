@@ -6,7 +6,9 @@ use Rattle.std.proofs.lemmas.List.{append_assoc, length-map}
 use Rattle.std.proofs.lemmas.List.Elements.{All-append, All-contains, All-cons, All-head, All-map, All-nil, All-tail, Contains-append_left, Contains-append_right, Contains-get_or}
 use Rattle.kr_base.specs.Lines.{of_seat}
 use Rattle.kr_kms.specs.Calls.{Link}
+use Rattle.kr_kms.specs.Exchanges.{Exchange}
 use Rattle.kr_kms.specs.Truth.{Truth}
+use Rattle.kr_kms.specs.declared.seeds.SeedKey.{SeedKey}
 use Rattle.kr_provider.specs.BenchState.{BenchState}
 use Rattle.kr_history.specs.ContentLaws.{NamesNoPlugin}
 use Rattle.kr_history.specs.Contents.{last_change, puts}
@@ -21,7 +23,7 @@ use Rattle.kr_script.specs.declared.told.Told.TheVariants as told
 use Rattle.kr_workers.specs.Budgets.{entries_of}
 use Rattle.kr_workers.specs.Causes.{HasCause}
 use Rattle.kr_workers.specs.Endings.{is_same, kind_of}
-use Rattle.kr_workers.specs.Gets.{TellContents}
+use Rattle.kr_workers.specs.Gets.{TellContents, heard_by}
 use Rattle.kr_workers.specs.Histories.{StandsIn, first_place}
 use Rattle.kr_workers.specs.Runs.{LineDone, entries_in}
 use Rattle.kr_workers.specs.ScriptLines.{Does}
@@ -55,26 +57,27 @@ both_all P Q R xs f p q = λ k d below. f (get_or xs k d) (p k d below) (q k d b
 
 -- ---- the entries of a worker
 
-module _ {L D : Type 0} (truth : Truth) (link : L → Link) (left : D → Option (List ℕ))
+module _ {L D : Type 0} (truth : Truth) (link : L → Link) (step : L → Exchange → L → Type 0)
+    (left : D → Option (List ℕ))
     (count : D → ℕ) (files : List SettingsFile) (history : List Entry) (o : Opening)
     (seed size worker budget : ℕ) (part : Part) (bench after : BenchState L D)
     (replies : List Told)
-    (s : StandsIn truth link left count files history part (first_place o worker budget bench)
+    (s : StandsIn truth link step left count files history part (first_place o worker budget bench)
     replies after) (lines : part.lines.0 ≡ lines_of seed size worker) where
   run_lines : All (λ (done : LineDone). IsLoadLine seed size worker done.line) s.run
   run_lines = mapped_all (IsLoadLine seed size worker) (λ (d : LineDone). d.line) s.run
       (subst (λ l. All (IsLoadLine seed size worker) l) (sym (s.lines_are ∙ lines))
       (lines_are seed size worker))
 
-  run_done : All (WasDone truth link left count files part.replica) s.run
-  run_done = all_done truth link left count files part.replica
+  run_done : All (WasDone truth link step left count files part.replica) s.run
+  run_done = all_done truth link step left count files part.replica
       (first_place o worker budget bench) s.run s.last s.does
 
   -- what each of them does is so, where it is by its line
   module _ (P : Did → Type 0) (of_line : (asked : ScriptLine)
       → IsLoadLine seed size worker asked → (done : Did) → IsOf files asked done → P done) where
     part_owned : (done : LineDone) → IsLoadLine seed size worker done.line
-        → WasDone truth link left count files part.replica done
+        → WasDone truth link step left count files part.replica done
         → All (λ (e : Entry). P e.line.did) done.part
     part_owned done own w =
         let m = line_makes truth link left count files done.line part.replica done.line refl
@@ -89,7 +92,7 @@ module _ {L D : Type 0} (truth : Truth) (link : L → Link) (left : D → Option
         let Is : Entry → Type 0 = λ e. P e.line.did in
         subst (λ l. All Is l) s.parts_are (all_entries Is s.run
         (both_all (λ (done : LineDone). IsLoadLine seed size worker done.line)
-        (WasDone truth link left count files part.replica)
+        (WasDone truth link step left count files part.replica)
         (λ (done : LineDone). All Is done.part) s.run part_owned run_lines run_done))
 
   -- what the reply to a put tells of its line's part
@@ -98,7 +101,8 @@ module _ {L D : Type 0} (truth : Truth) (link : L → Link) (left : D → Option
       → TellsPut secrets (path_of worker number) (plain_of seed size worker number) done.part
       done.reply
   put_told done there number is =
-      let w = All-contains (WasDone truth link left count files part.replica) s.run done run_done
+      let w = All-contains (WasDone truth link step left count files part.replica) s.run done
+      run_done
       there in
       let does = subst (λ (l : ScriptLine). Does truth link left count files part.replica l w.old
       (Ok done.reply) w.new) is w.is.does in
@@ -113,7 +117,7 @@ module _ {L D : Type 0} (truth : Truth) (link : L → Link) (left : D → Option
       (subst (λ l. Contains l e) s.parts_are (entry_there s.run done e there c))
 
   part_few : (done : LineDone) → IsLoadLine seed size worker done.line
-      → WasDone truth link left count files part.replica done → length done.part ≤ 3
+      → WasDone truth link step left count files part.replica done → length done.part ≤ 3
   part_few done (inl (number, below, is)) w =
       subst (λ (asked : ScriptLine). length done.part ≤ entries_of (length done.part) asked) is
       w.is.within.few
@@ -132,7 +136,7 @@ module _ {L D : Type 0} (truth : Truth) (link : L → Link) (left : D → Option
       sym (length-map s.run (λ (d : LineDone). d.line)) ∙ ap length (s.lines_are ∙ lines) in
       let few = few_entries s.run (both_all
       (λ (done : LineDone). IsLoadLine seed size worker done.line)
-      (WasDone truth link left count files part.replica)
+      (WasDone truth link step left count files part.replica)
       (λ (done : LineDone). length done.part ≤ 3) s.run part_few run_lines run_done) in
       omega (arith, few, many, lines_few seed size worker, ap length s.parts_are)
 
@@ -150,13 +154,15 @@ IsFullLine seed size worker done =
 abbrev pub IsLine : (seed size worker : ℕ) → LineDone → Type 0
 IsLine seed size worker done = IsReply (IsSaid seed size worker) done.line done.reply
 
-module _ {L D : Type 0} (truth : Truth) (link : L → Link) (left : D → Option (List ℕ))
+module _ {L D : Type 0} (truth : Truth) (link : L → Link) (step : L → Exchange → L → Type 0)
+    (left : D → Option (List ℕ))
     (count : D → ℕ) (files : List SettingsFile) (history : List Entry) (o : Opening)
     (seed size worker budget : ℕ) (part : Part) (bench after : BenchState L D)
     (replies : List Told)
-    (s : StandsIn truth link left count files history part (first_place o worker budget bench)
+    (s : StandsIn truth link step left count files history part (first_place o worker budget bench)
     replies after) (lines : part.lines.0 ≡ lines_of seed size worker)
-    (tell : TellContents truth o history worker s.run) (small : size ≤ 10000)
+    {kept : List (SeedKey × List ℕ)} (tell : TellContents truth kept o history worker s.run)
+    (small : size ≤ 10000)
     (few : worker < 4)
     (calm : IsCalm link count history (first_place o worker budget bench) after.dice)
     (all : All (IsLoadEntry seed size) history)
@@ -164,7 +170,7 @@ module _ {L D : Type 0} (truth : Truth) (link : L → Link) (left : D → Option
   where
     caused : (done : LineDone) → Contains s.run done → HasCause link count done.line
         (first_place o worker budget bench) done.reply history after.links after.dice
-    caused done there = (replies_have_causes truth link left count files).whole history part
+    caused done there = (replies_have_causes truth link step left count files).whole history part
         (first_place o worker budget bench) replies after s done there
 
     -- none is a fault
@@ -201,12 +207,14 @@ module _ {L D : Type 0} (truth : Truth) (link : L → Link) (left : D → Option
             → done.line ≡ put_of seed size worker number
             → TellsPut secrets (path_of worker number) (plain_of seed size worker number) done.part
             done.reply
-        put_part = put_told truth link left count files history o seed size worker budget part bench
+        put_part = put_told truth link step left count files history o seed size worker budget part
+            bench
             after replies s lines
 
         inside : (done : LineDone) → Contains s.run done → (e : Entry) → Contains done.part e
             → Contains history e
-        inside = entry_in truth link left count files history o seed size worker budget part bench
+        inside = entry_in truth link step left count files history o seed size worker budget part
+            bench
             after replies s lines
 
         put_replied : (done : LineDone) → Contains s.run done
@@ -333,7 +341,8 @@ module _ {L D : Type 0} (truth : Truth) (link : L → Link) (left : D → Option
                   full_of done there (subst
                   (λ (l : ScriptLine). IsReply (IsSaid seed size worker) l done.reply) (sym asked)
                   (get_ends link count history (first_place o worker budget bench) after.links
-                  after.dice calm (IsSaid seed size worker) truth o worker
+                  after.dice calm (IsSaid seed size worker) truth
+                  (heard_by kept (p.front ++ (q.front ++ front)) done) o worker
                   (path_of worker number)
                   (plain_of seed size worker number)
                   (entries_in (p.front ++ (q.front ++ front))) done.part no_names known said

@@ -1,8 +1,9 @@
 //! A tape over a file in memory, which tells its bytes.
-ghost use Rattle.std.specs.Prelude.{◌≡◌, Some};
+ghost use Rattle.std.specs.Prelude.{◌≡◌, None, Some};
 
 use kr_base::{Bytes, List, MemTape, Tape};
 use kr_edge::{FileTape, PlacedFile, PlacedNo};
+use kr_kms::Access;
 use std::alloc::Global;
 
 /// A file in memory. It takes and gives two bytes at a time, and interrupts every other call of
@@ -29,6 +30,9 @@ impl PlacedFile for MemFile {
     ghost told = { λ file. Some file.held.bytes };
 
     ghost synced = { λ file. file.synced };
+
+    // It tells no length that it was to have.
+    ghost lengths = { λ file. None };
 
     fn len(&mut self) -> Result<u64, PlacedNo> {
         match self.held.len() {
@@ -99,11 +103,12 @@ fn keeps_in_memory(alloc: Global) -> bool {
     let Ok(held) = MemTape::new(Bytes::new(alloc), 6, reads, writes) else {
         return false;
     };
-    let mut tape = FileTape::first(MemFile {
+    let file = MemFile {
         held,
         stops: true,
         synced: false,
-    });
+    };
+    let mut tape = FileTape::first(file, Access::ToWrite);
     let kept = keeps(&mut tape);
     let failed = tape.put_at(0, b"hello!!").is_err();
     let restored = tape.len() == Ok(5);

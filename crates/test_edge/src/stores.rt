@@ -1,9 +1,9 @@
 //! Stores as files, in the folder that the tests run in.
 ghost use Rattle.std.specs.Prelude.{◌≡◌, None};
 
-use kr_base::Tape;
+use kr_base::{Tape, Text};
 use kr_edge::{DiskFile, FileTape, PlacedFile, PlacedNo, RealWorld, SystemFiles, open_store};
-use kr_kms::{FileNo, World};
+use kr_kms::{Access, FileNo, World};
 use std::alloc::Global;
 use std::fs::File;
 use std::os::unix::fs::MetadataExt;
@@ -12,10 +12,10 @@ use std::rt::Files;
 
 /// Why a world has no tape of the name, if it has none. One that it has goes back at once.
 #[tactic(auto, using(crate::proofs::Tapes::is_out, crate::proofs::Tapes::goes_back, crate::proofs::Tapes::stays))]
-fn refusal<W: World>(world: &mut W, alloc: Global, name: &str, make: bool) -> Option<FileNo>
+fn refusal<W: World>(world: &mut W, alloc: Global, name: &str, access: Access) -> Option<FileNo>
     ensures { (W.told world.new).tapes.out name.now ≡ (W.told world.old).tapes.out name.now }
 {
-    match world.tape(alloc, name, make) {
+    match world.tape(alloc, name, access) {
         Ok(tape) => {
             world.back_tape(name, tape);
             None
@@ -40,10 +40,10 @@ fn reads<T: Tape>(tape: &mut T) -> bool {
 /// Whether a tape of the name takes bytes, and isn't given a second time while it is out.
 #[tactic(auto, using(crate::proofs::Tapes::is_out, crate::proofs::Tapes::is_still_out))]
 fn is_written_alone<W: World>(world: &mut W, alloc: Global, name: &str) -> bool {
-    match world.tape(alloc, name, true) {
+    match world.tape(alloc, name, Access::ToMake) {
         Ok(mut tape) => {
             let written = writes(&mut tape);
-            let alone = refusal(world, alloc, name, true) == Some(FileNo::Failed);
+            let alone = refusal(world, alloc, name, Access::ToRead) == Some(FileNo::Failed);
             world.back_tape(name, tape);
             written && alone
         }
@@ -51,14 +51,16 @@ fn is_written_alone<W: World>(world: &mut W, alloc: Global, name: &str) -> bool 
     }
 }
 
-/// Whether the tape of the name that is there has the bytes.
+/// Whether the tape of the name that is there has the bytes, and takes none where it is only read.
 #[tactic(auto, using(crate::proofs::Tapes::is_out, crate::proofs::Tapes::is_still_out))]
 fn is_read<W: World>(world: &mut W, alloc: Global, name: &str) -> bool {
-    match world.tape(alloc, name, false) {
+    match world.tape(alloc, name, Access::ToRead) {
         Ok(mut tape) => {
             let read = reads(&mut tape);
+            let kept = tape.put_at(0, b"!").is_err() && tape.cut(0).is_err();
+            let counted = tape.faults() == 2 && tape.len() == Ok(5);
             world.back_tape(name, tape);
-            read
+            read && kept && counted
         }
         Err(_) => false,
     }
@@ -78,7 +80,7 @@ fn keeps<R: Files<File = File> + Processes<Started = SystemProcess>>(
     name: &str,
 ) -> bool {
     let mut world = RealWorld::new(alloc, SystemFiles::new(rt));
-    refusal(&mut world, alloc, name, false) == Some(FileNo::Absent)
+    refusal(&mut world, alloc, name, Access::ToWrite) == Some(FileNo::Absent)
         && is_written_alone(&mut world, alloc, name)
         && mode(rt, name) == Some(0o600)
         && is_read(&mut world, alloc, name)
@@ -92,22 +94,38 @@ fn a_store_keeps_what_was_put(rt: HostRuntime) {
     assert!(rt; kept);
 }
 
-/// Whether a store that another world has out is refused until it is back.
+/// Why a second world has no tape of the name while the first has one out, each for what it is asked
+/// for; none where it has one, or where the first has none.
+fn beside<R: Files<File = File> + Processes<Started = SystemProcess>>(
+    rt: &R,
+    alloc: Global,
+    name: &str,
+    first: Access,
+    second: Access,
+) -> Option<FileNo> {
+    let mut held = RealWorld::new(alloc, SystemFiles::new(rt));
+    let mut other = RealWorld::new(alloc, SystemFiles::new(rt));
+    match held.tape(alloc, name, first) {
+        Ok(tape) => {
+            let why = refusal(&mut other, alloc, name, second);
+            held.back_tape(name, tape);
+            why
+        }
+        Err(_) => Some(FileNo::Absent),
+    }
+}
+
+/// Whether a store that is written is refused to all others until it is back, and one that is only
+/// read to those who write.
 fn is_locked<R: Files<File = File> + Processes<Started = SystemProcess>>(
     rt: &R,
     alloc: Global,
     name: &str,
 ) -> bool {
-    let mut first = RealWorld::new(alloc, SystemFiles::new(rt));
-    let mut second = RealWorld::new(alloc, SystemFiles::new(rt));
-    match first.tape(alloc, name, true) {
-        Ok(tape) => {
-            let locked = refusal(&mut second, alloc, name, true) == Some(FileNo::Failed);
-            first.back_tape(name, tape);
-            locked && refusal(&mut second, alloc, name, false).is_none()
-        }
-        Err(_) => false,
-    }
+    beside(rt, alloc, name, Access::ToMake, Access::ToMake) == Some(FileNo::Failed)
+        && beside(rt, alloc, name, Access::ToWrite, Access::ToRead) == Some(FileNo::Failed)
+        && beside(rt, alloc, name, Access::ToRead, Access::ToWrite) == Some(FileNo::Failed)
+        && beside(rt, alloc, name, Access::ToRead, Access::ToRead).is_none()
 }
 
 #[test]
@@ -124,7 +142,7 @@ fn is_no_store<R: Files<File = File> + Processes<Started = SystemProcess>>(
     name: &str,
 ) -> bool {
     let mut world = RealWorld::new(alloc, SystemFiles::new(rt));
-    refusal(&mut world, alloc, name, true) == Some(FileNo::Failed) && world.faults() == 1
+    refusal(&mut world, alloc, name, Access::ToMake) == Some(FileNo::Failed) && world.faults() == 1
 }
 
 // A folder, a device, and a link that leads to nothing, which no store is made through.
@@ -171,6 +189,8 @@ impl PlacedFile for SmallDisk {
     ghost told = { λ disk. None };
 
     ghost synced = { λ disk. disk.synced };
+
+    ghost lengths = { λ disk. None };
 
     fn len(&mut self) -> Result<u64, PlacedNo> {
         self.file.len()
@@ -225,17 +245,22 @@ fn goes_back(tape: &mut FileTape<SmallDisk>) -> bool {
 /// The same of a file of this name on such a disk.
 fn survives<R: Files<File = File> + Processes<Started = SystemProcess>>(
     rt: &R,
+    alloc: Global,
     name: &str,
     full: Full,
 ) -> bool {
-    match open_store(&mut SystemFiles::new(rt), name, true) {
+    let Ok(copy) = Text::copy(alloc, name) else {
+        return false;
+    };
+    match open_store(&mut SystemFiles::new(rt), copy, Access::ToMake) {
         Ok(file) => {
-            let mut tape = FileTape::first(SmallDisk {
+            let disk = SmallDisk {
                 file,
                 full,
                 stops: true,
                 synced: false,
-            });
+            };
+            let mut tape = FileTape::first(disk, Access::ToMake);
             goes_back(&mut tape) & (tape.close() == 1)
         }
         Err(_) => false,
@@ -244,9 +269,9 @@ fn survives<R: Files<File = File> + Processes<Started = SystemProcess>>(
 
 #[test]
 fn a_full_disk_leaves_the_store_as_it_was(rt: HostRuntime) {
-    let failed = survives(&rt, "kr_edge.full", Full::Fails);
+    let failed = survives(&rt, rt.alloc(), "kr_edge.full", Full::Fails);
     let _removed = rt.remove_file("kr_edge.full");
-    let took_nothing = survives(&rt, "kr_edge.small", Full::TakesNothing);
+    let took_nothing = survives(&rt, rt.alloc(), "kr_edge.small", Full::TakesNothing);
     let _removed = rt.remove_file("kr_edge.small");
     assert!(rt; failed && took_nothing);
 }

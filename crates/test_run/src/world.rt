@@ -3,7 +3,7 @@ ghost use Rattle.std.specs.Prelude.{None};
 
 use crate::plugin::TurningPlugin;
 use kr_base::{Bytes, List, MemDice, MemTape, Text};
-use kr_kms::{FileFaults, FileNo, MemWorld, World, WorldCall};
+use kr_kms::{Access, FileFaults, FileNo, MemWorld, World, WorldCall};
 use std::alloc::Global;
 
 /// Which calls fail, by their numbers, the first being 1.
@@ -108,13 +108,13 @@ impl World for FailingWorld {
         }
     }
 
-    fn tape(&mut self, alloc: Global, name: &str, make: bool) -> Result<MemTape, FileNo> {
+    fn tape(&mut self, alloc: Global, name: &str, access: Access) -> Result<MemTape, FileNo> {
         let Ok(name_copy) = Text::copy(alloc, name) else {
             return Err(FileNo::NoMemory);
         };
         let call = WorldCall::Tape {
             name: name_copy,
-            make,
+            access,
         };
         if self.asked.push(call).is_err() {
             return Err(FileNo::NoMemory);
@@ -123,7 +123,7 @@ impl World for FailingWorld {
             self.faults.tapes.rise();
             return Err(FileNo::Failed);
         }
-        match self.inner.tape(alloc, name, make) {
+        match self.inner.tape(alloc, name, access) {
             Ok(tape) => Ok(tape),
             Err(FileNo::Absent) => Err(FileNo::Absent),
             Err(FileNo::NoMemory) => Err(FileNo::NoMemory),

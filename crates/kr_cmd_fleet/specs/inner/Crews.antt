@@ -17,12 +17,14 @@ module _ {T L D : Type 0} where
   abbrev pub outfits_of : List (Worker T L D) → List (Outfit L D)
   outfits_of workers = map outfit_of workers
 
-  -- it told nothing yet and has room for a reply of each of its part's lines, and pages enough
+  -- it told nothing yet and has room for a reply of each of its part's lines, and pages enough; its
+  -- bench keeps no seed
   pub record IsFresh (part : Part) (worker : Worker T L D) : Type 0 where
     pub no_seat : worker.seat ≡ None
     pub none_told : worker.told.0 ≡ []
     pub room : length part.lines.0 ≤ worker.told.1
     pub pages : 64 ≤ size_of worker.bench.pages
+    pub cold : worker.bench.cache.rows ≡ []
 
   -- workers for the first parts, in the order of the parts, with the first of these outfits; those
   -- that are left stand from the last to the first, with room for the workers' own behind them

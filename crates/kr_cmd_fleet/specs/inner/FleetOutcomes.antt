@@ -1,6 +1,7 @@
 -- What a fleet over a store gives: it ended up to its workers, or they ran.
 use Rattle.std.specs.Prelude.{◌≡◌, ℕ, ◌⊎◌, Bool, true, false, List, [], ◌∷◌, length, map, All, IfSome, Option, Result, Ok, Err, ⊤}
 use Rattle.kr_kms.specs.Calls.{Link}
+use Rattle.kr_kms.specs.Exchanges.{Exchange}
 use Rattle.std.specs.Option.{option_map}
 use Rattle.kr_kms.specs.Truth.{TellsOf, Truth, key_of}
 use Rattle.kr_provider.specs.Publication.{Publication}
@@ -26,6 +27,7 @@ settled_if false store mid = mid
 settled_if true store mid = settled_behind store mid
 
 module _ (T : Type 0) {L D : Type 0} (truth : Truth) (link : L → Link)
+    (step : L → Exchange → L → Type 0)
     (left : D → Option (List ℕ)) (count : D → ℕ) where
   -- the workers ran, and left this record; the store was settled behind them, if so
   pub record LeavesRecord (settled watched : Bool) (steps : Steps Begun) (store : List ℕ)
@@ -36,7 +38,7 @@ module _ (T : Type 0) {L D : Type 0} (truth : Truth) (link : L → Link)
     pub does : Does steps old mid (Ok begun)
     pub history : List Entry
     pub ended : List (fleet_worker.Worker T L D)
-    pub runs : RunsFleet truth link left count store begun (settled_if settled store mid) new
+    pub runs : RunsFleet truth link step left count store begun (settled_if settled store mid) new
         history ended
     pub lines : made.lines.0 ≡ map (λ (e : Entry). e.line) history
     pub replies : made.replies.0 ≡ map (λ (w : fleet_worker.Worker T L D). w.told) ended

@@ -1,6 +1,7 @@
 -- The workers at a core that starts with what replicas published.
 use Rattle.std.specs.Prelude.{◌≡◌, ◌⊎◌, false, ℕ, Bool, List, [], length, Option, Result, Ok, Err}
 use Rattle.kr_kms.specs.Calls.{Link}
+use Rattle.kr_kms.specs.Exchanges.{Exchange}
 use Rattle.kr_kms.specs.Truth.{Truth}
 use Rattle.kr_store.specs.Stores.{Kept}
 use Rattle.kr_watch.specs.declared.item.Item.{Item}
@@ -47,16 +48,17 @@ module _ {L D : Type 0} (link : L → Link) (left : D → Option (List ℕ)) (co
         (with_crew name store olds a) (with_crew name kept outfits a) result
     pub known : KnowsItems watched truth store.rows replicas items
 
-  module _ (T : Type 0) (truth : Truth) (watched : Bool) (steps : Steps Begun) (store : List ℕ)
+  module _ (T : Type 0) (truth : Truth) (step : L → Exchange → L → Type 0) (watched : Bool)
+      (steps : Steps Begun) (store : List ℕ)
       (plan : FleetPlan) (outfits : Outfits L D) (old new : Around) where
     -- the workers ran, and began with these outfits
     pub record LeavesCrew (made : Record) : Type 0 where
       pub leaves :
-          LeavesRecord T truth link left count false watched steps store plan old new made
+          LeavesRecord T truth link step left count false watched steps store plan old new made
       pub outfits_are : outfits_of leaves.runs.workers ≡ outfits
 
     -- what these steps up to the workers give
     abbrev pub RunsWith : Result Record Stop → Type 0
     RunsWith (Ok made) = LeavesCrew made
     RunsWith (Err stop) = Does steps old new (Err stop)
-        ⊎ LacksWorkers T truth link left count steps store old new stop
+        ⊎ LacksWorkers T truth link step left count steps store old new stop

@@ -2,6 +2,7 @@
 use Rattle.std.specs.Prelude.{◌≡◌, ◌⊎◌, ◌+◌, ◌<◌, ℕ, Bool, true, false, List, [], All, get_or, length, Result, Ok, Err}
 use Rattle.kr_base.specs.declared.seeded_dice.SeededDice.{SeededDice}
 use Rattle.kr_kms.specs.Calls.{Link}
+use Rattle.kr_kms.specs.Exchanges.{Exchange}
 use Rattle.kr_kms.specs.Truth.{Truth}
 use Rattle.kr_workload.specs.Streams.{stream}
 use Rattle.kr_workers.specs.declared.worker.Worker as fleet_worker
@@ -27,11 +28,13 @@ AreSeeded {T} {L} seed workers = (seat : ℕ) (d : fleet_worker.Worker T L (Seed
     → seat < length workers
     → (get_or workers seat d).bench.dice.rng ≡ stream seed (1 + seat)
 
-module _ (T : Type 0) {L : Type 0} (truth : Truth) (link : L → Link) (seed : ℕ) where
+module _ (T : Type 0) {L : Type 0} (truth : Truth) (link : L → Link)
+    (step : L → Exchange → L → Type 0) (seed : ℕ) where
   -- the workers ran, each with its stream; the store was settled behind them, if so
   pub record LeavesLoad (settled : Bool) (steps : Steps Begun) (store : List ℕ) (plan : FleetPlan)
       (old new : Around) (made : Record) : Type 0 where
-    pub leaves : LeavesRecord T truth link nothing_told no_faults settled false steps store plan old
+    pub leaves : LeavesRecord T truth link step nothing_told no_faults settled false steps store
+        plan old
         new made
     pub sources : AreSeeded seed leaves.runs.workers
 
@@ -40,15 +43,15 @@ module _ (T : Type 0) {L : Type 0} (truth : Truth) (link : L → Link) (seed : �
       → Result Record Stop → Type 0
   RunsLoad steps store plan old new (Ok made) = LeavesLoad false steps store plan old new made
   RunsLoad steps store plan old new (Err stop) = Does steps old new (Err stop)
-      ⊎ LacksWorkers T truth link nothing_told no_faults steps store old new stop
+      ⊎ LacksWorkers T truth link step nothing_told no_faults steps store old new stop
 
   -- what they give, where the store is settled behind them
   abbrev pub SettlesLoad : Steps Begun → (store : List ℕ) → FleetPlan → (old new : Around)
       → Result Record Stop → Type 0
   SettlesLoad steps store plan old new (Ok made) = LeavesLoad true steps store plan old new made
   SettlesLoad steps store plan old new (Err stop) = Does steps old new (Err stop)
-      ⊎ LacksWorkers T truth link nothing_told no_faults steps store old new stop
-      ⊎ LacksSettling T truth link nothing_told no_faults steps store old new stop
+      ⊎ LacksWorkers T truth link step nothing_told no_faults steps store old new stop
+      ⊎ LacksSettling T truth link step nothing_told no_faults steps store old new stop
 
 -- the outfits of the load's workers: no links, and each a stream of its own
 pub record AreGenerated {L : Type 0} (seed : ℕ) (outfits : Outfits L (SeededDice ChaCha))

@@ -1,5 +1,5 @@
 -- What the phases of `rewrite` give to it.
-use Rattle.std.specs.Prelude.{◌≡◌, ◌+◌, ◌*◌, ◌<◌, ◌≤◌, ◌⊎◌, ℕ, false, List, [], ◌∷◌, length, Contains, Option, Some, Result, Ok, Err, ⊤}
+use Rattle.std.specs.Prelude.{◌≡◌, ◌+◌, ◌*◌, ◌<◌, ◌≤◌, ◌⊎◌, ℕ, false, List, [], ◌∷◌, length, Contains, Option, None, Some, Result, Ok, Err, ⊤}
 use Rattle.kr_base.specs.Limits.{store_limit, journal_limit}
 use Rattle.kr_kms.specs.Calls.{Link}
 use Rattle.kr_provider.specs.AskedLinks.{HasLinkWith}
@@ -20,6 +20,7 @@ use Rattle.kr_cmd_steps.specs.inner.Starts.{start_stop}
 use Rattle.kr_cmd_messages.specs.declared.refusal.Ended.{Ended}
 use Rattle.kr_cmd_messages.specs.declared.refusal.Limit.TheVariants as limit
 use Rattle.kr_cmd_messages.specs.declared.refusal.Object.TheVariants.{Dice, Plugin, Store}
+use Rattle.kr_cmd_messages.specs.declared.refusal.Outcome.{Outcome}
 use Rattle.kr_cmd_messages.specs.declared.refusal.Refusal.TheVariants.{Limit}
 use Rattle.kr_cmd_messages.specs.declared.refusal.Stop.{Stop}
 use Rattle.kr_cmd_messages.specs.declared.refusal.Stop.TheVariants.{Refused, Fault, NoMemory}
@@ -104,3 +105,9 @@ IsDriveStop link store links dice why stop = ⊥
 abbrev pub IsReported : Counts → Ended → Type 0
 IsReported counts ended = (ended.said ≡ Some counts)
     × ((ended.made ≡ Ok (report_outcome counts)) ⊎ (ended.made ≡ Err NoMemory))
+
+-- what is told once the store is settled: a value, or a report in front of a stop
+abbrev pub to_settle : Result Outcome Stop → Option Counts → Result Ended Stop
+to_settle (Ok outcome) said = Ok (record { made = Ok outcome; said = said })
+to_settle (Err stop) None = Err stop
+to_settle (Err stop) (Some counts) = Ok (record { made = Err stop; said = Some counts })

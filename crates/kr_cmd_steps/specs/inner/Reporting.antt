@@ -1,6 +1,10 @@
 -- What a command reported, and what is around it once it did.
-use Rattle.std.specs.Prelude.{Option, None, Some, ℕ, List, []}
-use Rattle.kr_cmd_steps.specs.Around.{Around, with_what_is_said}
+use Rattle.std.specs.Prelude.{◌≡◌, Option, None, Some, Result, ℕ, List, []}
+use Rattle.kr_cmd_steps.specs.Around.{Around, IsHome, left_of, with_what_is_said}
+use Rattle.kr_cmd_steps.specs.Ran.{EndsAll}
+use Rattle.kr_cmd_messages.specs.declared.command.Command.{Command}
+use Rattle.kr_cmd_messages.specs.declared.refusal.Outcome.{Outcome}
+use Rattle.kr_cmd_messages.specs.declared.refusal.Stop.{Stop}
 use Rattle.kr_cmd_messages.specs.Reports.{report_text}
 use Rattle.kr_cmd_messages.specs.declared.report.Counts.{Counts}
 
@@ -13,3 +17,9 @@ saying (Some counts) a = with_what_is_said (report_text counts) a
 abbrev pub said_text : Option Counts → List ℕ
 said_text None = []
 said_text (Some counts) = report_text counts
+
+-- a command from its first step on
+pub record DoesAll (command : Command) (old new : Around) (made : Result Outcome Stop)
+    : Type 0 where
+  pub home : IsHome old new
+  pub ends : EndsAll command (left_of old) old new made

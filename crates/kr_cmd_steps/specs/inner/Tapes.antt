@@ -1,11 +1,12 @@
 -- What the phases over a lent tape give to a command.
-use Rattle.std.specs.Prelude.{◌≡◌, ◌≤◌, ℕ, Bool, false, List, [], ◌∷◌, ◌++◌, length, Option, None, Some, Result, Ok, Err, ⊤}
+use Rattle.std.specs.Prelude.{◌≡◌, ◌≤◌, ℕ, false, List, [], ◌∷◌, ◌++◌, length, Option, None, Some, Result, Ok, Err, ⊤}
 use Rattle.std.specs.Option.{option_map}
 use Rattle.kr_base.specs.Faults.{Rose}
 use Rattle.kr_base.specs.Limits.{store_limit}
 use Rattle.kr_base.specs.Told.{Agrees}
-use Rattle.kr_kms.specs.Outside.{Outside, with_call, file_faults, same_name, KeepsFiles, HandsOut, TakesBack, IsTape}
+use Rattle.kr_kms.specs.Outside.{Outside, with_call, file_faults, same_name, KeepsFiles, HandsOut, TakesBack, IsTape, makes}
 use Rattle.kr_kms.specs.declared.world.WorldCall.TheVariants.{Settled, Tape}
+use Rattle.kr_kms.specs.declared.world.Access.{Access}
 use Rattle.kr_store.specs.File.{IsFile}
 use Rattle.kr_store.specs.Stores.{Kept}
 use Rattle.kr_store.specs.Rows.{live}
@@ -26,21 +27,21 @@ use Rattle.kr_cmd_messages.specs.declared.refusal.Stop.{Stop}
 use Rattle.kr_cmd_messages.specs.declared.refusal.Stop.TheVariants.{Words, Refused, Fault, NoMemory}
 
 -- why no tape was handed out
-abbrev pub NoTape : Outside → Outside → (name : List ℕ) (make : Bool) → Stop → Type 0
-NoTape old new name make (Refused why) =
-    (make ≡ false) × Agrees (old.tapes.told name) None × (why ≡ Absent (visible name))
-NoTape old new name make (Fault object count) =
+abbrev pub NoTape : Outside → Outside → (name : List ℕ) (access : Access) → Stop → Type 0
+NoTape old new name access (Refused why) =
+    (makes access ≡ false) × Agrees (old.tapes.told name) None × (why ≡ Absent (visible name))
+NoTape old new name access (Fault object count) =
     (object ≡ Files) × Rose old.faults.tapes new.faults.tapes × (count ≡ file_faults new)
-NoTape old new name make NoMemory = ⊤
-NoTape old new name make (Words why) = ⊥
+NoTape old new name access NoMemory = ⊤
+NoTape old new name access (Words why) = ⊥
 
 -- the tape of the name was handed out, and nothing else done but the call noted
-pub record LentTape (name : List ℕ) (make : Bool) (old new : Outside) (told : Option (List ℕ))
+pub record LentTape (name : List ℕ) (access : Access) (old new : Outside) (told : Option (List ℕ))
     (count : ℕ) : Type 0 where
   pub out : HandsOut same_name old.tapes new.tapes name count
-  pub tape : IsTape (old.tapes.told name) make told
+  pub tape : IsTape (old.tapes.told name) (makes access) told
   pub files : KeepsFiles old new
-  pub asked : new.asked ≡ with_call (Tape name make) old.asked
+  pub asked : new.asked ≡ with_call (Tape name access) old.asked
   pub dice : new.dice ≡ old.dice
   pub links : new.links ≡ old.links
 

@@ -1,12 +1,13 @@
 -- What parts of a call do.
-use Rattle.std.specs.Prelude.{◌≡◌, ◌⊎◌, ℕ, Bool, true, false, List, Option, None, Some, Result, Ok, Err}
+use Rattle.std.specs.Prelude.{◌≡◌, ◌≢◌, ◌⊎◌, ℕ, Bool, true, false, List, Option, None, Some, Result, Ok, Err}
 use Rattle.kr_config.specs.Kept.{Row as settings_row}
 use Rattle.kr_kms.specs.Calls.{Link}
+use Rattle.kr_kms.specs.Exchanges.{Exchange}
 use Rattle.kr_kms.specs.Truth.{Truth}
+use Rattle.kr_provider.specs.Exchanges.{PublishesBy, TellsKeyIdAt}
 use Rattle.kr_provider.specs.Publication.{Publication}
 use Rattle.kr_provider.specs.Publishing.{Publishes}
 use Rattle.kr_provider.specs.declared.refusal.PublishNo.{PublishNo}
-use Rattle.kr_provider.specs.declared.refusal.PublishNo.TheVariants as publishing
 use Rattle.kr_store.specs.declared.rows.Row.{Row}
 use Rattle.kr_rollout.specs.declared.answer.Answer.TheVariants as answer
 use Rattle.kr_rollout.specs.declared.event.Event.TheVariants as event
@@ -19,6 +20,7 @@ use Rattle.kr_provider.specs.declared.refusal.SealNo.TheVariants as sealing
 use Rattle.kr_provider.specs.declared.refusal.UnsealNo.{UnsealNo}
 use Rattle.kr_provider.specs.declared.refusal.UnsealNo.TheVariants as unsealing
 use Rattle.kr_provider.specs.declared.refusal.ValueNo.TheVariants.{LooksEncrypted, TooLarge}
+use Rattle.kr_fleet.specs.CallForms.{publish_refusal}
 use Rattle.kr_fleet.specs.declared.outcome.Read.{Read}
 use Rattle.kr_fleet.specs.declared.outcome.Read.TheVariants.{Value}
 use Rattle.kr_history.specs.declared.call.CallNo.{CallNo}
@@ -57,27 +59,25 @@ seal_refusal (sealing.TooLarge size) = refusal.Refused TooLarge
 seal_refusal sealing.DiceFailed = refusal.DiceFailed
 seal_refusal sealing.NoMemory = refusal.NoMemory
 
--- why settings aren't published
-abbrev pub publish_refusal : PublishNo → CallNo
-publish_refusal (publishing.PluginFailed name) = refusal.PluginFailed name
-publish_refusal publishing.DiceFailed = refusal.DiceFailed
-publish_refusal (publishing.Unhealthy name field text) = refusal.Unhealthy name field text
-publish_refusal publishing.NoMemory = refusal.NoMemory
-
 -- settings are published and shared
-module _ {L D : Type 0} (truth : Truth) (link : L → Link) (left : D → Option (List ℕ))
-    (count : D → ℕ) where
-  abbrev pub NotShared : List settings_row → List L → D → CallNo → List L → D → Type 0
-  NotShared rows olds dice why news after = ((no : PublishNo) × (why ≡ publish_refusal no)
-      × Publishes truth link left count rows olds dice (Err no) news after)
-      ⊎ ((p : Publication) × (why ≡ refusal.NoMemory)
-      × Publishes truth link left count rows olds dice (Ok p) news after)
+module _ (Publishes : Result Publication PublishNo → Type 0) where
+  abbrev pub NotSharedWhere : CallNo → Type 0
+  NotSharedWhere why = ((no : PublishNo) × (why ≡ publish_refusal no) × Publishes (Err no))
+      ⊎ ((p : Publication) × (why ≡ refusal.NoMemory) × Publishes (Ok p))
 
-  abbrev pub SharesPublished : List settings_row → List L → D → Result Publication CallNo
-      → List L → D → Type 0
-  SharesPublished rows olds dice (Ok p) news after =
-      Publishes truth link left count rows olds dice (Ok p) news after
-  SharesPublished rows olds dice (Err why) news after = NotShared rows olds dice why news after
+  abbrev pub SharesWhere : Result Publication CallNo → Type 0
+  SharesWhere (Ok p) = Publishes (Ok p)
+  SharesWhere (Err why) = NotSharedWhere why
+
+abbrev pub SharesPublished : {L D : Type 0} → Truth → (L → Link) → (D → Option (List ℕ)) → (D → ℕ)
+    → List settings_row → List L → D → Result Publication CallNo → List L → D → Type 0
+SharesPublished truth link left count rows olds dice result news after = SharesWhere
+    (λ made. Publishes truth link left count rows olds dice made news after) result
+
+abbrev pub SharesPublishedBy : {D : Type 0} → (D → Option (List ℕ)) → (D → ℕ)
+    → List settings_row → D → Result Publication CallNo → D → List Exchange → Type 0
+SharesPublishedBy left count rows dice result after exchanges = SharesWhere
+    (λ made. PublishesBy left count rows dice made after exchanges) result
 
 -- the plugins' key ids are those of their seeds, or one isn't, or one can't be asked for
 abbrev pub ComparesKeys : {L : Type 0} → (L → Link) → List SeedRow → List L → Result Bool CallNo
@@ -85,3 +85,11 @@ abbrev pub ComparesKeys : {L : Type 0} → (L → Link) → List SeedRow → Lis
 ComparesKeys link seeds olds (Ok false) news = AreKeysSame link olds seeds
 ComparesKeys link seeds olds (Ok true) news = IsKeyChanged link olds seeds
 ComparesKeys link seeds olds (Err why) news = AsksInVain link olds seeds why news
+
+-- the plugin of one seed is asked for its key id
+abbrev pub ComparesKeyBy : SeedRow → Result Bool CallNo → List Exchange → Type 0
+ComparesKeyBy row (Ok false) exchanges = TellsKeyIdAt row.name (Ok row.key_id) exchanges
+ComparesKeyBy row (Ok true) exchanges = (key_id : List ℕ) × (key_id ≢ row.key_id)
+    × TellsKeyIdAt row.name (Ok key_id) exchanges
+ComparesKeyBy row (Err why) exchanges = (no : PublishNo) × (why ≡ publish_refusal no)
+    × TellsKeyIdAt row.name (Err no) exchanges

@@ -1,7 +1,9 @@
 -- What parts of a step do.
 use Rattle.std.specs.Prelude.{◌≡◌, ◌⊎◌, ℕ, Bool, true, false, List, Option, None, Some, Result, Ok, Err, ⊤}
 use Rattle.kr_base.specs.Numbering.{next_number}
+use Rattle.kr_kms.specs.Cache.{CacheState}
 use Rattle.kr_kms.specs.Calls.{Link}
+use Rattle.kr_kms.specs.Exchanges.{Exchange}
 use Rattle.kr_kms.specs.Truth.{Truth, OpenAll}
 use Rattle.kr_provider.specs.Publication.{Publication, list_at}
 use Rattle.kr_provider.specs.Reading.{HasReading, HasSomeReading, data_of}
@@ -15,8 +17,9 @@ use Rattle.kr_history.specs.declared.call.CallNo.TheVariants as refusal
 use Rattle.kr_history.specs.Acting.{Caller, AddsEntry}
 use Rattle.kr_rollout.specs.Callers.{holding}
 use Rattle.kr_history.specs.Calls.{AddsNothing}
-use Rattle.kr_rewrite.specs.Drives.{Drives, IsCut}
-use Rattle.kr_rewrite.specs.Rewrites.{CopiesNothing, Reseals}
+use Rattle.kr_rewrite.specs.DriveExchanges.{ReadsRow, before, behind}
+use Rattle.kr_rewrite.specs.Drives.{DrivesOver, IsCutOver, StayLinks}
+use Rattle.kr_rewrite.specs.Rewrites.{CopiesNothing, Reseals, RewritesOver, RowReads, StepsOver, UnsealsRow}
 use Rattle.kr_rewrite.specs.declared.outcome.Report.{Report}
 use Rattle.kr_rewrite.specs.declared.outcome.Step.{Step}
 use Rattle.kr_rewrite.specs.declared.outcome.Step.TheVariants as step
@@ -89,11 +92,40 @@ CountsStep old (step.Left path) result new = (result ≡ true)
     × (new ≡ record old { left = next_number old.left; last = path })
 
 -- steps up to the end, or to the one that was cut short
+module _ {S D : Type 0} (Reads : RowReads S) (Meanwhile : S → S → Type 0)
+    (left : D → Option (List ℕ)) (count : D → ℕ) (replica : ℕ) where
+  abbrev pub GoesOnOver : (above : List ℕ) → Caller → S → D → Result Report (Report × CallNo)
+      → Caller → S → D → Type 0
+  GoesOnOver above old from dice (Ok report) new to after =
+      DrivesOver Reads Meanwhile left count replica above old from dice report new to after
+  GoesOnOver above old from dice (Err cut) new to after =
+      IsCutOver Reads Meanwhile left count replica above old from dice cut.1 cut.0 new to after
+
 module _ {L D : Type 0} (truth : Truth) (link : L → Link) (left : D → Option (List ℕ))
     (count : D → ℕ) (replica : ℕ) where
   abbrev pub GoesOn : (above : List ℕ) → Caller → List L → D → Result Report (Report × CallNo)
       → Caller → List L → D → Type 0
-  GoesOn above old olds dice (Ok report) new news after =
-      Drives truth link left count replica above old olds dice report new news after
-  GoesOn above old olds dice (Err cut) new news after =
-      IsCut truth link left count replica above old olds dice cut.1 cut.0 new news after
+  GoesOn above old olds dice result new news after = GoesOnOver (UnsealsRow truth link)
+      (StayLinks link) left count replica above old olds dice result new news after
+
+-- ---- by which exchanges
+
+module _ {D : Type 0} (left : D → Option (List ℕ)) (count : D → ℕ) where
+  -- the row that was found is rewritten
+  abbrev pub RewritesRowBy : Publication → Row → Caller → CacheState → D → Result Step CallNo
+      → Caller → CacheState → D → List Exchange → Type 0
+  RewritesRowBy p row old cache dice result new kept after exchanges = RewritesOver ReadsRow left
+      count p row old (before cache exchanges) dice result new (behind kept) after
+
+  -- a step by a held configuration
+  abbrev pub StepsBy : Publication → (above : List ℕ) → Caller → CacheState → D
+      → Result Step CallNo → Caller → CacheState → D → List Exchange → Type 0
+  StepsBy p above old cache dice result new kept after exchanges = StepsOver ReadsRow left count p
+      above old (before cache exchanges) dice result new (behind kept) after
+
+  -- steps up to the end, or to the one that was cut short
+  abbrev pub GoesOnBy : (replica : ℕ) → (above : List ℕ) → Caller → CacheState → D
+      → Result Report (Report × CallNo) → Caller → CacheState → D → List Exchange → Type 0
+  GoesOnBy replica above old cache dice result new kept after exchanges = GoesOnOver ReadsRow
+      (λ from to. ⊤) left count replica above old (before cache exchanges) dice result new
+      (behind kept) after

@@ -1,6 +1,7 @@
 -- What the calls behind `run` did: the same promises, for fewer words.
 use Rattle.std.specs.Prelude.{ℕ, List, Option}
 use Rattle.kr_kms.specs.Calls.{Link}
+use Rattle.kr_kms.specs.Exchanges.{Exchange}
 use Rattle.kr_kms.specs.Truth.{Truth}
 use Rattle.kr_cmd_messages.specs.LoadAsked.{AskNoLoad, AsksLoad}
 use Rattle.kr_cmd_messages.specs.Receipts.{Receipt}
@@ -20,31 +21,33 @@ pub record RunsAlone (words : List (List ℕ)) (old new : Around) (output errors
     (status : ℕ) : Type 0 where
   pub ran : Ran words old new output errors status
   pub readings : Readings words old new output errors status
-  pub tapes : AreLeft words old new status
+  pub tapes : AreLeft words old new output status
 
 -- words that ask for neither a fleet nor a load
 pub record RunsUnloaded (T : Type 0) {L D : Type 0} (truth : Truth) (link : L → Link)
+    (step : L → Exchange → L → Type 0)
     (left : D → Option (List ℕ)) (count : D → ℕ) (words : List (List ℕ)) (old new : Around)
     (output errors : Receipt) (status : ℕ) : Type 0 where
   pub ran : AskNoWatch words → Ran words old new output errors status
   pub readings : AskNoWatch words → Readings words old new output errors status
-  pub tapes : AskNoWatch words → AreLeft words old new status
+  pub tapes : AskNoWatch words → AreLeft words old new output status
   pub watch : (asked : WatchWords) → AsksWatch words asked
-      → RanWatch T truth link left count asked old new output errors status
+      → RanWatch T truth link step left count asked old new output errors status
 
 -- words that ask for no fleet
 pub record RunsOther (T : Type 0) {L D : Type 0} (truth : Truth) (link : L → Link)
+    (step : L → Exchange → L → Type 0)
     (left : D → Option (List ℕ)) (count : D → ℕ) (words : List (List ℕ)) (old new : Around)
     (output errors : Receipt) (status : ℕ) : Type 0 where
   pub ran : AskNoLoad words × AskNoWatch words → Ran words old new output errors status
   pub readings : AskNoLoad words × AskNoWatch words
       → Readings words old new output errors status
-  pub tapes : AskNoLoad words × AskNoWatch words → AreLeft words old new status
+  pub tapes : AskNoLoad words × AskNoWatch words → AreLeft words old new output status
   pub watch : (asked : WatchWords) → AsksWatch words asked
-      → RanWatch T truth link left count asked old new output errors status
+      → RanWatch T truth link step left count asked old new output errors status
   pub load_headline : (asked : LoadWords) → AsksLoad words asked
-      → LoadHeadline T truth link asked old new output errors status
+      → LoadHeadline T truth link step asked old new output errors status
   pub load : (asked : LoadWords) → AsksLoad words asked
-      → RanLoad T truth link asked old new output errors status
+      → RanLoad T truth link step asked old new output errors status
   pub load_readings : (asked : LoadWords) → AsksLoad words asked
-      → LoadReadings T truth link asked old new output errors status
+      → LoadReadings T truth link step asked old new output errors status

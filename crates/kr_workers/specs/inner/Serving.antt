@@ -1,8 +1,11 @@
 -- What is asked of a worker's line and of its seat and bench, and what a line keeps.
 use Rattle.std.specs.Prelude.{◌≡◌, ◌<◌, ◌≤◌, ◌+◌, ℕ, List, length, get_or, None, Option, Ok, Err, ⊤}
+use Rattle.kr_base.specs.Walks.{Talk}
 use Rattle.kr_kms.specs.Calls.{Link}
+use Rattle.kr_kms.specs.Exchanges.{Exchange}
 use Rattle.kr_kms.specs.Truth.{Truth}
-use Rattle.kr_provider.specs.AskedLinks.{AskedOnly}
+use Rattle.kr_provider.specs.AskedLinks.{Among, AskedOnly}
+use Rattle.kr_provider.specs.BenchKeys.{LeavesKeys}
 use Rattle.kr_provider.specs.BenchState.{BenchState}
 use Rattle.kr_provider.specs.KeyPages.{size_of}
 use Rattle.kr_provider.specs.Names.{names_of}
@@ -15,12 +18,18 @@ use Rattle.kr_script.specs.declared.script.ScriptLine.{ScriptLine}
 use Rattle.kr_script.specs.declared.script.ScriptLine.TheVariants as line
 use Rattle.kr_workers.specs.declared.files.SettingsFile.{SettingsFile}
 use Rattle.kr_workers.specs.Budgets.{brought_by, entries_of, puts_of}
+use Rattle.kr_workers.specs.LineExchanges.{DoesBy}
 use Rattle.kr_workers.specs.Replies.{Reply}
 use Rattle.kr_workers.specs.ScriptLines.{Does, MayDo, Workplace}
 
 -- the seat and what the bench has
 abbrev pub place_of : {L D : Type 0} → Caller → BenchState L D → Workplace L D
-place_of c bench = record { caller = c; links = bench.links; dice = bench.dice }
+place_of c bench = record {
+  caller = c;
+  links = bench.links;
+  dice = bench.dice;
+  cache = bench.cache;
+}
 
 -- the line may be done, at a replica that there is; the seat holds nothing and may bring as many
 -- more configurations; each plugin has a link, and the bench pages enough
@@ -60,12 +69,15 @@ IsIdleAt (Ok reply) c = holding c.mine ≡ None
 IsIdleAt (Err spent) c = ⊤
 
 -- what a line does and keeps
-pub record Serves {L D : Type 0} (truth : Truth) (link : L → Link) (left : D → Option (List ℕ))
-    (count : D → ℕ) (files : List SettingsFile) (replica : ℕ) (asked : ScriptLine) (old : Caller)
+pub record Serves {L D : Type 0} (truth : Truth) (link : L → Link)
+    (step : L → Exchange → L → Type 0) (left : D → Option (List ℕ)) (count : D → ℕ)
+    (files : List SettingsFile) (replica : ℕ) (asked : ScriptLine) (old : Caller)
     (bench : BenchState L D) (reply : Reply) (new : Caller) (after : BenchState L D)
     : Type 0 where
   pub does : Does truth link left count files replica asked (place_of old bench) reply
       (place_of new after)
+  pub asks : Talk (Among step) bench.links after.links
+      (DoesBy left count files replica asked (place_of old bench) reply (place_of new after))
   pub adds : AddsFor asked old new
   pub spent : EndsFor asked old reply
   pub honest : KeepsToldHonesty truth old new
@@ -73,3 +85,4 @@ pub record Serves {L D : Type 0} (truth : Truth) (link : L → Link) (left : D �
   pub asked_only : AskedOnly link (names_of link bench.links) bench.links after.links
   pub later : count bench.dice ≤ count after.dice
   pub pages : size_of after.pages ≡ size_of bench.pages
+  pub keys : LeavesKeys bench after

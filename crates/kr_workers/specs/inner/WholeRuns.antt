@@ -2,8 +2,10 @@
 use Rattle.std.specs.Prelude.{◌≡◌, ◌<◌, ◌≤◌, ◌+◌, ℕ, List, ◌∷◌, ◌++◌, length, get_or, All, None, Option, Result, Ok, Err}
 use Rattle.kr_base.specs.declared.errors.Spent.{Spent}
 use Rattle.kr_kms.specs.Calls.{Link}
+use Rattle.kr_kms.specs.Exchanges.{Exchange}
 use Rattle.kr_kms.specs.Truth.{Truth}
 use Rattle.kr_provider.specs.AskedLinks.{AskedOnly}
+use Rattle.kr_provider.specs.BenchKeys.{LeavesKeys}
 use Rattle.kr_provider.specs.BenchState.{BenchState}
 use Rattle.kr_provider.specs.KeyPages.{size_of}
 use Rattle.kr_provider.specs.Names.{names_of}
@@ -32,8 +34,9 @@ pub record AreReady {L D : Type 0} (link : L → Link) (files : List SettingsFil
 
 -- ---- how the run ends
 
-module _ {L D : Type 0} (truth : Truth) (link : L → Link) (left : D → Option (List ℕ))
-    (count : D → ℕ) (files : List SettingsFile) (replica : ℕ) where
+module _ {L D : Type 0} (truth : Truth) (link : L → Link)
+    (step : L → Exchange → L → Type 0) (left : D → Option (List ℕ)) (count : D → ℕ)
+    (files : List SettingsFile) (replica : ℕ) where
   -- the seat could add no more lines in the midst of this line, and those behind it weren't begun
   pub record IsCutShort (lines : List ScriptLine) (run : List LineDone) (old new : Workplace L D)
       : Type 0 where
@@ -61,7 +64,7 @@ module _ {L D : Type 0} (truth : Truth) (link : L → Link) (left : D → Option
     pub run : List LineDone
     pub replies_are : replies ≡ replies_in run
     pub middle : Workplace L D
-    pub does : DoesAll truth link left count files replica (place_of old bench) run middle
+    pub does : DoesAll truth link step left count files replica (place_of old bench) run middle
     pub ends : EndsRun lines run middle ended (place_of new after)
     pub opening : new.opening ≡ old.opening
     pub seat : new.seat ≡ old.seat
@@ -69,3 +72,4 @@ module _ {L D : Type 0} (truth : Truth) (link : L → Link) (left : D → Option
     pub asked_only : AskedOnly link (names_of link bench.links) bench.links after.links
     pub later : count bench.dice ≤ count after.dice
     pub pages : size_of after.pages ≡ size_of bench.pages
+    pub keys : LeavesKeys bench after

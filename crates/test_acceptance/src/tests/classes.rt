@@ -14,6 +14,7 @@ fn settings_of(alloc: Global) -> Option<Settings> {
     let Settings {
         entries,
         fallback: _fallback,
+        index: _index,
     } = read;
     Settings::of(alloc, entries).ok()
 }

@@ -3,7 +3,7 @@ ghost use Rattle.std.specs.Prelude.{◌≡◌};
 
 use crate::tests::making::plugin;
 use kr_base::{List, Tape};
-use kr_kms::{FileNo, Kms, MemWorld, TablePlugin, World};
+use kr_kms::{Access, FileNo, Kms, MemWorld, TablePlugin, World};
 use std::alloc::Global;
 
 /// A world of nothing but a link of the seat 3 to it.
@@ -28,7 +28,7 @@ fn world(alloc: Global) -> Option<MemWorld<TablePlugin>> {
 fn refusal<W: World>(world: &mut W, alloc: Global, name: &str) -> Option<FileNo>
     ensures { (W.told world.new).tapes.out name.now ≡ (W.told world.old).tapes.out name.now }
 {
-    match world.tape(alloc, name, true) {
+    match world.tape(alloc, name, Access::ToMake) {
         Ok(tape) => {
             world.back_tape(name, tape);
             None
@@ -40,7 +40,7 @@ fn refusal<W: World>(world: &mut W, alloc: Global, name: &str) -> Option<FileNo>
 /// Whether there is a tape of the name, and not a second one while it is out. It takes these bytes.
 #[tactic(auto, using(crate::proofs::Lent::is_out, crate::proofs::Lent::is_still_out))]
 fn writes<W: World>(world: &mut W, alloc: Global, name: &str, bytes: &[u8]) -> bool {
-    match world.tape(alloc, name, true) {
+    match world.tape(alloc, name, Access::ToMake) {
         Ok(mut tape) => {
             let put = tape.put_at(0, bytes).is_ok();
             let alone = refusal(world, alloc, name) == Some(FileNo::Failed);

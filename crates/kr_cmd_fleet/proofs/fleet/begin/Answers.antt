@@ -152,7 +152,8 @@ returns-clause-made g c name a t =
     c.as_slice.ensures
     (subst (λ r. IfOk r (λ (s : WatchStart). KnowsItems c.args.watched g.L.Kms.truth store.rows
     c.as_slice.result.now s.items.0)) c.in-Ok-read.is c.read_first-read.ensures.known) in
-    runs_with g.row.T.Denot g.L.Kms.truth link left count c.args.watched name (plan_of plan)
+    runs_with g.row.T.Denot g.L.Kms.truth link g.L.Kms.step left count c.args.watched name
+    (plan_of plan)
     (launching c.args.watched (plan_of plan) (stored_of store) budgets) outs
     (with_outfits link left count 0 olds over)
     (with_outfits link left count 0 c.work_with.result.2.0

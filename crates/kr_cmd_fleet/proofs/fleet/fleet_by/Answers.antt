@@ -1,6 +1,7 @@
 -- `fleet_by`: the tape of the store, which comes back.
-use Rattle.std.proofs.Common.{inl, sym, subst, true}
+use Rattle.std.proofs.Common.{inl, sym, subst}
 use Rattle.std.specs.Prelude.{◌<◌}
+use Rattle.kr_kms.specs.declared.world.Access.TheVariants.{ToMake}
 use Rattle.kr_cmd_steps.specs.Commands.{stored_on}
 use Rattle.kr_cmd_fleet.specs.Fleets.{beginning}
 use Rattle.kr_cmd_steps.specs.Steps.{and_then}
@@ -12,7 +13,7 @@ use Rattle.kr_cmd_fleet.proofs.fleet.fleet_by.Goals as goal
 
 pub returns-in-Err : goal.returns-in-Err
 returns-in-Err g c a truth = inl (not_lent c.in-Err.ensures.files c.in-Err.ensures.objects a
-    c.args.store.now true c.in-Err.stop c.in-Err.ensures.why c.in-Err.ensures.asked)
+    c.args.store.now ToMake c.in-Err.stop c.in-Err.ensures.why c.in-Err.ensures.asked)
 
 pub settle_tape-requires-clause-out : goal.settle_tape-requires-clause-out
 settle_tape-requires-clause-out g c = λ κs lives.
@@ -24,7 +25,7 @@ pub returns : goal.returns
 returns g c a truth =
     let name = c.args.store.now in
     let plan = plan_of c.args.plan.now in
-    over_settled _ _ _ _ _ c.args.watched name plan
+    over_settled _ _ _ _ _ _ c.args.watched name plan
     (and_then (stored_on Store name) (beginning c.args.watched plan)) a
     (g.W.World.told c.args.world.now) (g.W.World.told c.open_tape.new.world)
     (g.W.Tap.Tape.told c.in-Ok.tape) (g.W.Tap.Tape.count c.in-Ok.tape)

@@ -42,7 +42,7 @@ fleet_with-made-requires-clause-store g c = λ κs lives. c.in-Ok.ensures.limit
 
 pub returns-in-Err-clause-made : goal.returns-in-Err-clause-made
 returns-in-Err-clause-made g c name a truth =
-    ends_before _ _ _ _ _ c.args.watched name (plan_of c.args.plan.now) (stored_on Store name)
+    ends_before _ _ _ _ _ _ c.args.watched name (plan_of c.args.plan.now) (stored_on Store name)
     (beginning c.args.watched (plan_of c.args.plan.now)) c.in-Err.stop
     (c.in-Err.ensures.err name (with_world (g.W.World.told c.args.world.now) a))
 
@@ -57,13 +57,17 @@ returns-in-Err-budgets_of-clause-made g c name a truth =
     let now = with_lent_tape name store.told store.count here in
     let why = c.in-Err-budgets_of.why in
     let stop = c.budget_stop.result in
-    runs_closed g.row.W-Tap.Denot g.W.Link.Kms.truth g.W.Link.Kms.link g.W.Rand.Dice.left
-    g.W.Rand.Dice.count c.args.watched name plan (and_then (stored_on Store name) (beginning c.args.watched plan)) here old
+    runs_closed g.row.W-Tap.Denot g.W.Link.Kms.truth g.W.Link.Kms.link g.W.Link.Kms.step
+    g.W.Rand.Dice.left
+    g.W.Rand.Dice.count c.args.watched name plan
+    (and_then (stored_on Store name) (beginning c.args.watched plan)) here old
     (Err stop) c.close.ensures.told c.close.ensures.count
-    (before g.row.W-Tap.Denot g.W.Link.Kms.truth g.W.Link.Kms.link g.W.Rand.Dice.left
-    g.W.Rand.Dice.count c.args.watched name plan (stored_on Store name) (beginning c.args.watched plan) (stored_of store) now
+    (before g.row.W-Tap.Denot g.W.Link.Kms.truth g.W.Link.Kms.link g.W.Link.Kms.step g.W.Rand.Dice.left
+    g.W.Rand.Dice.count c.args.watched name plan (stored_on Store name)
+    (beginning c.args.watched plan) (stored_of store) now
     (c.in-Ok.ensures.ok name here) (Err stop)
-    (ends_before g.row.W-Tap.Denot g.W.Link.Kms.truth g.W.Link.Kms.link g.W.Rand.Dice.left
+    (ends_before g.row.W-Tap.Denot g.W.Link.Kms.truth g.W.Link.Kms.link g.W.Link.Kms.step
+    g.W.Rand.Dice.left
     g.W.Rand.Dice.count c.args.watched name plan (budgeting store.rows (parts_of plan.fleet))
     (equipping_all c.args.watched plan (stored_of store)) stop
     (subst (λ s. Does (budgeting store.rows (parts_of plan.fleet)) now now (Err s))
@@ -86,13 +90,16 @@ returns-clause-made g c name a truth =
     let made = c.fleet_with-made.result.0 in
     let back = c.fleet_with-made.result.1 in
     let new = with_lent_tape name back.told back.count there in
-    runs_closed g.row.W-Tap.Denot g.W.Link.Kms.truth g.W.Link.Kms.link g.W.Rand.Dice.left
-    g.W.Rand.Dice.count c.args.watched name plan (and_then (stored_on Store name) (beginning c.args.watched plan)) there old
+    runs_closed g.row.W-Tap.Denot g.W.Link.Kms.truth g.W.Link.Kms.link g.W.Link.Kms.step
+    g.W.Rand.Dice.left
+    g.W.Rand.Dice.count c.args.watched name plan
+    (and_then (stored_on Store name) (beginning c.args.watched plan)) there old
     made c.close-2.ensures.told c.close-2.ensures.count
-    (before g.row.W-Tap.Denot g.W.Link.Kms.truth g.W.Link.Kms.link g.W.Rand.Dice.left
-    g.W.Rand.Dice.count c.args.watched name plan (stored_on Store name) (beginning c.args.watched plan) (stored_of store) new
+    (before g.row.W-Tap.Denot g.W.Link.Kms.truth g.W.Link.Kms.link g.W.Link.Kms.step g.W.Rand.Dice.left
+    g.W.Rand.Dice.count c.args.watched name plan (stored_on Store name)
+    (beginning c.args.watched plan) (stored_of store) new
     (c.in-Ok.ensures.ok name here) made
-    (before g.row.W-Tap.Denot g.W.Link.Kms.truth g.W.Link.Kms.link g.W.Rand.Dice.left
+    (before g.row.W-Tap.Denot g.W.Link.Kms.truth g.W.Link.Kms.link g.W.Link.Kms.step g.W.Rand.Dice.left
     g.W.Rand.Dice.count c.args.watched name plan (budgeting store.rows (parts_of plan.fleet))
     (equipping_all c.args.watched plan (stored_of store)) budgets new
     (budgeted store.rows parts c.live_count.result c.live_count.ensures budgets

@@ -93,15 +93,18 @@ returns-in-Ok-clause-made g c name a truth =
     let programs = c.as_slice-2.result.now in
     let many = ap length c.as_slice.ensures
     ∙ sym (length-map c.args.plan.now.script.workers.0 worker_of) in
-    subst (λ ps. RunsBy g.row.W-Tap.Denot g.W.Link.Kms.truth g.W.Link.Kms.link
+    subst (λ ps. RunsBy g.row.W-Tap.Denot g.W.Link.Kms.truth g.W.Link.Kms.link g.W.Link.Kms.step
     g.W.Rand.Dice.left g.W.Rand.Dice.count c.args.watched
     (equipping ps 0 (length plan.fleet.workers) next) name plan before after c.begin-made.result.0)
     c.as_slice-2.ensures
-    (subst (λ n. RunsBy g.row.W-Tap.Denot g.W.Link.Kms.truth g.W.Link.Kms.link
-    g.W.Rand.Dice.left g.W.Rand.Dice.count c.args.watched (equipping programs 0 n next) name plan before after
+    (subst (λ n. RunsBy g.row.W-Tap.Denot g.W.Link.Kms.truth g.W.Link.Kms.link g.W.Link.Kms.step
+    g.W.Rand.Dice.left g.W.Rand.Dice.count c.args.watched
+    (equipping programs 0 n next) name plan before after
     c.begin-made.result.0) many
-    (runs_equipped g.row.W-Tap.Denot g.W.Link.Kms.truth g.W.Link.Kms.link g.W.Rand.Dice.left
-    g.W.Rand.Dice.count c.args.watched name plan a programs (length c.as_slice.result.now) next old mid new
+    (runs_equipped g.row.W-Tap.Denot g.W.Link.Kms.truth g.W.Link.Kms.link g.W.Link.Kms.step
+    g.W.Rand.Dice.left
+    g.W.Rand.Dice.count c.args.watched name plan a programs
+    (length c.as_slice.result.now) next old mid new
     c.open_outfits-opened.new.outfits.0 c.in-Ok.ensures.tapes c.close_outfits.ensures.tapes
     store.told c.begin-made.result.1.told store.count c.begin-made.result.1.count
     c.begin-made.result.2.0 c.in-Ok.ensures.does c.close_outfits.ensures.back
@@ -120,15 +123,18 @@ returns-in-Err-clause-made g c name a truth =
     let programs = c.as_slice-2.result.now in
     let many = ap length c.as_slice.ensures
     ∙ sym (length-map c.args.plan.now.script.workers.0 worker_of) in
-    subst (λ ps. RunsBy g.row.W-Tap.Denot g.W.Link.Kms.truth g.W.Link.Kms.link
+    subst (λ ps. RunsBy g.row.W-Tap.Denot g.W.Link.Kms.truth g.W.Link.Kms.link g.W.Link.Kms.step
     g.W.Rand.Dice.left g.W.Rand.Dice.count c.args.watched
     (equipping ps 0 (length plan.fleet.workers) next) name plan before after (Err c.in-Err.stop))
     c.as_slice-2.ensures
-    (subst (λ n. RunsBy g.row.W-Tap.Denot g.W.Link.Kms.truth g.W.Link.Kms.link
-    g.W.Rand.Dice.left g.W.Rand.Dice.count c.args.watched (equipping programs 0 n next) name plan before after
+    (subst (λ n. RunsBy g.row.W-Tap.Denot g.W.Link.Kms.truth g.W.Link.Kms.link g.W.Link.Kms.step
+    g.W.Rand.Dice.left g.W.Rand.Dice.count c.args.watched
+    (equipping programs 0 n next) name plan before after
     (Err c.in-Err.stop)) many
-    (runs_unequipped g.row.W-Tap.Denot g.W.Link.Kms.truth g.W.Link.Kms.link g.W.Rand.Dice.left
-    g.W.Rand.Dice.count c.args.watched name plan a programs (length c.as_slice.result.now) next old mid new
+    (runs_unequipped g.row.W-Tap.Denot g.W.Link.Kms.truth g.W.Link.Kms.link g.W.Link.Kms.step
+    g.W.Rand.Dice.left
+    g.W.Rand.Dice.count c.args.watched name plan a programs
+    (length c.as_slice.result.now) next old mid new
     c.open_outfits-opened.new.outfits.0 c.in-Err.ensures.tapes
     c.close_outfits-in-Err.ensures.tapes store.told store.count c.in-Err.stop
     c.in-Err.ensures.does c.close_outfits-in-Err.ensures.back))

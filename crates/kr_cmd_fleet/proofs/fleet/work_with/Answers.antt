@@ -11,6 +11,7 @@ use Rattle.kr_cmd_steps.specs.inner.ProgramNames.{names_in}
 use Rattle.kr_cmd_steps.specs.inner.Phases.{Does}
 use Rattle.kr_cmd_steps.specs.inner.Tapes.{stored_of}
 use Rattle.kr_cmd_fleet.specs.inner.Workings.{with_crew}
+use Rattle.kr_cmd_fleet.proofs.Crews.{all_cold}
 use Rattle.kr_cmd_fleet.proofs.FleetCrews.{closed_at_once, ran_back, ran_with, ready, unhired}
 use Rattle.kr_cmd_fleet.proofs.Outfits.{later_refl}
 use Rattle.kr_cmd_fleet.proofs.Plans.{plan_first, plan_names, plan_replicas}
@@ -77,11 +78,12 @@ returns-in-Err-hire-clause-made g c name a olds watched t p =
     let kept = c.close-store.result.0 in
     let k = closed_at_once core kept none c.close-store.ensures.rows c.close-store.ensures.count
     c.close-store.ensures.format c.close-store.ensures.torn c.known.ensures in
-    inr (unhired g.L.Kms.truth link left count watched plan c.requires.plan
+    inr (unhired g.L.Kms.truth link g.L.Kms.step left count watched plan c.requires.plan
     c.args.budgets.now.entries.items name a store olds outs c.args.replicas.0 c.args.start
     (p.onward store (Ok (begun_with plan c.args.budgets.now.entries.items store c.args.replicas.0
     c.args.start.items.0)) (c.in-Ok.ensures.does (with_crew link left count name store outs a)
-    c.args.start.items.0)) p.known c.requires.revision p.are_named p.seats p.later c.requires.published c.requires.store c.args.budgets.now.reloads.items
+    c.args.start.items.0)) p.known c.requires.revision p.are_named p.seats p.later
+    c.requires.published c.requires.store c.args.budgets.now.reloads.items
     c.requires.reloads core.opening (ap (λ (k : CoreState). k.opening) c.in-Ok.ensures.core)
     g.row.T.Denot kept k c.in-Err-hire.outfits.0 c.in-Err-hire.ensures.returned)
 
@@ -118,18 +120,21 @@ returns-clause-made g c name a olds watched t p =
     let store = c.args.store in
     let outs = c.args.outfits.0 in
     let hired = c.in-Ok-hire.ensures.hired in
-    ran_with g.L.Kms.truth link left count watched plan c.requires.plan
+    ran_with g.L.Kms.truth link g.L.Kms.step left count watched plan c.requires.plan
     c.args.budgets.now.entries.items name a store olds outs c.args.replicas.0 c.args.start
     (p.onward store (Ok (begun_with plan c.args.budgets.now.entries.items store c.args.replicas.0
     c.args.start.items.0)) (c.in-Ok.ensures.does (with_crew link left count name store outs a)
-    c.args.start.items.0)) p.known c.requires.revision p.are_named p.seats p.later c.requires.published c.requires.store c.args.budgets.now.reloads.items
+    c.args.start.items.0)) p.known c.requires.revision p.are_named p.seats p.later
+    c.requires.published c.requires.store c.args.budgets.now.reloads.items
     c.requires.reloads c.in-Ok.core.opening
     (ap (λ (k : CoreState). k.opening) c.in-Ok.ensures.core) c.in-Ok-hire.crew.workers.items
-    hired.outfits_are (hired.many ∙ ap length c.as_slice.ensures) c.run_crew.result.1
+    hired.outfits_are (hired.many ∙ ap length c.as_slice.ensures)
+    (all_cold _ _ c.in-Ok-hire.crew.workers.items hired) c.run_crew.result.1
     c.run_crew.result.2.0 c.run_crew.result.0 c.run_crew.ensures.ran
 
 pub returns-clause-later : goal.returns-clause-later
-returns-clause-later g c = ran_back g.L.Kms.truth g.L.Kms.link g.D.Dice.left g.D.Dice.count
+returns-clause-later g c = ran_back g.L.Kms.truth g.L.Kms.link g.L.Kms.step g.D.Dice.left
+    g.D.Dice.count
     c.args.plan.now c.args.budgets.now.entries.items c.args.outfits.0 c.args.outfits.0
     (later_refl g.L.Kms.link g.D.Dice.left g.D.Dice.count c.args.outfits.0)
     c.in-Ok.core.opening c.args.start c.in-Ok-hire.crew.workers.items

@@ -6,7 +6,8 @@ use Rattle.kr_cmd_gen.proofs.loads.load.Goals as goal
 
 pub returns-in-Err-clause-did : goal.returns-in-Err-clause-did
 returns-in-Err-clause-did g c a truth =
-    unbegun g.row.W-Tap.Denot g.W.Link.Kms.truth g.W.Link.Kms.link c.args.words.now
+    unbegun g.row.W-Tap.Denot g.W.Link.Kms.truth g.W.Link.Kms.link g.W.Link.Kms.step
+    c.args.words.now
     (with_world (g.W.World.told c.args.world.now) a) _ (refl, refl)
 
 pub load_by-requires-clause-plan : goal.load_by-requires-clause-plan
@@ -14,14 +15,16 @@ load_by-requires-clause-plan g c = λ κs lives. c.in-Ok.ensures.known
 
 pub returns-in-Err-load_by-clause-did : goal.returns-in-Err-load_by-clause-did
 returns-in-Err-load_by-clause-did g c a truth =
-    load_stopped g.row.W-Tap.Denot g.W.Link.Kms.truth g.W.Link.Kms.link c.args.words.now _
+    load_stopped g.row.W-Tap.Denot g.W.Link.Kms.truth g.W.Link.Kms.link g.W.Link.Kms.step
+    c.args.words.now _
     c.in-Ok.ensures.plan (with_world (g.W.World.told c.args.world.now) a)
     (with_world (g.W.World.told c.load_by.new.world) a) c.in-Err-load_by.stop _
     c.in-Err-load_by.ensures.others (c.in-Err-load_by.ensures.runs a truth) (refl, refl)
 
 pub returns-clause-did : goal.returns-clause-did
 returns-clause-did g c a truth =
-    load_ran g.row.W-Tap.Denot g.W.Link.Kms.truth g.W.Link.Kms.link c.args.words.now _
+    load_ran g.row.W-Tap.Denot g.W.Link.Kms.truth g.W.Link.Kms.link g.W.Link.Kms.step
+    c.args.words.now _
     c.in-Ok.ensures.plan (with_world (g.W.World.told c.args.world.now) a)
     (with_world (g.W.World.told c.load_by.new.world) a) c.in-Ok-load_by.record _ _
     c.in-Ok-load_by.ensures.others (c.in-Ok-load_by.ensures.runs a truth)

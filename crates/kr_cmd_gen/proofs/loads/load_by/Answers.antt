@@ -17,7 +17,7 @@ returns-in-Err-clause-runs g c a truth =
     let name = c.as_str-store.result.now in
     let old = with_streams (with_world (g.W.World.told c.args.world.now) a) in
     let new = with_streams (with_world (g.W.World.told c.open_tape.new.world) a) in
-    subst (λ n. SettlesLoad g.row.W-Tap.Denot g.W.Link.Kms.truth g.W.Link.Kms.link
+    subst (λ n. SettlesLoad g.row.W-Tap.Denot g.W.Link.Kms.truth g.W.Link.Kms.link g.W.Link.Kms.step
     c.args.words.now.seed (load_over n plan) n plan old new (Err c.in-Err.stop))
     c.as_str-store.ensures
     (inl (untaped name (and_then (stored_on Store name) (load_beginning plan)) a c.in-Err.stop
@@ -38,10 +38,10 @@ returns-clause-runs g c a truth =
     let name = c.as_str-store.result.now in
     let old = with_streams (with_world (g.W.World.told c.args.world.now) a) in
     let new = with_streams (with_world (g.W.World.told c.settle_tape.new.world) a) in
-    subst (λ n. SettlesLoad g.row.W-Tap.Denot g.W.Link.Kms.truth g.W.Link.Kms.link
+    subst (λ n. SettlesLoad g.row.W-Tap.Denot g.W.Link.Kms.truth g.W.Link.Kms.link g.W.Link.Kms.step
     c.args.words.now.seed (load_over n plan) n plan old new c.settle_tape.result)
     c.as_str-store.ensures
-    (load_over_tape g.row.W-Tap.Denot g.W.Link.Kms.truth g.W.Link.Kms.link
+    (load_over_tape g.row.W-Tap.Denot g.W.Link.Kms.truth g.W.Link.Kms.link g.W.Link.Kms.step
     c.args.words.now.seed name plan (and_then (stored_on Store name) (load_beginning plan)) a
     (g.W.World.told c.settle_tape.new.world) (g.W.Tap.Tape.told c.load_on-made.result.1)
     (g.W.Tap.Tape.count c.load_on-made.result.1) c.load_on-made.result.0 c.settle_tape.result

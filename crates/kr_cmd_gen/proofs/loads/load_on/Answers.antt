@@ -44,7 +44,7 @@ load_with-made-requires-clause-store g c = λ κs lives. c.in-Ok.ensures.limit
 pub returns-in-Err : goal.returns-in-Err
 returns-in-Err g c name a truth =
     let plan = plan_of c.args.plan.now in
-    load_ends g.row.T.Denot g.L.Kms.truth g.L.Kms.link c.args.seed name plan
+    load_ends g.row.T.Denot g.L.Kms.truth g.L.Kms.link g.L.Kms.step c.args.seed name plan
     (stored_on Store name) (load_beginning plan)
     (with_lent_tape name (g.T.Tape.told c.args.tape) (g.T.Tape.count c.args.tape) (with_streams a))
     (with_lent_tape name (g.T.Tape.told c.in-Err.tape) (g.T.Tape.count c.in-Err.tape)
@@ -60,14 +60,15 @@ returns-in-Err-budgets_of g c name a truth =
     let now = with_lent_tape name store.told store.count (with_streams a) in
     let why = c.in-Err-budgets_of.why in
     let stop = c.budget_stop.result in
-    load_closed g.row.T.Denot g.L.Kms.truth g.L.Kms.link c.args.seed name plan
+    load_closed g.row.T.Denot g.L.Kms.truth g.L.Kms.link g.L.Kms.step c.args.seed name plan
     (and_then (stored_on Store name) (load_beginning plan)) (with_streams a) old (Err stop)
     c.close.ensures.told c.close.ensures.count
-    (load_before g.row.T.Denot g.L.Kms.truth g.L.Kms.link c.args.seed name plan
+    (load_before g.row.T.Denot g.L.Kms.truth g.L.Kms.link g.L.Kms.step c.args.seed name plan
     (stored_on Store name) (load_beginning plan) (stored_of store) old now now
     (c.in-Ok.ensures.ok name (with_streams a)) (Err stop)
-    (load_ends g.row.T.Denot g.L.Kms.truth g.L.Kms.link c.args.seed name plan
-    (budgeting store.rows (parts_of plan.fleet)) (launching false plan (stored_of store)) now now stop
+    (load_ends g.row.T.Denot g.L.Kms.truth g.L.Kms.link g.L.Kms.step c.args.seed name plan
+    (budgeting store.rows (parts_of plan.fleet))
+    (launching false plan (stored_of store)) now now stop
     (subst (λ s. Does (budgeting store.rows (parts_of plan.fleet)) now now (Err s))
     (sym c.budget_stop.ensures)
     (not_budgeted store.rows parts c.live_count.result c.live_count.ensures why
@@ -86,14 +87,15 @@ returns g c name a truth =
     let made = c.load_with-made.result.0 in
     let back = c.load_with-made.result.1 in
     let new = with_lent_tape name back.told back.count (with_streams a) in
-    load_closed g.row.T.Denot g.L.Kms.truth g.L.Kms.link c.args.seed name plan
+    load_closed g.row.T.Denot g.L.Kms.truth g.L.Kms.link g.L.Kms.step c.args.seed name plan
     (and_then (stored_on Store name) (load_beginning plan)) (with_streams a) old made
     c.close-2.ensures.told c.close-2.ensures.count
-    (load_before g.row.T.Denot g.L.Kms.truth g.L.Kms.link c.args.seed name plan
+    (load_before g.row.T.Denot g.L.Kms.truth g.L.Kms.link g.L.Kms.step c.args.seed name plan
     (stored_on Store name) (load_beginning plan) (stored_of store) old now new
     (c.in-Ok.ensures.ok name (with_streams a)) made
-    (load_before g.row.T.Denot g.L.Kms.truth g.L.Kms.link c.args.seed name plan
-    (budgeting store.rows (parts_of plan.fleet)) (launching false plan (stored_of store)) budgets now
+    (load_before g.row.T.Denot g.L.Kms.truth g.L.Kms.link g.L.Kms.step c.args.seed name plan
+    (budgeting store.rows (parts_of plan.fleet))
+    (launching false plan (stored_of store)) budgets now
     now new
     (budgeted store.rows parts c.live_count.result c.live_count.ensures budgets
     (subst (λ p. budgets ≡ budgets_of (c.live_count.result + put_lines p) p)

@@ -88,12 +88,13 @@ returns g c name a truth =
     (later_many link nothing_told no_faults outfits after later ∙ four) a in
     let next = launching false (plan_of plan) (stored_of store) budgets in
     let publish = publishing (named plan.files.0) [] plan.script.replicas.0 in
-    runs_same g.row.T.Denot g.L.Kms.truth link c.args.seed name (plan_of plan) next
+    runs_same g.row.T.Denot g.L.Kms.truth link g.L.Kms.step c.args.seed name (plan_of plan) next
     (with_crew link nothing_told no_faults name store outfits a)
     (with_lent_tape name store.told store.count (with_streams a))
     (with_crew link nothing_told no_faults name back after a)
     (with_lent_tape name back.told back.count (with_streams a)) c.work_with-made.result.0 here there
-    (runs_crew g.row.T.Denot g.L.Kms.truth link c.args.seed name (plan_of plan) next outfits
+    (runs_crew g.row.T.Denot g.L.Kms.truth link g.L.Kms.step c.args.seed name (plan_of plan) next
+    outfits
     (with_crew link nothing_told no_faults name store outfits a)
     (with_crew link nothing_told no_faults name back after a) known c.work_with-made.result.0
     (c.work_with-made.ensures.made name a outfits false truth (record {

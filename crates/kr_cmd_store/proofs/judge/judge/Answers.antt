@@ -1,4 +1,5 @@
-use Rattle.std.proofs.Common.{◌<◌, false, sym, subst}
+use Rattle.std.proofs.Common.{◌<◌, sym, subst}
+use Rattle.kr_kms.specs.declared.world.Access.TheVariants.{ToRead}
 use Rattle.kr_cmd_steps.specs.Commands.{tape_for, judging_on}
 use Rattle.kr_cmd_steps.proofs.Goes.{by_bytes}
 use Rattle.kr_cmd_steps.proofs.Tapes.{not_lent, lends_tape, is_out}
@@ -6,9 +7,9 @@ use Rattle.kr_cmd_store.proofs.judge.judge.Goals as goal
 
 pub returns-in-Err : goal.returns-in-Err
 returns-in-Err g c a =
-    by_bytes (λ name. tape_for name false (judging_on name c.args.words.now.options))
+    by_bytes (λ name. tape_for name ToRead (judging_on name c.args.words.now.options))
     c.as_str-name.ensures
-    (not_lent c.in-Err.ensures.files c.in-Err.ensures.objects a c.as_str-name.result.now false
+    (not_lent c.in-Err.ensures.files c.in-Err.ensures.objects a c.as_str-name.result.now ToRead
     c.in-Err.stop c.in-Err.ensures.why c.in-Err.ensures.asked)
 
 pub close_tape-requires-clause-out : goal.close_tape-requires-clause-out
@@ -17,7 +18,7 @@ close_tape-requires-clause-out g c = λ κs lives. subst (λ t. 0 < t.out c.as_s
 
 pub returns : goal.returns
 returns g c a =
-    by_bytes (λ name. tape_for name false (judging_on name c.args.words.now.options))
+    by_bytes (λ name. tape_for name ToRead (judging_on name c.args.words.now.options))
     c.as_str-name.ensures
-    (lends_tape c.as_str-name.result.now false a c.in-Ok.ensures.lent c.close_tape.ensures
+    (lends_tape c.as_str-name.result.now ToRead a c.in-Ok.ensures.lent c.close_tape.ensures
     (c.judge_on-made.ensures.made c.as_str-name.result.now a))

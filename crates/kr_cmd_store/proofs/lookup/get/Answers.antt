@@ -1,8 +1,9 @@
 -- `get`: each phase goes on from the one before.
-use Rattle.std.proofs.Common.{◌≡◌, ◌≤◌, List, false, length, inl, refl, sym, ◌∙◌, ap, subst, arith}
+use Rattle.std.proofs.Common.{◌≡◌, ◌≤◌, List, length, inl, refl, sym, ◌∙◌, ap, subst, arith}
 use Rattle.kr_base.specs.Limits.{path_limit, value_limit}
 use Rattle.kr_config.specs.Kept.{Row, rows_of}
 use Rattle.kr_kms.specs.Outside.{KeepsFiles, Outside}
+use Rattle.kr_kms.specs.declared.world.Access.TheVariants.{ToRead}
 use Rattle.kr_provider.specs.PluginOrder.{plugin_order}
 use Rattle.kr_store.specs.declared.rows.Row as stored
 use Rattle.kr_cmd_steps.specs.Around.{with_world}
@@ -23,7 +24,7 @@ read_so words rows programs row =
     bench_steps programs Decrypt row.resource words.path rows row.stored
 
 abbrev looked_up : Lookup → List Row → List Program → Steps Outcome
-looked_up words rows programs = and_then (tape_for words.store false
+looked_up words rows programs = and_then (tape_for words.store ToRead
     (row_on words.store words.path)) (read_so words rows programs)
 
 abbrev loaded : Lookup → List Row → Steps Outcome
@@ -54,7 +55,7 @@ returns-in-Err-find_row g c a t =
     (by_bytes configuration c.as_str.ensures (c.in-Ok.ensures a))
     (goes_on (linking_programs words.options rows) (looked_up words rows) programs
     (c.in-Ok-programs_of.ensures.does now)
-    (stops (tape_for words.store false (row_on words.store words.path))
+    (stops (tape_for words.store ToRead (row_on words.store words.path))
     (read_so words rows programs) c.in-Err-find_row.stop (c.in-Err-find_row.ensures.does a)))
 
 keeps_files : (told : Outside) → KeepsFiles told told
@@ -79,7 +80,7 @@ returns-in_default g c a t =
     (by_bytes configuration c.as_str.ensures (c.in-Ok.ensures a))
     (goes_on (linking_programs words.options rows) (looked_up words rows) programs
     (c.in-Ok-programs_of.ensures.does now)
-    (goes_on (tape_for words.store false (row_on words.store words.path))
+    (goes_on (tape_for words.store ToRead (row_on words.store words.path))
     (read_so words rows programs) c.in-Ok-find_row.row (c.in-Ok-find_row.ensures.does a)
     (not_opened (keeps_files (g.W.World.told c.find_row.new.world))
     (record { dice = refl; tapes = refl; links = refl }) a 0 NoMemory tt (inl refl))))
@@ -110,7 +111,7 @@ returns g c a t =
     (by_bytes configuration c.as_str.ensures (c.in-Ok.ensures a))
     (goes_on (linking_programs words.options rows) (looked_up words rows) programs
     (c.in-Ok-programs_of.ensures.does now)
-    (goes_on (tape_for words.store false (row_on words.store words.path))
+    (goes_on (tape_for words.store ToRead (row_on words.store words.path))
     (read_so words rows programs) c.in-Ok-find_row.row (c.in-Ok-find_row.ensures.does a)
     (unlent a c.make.ensures.tapes
     (bench_by Decrypt rows c.as_slice-2.ensures

@@ -2,6 +2,7 @@
 use Rattle.std.proofs.Common.{◌≡◌, ◌<◌, ℕ, List, false, sym, subst}
 use Rattle.kr_config.specs.Kept.{Row, rows_of}
 use Rattle.kr_kms.specs.Outside.{same_name}
+use Rattle.kr_kms.specs.declared.world.Access.TheVariants.{ToRead}
 use Rattle.kr_cmd_steps.specs.Commands.{configuration, migrating_into, source_on, tape_for}
 use Rattle.kr_cmd_steps.specs.Steps.{Steps, and_then}
 use Rattle.kr_cmd_messages.specs.declared.command.Migration.{Migration}
@@ -11,7 +12,7 @@ use Rattle.kr_cmd_steps.proofs.Tapes.{not_lent, lends_tape, is_out}
 use Rattle.kr_cmd_store.proofs.migration.migrate.Goals as goal
 
 abbrev on_tape : (to : List ℕ) → List Row → (name : List ℕ) → Steps Outcome
-on_tape to rows name = tape_for name false (and_then (source_on name) (migrating_into to rows))
+on_tape to rows name = tape_for name ToRead (and_then (source_on name) (migrating_into to rows))
 
 abbrev loaded : Migration → List Row → Steps Outcome
 loaded words rows = on_tape words.to rows words.store
@@ -29,7 +30,7 @@ returns-in-Err-open_tape g c a =
     (by_bytes configuration c.as_str.ensures (c.in-Ok.ensures a))
     (by_bytes (on_tape words.to rows) c.as_str-name.ensures
     (not_lent c.in-Err-open_tape.ensures.files c.in-Err-open_tape.ensures.objects a
-    c.as_str-name.result.now false c.in-Err-open_tape.stop c.in-Err-open_tape.ensures.why
+    c.as_str-name.result.now ToRead c.in-Err-open_tape.stop c.in-Err-open_tape.ensures.why
     c.in-Err-open_tape.ensures.asked))
 
 pub close_tape-requires-clause-out : goal.close_tape-requires-clause-out
@@ -45,6 +46,6 @@ returns g c a =
     goes_on (configuration words.config) (loaded words) rows
     (by_bytes configuration c.as_str.ensures (c.in-Ok.ensures a))
     (by_bytes (on_tape words.to rows) c.as_str-name.ensures
-    (lends_tape name false a c.in-Ok-open_tape.ensures.lent c.close_tape.ensures
+    (lends_tape name ToRead a c.in-Ok-open_tape.ensures.lent c.close_tape.ensures
     (c.migrate_from-made.ensures.made name a
     (subst (λ n. same_name n words.to ≡ false) (sym c.as_str-name.ensures) c.requires.apart))))

@@ -1,7 +1,8 @@
 -- `migrate_into`: the target's tape is borrowed while the source's is out, and comes back.
-use Rattle.std.proofs.Common.{◌≡◌, false, true, sym, subst, ap, arith}
+use Rattle.std.proofs.Common.{◌≡◌, false, sym, subst, ap, arith}
 use Rattle.kr_config.specs.Kept.{rows_of}
 use Rattle.kr_kms.specs.Outside.{same_name}
+use Rattle.kr_kms.specs.declared.world.Access.TheVariants.{ToMake}
 use Rattle.kr_cmd_steps.specs.Around.{with_world}
 use Rattle.kr_cmd_steps.specs.Commands.{copied_into, migrating_into, target_on}
 use Rattle.kr_cmd_steps.specs.Steps.{and_then}
@@ -20,7 +21,7 @@ returns-in-Err-clause-made g c name told count a apart =
     by_bytes (λ to. migrating_into to (rows_of c.args.settings.now.entries.0)
     (stored_of c.args.source.now)) c.as_str-name.ensures
     (not_lent_behind name other told count
-    (subst (λ n. same_name name n ≡ false) (sym c.as_str-name.ensures) apart) true a
+    (subst (λ n. same_name name n ≡ false) (sym c.as_str-name.ensures) apart) ToMake a
     c.in-Err.stop c.in-Err.ensures.files c.in-Err.ensures.objects c.in-Err.ensures.why
     c.in-Err.ensures.asked)
 
@@ -37,7 +38,7 @@ returns-clause-made g c name told count a apart =
     by_bytes (λ to. migrating_into to (rows_of c.args.settings.now.entries.0)
     (stored_of c.args.source.now)) c.as_str-name.ensures
     (settles_behind name other told count
-    (subst (λ n. same_name name n ≡ false) (sym c.as_str-name.ensures) apart) Target true
+    (subst (λ n. same_name name n ≡ false) (sym c.as_str-name.ensures) apart) Target ToMake
     (g.W.World.told c.open_tape.new.world) (g.W.World.told c.settle_tape.new.world)
     (g.W.Tap.Tape.told c.copy_on-made.result.1) (g.W.Tap.Tape.count c.copy_on-made.result.1) a
     (and_then (target_on other) (copied_into other (rows_of c.args.settings.now.entries.0)

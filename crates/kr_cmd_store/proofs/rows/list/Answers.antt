@@ -1,15 +1,15 @@
-use Rattle.std.proofs.Common.{false}
+use Rattle.kr_kms.specs.declared.world.Access.TheVariants.{ToRead}
 use Rattle.kr_cmd_steps.specs.Around.{with_world}
 use Rattle.kr_cmd_steps.proofs.Tapes.{not_lent, lends_tape, is_out}
 use Rattle.kr_cmd_store.proofs.rows.list.Goals as goal
 
 pub returns-in-Err : goal.returns-in-Err
 returns-in-Err g c a = not_lent c.in-Err.ensures.files c.in-Err.ensures.objects a c.args.name.now
-    false c.in-Err.stop c.in-Err.ensures.why c.in-Err.ensures.asked
+    ToRead c.in-Err.stop c.in-Err.ensures.why c.in-Err.ensures.asked
 
 pub close_tape-requires-clause-out : goal.close_tape-requires-clause-out
 close_tape-requires-clause-out g c = λ κs lives. is_out c.args.name.now c.in-Ok.ensures.lent
 
 pub returns : goal.returns
-returns g c a = lends_tape c.args.name.now false a c.in-Ok.ensures.lent c.close_tape.ensures
+returns g c a = lends_tape c.args.name.now ToRead a c.in-Ok.ensures.lent c.close_tape.ensures
     (c.list_on-made.ensures c.args.name.now (with_world (g.W.World.told c.open_tape.new.world) a))

@@ -1,5 +1,6 @@
 -- The store's tape is borrowed for the put, made where it is absent, and comes back.
-use Rattle.std.proofs.Common.{◌<◌, true, sym, subst}
+use Rattle.std.proofs.Common.{◌<◌, sym, subst}
+use Rattle.kr_kms.specs.declared.world.Access.TheVariants.{ToMake}
 use Rattle.kr_config.specs.Kept.{rows_of}
 use Rattle.kr_cmd_steps.specs.Commands.{sealed_into, stored_into, stored_on}
 use Rattle.kr_cmd_steps.specs.Steps.{and_then}
@@ -13,7 +14,7 @@ pub returns-in-Err : goal.returns-in-Err
 returns-in-Err g c a t =
     by_bytes (λ name. stored_into c.args.words.now name (rows_of c.args.settings.entries.0)
     c.args.programs.now c.args.bytes) c.as_str-name.ensures
-    (not_lent c.in-Err.ensures.files c.in-Err.ensures.objects a c.as_str-name.result.now true
+    (not_lent c.in-Err.ensures.files c.in-Err.ensures.objects a c.as_str-name.result.now ToMake
     c.in-Err.stop c.in-Err.ensures.why c.in-Err.ensures.asked)
 
 pub settle_tape-requires-clause-out : goal.settle_tape-requires-clause-out
@@ -24,7 +25,7 @@ pub returns : goal.returns
 returns g c a t =
     by_bytes (λ name. stored_into c.args.words.now name (rows_of c.args.settings.entries.0)
     c.args.programs.now c.args.bytes) c.as_str-name.ensures
-    (lends_settled Store c.as_str-name.result.now true (g.W.World.told c.put_on-put.new.world)
+    (lends_settled Store c.as_str-name.result.now ToMake (g.W.World.told c.put_on-put.new.world)
     (g.W.World.told c.settle_tape.new.world) (g.W.Tap.Tape.told c.put_on-put.result.1)
     (g.W.Tap.Tape.count c.put_on-put.result.1) a (and_then
     (stored_on Store c.as_str-name.result.now) (sealed_into c.args.words.now

@@ -1,6 +1,7 @@
 -- `verify`: each phase goes on from the one before.
-use Rattle.std.proofs.Common.{◌≡◌, List, false, sym, subst}
+use Rattle.std.proofs.Common.{◌≡◌, List, sym, subst}
 use Rattle.std.specs.Prelude.{All}
+use Rattle.kr_kms.specs.declared.world.Access.TheVariants.{ToRead}
 use Rattle.kr_config.specs.Kept.{Row, rows_of}
 use Rattle.kr_provider.specs.PluginOrder.{plugin_order}
 use Rattle.kr_cmd_steps.specs.Around.{with_world}
@@ -16,7 +17,7 @@ use Rattle.kr_cmd_store.proofs.ToldRows.{verified_by}
 use Rattle.kr_cmd_store.proofs.verifying.verify.Goals as goal
 
 abbrev listed : Verification → List Row → List Program → Steps Outcome
-listed words rows programs = and_then (tape_for words.store false (live_on words.store))
+listed words rows programs = and_then (tape_for words.store ToRead (live_on words.store))
     (verifying_with programs rows)
 
 abbrev loaded : Verification → List Row → Steps Outcome
@@ -47,9 +48,9 @@ returns-in-Err-find_rows g c a t =
     (by_bytes configuration c.as_str.ensures (c.in-Ok.ensures a))
     (goes_on (linking_programs words.options rows) (listed words rows) programs
     (c.in-Ok-programs_of.ensures.does now)
-    (stops (tape_for words.store false (live_on words.store)) (verifying_with programs rows)
+    (stops (tape_for words.store ToRead (live_on words.store)) (verifying_with programs rows)
     c.in-Err-find_rows.stop
-    (by_bytes (λ name. tape_for name false (live_on name)) c.as_str-2.ensures
+    (by_bytes (λ name. tape_for name ToRead (live_on name)) c.as_str-2.ensures
     (c.in-Err-find_rows.ensures.does a))))
 
 pub read_by_links-requires-clause-programs : goal.read_by_links-requires-clause-programs
@@ -71,8 +72,8 @@ returns g c a t =
     (by_bytes configuration c.as_str.ensures (c.in-Ok.ensures a))
     (goes_on (linking_programs words.options rows) (listed words rows) programs
     (c.in-Ok-programs_of.ensures.does now)
-    (goes_on (tape_for words.store false (live_on words.store)) (verifying_with programs rows)
+    (goes_on (tape_for words.store ToRead (live_on words.store)) (verifying_with programs rows)
     c.in-Ok-find_rows.rows.0
-    (by_bytes (λ name. tape_for name false (live_on name)) c.as_str-2.ensures
+    (by_bytes (λ name. tape_for name ToRead (live_on name)) c.as_str-2.ensures
     (c.in-Ok-find_rows.ensures.does a))
     (verified_by rows c.as_slice.ensures c.as_slice-2.ensures (c.read_by_links.ensures a t))))

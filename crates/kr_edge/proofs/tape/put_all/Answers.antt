@@ -5,17 +5,17 @@ use Rattle.kr_edge.proofs.Pieces.{IsPut, put_next, front_of_put, front_stays, wh
 use Rattle.kr_edge.proofs.tape.put_all.Goals as goal
 use Rattle.kr_edge.proofs.tape.put_all.Goals.{in-Ok, in-Err-Interrupted}
 
-pub returns-in_default : goal.returns-in_default
-returns-in_default g c = front_of_put _ _ c.args.at _ c.loop.invariant.put
+pub returns-in_default-clause-bytes : goal.returns-in_default-clause-bytes
+returns-in_default-clause-bytes g c = front_of_put _ _ c.args.at _ c.loop.invariant.put
 
-pub returns-in-Ok-eq0 : goal.returns-in-Ok-eq0
-returns-in-Ok-eq0 g c = front_of_put _ _ c.args.at _
+pub returns-in-Ok-eq0-clause-bytes : goal.returns-in-Ok-eq0-clause-bytes
+returns-in-Ok-eq0-clause-bytes g c = front_of_put _ _ c.args.at _
     (put_next (g.F.PlacedFile.told c.args.file.now) (g.F.PlacedFile.told c.loop.file) _ c.args.at
     c.loop.done c.in-Ok-eq0.field-0 c.in-Some.place c.args.bytes.now (omega arith)
     c.loop.invariant.within c.requires c.loop.invariant.put c.in-Ok-eq0.ensures.bytes)
 
-pub returns-in-Err-Failed : goal.returns-in-Err-Failed
-returns-in-Err-Failed g c =
+pub returns-in-Err-Failed-clause-bytes : goal.returns-in-Err-Failed-clause-bytes
+returns-in-Err-Failed-clause-bytes g c =
     let old = g.F.PlacedFile.told c.args.file.now in
     let now = g.F.PlacedFile.told c.loop.file in
     let next = g.F.PlacedFile.told c.write_at.new.self in
@@ -37,6 +37,7 @@ loop-preserved g c =
             (put_next old now next c.args.at c.loop.done w.in-Ok.n c.in-Some.place c.args.bytes.now
             (omega arith) c.loop.invariant.within c.requires c.loop.invariant.put
             w.in-Ok.ensures.bytes);
+        lengths = w.in-Ok.ensures.lengths ∙ c.loop.invariant.lengths;
       }
       | in-Err-Interrupted w ↦ record {
         within = omega (arith, w.done-is, c.loop.invariant.within);
@@ -45,8 +46,9 @@ loop-preserved g c =
             - c.loop.done) (drop c.loop.done c.args.bytes.now)) (Err why))
             w.in-Err-Interrupted.field-0-is w.in-Err-Interrupted.ensures.bytes
             ∙ c.loop.invariant.put);
+        lengths = w.in-Err-Interrupted.ensures.lengths ∙ c.loop.invariant.lengths;
       }
     ]
 
-pub returns : goal.returns
-returns g c = front_of_put _ _ c.args.at _ c.loop.invariant.put
+pub returns-clause-bytes : goal.returns-clause-bytes
+returns-clause-bytes g c = front_of_put _ _ c.args.at _ c.loop.invariant.put

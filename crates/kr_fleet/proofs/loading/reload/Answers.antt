@@ -1,7 +1,11 @@
 -- `reload`: what was published is brought.
 use Rattle.std.proofs.Common.{[], None, refl, subst, sym, ◌∙◌}
 use Rattle.kr_config.specs.Kept.{rows_of}
+use Rattle.kr_base.proofs.Walks.{talk_so}
+use Rattle.kr_provider.specs.AskedLinks.{Among}
+use Rattle.kr_provider.specs.Exchanges.{PublishesBy}
 use Rattle.kr_provider.specs.Names.{names_of}
+use Rattle.kr_provider.specs.Publishing.{Publishes}
 use Rattle.kr_rollout.specs.Openings.{NamesAmong}
 use Rattle.kr_fleet.specs.LoadCalls.{reload_of}
 use Rattle.kr_fleet.proofs.Bringing.{in_vain, keeps_reload, not_shared, reload_answered, reload_holds, seeds_tell}
@@ -18,11 +22,11 @@ publish-requires g c = record {
 }
 
 pub returns-in-Err-clause-reloads : goal.returns-in-Err-clause-reloads
-returns-in-Err-clause-reloads g c = not_shared g.L.Kms.truth g.L.Kms.link
-    g.D.Dice.left g.D.Dice.count (rows_of c.args.settings.entries.0)
+returns-in-Err-clause-reloads g c = not_shared
+    (λ made. Publishes g.L.Kms.truth g.L.Kms.link g.D.Dice.left g.D.Dice.count
+    (rows_of c.args.settings.entries.0) c.args.bench.now.links c.args.bench.now.dice made
+    c.publish.new.bench.links c.publish.new.bench.dice)
     (g.A.Acts.caller c.args.acts.now) (g.A.Acts.caller c.args.acts.now)
-    c.args.bench.now.links
-    c.publish.new.bench.links c.args.bench.now.dice c.publish.new.bench.dice
     (reload_of c.args.replica None) c.args.replica c.in-Err.why refl c.in-Err.ensures.published
 
 pub act-requires : goal.act-requires
@@ -37,11 +41,11 @@ act-requires g c = record {
 }
 
 pub returns-in-Ok-act-clause-reloads : goal.returns-in-Ok-act-clause-reloads
-returns-in-Ok-act-clause-reloads g c = reload_answered g.L.Kms.truth g.L.Kms.link
-    g.D.Dice.left g.D.Dice.count (rows_of c.args.settings.entries.0)
+returns-in-Ok-act-clause-reloads g c = reload_answered
+    (λ made. Publishes g.L.Kms.truth g.L.Kms.link g.D.Dice.left g.D.Dice.count
+    (rows_of c.args.settings.entries.0) c.args.bench.now.links c.args.bench.now.dice made
+    c.publish.new.bench.links c.publish.new.bench.dice)
     (g.A.Acts.caller c.args.acts.now) (g.A.Acts.caller c.act.new.self)
-    c.args.bench.now.links
-    c.publish.new.bench.links c.args.bench.now.dice c.publish.new.bench.dice
     c.args.replica c.in-Ok.published c.in-Ok-act.answer c.reloaded.result
     c.in-Ok.ensures.published c.in-Ok-act.ensures.acted c.reloaded.ensures
 
@@ -61,11 +65,11 @@ returns-in-Ok-act-clause-idle g c = reload_holds (g.A.Acts.caller c.args.acts.no
     c.in-Ok-act.answer c.in-Ok-act.ensures.acted ∙ c.requires.idle
 
 pub returns-in-Err-act-clause-reloads : goal.returns-in-Err-act-clause-reloads
-returns-in-Err-act-clause-reloads g c = in_vain g.L.Kms.truth g.L.Kms.link
-    g.D.Dice.left g.D.Dice.count (rows_of c.args.settings.entries.0)
+returns-in-Err-act-clause-reloads g c = in_vain
+    (λ made. Publishes g.L.Kms.truth g.L.Kms.link g.D.Dice.left g.D.Dice.count
+    (rows_of c.args.settings.entries.0) c.args.bench.now.links c.args.bench.now.dice made
+    c.publish.new.bench.links c.publish.new.bench.dice)
     (g.A.Acts.caller c.args.acts.now) (g.A.Acts.caller c.act.new.self)
-    c.args.bench.now.links
-    c.publish.new.bench.links c.args.bench.now.dice c.publish.new.bench.dice
     (reload_of c.args.replica None) c.args.replica c.in-Ok.published
     (record { spent = c.in-Err-act.ensures.spent.0 refl; same = c.in-Err-act.ensures.nothing })
     c.in-Ok.ensures.published
@@ -81,3 +85,32 @@ returns-in-Ok-act-clause-adds g c = entry_within (g.A.Acts.caller c.args.acts.no
 pub returns-in-Err-act-clause-adds : goal.returns-in-Err-act-clause-adds
 returns-in-Err-act-clause-adds g c = same_within 1 1 []
     (g.A.Acts.caller c.args.acts.now) (g.A.Acts.caller c.act.new.self) c.in-Err-act.ensures.nothing
+
+pub returns-in-Err-clause-exchanged : goal.returns-in-Err-clause-exchanged
+returns-in-Err-clause-exchanged g c = talk_so (Among g.L.Kms.step) _ _ _ _
+    c.in-Err.ensures.exchanged (λ es shared. not_shared
+    (λ made. PublishesBy g.D.Dice.left g.D.Dice.count (rows_of c.args.settings.entries.0)
+    c.args.bench.now.dice made c.publish.new.bench.dice es)
+    (g.A.Acts.caller c.args.acts.now) (g.A.Acts.caller c.args.acts.now)
+    (reload_of c.args.replica None) c.args.replica
+    c.in-Err.why refl shared)
+
+pub returns-in-Ok-act-clause-exchanged : goal.returns-in-Ok-act-clause-exchanged
+returns-in-Ok-act-clause-exchanged g c = talk_so (Among g.L.Kms.step) _ _ _ _
+    c.in-Ok.ensures.exchanged (λ es published. reload_answered
+    (λ made. PublishesBy g.D.Dice.left g.D.Dice.count (rows_of c.args.settings.entries.0)
+    c.args.bench.now.dice made c.publish.new.bench.dice es)
+    (g.A.Acts.caller c.args.acts.now) (g.A.Acts.caller c.act.new.self) c.args.replica
+    c.in-Ok.published c.in-Ok-act.answer c.reloaded.result published c.in-Ok-act.ensures.acted
+    c.reloaded.ensures)
+
+pub returns-in-Err-act-clause-exchanged : goal.returns-in-Err-act-clause-exchanged
+returns-in-Err-act-clause-exchanged g c = talk_so (Among g.L.Kms.step) _ _ _ _
+    c.in-Ok.ensures.exchanged (λ es published. in_vain
+    (λ made. PublishesBy g.D.Dice.left g.D.Dice.count (rows_of c.args.settings.entries.0)
+    c.args.bench.now.dice made c.publish.new.bench.dice es)
+    (g.A.Acts.caller c.args.acts.now) (g.A.Acts.caller c.act.new.self)
+    (reload_of c.args.replica None) c.args.replica
+    c.in-Ok.published
+    (record { spent = c.in-Err-act.ensures.spent.0 refl; same = c.in-Err-act.ensures.nothing })
+    published)

@@ -3,9 +3,11 @@ use Rattle.std.proofs.Common.{List, ℕ, length, ◌≤◌, ap, subst, sym, ◌�
 use Rattle.std.specs.Prelude.{IfSome}
 use Rattle.kr_base.specs.Limits.{path_limit, value_limit}
 use Rattle.kr_provider.proofs.AskedLists.{asked_none}
+use Rattle.kr_provider.specs.AskedLinks.{Among}
 use Rattle.kr_provider.specs.Names.{names_of}
 use Rattle.kr_store.specs.declared.rows.Row.{Row}
 use Rattle.kr_fleet.proofs.Finding.{IsAt, fetch_absent, fetch_refused, find_done}
+use Rattle.kr_fleet.proofs.ReadTalks.{absent_talk, found_talk, refused_talk}
 use Rattle.kr_fleet.proofs.Single.{some_all, some_there}
 use Rattle.kr_fleet.proofs.reading.find.Goals as goal
 
@@ -55,3 +57,26 @@ returns-clause-finds g c =
     c.unseal-opened.result c.value_of.result c.known.ensures c.requires.held
     c.in-Ok.ensures.fetches c.in-Some.is at
     c.get-lent.ensures c.unseal-opened.ensures.opened c.value_of.ensures
+
+pub returns-in-Err-clause-exchanged : goal.returns-in-Err-clause-exchanged
+returns-in-Err-clause-exchanged g c = some_all _ c.args.bench.now.published (λ p.
+    refused_talk (Among g.L.Kms.step) c.args.path (g.A.Acts.caller c.args.acts.now)
+    (g.A.Acts.caller c.fetch.new.acts) c.args.bench.now.links c.args.bench.now.links
+    c.args.bench.now.cache c.args.bench.now.cache p c.in-Err.why c.in-Err.ensures.fetches)
+
+pub returns-in_default-clause-exchanged : goal.returns-in_default-clause-exchanged
+returns-in_default-clause-exchanged g c = some_all _ c.args.bench.now.published (λ p.
+    absent_talk (Among g.L.Kms.step) c.args.path (g.A.Acts.caller c.args.acts.now)
+    (g.A.Acts.caller c.fetch.new.acts) c.args.bench.now.links c.args.bench.now.links
+    c.args.bench.now.cache c.args.bench.now.cache p c.in-Ok.found c.in_default.is
+    c.in-Ok.ensures.fetches)
+
+pub returns-clause-exchanged : goal.returns-clause-exchanged
+returns-clause-exchanged g c =
+    let at = subst (λ f. IfSome f (IsAt c.args.path)) c.in-Some.is c.in-Ok.ensures.row in
+    found_talk (Among g.L.Kms.step) c.args.path (g.A.Acts.caller c.args.acts.now)
+    (g.A.Acts.caller c.fetch.new.acts) c.args.bench.now.links c.unseal-opened.new.bench.links
+    c.args.bench.now.cache c.unseal-opened.new.bench.cache c.args.bench.now.published c.in-Ok.found
+    c.in-Some.row c.get-lent.result.now c.unseal-opened.result c.value_of.result c.known.ensures
+    c.requires.held c.in-Ok.ensures.fetches c.in-Some.is at c.get-lent.ensures
+    c.unseal-opened.ensures.exchanged c.value_of.ensures

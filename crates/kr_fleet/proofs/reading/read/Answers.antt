@@ -1,11 +1,16 @@
 -- `read`: its stages, one behind another.
-use Rattle.std.proofs.Common.{[], ap, arith, inl, refl, subst, sym, ◌∙◌}
+use Rattle.std.proofs.Common.{[], ap, arith, inl, inr, refl, subst, sym, ◌∙◌}
 use Rattle.kr_base.specs.Rules.{IsPath}
 use Rattle.kr_provider.proofs.AskedLists.{asked_none}
-use Rattle.kr_provider.specs.AskedLinks.{AskedOnly}
+use Rattle.kr_base.specs.Walks.{Talk}
+use Rattle.kr_base.proofs.Walks.{talk_none}
+use Rattle.kr_provider.specs.AskedLinks.{Among, AskedOnly}
 use Rattle.kr_provider.specs.KeyPages.{size_of}
 use Rattle.kr_provider.specs.Names.{names_of}
+use Rattle.kr_fleet.specs.CallExchanges.{IsReadBy}
+use Rattle.kr_fleet.specs.ReadCalls.{IsRead}
 use Rattle.kr_fleet.proofs.Finding.{reads_held}
+use Rattle.kr_fleet.proofs.ReadTalks.{read_talk}
 use Rattle.kr_fleet.proofs.Single.{some_there}
 use Rattle.kr_history.proofs.KeptByEvents.{keeps_both}
 use Rattle.kr_history.proofs.Nexts.{serves}
@@ -47,14 +52,17 @@ let_go-requires g c =
     record { holds = some_there _ _ (c.find-found.ensures.holds ∙ c.in-Ok-adopt.ensures.known.1) }
 
 pub returns-clause-reads : goal.returns-clause-reads
-returns-clause-reads g c = reads_held g.L.Kms.truth g.L.Kms.link c.args.path.now c.in-Ok.copy
+returns-clause-reads g c = subst (λ l. IsRead g.L.Kms.truth g.L.Kms.link c.args.path.now
+    c.args.replica (g.A.Acts.caller c.args.acts.now) c.args.bench.now.links c.let_go.result
+    (g.A.Acts.caller c.let_go.new.acts) l) (sym (ap (λ b. b.links) c.lay_down.ensures.kept))
+    (reads_held g.L.Kms.truth g.L.Kms.link c.args.path.now c.in-Ok.copy
     c.args.replica (g.A.Acts.caller c.args.acts.now) (g.A.Acts.caller c.adopt.new.acts)
     (g.A.Acts.caller c.find-found.new.acts) (g.A.Acts.caller c.let_go.new.acts)
     c.args.bench.now.links c.take_up.new.bench.links c.find-found.new.bench.links
     c.in-Ok-adopt.held c.take_up.new.bench.published c.find-found.result c.let_go.result
     c.in-Ok.ensures (ap (λ b. b.links) c.take_up.ensures.taken)
     (ap (λ b. b.published) c.take_up.ensures.taken) c.in-Ok-adopt.ensures.adopts
-    c.find-found.ensures.finds c.let_go.ensures.lets_go
+    c.find-found.ensures.finds c.let_go.ensures.lets_go)
 
 pub returns-clause-honest : goal.returns-clause-honest
 returns-clause-honest g c = keeps_both (g.A.Acts.caller c.args.acts.now)
@@ -66,16 +74,18 @@ returns-clause-honest g c = keeps_both (g.A.Acts.caller c.args.acts.now)
 
 pub returns-clause-asked : goal.returns-clause-asked
 returns-clause-asked g c = subst
-    (λ l. AskedOnly g.L.Kms.link (names_of g.L.Kms.link l) l c.find-found.new.bench.links)
-    (ap (λ b. b.links) c.take_up.ensures.taken) c.find-found.ensures.asked
+    (λ l. AskedOnly g.L.Kms.link (names_of g.L.Kms.link c.args.bench.now.links)
+    c.args.bench.now.links l) (sym (ap (λ b. b.links) c.lay_down.ensures.kept))
+    (subst (λ l. AskedOnly g.L.Kms.link (names_of g.L.Kms.link l) l c.find-found.new.bench.links)
+    (ap (λ b. b.links) c.take_up.ensures.taken) c.find-found.ensures.asked)
 
 pub returns-clause-dice : goal.returns-clause-dice
-returns-clause-dice g c =
-    ap (λ b. b.dice) c.find-found.ensures.kept ∙ ap (λ b. b.dice) c.take_up.ensures.taken
+returns-clause-dice g c = ap (λ b. b.dice) c.lay_down.ensures.kept
+    ∙ ap (λ b. b.dice) c.find-found.ensures.kept ∙ ap (λ b. b.dice) c.take_up.ensures.taken
 
 pub returns-clause-pages : goal.returns-clause-pages
-returns-clause-pages g c =
-    ap (λ b. size_of b.pages) c.find-found.ensures.kept ∙ c.take_up.ensures.pages
+returns-clause-pages g c = c.lay_down.ensures.cleared.size
+    ∙ ap (λ b. size_of b.pages) c.find-found.ensures.kept ∙ c.take_up.ensures.pages
 
 pub returns-clause-place : goal.returns-clause-place
 returns-clause-place g c =
@@ -93,3 +103,45 @@ returns-clause-adds g c = held_within 0 [] (g.A.Acts.caller c.args.acts.now)
     (g.A.Acts.caller c.adopt.new.acts) (g.A.Acts.caller c.find-found.new.acts)
     (g.A.Acts.caller c.let_go.new.acts) c.in-Ok-adopt.ensures.adds c.find-found.ensures.adds
     c.let_go.ensures.adds
+
+pub returns-in_default-clause-exchanged : goal.returns-in_default-clause-exchanged
+returns-in_default-clause-exchanged g c = talk_none (Among g.L.Kms.step) _ c.args.bench.now.links
+    (inl (inl refl, (refl, refl)))
+
+pub returns-in-Err-clause-exchanged : goal.returns-in-Err-clause-exchanged
+returns-in-Err-clause-exchanged g c = talk_none (Among g.L.Kms.step) _ c.args.bench.now.links
+    (inl (c.in-Err.ensures.adopts, (refl, refl)))
+
+pub returns-clause-exchanged : goal.returns-clause-exchanged
+returns-clause-exchanged g c = subst (λ l. Talk (Among g.L.Kms.step)
+    c.args.bench.now.links l (IsReadBy c.args.path.now c.args.replica
+    (g.A.Acts.caller c.args.acts.now) c.args.bench.now.cache c.let_go.result
+    (g.A.Acts.caller c.let_go.new.acts) c.lay_down.new.bench.cache))
+    (sym (ap (λ b. b.links) c.lay_down.ensures.kept))
+    (subst (λ k. Talk (Among g.L.Kms.step) c.args.bench.now.links c.find-found.new.bench.links
+    (IsReadBy c.args.path.now c.args.replica (g.A.Acts.caller c.args.acts.now)
+    c.args.bench.now.cache c.let_go.result (g.A.Acts.caller c.let_go.new.acts) k))
+    (sym (ap (λ b. b.cache) c.lay_down.ensures.kept)) (read_talk (Among g.L.Kms.step)
+    c.args.path.now c.in-Ok.copy
+    c.args.replica (g.A.Acts.caller c.args.acts.now) (g.A.Acts.caller c.adopt.new.acts)
+    (g.A.Acts.caller c.find-found.new.acts) (g.A.Acts.caller c.let_go.new.acts)
+    c.args.bench.now.links c.take_up.new.bench.links c.find-found.new.bench.links
+    c.args.bench.now.cache c.take_up.new.bench.cache c.find-found.new.bench.cache
+    c.in-Ok-adopt.held c.take_up.new.bench.published c.find-found.result c.let_go.result
+    c.in-Ok.ensures (ap (λ b. b.links) c.take_up.ensures.taken)
+    (ap (λ b. b.cache) c.take_up.ensures.taken) (ap (λ b. b.published) c.take_up.ensures.taken)
+    c.in-Ok-adopt.ensures.adopts c.find-found.ensures.exchanged c.let_go.ensures.lets_go))
+
+pub returns-clause-keys : goal.returns-clause-keys
+returns-clause-keys g c = inr (record {
+  none = c.lay_down.ensures.cleared.none;
+  keys = c.lay_down.ensures.cleared.keys;
+  size = c.lay_down.ensures.cleared.size ∙ ap (λ b. size_of b.pages) c.find-found.ensures.kept
+      ∙ c.take_up.ensures.pages;
+})
+
+pub returns-in_default-clause-keys : goal.returns-in_default-clause-keys
+returns-in_default-clause-keys g c = inl (refl, refl)
+
+pub returns-in-Err-clause-keys : goal.returns-in-Err-clause-keys
+returns-in-Err-clause-keys g c = inl (refl, refl)

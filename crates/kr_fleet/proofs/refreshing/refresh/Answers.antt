@@ -1,5 +1,7 @@
 -- `refresh`: its stages, one behind another.
-use Rattle.std.proofs.Common.{[], arith, subst, sym}
+use Rattle.std.proofs.Common.{[], ap, arith, inl, refl, subst, sym}
+use Rattle.kr_base.proofs.Walks.{talk_none}
+use Rattle.kr_provider.specs.AskedLinks.{Among}
 use Rattle.kr_provider.specs.Names.{HasLinks, names_of}
 use Rattle.kr_provider.specs.Publication.{Publication}
 use Rattle.kr_rollout.specs.declared.answer.Answer.TheVariants as answer
@@ -10,6 +12,7 @@ use Rattle.kr_provider.proofs.AskedLists.{asked_none}
 use Rattle.kr_fleet.specs.LoadCalls.{plugin_names}
 use Rattle.kr_history.proofs.AskedReaders.{asked_all}
 use Rattle.kr_history.proofs.Nexts.{opening_is, serves}
+use Rattle.kr_fleet.proofs.RenewTalks.{refresh_talk}
 use Rattle.kr_fleet.proofs.Spending.{adopted_room}
 use Rattle.kr_history.proofs.PartsAdd.{held_within, within_more}
 use Rattle.kr_fleet.proofs.refreshing.refresh.Goals as goal
@@ -59,3 +62,25 @@ returns-clause-adds g c = held_within 1 [] (g.A.Acts.caller c.args.acts.now)
     (g.A.Acts.caller c.adopt.new.acts) (g.A.Acts.caller c.renew-done.new.acts)
     (g.A.Acts.caller c.let_go.new.acts) c.in-Ok.ensures.adds c.renew-done.ensures.adds
     c.let_go.ensures.adds
+
+pub returns-in-Err-clause-exchanged : goal.returns-in-Err-clause-exchanged
+returns-in-Err-clause-exchanged g c = talk_none (Among g.L.Kms.step) _ c.args.bench.now.links
+    (inl (c.in-Err.ensures.adopts, (refl, refl)))
+
+pub returns-clause-exchanged : goal.returns-clause-exchanged
+returns-clause-exchanged g c = refresh_talk (Among g.L.Kms.step) g.D.Dice.left g.D.Dice.count
+    c.args.replica (g.A.Acts.caller c.args.acts.now) (g.A.Acts.caller c.adopt.new.acts)
+    (g.A.Acts.caller c.renew-done.new.acts) (g.A.Acts.caller c.let_go.new.acts)
+    c.args.bench.now.links c.renew-done.new.bench.links c.args.bench.now.dice
+    c.renew-done.new.bench.dice c.in-Ok.held c.get.result.now c.renew-done.result
+    c.let_go.result c.get.ensures c.in-Ok.ensures.adopts c.renew-done.ensures.exchanged
+    c.let_go.ensures.lets_go
+
+pub returns-in-Err-clause-keys : goal.returns-in-Err-clause-keys
+returns-in-Err-clause-keys g c = inl (refl, refl)
+
+pub returns-clause-keys : goal.returns-clause-keys
+returns-clause-keys g c = inl (
+  ap (λ b. b.published) c.renew-done.ensures.kept,
+  ap (λ b. b.pages) c.renew-done.ensures.kept,
+)

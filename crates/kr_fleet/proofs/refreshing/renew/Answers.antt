@@ -1,15 +1,21 @@
 -- `renew`: key ids are compared, then the settings are published and brought.
-use Rattle.std.proofs.Common.{[], Some, List, ap, refl, subst, sym, ◌∙◌}
+use Rattle.std.proofs.Common.{[], Err, Some, List, ap, refl, subst, sym, ◌∙◌}
 use Rattle.std.specs.Prelude.{Contains}
+use Rattle.kr_base.proofs.Walks.{talk_so}
 use Rattle.kr_config.specs.Kept.{Row, plugins_in, rows_of}
 use Rattle.kr_kms.specs.declared.seeds.SeedRow.{SeedRow}
 use Rattle.kr_rollout.specs.Openings.{NamesAmong}
 use Rattle.kr_provider.proofs.AskedLists.{names_stay}
+use Rattle.kr_provider.specs.AskedLinks.{Among}
+use Rattle.kr_provider.specs.Exchanges.{PublishesBy}
+use Rattle.kr_fleet.specs.CallForms.{reload_of}
 use Rattle.kr_fleet.specs.LoadCalls.{plugin_names}
-use Rattle.kr_fleet.proofs.Bringing.{keeps_reload, reload_holds, seeds_tell}
-use Rattle.kr_fleet.proofs.Renewed.{compared_asks, published, renewed_asks, unpublished}
+use Rattle.kr_fleet.proofs.Bringing.{in_vain, keeps_reload, not_shared, reload_holds, seeds_tell}
+use Rattle.kr_fleet.proofs.RenewTalks.{renewed_talk, unchanged_talk, unowned_talk, untold_talk}
+use Rattle.kr_fleet.proofs.Renewed.{compared_asks, published, renew_answered, renewed_asks, unpublished}
 use Rattle.kr_rollout.specs.declared.event.Event.TheVariants as event
 use Rattle.kr_history.proofs.PartsAdd.{entry_within, nothing_within, same_within}
+use Rattle.kr_history.specs.declared.call.CallNo.TheVariants as refusal
 use Rattle.kr_fleet.proofs.refreshing.renew.Goals as goal
 
 pub has_changed-requires : goal.has_changed-requires
@@ -131,3 +137,83 @@ returns-in-Ok-act-clause-adds g c = entry_within (g.A.Acts.caller c.args.acts.no
 pub returns-in-Err-act-clause-adds : goal.returns-in-Err-act-clause-adds
 returns-in-Err-act-clause-adds g c = same_within 1 1 []
     (g.A.Acts.caller c.args.acts.now) (g.A.Acts.caller c.act.new.self) c.in-Err-act.ensures.nothing
+
+pub returns-in-Err-clause-exchanged : goal.returns-in-Err-clause-exchanged
+returns-in-Err-clause-exchanged g c = untold_talk (Among g.L.Kms.step)
+    g.D.Dice.left g.D.Dice.count
+    c.args.replica c.args.generation c.args.published.now c.seeds_of.result.now c.seeds_of.ensures
+    (g.A.Acts.caller c.args.acts.now) c.args.bench.now.links c.has_changed.new.bench.links
+    c.args.bench.now.dice c.has_changed.new.bench.dice (ap (λ b. b.dice) c.has_changed.ensures.kept)
+    c.in-Err.why c.in-Err.ensures.exchanged
+
+pub returns-then-not-changed-clause-exchanged : goal.returns-then-not-changed-clause-exchanged
+returns-then-not-changed-clause-exchanged g c = unchanged_talk (Among g.L.Kms.step)
+    g.D.Dice.left g.D.Dice.count
+    c.args.replica c.args.generation c.args.published.now c.seeds_of.result.now c.seeds_of.ensures
+    (g.A.Acts.caller c.args.acts.now) c.args.bench.now.links c.has_changed.new.bench.links
+    c.args.bench.now.dice c.has_changed.new.bench.dice (ap (λ b. b.dice) c.has_changed.ensures.kept)
+    c.in-Ok.changed c.if-not-changed.true c.in-Ok.ensures.exchanged
+
+pub returns-in_default-clause-exchanged : goal.returns-in_default-clause-exchanged
+returns-in_default-clause-exchanged g c = unowned_talk (Among g.L.Kms.step)
+    g.D.Dice.left g.D.Dice.count
+    c.args.replica c.args.generation c.args.published.now c.seeds_of.result.now c.seeds_of.ensures
+    (g.A.Acts.caller c.args.acts.now) c.args.bench.now.links c.has_changed.new.bench.links
+    c.args.bench.now.dice c.has_changed.new.bench.dice (ap (λ b. b.dice) c.has_changed.ensures.kept)
+    c.in-Ok.changed c.if-not-changed.false c.in-Ok.ensures.exchanged
+
+pub returns-in-Err-publish-clause-exchanged : goal.returns-in-Err-publish-clause-exchanged
+returns-in-Err-publish-clause-exchanged g c = renewed_talk (Among g.L.Kms.step)
+    g.D.Dice.left g.D.Dice.count
+    c.args.replica c.args.generation c.args.published.now c.seeds_of.result.now c.seeds_of.ensures
+    (g.A.Acts.caller c.args.acts.now) c.args.bench.now.links c.has_changed.new.bench.links
+    c.args.bench.now.dice c.has_changed.new.bench.dice (ap (λ b. b.dice) c.has_changed.ensures.kept)
+    c.in-Ok.changed c.if-not-changed.false c.in-Ok.ensures.exchanged
+    (rows_of c.in-Ok-settings_of.settings.entries.0) c.in-Ok-settings_of.ensures
+    (g.A.Acts.caller c.args.acts.now) c.publish.new.bench.links c.publish.new.bench.dice
+    (Err c.in-Err-publish.why) (talk_so (Among g.L.Kms.step) _ _ _ _
+    c.in-Err-publish.ensures.exchanged (λ es shared. not_shared
+    (λ made. PublishesBy g.D.Dice.left g.D.Dice.count
+    (rows_of c.in-Ok-settings_of.settings.entries.0) c.has_changed.new.bench.dice made
+    c.publish.new.bench.dice es)
+    (g.A.Acts.caller c.args.acts.now) (g.A.Acts.caller c.args.acts.now)
+    (reload_of c.args.replica (Some c.args.generation)) c.args.replica c.in-Err-publish.why refl
+    shared))
+
+pub returns-in-Ok-act-clause-exchanged : goal.returns-in-Ok-act-clause-exchanged
+returns-in-Ok-act-clause-exchanged g c = renewed_talk (Among g.L.Kms.step)
+    g.D.Dice.left g.D.Dice.count
+    c.args.replica c.args.generation c.args.published.now c.seeds_of.result.now c.seeds_of.ensures
+    (g.A.Acts.caller c.args.acts.now) c.args.bench.now.links c.has_changed.new.bench.links
+    c.args.bench.now.dice c.has_changed.new.bench.dice (ap (λ b. b.dice) c.has_changed.ensures.kept)
+    c.in-Ok.changed c.if-not-changed.false c.in-Ok.ensures.exchanged
+    (rows_of c.in-Ok-settings_of.settings.entries.0) c.in-Ok-settings_of.ensures
+    (g.A.Acts.caller c.act.new.self) c.publish.new.bench.links c.publish.new.bench.dice
+    c.reloaded.result (talk_so (Among g.L.Kms.step) _ _ _ _
+    c.in-Ok-publish.ensures.exchanged (λ es shared. renew_answered
+    (λ made. PublishesBy g.D.Dice.left g.D.Dice.count
+    (rows_of c.in-Ok-settings_of.settings.entries.0) c.has_changed.new.bench.dice made
+    c.publish.new.bench.dice es)
+    c.args.replica c.args.generation c.args.published.now (g.A.Acts.caller c.args.acts.now)
+    (g.A.Acts.caller c.act.new.self) c.in-Ok-publish.published c.in-Ok-act.answer
+    c.reloaded.result c.known-2.ensures c.requires.held (shared.0 ∙ c.in-Ok-settings_of.ensures)
+    shared c.in-Ok-act.ensures.acted c.reloaded.ensures))
+
+pub returns-in-Err-act-clause-exchanged : goal.returns-in-Err-act-clause-exchanged
+returns-in-Err-act-clause-exchanged g c = renewed_talk (Among g.L.Kms.step)
+    g.D.Dice.left g.D.Dice.count
+    c.args.replica c.args.generation c.args.published.now c.seeds_of.result.now c.seeds_of.ensures
+    (g.A.Acts.caller c.args.acts.now) c.args.bench.now.links c.has_changed.new.bench.links
+    c.args.bench.now.dice c.has_changed.new.bench.dice (ap (λ b. b.dice) c.has_changed.ensures.kept)
+    c.in-Ok.changed c.if-not-changed.false c.in-Ok.ensures.exchanged
+    (rows_of c.in-Ok-settings_of.settings.entries.0) c.in-Ok-settings_of.ensures
+    (g.A.Acts.caller c.act.new.self) c.publish.new.bench.links c.publish.new.bench.dice
+    (Err refusal.Spent) (talk_so (Among g.L.Kms.step) _ _ _ _
+    c.in-Ok-publish.ensures.exchanged (λ es shared. in_vain
+    (λ made. PublishesBy g.D.Dice.left g.D.Dice.count
+    (rows_of c.in-Ok-settings_of.settings.entries.0) c.has_changed.new.bench.dice made
+    c.publish.new.bench.dice es)
+    (g.A.Acts.caller c.args.acts.now) (g.A.Acts.caller c.act.new.self)
+    (reload_of c.args.replica (Some c.args.generation)) c.args.replica c.in-Ok-publish.published
+    (record { spent = c.in-Err-act.ensures.spent.0 refl; same = c.in-Err-act.ensures.nothing })
+    shared))

@@ -1,10 +1,11 @@
 -- `write`: its stages, one behind another.
-use Rattle.std.proofs.Common.{[], ◌∷◌, arith, ap, inl, refl, subst, sym, ◌∙◌, ◌≤◌}
+use Rattle.std.proofs.Common.{[], ◌∷◌, arith, ap, inl, inr, refl, subst, sym, ◌∙◌, ◌≤◌}
 use Rattle.kr_base.specs.Rules.{IsPath, IsResource}
 use Rattle.kr_provider.specs.KeyPages.{size_of}
 use Rattle.kr_provider.specs.Names.{names_of}
 use Rattle.kr_history.proofs.KeptByEvents.{keeps_both}
 use Rattle.kr_history.proofs.Nexts.{serves}
+use Rattle.kr_fleet.specs.WriteCalls.{IsWrite}
 use Rattle.kr_fleet.proofs.Putting.{writes_held}
 use Rattle.kr_fleet.proofs.Single.{some_there}
 use Rattle.kr_rollout.specs.declared.line.Did.TheVariants.{Put}
@@ -44,7 +45,11 @@ let_go-requires g c =
     record { holds = some_there _ _ (c.put-written.ensures.holds ∙ c.in-Ok-adopt.ensures.known.1) }
 
 pub returns-clause-writes : goal.returns-clause-writes
-returns-clause-writes g c = writes_held g.D.Dice.left g.D.Dice.count c.args.resource.now
+returns-clause-writes g c = subst (λ d. IsWrite g.D.Dice.left g.D.Dice.count c.args.resource.now
+    c.args.path.now c.args.plain c.args.replica (g.A.Acts.caller c.args.acts.now)
+    c.args.bench.now.dice c.let_go.result (g.A.Acts.caller c.let_go.new.acts) d)
+    (sym (ap (λ b. b.dice) c.lay_down.ensures.kept)) (writes_held g.D.Dice.left
+    g.D.Dice.count c.args.resource.now
     c.args.path.now c.in-Ok.resource c.in-Ok-copy.path c.args.plain c.args.replica
     (g.A.Acts.caller c.args.acts.now) (g.A.Acts.caller c.adopt.new.acts)
     (g.A.Acts.caller c.put-written.new.acts) (g.A.Acts.caller c.let_go.new.acts)
@@ -52,7 +57,7 @@ returns-clause-writes g c = writes_held g.D.Dice.left g.D.Dice.count c.args.reso
     c.in-Ok-adopt.held c.take_up.new.bench.published c.put-written.result c.let_go.result
     c.in-Ok.ensures c.in-Ok-copy.ensures (ap (λ b. b.dice) c.take_up.ensures.taken)
     (ap (λ b. b.published) c.take_up.ensures.taken) c.in-Ok-adopt.ensures.adopts
-    c.put-written.ensures.puts c.let_go.ensures.lets_go
+    c.put-written.ensures.puts c.let_go.ensures.lets_go)
 
 pub returns-clause-honest : goal.returns-clause-honest
 returns-clause-honest g c = keeps_both (g.A.Acts.caller c.args.acts.now)
@@ -63,16 +68,18 @@ returns-clause-honest g c = keeps_both (g.A.Acts.caller c.args.acts.now)
     c.let_go.ensures.honest
 
 pub returns-clause-links : goal.returns-clause-links
-returns-clause-links g c =
-    ap (λ b. b.links) c.put-written.ensures.kept ∙ ap (λ b. b.links) c.take_up.ensures.taken
+returns-clause-links g c = ap (λ b. b.links) c.lay_down.ensures.kept
+    ∙ ap (λ b. b.links) c.put-written.ensures.kept ∙ ap (λ b. b.links) c.take_up.ensures.taken
 
 pub returns-clause-later : goal.returns-clause-later
-returns-clause-later g c = subst (λ d. g.D.Dice.count d ≤ g.D.Dice.count c.put-written.new.bench.dice)
-    (ap (λ b. b.dice) c.take_up.ensures.taken) c.put-written.ensures.later
+returns-clause-later g c = subst (λ d. g.D.Dice.count c.args.bench.now.dice ≤ g.D.Dice.count d)
+    (sym (ap (λ b. b.dice) c.lay_down.ensures.kept))
+    (subst (λ d. g.D.Dice.count d ≤ g.D.Dice.count c.put-written.new.bench.dice)
+    (ap (λ b. b.dice) c.take_up.ensures.taken) c.put-written.ensures.later)
 
 pub returns-clause-pages : goal.returns-clause-pages
-returns-clause-pages g c =
-    ap (λ b. size_of b.pages) c.put-written.ensures.kept ∙ c.take_up.ensures.pages
+returns-clause-pages g c = c.lay_down.ensures.cleared.size
+    ∙ ap (λ b. size_of b.pages) c.put-written.ensures.kept ∙ c.take_up.ensures.pages
 
 pub returns-clause-place : goal.returns-clause-place
 returns-clause-place g c =
@@ -106,3 +113,24 @@ returns-clause-adds g c =
     (subst (λ r. AddsWithin 1 0 (Put c.in-Ok-copy.path r c.args.plain ∷ []) adopted acted)
     c.in-Ok.ensures c.put-written.ensures.adds))
     c.let_go.ensures.adds
+
+pub returns-clause-cache : goal.returns-clause-cache
+returns-clause-cache g c = ap (λ b. b.cache) c.lay_down.ensures.kept
+    ∙ ap (λ b. b.cache) c.put-written.ensures.kept ∙ ap (λ b. b.cache) c.take_up.ensures.taken
+
+pub returns-clause-keys : goal.returns-clause-keys
+returns-clause-keys g c = inr (record {
+  none = c.lay_down.ensures.cleared.none;
+  keys = c.lay_down.ensures.cleared.keys;
+  size = c.lay_down.ensures.cleared.size ∙ ap (λ b. size_of b.pages) c.put-written.ensures.kept
+      ∙ c.take_up.ensures.pages;
+})
+
+pub returns-in_default-clause-keys : goal.returns-in_default-clause-keys
+returns-in_default-clause-keys g c = inl (refl, refl)
+
+pub returns-in_default-copy-clause-keys : goal.returns-in_default-copy-clause-keys
+returns-in_default-copy-clause-keys g c = inl (refl, refl)
+
+pub returns-in-Err-clause-keys : goal.returns-in-Err-clause-keys
+returns-in-Err-clause-keys g c = inl (refl, refl)

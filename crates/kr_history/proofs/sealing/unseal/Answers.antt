@@ -2,6 +2,9 @@
 use Rattle.std.proofs.Common.{List, ℕ, length, ◌≤◌, subst, sym}
 use Rattle.std.specs.Prelude.{IfSome}
 use Rattle.kr_base.specs.Limits.{path_limit, value_limit}
+use Rattle.kr_base.specs.Walks.{Talk}
+use Rattle.kr_provider.specs.AskedLinks.{Among}
+use Rattle.kr_provider.specs.Exchanges.{ReadsBy}
 use Rattle.kr_provider.specs.Publication.{list_at}
 use Rattle.kr_provider.specs.Unsealing.{UnsealsBy}
 use Rattle.kr_history.proofs.AskedReaders.{unsealed_all}
@@ -30,3 +33,14 @@ pub returns-clause-asked : goal.returns-clause-asked
 returns-clause-asked g c = unsealed_all g.L.Kms.truth g.L.Kms.link c.as_str.result.now
     c.as_str-2.result.now c.as_slice.result.now c.args.bench.now.links c.unseal.new.self.links
     c.args.bench.now.published c.unseal.result c.requires.adopted c.unseal.ensures.opened
+
+pub returns-clause-exchanged : goal.returns-clause-exchanged
+returns-clause-exchanged g c =
+    let Reads : List ℕ → List ℕ → List ℕ → Type 0 = λ resource path stored.
+    IfSome c.args.bench.now.published (λ p. Talk (Among g.L.Kms.step) c.args.bench.now.links
+    c.unseal.new.self.links (ReadsBy p.seeds (list_at p resource) path stored
+    c.args.bench.now.cache c.unseal.result c.unseal.new.self.cache)) in
+    subst (λ s. Reads c.args.row.now.resource c.args.row.now.path s) c.as_slice.ensures
+    (subst (λ p. Reads c.args.row.now.resource p c.as_slice.result.now) c.as_str-2.ensures
+    (subst (λ r. Reads r c.as_str-2.result.now c.as_slice.result.now) c.as_str.ensures
+    c.unseal.ensures.exchanged))

@@ -6,5 +6,5 @@ returns-in-Ok-clause-made c = made_fresh c.args.places.now c.insert.new.self c.a
     c.requires.place c.put_path.ensures.length c.in-None.ensures c.in_ok-kept.ensures c.in_ok-key.ensures c.in_ok-put_path.ensures.ok c.in-Ok.ensures.ok c.in-Ok.ensures.sorted
 
 pub returns-in-Err-clause-indexed : goal.returns-in-Err-clause-indexed
-returns-in-Err-clause-indexed c = made_and_gone c.args.places.now c.insert.new.self c.args.pairs.now c.put_path.new.self c.take_path.new.self c.args.path.now c.args.place c.requires.indexed
-    c.in-None.ensures c.in_ok-put_path.ensures.ok c.take_path.ensures.taken c.in-Err.ensures.err
+returns-in-Err-clause-indexed c = made_and_gone c.args.places.now c.insert.new.self c.args.pairs.now c.put_path.new.self c.take_path.new.self c.args.path.now c.in_ok-kept.kept c.args.place c.requires.indexed
+    c.in-None.ensures c.in_ok-kept.ensures c.in_ok-put_path.ensures.ok c.take_path.ensures.taken c.in-Err.ensures.err

@@ -1,9 +1,13 @@
 -- `go_on`: one more step each time.
-use Rattle.std.proofs.Common.{◌≡◌, ◌⊎◌, ℕ, List, [], arith, refl, subst, sym, ◌∙◌}
+use Rattle.std.proofs.Common.{◌≡◌, ◌⊎◌, ℕ, List, [], arith, inl, refl, subst, sym, ◌∙◌}
 use Rattle.kr_base.specs.Rules.{IsPath}
 use Rattle.kr_provider.proofs.AskedLists.{asked_none}
+use Rattle.kr_provider.specs.AskedLinks.{Among}
 use Rattle.kr_provider.specs.Names.{names_of}
-use Rattle.kr_rewrite.proofs.BetweenSteps.{asked_still, path_next, replica_stays, served_still, walked_begin, walked_cut, walked_end, walked_more}
+use Rattle.kr_rewrite.specs.Drives.{StayLinks}
+use Rattle.kr_rewrite.specs.Rewrites.{UnsealsRow}
+use Rattle.kr_rewrite.proofs.BetweenSteps.{asked_still, leaves_then, opening_stays, path_next, replica_stays, served_still, walked_begin, walked_cut, walked_end, walked_more}
+use Rattle.kr_rewrite.proofs.DriveTalks.{talk_begins, talk_cut, talk_ends, talk_more}
 use Rattle.kr_rewrite.proofs.Growing.{takes_step}
 use Rattle.kr_rewrite.proofs.driving.go_on.Goals as goal
 
@@ -11,7 +15,8 @@ pub loop-step-init : goal.loop-step-init
 loop-step-init g c =
     let old = g.A.Acts.caller c.args.acts.now in
     let b = c.args.bench.now in (
-      walked_begin g.L.Kms.truth g.L.Kms.link g.D.Dice.left g.D.Dice.count c.args.replica
+      walked_begin (UnsealsRow g.L.Kms.truth g.L.Kms.link) g.D.Dice.left g.D.Dice.count
+          c.args.replica
           c.args.report.last old b.links b.dice c.args.report c.requires.none,
       c.requires.idle,
       c.requires.path,
@@ -20,11 +25,15 @@ loop-step-init g c =
       refl,
       refl,
       λ told keeps. keeps,
+      talk_begins g.D.Dice.left g.D.Dice.count c.args.replica (Among g.L.Kms.step) b.links
+          c.args.report.last old b.cache b.dice c.args.report c.requires.none,
+      inl (refl, refl),
     )
 
 pub rewrite_next-requires-clause-replica : goal.rewrite_next-requires-clause-replica
 rewrite_next-requires-clause-replica g c =
-    replica_stays g.L.Kms.truth g.L.Kms.link g.D.Dice.left g.D.Dice.count c.args.replica
+    replica_stays (UnsealsRow g.L.Kms.truth g.L.Kms.link) g.D.Dice.left g.D.Dice.count
+    c.args.replica
     c.args.report.last (g.A.Acts.caller c.args.acts.now) c.args.bench.now.links
     c.args.bench.now.dice c.loop-step.report (g.A.Acts.caller c.loop-step.acts)
     c.loop-step.bench.links c.loop-step.bench.dice c.loop-step.invariant.0 c.args.replica
@@ -39,10 +48,12 @@ rewrite_next-requires-clause-path g c =
 
 pub rewrite_next-requires-clause-links : goal.rewrite_next-requires-clause-links
 rewrite_next-requires-clause-links g c =
-    served_still g.L.Kms.truth g.L.Kms.link g.D.Dice.left g.D.Dice.count c.args.replica
-    c.args.report.last (g.A.Acts.caller c.args.acts.now) c.args.bench.now.links
+    served_still g.L.Kms.link (g.A.Acts.caller c.args.acts.now) (g.A.Acts.caller c.loop-step.acts)
+    c.args.bench.now.links c.loop-step.bench.links
+    (opening_stays (UnsealsRow g.L.Kms.truth g.L.Kms.link) g.D.Dice.left g.D.Dice.count
+    c.args.replica c.args.report.last (g.A.Acts.caller c.args.acts.now) c.args.bench.now.links
     c.args.bench.now.dice c.loop-step.report (g.A.Acts.caller c.loop-step.acts)
-    c.loop-step.bench.links c.loop-step.bench.dice c.loop-step.invariant.0
+    c.loop-step.bench.links c.loop-step.bench.dice c.loop-step.invariant.0)
     c.loop-step.invariant.3 c.requires.links
 
 pub rewrite_next-requires-clause-pages : goal.rewrite_next-requires-clause-pages
@@ -51,13 +62,14 @@ rewrite_next-requires-clause-pages g c =
 
 pub returns-in-Err-clause-goes_on : goal.returns-in-Err-clause-goes_on
 returns-in-Err-clause-goes_on g c =
-    walked_cut g.L.Kms.truth g.L.Kms.link g.D.Dice.left g.D.Dice.count c.args.replica
+    walked_cut (UnsealsRow g.L.Kms.truth g.L.Kms.link) g.D.Dice.left g.D.Dice.count c.args.replica
     c.args.report.last (g.A.Acts.caller c.args.acts.now) c.args.bench.now.links
     c.args.bench.now.dice c.loop-step.report (g.A.Acts.caller c.loop-step.acts)
     (g.A.Acts.caller c.rewrite_next.new.acts) c.loop-step.bench.links
     c.rewrite_next.new.bench.links c.loop-step.bench.dice c.rewrite_next.new.bench.dice
-    c.loop-step.invariant.0 c.as_str.result.now c.as_str.ensures c.in-Err.why
-    c.in-Err.ensures.steps c.in-Err.ensures.adds c.loop-step.invariant.3 c.loop-step.invariant.4
+    c.loop-step.invariant.0 c.as_str.result.now c.as_str.ensures (StayLinks g.L.Kms.link)
+    c.in-Err.why c.in-Err.ensures.steps c.in-Err.ensures.adds c.loop-step.invariant.3
+    c.loop-step.invariant.4
 
 pub returns-in-Err-clause-honest : goal.returns-in-Err-clause-honest
 returns-in-Err-clause-honest g c = λ told keeps. c.in-Err.ensures.honest told
@@ -80,13 +92,14 @@ returns-in-Err-clause-place g c = c.in-Err.ensures.place ∙ c.loop-step.invaria
 
 pub returns-then-not-found-clause-goes_on : goal.returns-then-not-found-clause-goes_on
 returns-then-not-found-clause-goes_on g c =
-    walked_end g.L.Kms.truth g.L.Kms.link g.D.Dice.left g.D.Dice.count c.args.replica
+    walked_end (UnsealsRow g.L.Kms.truth g.L.Kms.link) g.D.Dice.left g.D.Dice.count c.args.replica
     c.args.report.last (g.A.Acts.caller c.args.acts.now) c.args.bench.now.links
     c.args.bench.now.dice c.loop-step.report (g.A.Acts.caller c.loop-step.acts)
     (g.A.Acts.caller c.rewrite_next.new.acts) c.loop-step.bench.links
     c.rewrite_next.new.bench.links c.loop-step.bench.dice c.rewrite_next.new.bench.dice
-    c.loop-step.invariant.0 c.as_str.result.now c.as_str.ensures c.in-Ok.step c.count-found.result
-    c.count-found.new.self c.count-found.ensures c.if-not-found.true c.in-Ok.ensures.steps
+    c.loop-step.invariant.0 c.as_str.result.now c.as_str.ensures (StayLinks g.L.Kms.link)
+    c.in-Ok.step c.count-found.result c.count-found.new.self c.count-found.ensures
+    c.if-not-found.true c.in-Ok.ensures.steps
     c.in-Ok.ensures.adds c.loop-step.invariant.3 c.loop-step.invariant.4
 
 pub returns-then-not-found-clause-honest : goal.returns-then-not-found-clause-honest
@@ -110,7 +123,7 @@ returns-then-not-found-clause-place g c = c.in-Ok.ensures.place ∙ c.loop-step.
 
 pub loop-step-preserved : goal.loop-step-preserved
 loop-step-preserved g c = (
-  walked_more g.L.Kms.truth g.L.Kms.link g.D.Dice.left g.D.Dice.count c.args.replica
+  walked_more (UnsealsRow g.L.Kms.truth g.L.Kms.link) g.D.Dice.left g.D.Dice.count c.args.replica
       c.args.report.last (g.A.Acts.caller c.args.acts.now) c.args.bench.now.links
       c.args.bench.now.dice c.loop-step.report (g.A.Acts.caller c.loop-step.acts)
       (g.A.Acts.caller c.rewrite_next.new.acts) c.loop-step.bench.links
@@ -127,10 +140,22 @@ loop-step-preserved g c = (
   c.in-Ok.ensures.pages ∙ c.loop-step.invariant.5,
   c.in-Ok.ensures.place ∙ c.loop-step.invariant.6,
   λ told keeps. c.in-Ok.ensures.honest told (c.loop-step.invariant.7 told keeps),
+  talk_more g.D.Dice.left g.D.Dice.count c.args.replica (Among g.L.Kms.step)
+      c.args.bench.now.links c.loop-step.bench.links c.rewrite_next.new.bench.links
+      c.args.report.last (g.A.Acts.caller c.args.acts.now) c.args.bench.now.cache
+      c.args.bench.now.dice c.loop-step.report (g.A.Acts.caller c.loop-step.acts)
+      (g.A.Acts.caller c.rewrite_next.new.acts) c.loop-step.bench.cache
+      c.rewrite_next.new.bench.cache c.loop-step.bench.dice c.rewrite_next.new.bench.dice
+      c.loop-step.invariant.8 c.as_str.result.now c.as_str.ensures c.in-Ok.step
+      c.count-found.result c.count-found.new.self c.count-found.ensures c.if-not-found.false
+      c.in-Ok.ensures.exchanged c.in-Ok.ensures.adds,
+  leaves_then c.args.bench.now c.loop-step.bench c.rewrite_next.new.bench c.loop-step.invariant.9
+      c.in-Ok.ensures.keys,
 )
 
 pub loop-step-smaller : goal.loop-step-smaller
-loop-step-smaller g c = (takes_step g.L.Kms.truth g.L.Kms.link g.D.Dice.left g.D.Dice.count
+loop-step-smaller g c = (takes_step (UnsealsRow g.L.Kms.truth g.L.Kms.link) g.D.Dice.left
+    g.D.Dice.count
     c.args.replica c.as_str.result.now (g.A.Acts.caller c.loop-step.acts)
     (g.A.Acts.caller c.rewrite_next.new.acts) c.loop-step.bench.links
     c.rewrite_next.new.bench.links c.loop-step.bench.dice c.rewrite_next.new.bench.dice
@@ -141,3 +166,34 @@ returns-in-Err-clause-idle g c = c.in-Err.ensures.idle
 
 pub returns-then-not-found-clause-idle : goal.returns-then-not-found-clause-idle
 returns-then-not-found-clause-idle g c = c.in-Ok.ensures.idle
+
+pub returns-in-Err-clause-exchanged : goal.returns-in-Err-clause-exchanged
+returns-in-Err-clause-exchanged g c = talk_cut g.D.Dice.left g.D.Dice.count c.args.replica
+    (Among g.L.Kms.step)
+    c.args.bench.now.links c.loop-step.bench.links c.rewrite_next.new.bench.links
+    c.args.report.last (g.A.Acts.caller c.args.acts.now) c.args.bench.now.cache
+    c.args.bench.now.dice c.loop-step.report (g.A.Acts.caller c.loop-step.acts)
+    (g.A.Acts.caller c.rewrite_next.new.acts) c.loop-step.bench.cache
+    c.rewrite_next.new.bench.cache c.loop-step.bench.dice c.rewrite_next.new.bench.dice
+    c.loop-step.invariant.8 c.as_str.result.now c.as_str.ensures c.in-Err.why
+    c.in-Err.ensures.exchanged c.in-Err.ensures.adds c.loop-step.invariant.4
+
+pub returns-then-not-found-clause-exchanged : goal.returns-then-not-found-clause-exchanged
+returns-then-not-found-clause-exchanged g c = talk_ends g.D.Dice.left g.D.Dice.count c.args.replica
+    (Among g.L.Kms.step)
+    c.args.bench.now.links c.loop-step.bench.links c.rewrite_next.new.bench.links
+    c.args.report.last (g.A.Acts.caller c.args.acts.now) c.args.bench.now.cache
+    c.args.bench.now.dice c.loop-step.report (g.A.Acts.caller c.loop-step.acts)
+    (g.A.Acts.caller c.rewrite_next.new.acts) c.loop-step.bench.cache
+    c.rewrite_next.new.bench.cache c.loop-step.bench.dice c.rewrite_next.new.bench.dice
+    c.loop-step.invariant.8 c.as_str.result.now c.as_str.ensures c.in-Ok.step
+    c.count-found.result c.count-found.new.self c.count-found.ensures c.if-not-found.true
+    c.in-Ok.ensures.exchanged c.in-Ok.ensures.adds c.loop-step.invariant.4
+
+pub returns-in-Err-clause-keys : goal.returns-in-Err-clause-keys
+returns-in-Err-clause-keys g c = leaves_then c.args.bench.now c.loop-step.bench
+    c.rewrite_next.new.bench c.loop-step.invariant.9 c.in-Err.ensures.keys
+
+pub returns-then-not-found-clause-keys : goal.returns-then-not-found-clause-keys
+returns-then-not-found-clause-keys g c = leaves_then c.args.bench.now c.loop-step.bench
+    c.rewrite_next.new.bench c.loop-step.invariant.9 c.in-Ok.ensures.keys

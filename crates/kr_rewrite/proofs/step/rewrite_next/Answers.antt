@@ -1,14 +1,20 @@
 -- `rewrite_next`: its stages, one behind another.
-use Rattle.std.proofs.Common.{◌⊎◌, ◌≡◌, ◌≤◌, ℕ, List, [], ap, arith, inl, refl, subst, sym, ◌∙◌}
+use Rattle.std.proofs.Common.{◌⊎◌, ◌≡◌, ◌≤◌, ℕ, Err, List, [], ap, arith, inl, inr, refl, subst, sym, ◌∙◌}
 use Rattle.kr_base.specs.Rules.{IsPath}
+use Rattle.kr_base.proofs.Walks.{talk_none}
+use Rattle.kr_base.specs.Walks.{Talk}
 use Rattle.kr_provider.proofs.AskedLists.{asked_none}
-use Rattle.kr_provider.specs.AskedLinks.{AskedOnly}
+use Rattle.kr_provider.specs.AskedLinks.{Among, AskedOnly}
 use Rattle.kr_provider.specs.KeyPages.{size_of}
 use Rattle.kr_provider.specs.Names.{names_of}
+use Rattle.kr_history.specs.declared.call.CallNo.TheVariants as refusal
 use Rattle.kr_history.proofs.Nexts.{serves}
 use Rattle.kr_history.proofs.PartsAdd.{nothing_within, within_behind, within_more}
 use Rattle.kr_rewrite.proofs.Options.{is_there}
+use Rattle.kr_rewrite.proofs.RowTalks.{step_talked}
 use Rattle.kr_rewrite.proofs.Rewriting.{let_go_to, step_held}
+use Rattle.kr_rewrite.specs.DriveExchanges.{IsStepBy}
+use Rattle.kr_rewrite.specs.Rewrites.{IsStep, UnsealsRow}
 use Rattle.kr_rewrite.proofs.step.rewrite_next.Goals as goal
 
 pub returns-in_default-clause-steps : goal.returns-in_default-clause-steps
@@ -57,15 +63,26 @@ let_go-requires g c =
     record { holds = is_there _ _ (c.step-done.ensures.holds ∙ c.in-Ok-adopt.ensures.known.1) }
 
 pub returns-clause-steps : goal.returns-clause-steps
-returns-clause-steps g c = step_held g.L.Kms.truth g.L.Kms.link g.D.Dice.left g.D.Dice.count
-    c.args.after.now c.in-Ok.copy c.args.replica (g.A.Acts.caller c.args.acts.now)
-    (g.A.Acts.caller c.adopt.new.acts) (g.A.Acts.caller c.step-done.new.acts)
-    (g.A.Acts.caller c.let_go.new.acts) c.args.bench.now.links c.take_up.new.bench.links
-    c.step-done.new.bench.links c.args.bench.now.dice c.take_up.new.bench.dice
-    c.step-done.new.bench.dice c.in-Ok-adopt.held c.take_up.new.bench.published c.step-done.result
-    c.let_go.result c.in-Ok.ensures (ap (λ b. b.links) c.take_up.ensures.taken)
-    (ap (λ b. b.dice) c.take_up.ensures.taken) (ap (λ b. b.published) c.take_up.ensures.taken)
-    c.in-Ok-adopt.ensures.adopts c.step-done.ensures.steps c.let_go.ensures.lets_go
+returns-clause-steps g c =
+    let old = g.A.Acts.caller c.args.acts.now in
+    let new = g.A.Acts.caller c.let_go.new.acts in
+    let b = c.args.bench.now in
+    let t = c.take_up.new.bench in
+    let n = c.step-done.new.bench in
+    let m = c.lay_down.new.bench in
+    subst (λ l. IsStep g.L.Kms.truth g.L.Kms.link g.D.Dice.left g.D.Dice.count c.args.replica
+    c.args.after.now old b.links b.dice c.let_go.result new l m.dice)
+    (sym (ap (λ x. x.links) c.lay_down.ensures.kept))
+    (subst (λ d. IsStep g.L.Kms.truth g.L.Kms.link g.D.Dice.left g.D.Dice.count c.args.replica
+    c.args.after.now old b.links b.dice c.let_go.result new n.links d)
+    (sym (ap (λ x. x.dice) c.lay_down.ensures.kept))
+    (step_held (UnsealsRow g.L.Kms.truth g.L.Kms.link) g.D.Dice.left g.D.Dice.count
+    c.args.after.now c.in-Ok.copy c.args.replica old (g.A.Acts.caller c.adopt.new.acts)
+    (g.A.Acts.caller c.step-done.new.acts) new b.links t.links n.links b.dice t.dice n.dice
+    c.in-Ok-adopt.held t.published c.step-done.result c.let_go.result c.in-Ok.ensures
+    (ap (λ x. x.links) c.take_up.ensures.taken) (ap (λ x. x.dice) c.take_up.ensures.taken)
+    (ap (λ x. x.published) c.take_up.ensures.taken) c.in-Ok-adopt.ensures.adopts
+    c.step-done.ensures.steps c.let_go.ensures.lets_go))
 
 pub returns-clause-path : goal.returns-clause-path
 returns-clause-path g c = let_go_to (g.A.Acts.caller c.step-done.new.acts)
@@ -84,19 +101,83 @@ returns-clause-honest g c = λ told keeps. c.let_go.ensures.honest g.L.Kms.truth
     (c.step-done.ensures.honest told (c.in-Ok-adopt.ensures.honest g.L.Kms.truth.opens keeps))
 
 pub returns-clause-asked : goal.returns-clause-asked
-returns-clause-asked g c = subst
-    (λ l. AskedOnly g.L.Kms.link (names_of g.L.Kms.link l) l c.step-done.new.bench.links)
-    (ap (λ b. b.links) c.take_up.ensures.taken) c.step-done.ensures.asked
+returns-clause-asked g c =
+    let n = c.step-done.new.bench in
+    let b = c.args.bench.now in
+    subst (λ l. AskedOnly g.L.Kms.link (names_of g.L.Kms.link b.links) b.links l)
+    (sym (ap (λ x. x.links) c.lay_down.ensures.kept))
+    (subst (λ l. AskedOnly g.L.Kms.link (names_of g.L.Kms.link l) l n.links)
+    (ap (λ x. x.links) c.take_up.ensures.taken) c.step-done.ensures.asked)
 
 pub returns-clause-later : goal.returns-clause-later
-returns-clause-later g c = subst
-    (λ d. g.D.Dice.count d ≤ g.D.Dice.count c.step-done.new.bench.dice)
-    (ap (λ b. b.dice) c.take_up.ensures.taken) c.step-done.ensures.later
+returns-clause-later g c =
+    let n = c.step-done.new.bench in
+    let b = c.args.bench.now in
+    subst (λ d. g.D.Dice.count b.dice ≤ g.D.Dice.count d)
+    (sym (ap (λ x. x.dice) c.lay_down.ensures.kept))
+    (subst (λ d. g.D.Dice.count d ≤ g.D.Dice.count n.dice)
+    (ap (λ x. x.dice) c.take_up.ensures.taken) c.step-done.ensures.later)
 
 pub returns-clause-pages : goal.returns-clause-pages
-returns-clause-pages g c =
-    ap (λ b. size_of b.pages) c.step-done.ensures.kept ∙ c.take_up.ensures.pages
+returns-clause-pages g c = c.lay_down.ensures.cleared.size
+    ∙ ap (λ b. size_of b.pages) c.step-done.ensures.kept ∙ c.take_up.ensures.pages
+
+pub returns-in_default-clause-keys : goal.returns-in_default-clause-keys
+returns-in_default-clause-keys g c = inl (refl, refl)
+
+pub returns-in-Err-clause-keys : goal.returns-in-Err-clause-keys
+returns-in-Err-clause-keys g c = inl (refl, refl)
+
+pub returns-clause-keys : goal.returns-clause-keys
+returns-clause-keys g c = inr (record {
+  none = c.lay_down.ensures.cleared.none;
+  keys = c.lay_down.ensures.cleared.keys;
+  size = c.lay_down.ensures.cleared.size
+      ∙ ap (λ b. size_of b.pages) c.step-done.ensures.kept ∙ c.take_up.ensures.pages;
+})
 
 pub returns-clause-place : goal.returns-clause-place
 returns-clause-place g c =
     c.let_go.ensures.place ∙ c.step-done.ensures.place ∙ c.in-Ok-adopt.ensures.place
+
+pub returns-in_default-clause-exchanged : goal.returns-in_default-clause-exchanged
+returns-in_default-clause-exchanged g c =
+    let old = g.A.Acts.caller c.args.acts.now in
+    let b = c.args.bench.now in
+    talk_none (Among g.L.Kms.step) (IsStepBy g.D.Dice.left g.D.Dice.count c.args.replica
+    c.args.after.now old b.cache b.dice (Err refusal.NoMemory) old b.cache b.dice) b.links
+    (inl (inl refl, (refl, refl)))
+
+pub returns-in-Err-clause-exchanged : goal.returns-in-Err-clause-exchanged
+returns-in-Err-clause-exchanged g c =
+    let old = g.A.Acts.caller c.args.acts.now in
+    let new = g.A.Acts.caller c.adopt.new.acts in
+    let b = c.args.bench.now in
+    talk_none (Among g.L.Kms.step) (IsStepBy g.D.Dice.left g.D.Dice.count c.args.replica
+    c.args.after.now old b.cache b.dice (Err c.in-Err.why) new b.cache b.dice) b.links
+    (inl (c.in-Err.ensures.adopts, (refl, refl)))
+
+pub returns-clause-exchanged : goal.returns-clause-exchanged
+returns-clause-exchanged g c =
+    let old = g.A.Acts.caller c.args.acts.now in
+    let new = g.A.Acts.caller c.let_go.new.acts in
+    let b = c.args.bench.now in
+    let t = c.take_up.new.bench in
+    let n = c.step-done.new.bench in
+    let m = c.lay_down.new.bench in
+    subst (λ l. Talk (Among g.L.Kms.step) b.links l (IsStepBy g.D.Dice.left g.D.Dice.count
+    c.args.replica c.args.after.now old b.cache b.dice c.let_go.result new m.cache m.dice))
+    (sym (ap (λ x. x.links) c.lay_down.ensures.kept))
+    (subst (λ k. Talk (Among g.L.Kms.step) b.links n.links (IsStepBy g.D.Dice.left g.D.Dice.count
+    c.args.replica c.args.after.now old b.cache b.dice c.let_go.result new k m.dice))
+    (sym (ap (λ x. x.cache) c.lay_down.ensures.kept))
+    (subst (λ d. Talk (Among g.L.Kms.step) b.links n.links (IsStepBy g.D.Dice.left g.D.Dice.count
+    c.args.replica c.args.after.now old b.cache b.dice c.let_go.result new n.cache d))
+    (sym (ap (λ x. x.dice) c.lay_down.ensures.kept))
+    (step_talked (Among g.L.Kms.step) g.D.Dice.left g.D.Dice.count c.args.replica c.args.after.now
+    c.in-Ok.copy old (g.A.Acts.caller c.adopt.new.acts) (g.A.Acts.caller c.step-done.new.acts) new
+    b.links t.links n.links b.cache t.cache n.cache b.dice t.dice n.dice c.in-Ok-adopt.held
+    t.published c.step-done.result c.let_go.result c.in-Ok.ensures
+    (ap (λ x. x.links) c.take_up.ensures.taken) (ap (λ x. x.cache) c.take_up.ensures.taken)
+    (ap (λ x. x.dice) c.take_up.ensures.taken) (ap (λ x. x.published) c.take_up.ensures.taken)
+    c.in-Ok-adopt.ensures.adopts c.step-done.ensures.exchanged c.let_go.ensures.lets_go)))

@@ -2,21 +2,18 @@ use Rattle.std.proofs.Common.{◌≡◌, ℕ, List, Option, None, Some, Result, 
 use Rattle.kr_kms.specs.Outside.{Outside}
 use Rattle.kr_kms.specs.Truth.{Truth}
 use Rattle.kr_words.specs.Grammar.{texts}
-use Rattle.kr_cmd_steps.specs.Around.{Around, around, with_what_is_said, left_of}
+use Rattle.kr_cmd_steps.specs.Around.{Around, around, with_what_is_said}
 use Rattle.kr_cmd_messages.specs.Command.{Asks}
-use Rattle.kr_cmd_steps.specs.Commands.{steps}
 use Rattle.kr_cmd_steps.specs.Ran.{Answers, StopsAtOnce, Writes}
 use Rattle.kr_cmd_messages.specs.Receipts.{Receipt}
-use Rattle.kr_cmd_steps.specs.inner.Phases.{Does}
 use Rattle.kr_cmd_messages.specs.inner.Asking.{IsReadAs}
-use Rattle.kr_cmd_steps.specs.inner.Reporting.{saying, said_text}
+use Rattle.kr_cmd_steps.specs.inner.Reporting.{DoesAll, saying, said_text}
 use Rattle.kr_cmd_messages.specs.declared.command.Command.{Command}
 use Rattle.kr_cmd_messages.specs.declared.refusal.Done.{Done}
 use Rattle.kr_cmd_messages.specs.declared.refusal.Outcome.{Outcome}
 use Rattle.kr_cmd_messages.specs.declared.report.Counts.{Counts}
 use Rattle.kr_cmd_messages.specs.declared.refusal.Stop.{Stop}
 use Rattle.kr_cmd_messages.specs.declared.refusal.Stop.TheVariants.{Words, Refused, Fault, NoMemory}
-use Rattle.kr_cmd_steps.proofs.Goes.{stays_refl}
 use Rattle.kr_top.proofs.call.answer.Goals as goal
 
 at_once : (words : List (List ℕ)) (stop : Stop) → IsReadAs words (Err stop)
@@ -37,20 +34,20 @@ answers_by : (words : List (List ℕ)) (old : Around) (truth : Truth) (world : O
     (input : Option (List ℕ)) (faults : ℕ) (command : Command) (said : Option Counts)
     (made : Result Outcome Stop) (output : Receipt) (result : Result Done Stop)
     → Asks words command
-    → Does (steps command) old (saying said (around truth world input faults)) made
+    → DoesAll command old (saying said (around truth world input faults)) made
     → Writes (said_text said) output made result
     → Answers words old (around truth world input faults) output result
 answers_by words old truth world input faults command said made output result asks does writes =
     let now = with_what_is_said (said_text said) (around truth world input faults) in
-    let did : Does (steps command) old now made =
-    subst (λ n. Does (steps command) old n made) (said_so said truth world input faults) does in inr (
+    let did : DoesAll command old now made =
+    subst (λ n. DoesAll command old n made) (said_so said truth world input faults) does in inr (
       said_text said,
       made,
       record {
         command = command;
         asks = asks;
         home = did.home;
-        ends = did.ends (left_of old) (stays_refl old);
+        ends = did.ends;
       },
       writes,
     )

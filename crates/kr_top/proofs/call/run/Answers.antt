@@ -8,7 +8,8 @@ use Rattle.kr_top.proofs.call.run.Goals as goal
 
 pub returns-in-Ok-Some : goal.returns-in-Ok-Some
 returns-in-Ok-Some g c =
-    fleet_promised g.row.W-Tap.Denot g.W.Link.Kms.truth g.W.Link.Kms.link g.W.Rand.Dice.left
+    fleet_promised g.row.W-Tap.Denot g.W.Link.Kms.truth g.W.Link.Kms.link g.W.Link.Kms.step
+    g.W.Rand.Dice.left
     g.W.Rand.Dice.count (texts c.args.words.now) _ _ _ _ _ c.in-Ok-Some.asked
     (subst (λ o. IsFleetAsked (texts c.args.words.now) (Ok o)) c.in-Ok-Some.field-0-is
     c.in-Ok-Some.ensures)
@@ -17,7 +18,8 @@ returns-in-Ok-Some g c =
 
 pub returns-in-Ok-None : goal.returns-in-Ok-None
 returns-in-Ok-None g c =
-    unfleeted g.row.W-Tap.Denot g.W.Link.Kms.truth g.W.Link.Kms.link g.W.Rand.Dice.left
+    unfleeted g.row.W-Tap.Denot g.W.Link.Kms.truth g.W.Link.Kms.link g.W.Link.Kms.step
+    g.W.Rand.Dice.left
     g.W.Rand.Dice.count (texts c.args.words.now) _ _ _ _ _
     (subst (λ o. IsFleetAsked (texts c.args.words.now) (Ok o)) c.in-Ok-None.field-0-is
     c.in-Ok-None.ensures)
@@ -27,4 +29,4 @@ pub returns-in-Err : goal.returns-in-Err
 returns-in-Err g c =
     run_unread (texts c.args.words.now) _ _ _ _ c.in-Err.stop (refl, refl)
     c.tell_end.ensures.told c.tell_end.ensures.later g.row.W-Tap.Denot g.W.Link.Kms.truth
-    g.W.Link.Kms.link g.W.Rand.Dice.left g.W.Rand.Dice.count c.in-Err.ensures
+    g.W.Link.Kms.link g.W.Link.Kms.step g.W.Rand.Dice.left g.W.Rand.Dice.count c.in-Err.ensures

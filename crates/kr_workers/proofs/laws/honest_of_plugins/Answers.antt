@@ -4,4 +4,4 @@ use Rattle.kr_workers.proofs.laws.honest_of_plugins.Goals as goal
 
 pub returns : goal.returns
 returns g c =
-    honest_of_plugins g.row.T.Denot g.L.Kms.truth g.L.Kms.link g.D.Dice.left g.D.Dice.count
+    honest_of_plugins g.row.T.Denot g.L.Kms.truth g.L.Kms.link g.L.Kms.step g.D.Dice.left g.D.Dice.count

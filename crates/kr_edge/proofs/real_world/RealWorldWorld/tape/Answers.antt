@@ -25,7 +25,7 @@ returns-in-Ok-lend-clause-ok g c =
     let gone : c.lend.new.self ≡ record { items = remove old.items at; out = old.out ++ name ∷ [] } =
     c.in-Ok-lend.ensures.ok ∙ (λ i. record {
       items = remove old.items at;
-      out = old.out ++ c.in-Ok.ensures i ∷ [];
+      out = old.out ++ c.in-Ok-Ok.ensures i ∷ [];
     }) in
     subst (λ n. HandsOut same_name (objects_by same_name key_of (λ first. None) count_of old)
     (objects_by same_name key_of (λ first. None) count_of c.lend.new.self) name n)
@@ -50,7 +50,7 @@ returns-in-Ok-add-clause-ok g c =
     let gone : c.add.new.self ≡ record { items = old.items; out = old.out ++ name ∷ [] } =
     c.in-Ok-add.ensures.ok ∙ (λ i. record {
       items = old.items;
-      out = old.out ++ c.in-Ok.ensures i ∷ [];
+      out = old.out ++ c.in-Ok-Ok.ensures i ∷ [];
     }) in
     subst (λ n. HandsOut same_name (objects_by same_name key_of (λ first. None) count_of old)
     (objects_by same_name key_of (λ first. None) count_of c.add.new.self) name n)

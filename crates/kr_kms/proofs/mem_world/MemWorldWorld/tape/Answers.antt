@@ -4,9 +4,9 @@ use Rattle.std.specs.Prelude.{count_by, position}
 use Rattle.std.specs.List.{remove}
 use Rattle.kr_base.specs.InMemory.{faults_of}
 use Rattle.kr_kms.specs.MemWorld.{name_of, place_of}
-use Rattle.kr_kms.specs.Outside.{IsTape, same_name}
+use Rattle.kr_kms.specs.Outside.{IsTape, makes, same_name}
 use Rattle.kr_kms.proofs.Lent.{first_there, found_at, lent, names_decide, no_place, none_out, some_out}
-use Rattle.kr_kms.proofs.MadeTapes.{alone_if, made_empty, made_gives, made_out}
+use Rattle.kr_kms.proofs.MadeTapes.{alone_if, not_counted, made_empty, made_gives, made_out}
 use Rattle.kr_kms.proofs.mem_world.MemWorldWorld.tape.Goals as goal
 
 pub returns-then-is_some-clause-gives : goal.returns-then-is_some-clause-gives
@@ -19,8 +19,8 @@ returns-then-is_some-clause-gives g c =
       c.rise.ensures.next,
     )
 
-pub returns-then-not-make-clause-gives : goal.returns-then-not-make-clause-gives
-returns-then-not-make-clause-gives g c =
+pub returns-then-not-makes-clause-gives : goal.returns-then-not-makes-clause-gives
+returns-then-not-makes-clause-gives g c =
     let tapes = c.args.self.now.tapes in
     let name = c.args.name.now in
     let out = none_out (λ o. same_name o name) tapes.out c.name_place.result
@@ -31,17 +31,17 @@ returns-then-not-make-clause-gives g c =
       out,
       ap (option_map (λ entry. entry.1))
           (no_place (λ entry. same_name (name_of entry) name) tapes.items none),
-      c.if-not-make.true,
+      sym c.makes.ensures ∙ c.if-not-makes.true,
       refl,
     )
 
-pub returns-then-not-make-clause-refusals : goal.returns-then-not-make-clause-refusals
-returns-then-not-make-clause-refusals g c =
+pub returns-then-not-makes-clause-refusals : goal.returns-then-not-makes-clause-refusals
+returns-then-not-makes-clause-refusals g c =
     let tapes = c.args.self.now.tapes in
     let name = c.args.name.now in
     let none : place_of same_name name_of tapes.items name ≡ None =
     sym (c.in_default.ensures.first ∙ ap (λ l. place_of same_name name_of l name) c.items.ensures) in (
-      c.if-not-make.true,
+      sym c.makes.ensures ∙ c.if-not-makes.true,
       ap (option_map (λ entry. entry.1.bytes))
           (no_place (λ entry. same_name (name_of entry) name) tapes.items none),
     )
@@ -55,8 +55,8 @@ returns-in_default-clause-gives g c =
     (sym c.is_some.ensures ∙ c.if-is_some.false) in
     let none : place_of same_name name_of tapes.items name ≡ None =
     sym (c.in_default.ensures.first ∙ ap (λ l. place_of same_name name_of l name) c.items.ensures) in
-    made_gives tapes c.make_tape.new.tapes name c.args.make c.args.self.now.room
-    c.args.self.now.faults.tapes none c.make_tape.result out c.if-not-make.false
+    made_gives tapes c.make_tape.new.tapes name (makes c.args.access) c.args.self.now.room
+    c.args.self.now.faults.tapes none c.make_tape.result out (sym c.makes.ensures ∙ c.if-not-makes.false)
     c.make_tape.ensures.ok c.make_tape.ensures.refusals
 
 pub returns-in_default-clause-ok : goal.returns-in_default-clause-ok
@@ -65,7 +65,7 @@ returns-in_default-clause-ok g c =
     let name = c.args.name.now in
     let none : place_of same_name name_of tapes.items name ≡ None =
     sym (c.in_default.ensures.first ∙ ap (λ l. place_of same_name name_of l name) c.items.ensures) in
-    made_out tapes c.make_tape.new.tapes name c.args.make c.args.self.now.room
+    made_out tapes c.make_tape.new.tapes name (makes c.args.access) c.args.self.now.room
     c.args.self.now.faults.tapes none c.make_tape.result c.make_tape.ensures.ok
     c.make_tape.ensures.out
 
@@ -75,8 +75,8 @@ returns-in_default-clause-tape g c =
     let name = c.args.name.now in
     let none : place_of same_name name_of tapes.items name ≡ None =
     sym (c.in_default.ensures.first ∙ ap (λ l. place_of same_name name_of l name) c.items.ensures) in
-    made_empty tapes c.make_tape.new.tapes name c.args.make c.args.self.now.room
-    c.args.self.now.faults.tapes none c.make_tape.result c.if-not-make.false c.make_tape.ensures.ok
+    made_empty tapes c.make_tape.new.tapes name (makes c.args.access) c.args.self.now.room
+    c.args.self.now.faults.tapes none c.make_tape.result (sym c.makes.ensures ∙ c.if-not-makes.false) c.make_tape.ensures.ok
 
 pub returns-in_default-clause-alone : goal.returns-in_default-clause-alone
 returns-in_default-clause-alone g c =
@@ -86,6 +86,10 @@ returns-in_default-clause-alone g c =
     (none_out (λ o. same_name o name) tapes.out c.name_place.result
     (c.name_place.ensures.first ∙ ap (λ l. position (λ o. same_name o name) l) c.out.ensures)
     (sym c.is_some.ensures ∙ c.if-is_some.false))
+
+pub returns-in_default-clause-once : goal.returns-in_default-clause-once
+returns-in_default-clause-once g c =
+    not_counted c.make_tape.result c.args.self.now.faults.tapes c.make_tape.ensures.refusals
 
 pub returns-in_default-copy-clause-gives : goal.returns-in_default-copy-clause-gives
 returns-in_default-copy-clause-gives g c =
@@ -140,7 +144,7 @@ returns-in-Ok-lend-clause-tape g c =
     let name = c.args.name.now in
     let place : place_of same_name name_of tapes.items name ≡ Some c.in-Some.at =
     sym (c.in-Some.ensures.first ∙ ap (λ l. place_of same_name name_of l name) c.items.ensures) in
-    subst (λ f. IsTape (Some (option_map (λ entry. entry.1.bytes) f)) c.args.make
+    subst (λ f. IsTape (Some (option_map (λ entry. entry.1.bytes) f)) (makes c.args.access)
     (Some c.in-Ok-lend.tape.bytes))
     (sym (found_at (λ entry. same_name (name_of entry) name) tapes.items
     c.in-Some.at (c.in-Ok-lend._name, c.in-Ok-lend.tape) place c.in-Ok-lend.ensures.lent)) refl

@@ -1,8 +1,8 @@
 -- `KeyPages::clear`: the last page goes back first.
-use Rattle.std.proofs.Common.{◌∙◌, ap, arith, length}
+use Rattle.std.proofs.Common.{rules, ◌∙◌, ap, arith, length}
 use Rattle.std.proofs.lemmas.List.{length-set, length_push}
 use Rattle.kr_pages.specs.Pool.{zero_page}
-use Rattle.kr_provider.proofs.Stacks.{IsStack-without_page, last_out}
+use Rattle.kr_provider.proofs.Stacks.{IsStack-without_page, last_out, nothing_held}
 use Rattle.kr_provider.proofs.key_pages.KeyPages.clear.Goals as goal
 
 pub give-requires-clause-out : goal.give-requires-clause-out
@@ -20,3 +20,12 @@ loop-page-preserved c =
       omega (arith, size, long, inv.1, c.in-Some.ensures.room),
       size ∙ inv.2,
     )
+
+pub returns-clause-stack : goal.returns-clause-stack
+returns-clause-stack c = search rules
+
+pub returns-clause-out : goal.returns-clause-out
+returns-clause-out c = search rules
+
+pub returns-clause-keys : goal.returns-clause-keys
+returns-clause-keys c = nothing_held _ (returns-clause-stack c) (returns-clause-out c)

@@ -1,0 +1,106 @@
+-- The exchanges by which `read` finds what it answers.
+use Rattle.std.proofs.Common.{◌≡◌, inr, ℕ, List, [], Option, None, Some, Result, Ok, Err, refl, sym, ap, subst, ◌∙◌}
+use Rattle.std.specs.Prelude.{IfSome}
+use Rattle.kr_base.specs.Walks.{Talk}
+use Rattle.kr_base.proofs.Walks.{talk_none, talk_so}
+use Rattle.kr_kms.specs.Cache.{CacheState}
+use Rattle.kr_kms.specs.Exchanges.{Exchange}
+use Rattle.kr_provider.specs.Exchanges.{ReadsBy}
+use Rattle.kr_provider.specs.Publication.{Publication, list_at}
+use Rattle.kr_provider.specs.declared.refusal.Opened.{Opened}
+use Rattle.kr_provider.specs.declared.refusal.UnsealNo.{UnsealNo}
+use Rattle.kr_store.specs.declared.rows.Row.{Row}
+use Rattle.kr_rollout.specs.declared.answer.Answer.TheVariants as answer
+use Rattle.kr_rollout.specs.declared.event.Event.TheVariants as event
+use Rattle.kr_history.specs.Acting.{Caller, AddsEntry, IsCaller}
+use Rattle.kr_history.specs.Calls.{LetsGo}
+use Rattle.kr_history.specs.declared.call.CallNo.{CallNo}
+use Rattle.kr_history.proofs.HeldFacts.{held_is_named}
+use Rattle.kr_fleet.specs.CallExchanges.{AsksNone, FindsBy, FindsRowBy, IsReadBy}
+use Rattle.kr_fleet.specs.declared.outcome.Read.{Read}
+use Rattle.kr_fleet.specs.declared.outcome.Read.TheVariants.{Absent}
+use Rattle.kr_fleet.specs.inner.Stages.{Fetches, HoldsAdopted, value_of}
+use Rattle.kr_fleet.proofs.Finding.{IsAt, absent_fetched, none_fetched, value_found}
+
+module _ {S : Type 0} (step : S → Exchange → S → Type 0) (path : List ℕ) (old new : Caller)
+    (links news : S) (cache after : CacheState) where
+  -- nothing was fetched, and no link was asked
+  pub refused_talk : (p : Publication) (why : CallNo) → Fetches path old (Err why) new
+      → Talk step links links (FindsBy path p old cache (Err why) new cache)
+  refused_talk p why a = talk_none step (FindsBy path p old cache (Err why) new cache) links
+      (none_fetched path old new
+      (λ row opened. FindsRowBy path p old cache row opened new cache []) (AsksNone cache cache [])
+      why a (refl, refl))
+
+  pub absent_talk : (p : Publication) (found : Option Row) → found ≡ None
+      → Fetches path old (Ok found) new
+      → Talk step links links (FindsBy path p old cache (Ok Absent) new cache)
+  absent_talk p found is a = talk_none step (FindsBy path p old cache (Ok Absent) new cache) links
+      (absent_fetched path old new
+      (λ row opened. FindsRowBy path p old cache row opened new cache []) (AsksNone cache cache [])
+      found is a (refl, refl))
+
+  -- the row as it was lent
+  pub found_talk : (published : Option Publication) (found : Option Row) (row lent : Row)
+      (opened : Result Opened UnsealNo) (result : Result Read CallNo) → IsCaller old
+      → HoldsAdopted published old.mine
+      → Fetches path old (Ok found) new → found ≡ Some row → IsAt path row → lent ≡ row
+      → IfSome published (λ p. Talk step links news (ReadsBy p.seeds (list_at p lent.resource)
+      lent.path lent.stored cache opened after))
+      → result ≡ value_of lent.revision opened
+      → IfSome published (λ p. Talk step links news (FindsBy path p old cache result new after))
+  found_talk published found row lent opened result k h fetched is at same unsealed e =
+      let p = h.p in
+      let f : AddsEntry old (event.Fetch path) (answer.Found row) new =
+      subst (λ f. Fetches path old (Ok f) new) is fetched in
+      let u : Talk step links news (ReadsBy p.seeds (list_at p row.resource) path row.stored cache
+      opened after) =
+      subst (λ q. Talk step links news (ReadsBy p.seeds (list_at p row.resource) q row.stored cache
+      opened after)) at.0
+      (subst (λ (r : Row). Talk step links news (ReadsBy p.seeds (list_at p r.resource) r.path
+      r.stored cache opened after)) same
+      (subst (λ o. IfSome o (λ p. Talk step links news (ReadsBy p.seeds (list_at p lent.resource)
+      lent.path lent.stored cache opened after))) h.adopted unsealed)) in
+      subst (λ o. IfSome o (λ p. Talk step links news (FindsBy path p old cache result new after)))
+      (sym h.adopted)
+      (subst (λ r. Talk step links news (FindsBy path p old cache r new after))
+      (sym (e ∙ ap (λ (r : Row). value_of r.revision opened) same))
+      (talk_so step (ReadsBy p.seeds (list_at p row.resource) path row.stored cache opened after)
+      (FindsBy path p old cache (value_of row.revision opened) new after) links news u
+      (λ es reads. value_found path old new
+      (λ row opened. FindsRowBy path p old cache row opened new after es) (AsksNone cache after es)
+      row opened (record {
+        found = f;
+        named = (held_is_named old new (event.Fetch path) (answer.Found row) h.number p k f
+            h.held).published;
+        reads = reads;
+      }))))
+
+-- the stages of a call, one behind another
+pub read_talk : {S : Type 0} (step : S → Exchange → S → Type 0) (path copy : List ℕ) (replica : ℕ)
+    (old adopted acted new : Caller) (links lent news : S) (cache kept after : CacheState)
+    (held : ℕ × Publication) (published : Option Publication) (done result : Result Read CallNo)
+    → copy ≡ path → lent ≡ links → kept ≡ cache → published ≡ Some held.1
+    → AddsEntry old (event.Adopt replica) (answer.Adopted held.0 held.1) adopted
+    → IfSome published (λ p. Talk step lent news (FindsBy copy p adopted kept done acted after))
+    → LetsGo acted done result new
+    → Talk step links news (IsReadBy path replica old cache result new after)
+read_talk step path copy replica old adopted acted new links lent news cache kept after held
+    published done result own same still is a f g =
+    let t : Talk step links news (FindsBy path held.1 adopted cache done acted after) =
+    subst (λ c. Talk step links news (FindsBy path held.1 adopted c done acted after)) still
+    (subst (λ l. Talk step l news (FindsBy path held.1 adopted kept done acted after)) same
+    (subst (λ q. Talk step lent news (FindsBy q held.1 adopted kept done acted after)) own
+    (subst (λ o. IfSome o (λ p. Talk step lent news (FindsBy copy p adopted kept done acted after)))
+    is f))) in
+    talk_so step (FindsBy path held.1 adopted cache done acted after)
+    (IsReadBy path replica old cache result new after) links news t (λ es does. inr (record {
+      number = held.0;
+      p = held.1;
+      adopted = adopted;
+      done = done;
+      acted = acted;
+      adopts = a;
+      does = does;
+      lets_go = g;
+    }))

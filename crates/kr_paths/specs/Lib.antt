@@ -1,0 +1,3 @@
+-- The definitions that contracts name.
+pub mod Paths
+pub mod inner

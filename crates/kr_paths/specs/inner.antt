@@ -1,0 +1,2 @@
+-- What inner contracts name.
+pub mod Parts

@@ -1,5 +1,0 @@
-use Rattle.kr_plan.proofs.AsMeant.{reads_as_meant}
-use Rattle.kr_plan.proofs.laws.texts_are_read_as_meant.Goals as goal
-
-pub returns : goal.returns
-returns c = reads_as_meant
