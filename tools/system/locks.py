@@ -95,7 +95,7 @@ def _check_rights(checks: Checks, folder: Path) -> None:
     words = ["--config", "config.yaml", "--path", PATH, "--store", store]
     checks.expect("and read", (0, b"hello"), _answer(ask("get", *words))[:2])
     checks.expect("and verified", 0, ask("verify", "--config", "config.yaml", "--store", store).status)
-    checks.expect("and judged", 0, ask("judge", "--store", store, "--replica", "config.yaml").status)
+    checks.expect("and judged", 0, ask("judge", "--store", store, "--replica", "config.yaml", "--reload", "0=config.yaml").status)
     done = ask("migrate", "--config", "config.yaml", "--store", old, "--to", target)
     checks.expect("and one of the first format migrated", (0, ""), (done.status, done.errors))
     checks.expect("a put into it is a fault", FAULT, _answer(ask(*_put(Path("config.yaml"), store), data=b"hello")))
