@@ -8,17 +8,17 @@ use Rattle.std.proofs.lemmas.List.FromFn.{get_or-map-range_with_len}
 use Rattle.std.proofs.lemmas.Bool.{cases_lt}
 use Rattle.kr_aes.specs.declared.Rounds.{Rounds}
 use Rattle.kr_aes.specs.Field.{inverse}
-use Rattle.kr_aes.specs.Cipher.{IsBlock, add_round_key, affine, after_rounds, byte_of, cell, cipher, round_count, sbox, shift_rows, state_of, sub_bytes, word_byte}
+use Rattle.kr_aes.specs.Cipher.{IsBlock, add_round_key, affine, after_rounds, byte_of, cell, cipher, round_count, sbox, shift_rows, cell_state, sub_bytes, word_byte}
 
 -- byte k of a state
-pub slice_index-state_of : (s : ℕ → ℕ → ℕ) (k : ℕ) → k < 16 → slice_index (state_of s) k ≡ s (k % 4) (k / 4)
-slice_index-state_of s k h = get_or-map-range_with_len (λ i. s (i % 4) (i / 4)) 0 16 k k 0 h (omega arith)
+pub slice_index-cell_state : (s : ℕ → ℕ → ℕ) (k : ℕ) → k < 16 → slice_index (cell_state s) k ≡ s (k % 4) (k / 4)
+slice_index-cell_state s k h = get_or-map-range_with_len (λ i. s (i % 4) (i / 4)) 0 16 k k 0 h (omega arith)
 
 -- a state whose cells are bytes
-pub IsBlock-state_of : (s : ℕ → ℕ → ℕ) → ((row column : ℕ) → s row column < 256) → IsBlock (state_of s)
-IsBlock-state_of s h = record {
+pub IsBlock-cell_state : (s : ℕ → ℕ → ℕ) → ((row column : ℕ) → s row column < 256) → IsBlock (cell_state s)
+IsBlock-cell_state s h = record {
   size = refl;
-  bytes = All-from_get_or (λ byte. byte < 256) (state_of s) 0 (λ k lt. rw (slice_index-state_of s k lt) (h (k % 4) (k / 4)));
+  bytes = All-from_get_or (λ byte. byte < 256) (cell_state s) 0 (λ k lt. rw (slice_index-cell_state s k lt) (h (k % 4) (k / 4)));
 }
 
 -- each cell of a block is a byte, also one past the end, which is read as 0
@@ -59,17 +59,17 @@ word_byte-lt word (suc (suc (suc (suc r)))) = omega arith
 
 pub IsBlock-sub_bytes : (state : List ℕ) → IsBlock (sub_bytes state)
 unfolding sub_bytes
-IsBlock-sub_bytes state = IsBlock-state_of (λ row column. sbox (cell state row column)) (λ row column. sbox-lt (cell state row column))
+IsBlock-sub_bytes state = IsBlock-cell_state (λ row column. sbox (cell state row column)) (λ row column. sbox-lt (cell state row column))
 
 pub IsBlock-shift_rows : (state : List ℕ) → IsBlock state → IsBlock (shift_rows state)
 unfolding shift_rows
 IsBlock-shift_rows state is =
-    IsBlock-state_of (λ row column. cell state row ((column + row) % 4)) (λ row column. cell-lt state is (row + 4 * ((column + row) % 4)))
+    IsBlock-cell_state (λ row column. cell state row ((column + row) % 4)) (λ row column. cell-lt state is (row + 4 * ((column + row) % 4)))
 
 pub IsBlock-add_round_key : (words : List ℕ) (round : ℕ) (state : List ℕ) → IsBlock state → IsBlock (add_round_key words round state)
 unfolding add_round_key
 IsBlock-add_round_key words round state is =
-    IsBlock-state_of (λ row column. bit_xor (cell state row column) (word_byte (slice_index words (4 * round + column)) row))
+    IsBlock-cell_state (λ row column. bit_xor (cell state row column) (word_byte (slice_index words (4 * round + column)) row))
     (λ row column. xor_of_8 _ _ (cell-lt state is (row + 4 * column)) (word_byte-lt (slice_index words (4 * round + column)) row))
 
 -- what a cipher gives is a block

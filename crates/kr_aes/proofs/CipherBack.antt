@@ -4,14 +4,14 @@ use Rattle.kr_aes.specs.declared.Rounds.{Rounds}
 use Rattle.kr_aes.specs.Field.{inverse, polynomial_product, product, remainder}
 use Rattle.kr_aes.specs.Cipher.{IsBlock, add_round_key, affine, after_rounds, cell, cipher, mix_columns, round_count, sbox, shift_rows, sub_bytes}
 use Rattle.kr_aes.specs.InverseCipher.{after_inverse_rounds, inverse_cipher, inverse_sbox, inverse_shift_rows, inverse_sub_bytes}
-use Rattle.kr_aes.proofs.Blocks.{IsBlock-add_round_key, IsBlock-state_of, cell-lt, inverse_affine, inverse_affine-lt}
+use Rattle.kr_aes.proofs.Blocks.{IsBlock-add_round_key, IsBlock-cell_state, cell-lt, inverse_affine, inverse_affine-lt}
 use Rattle.kr_aes.proofs.Boxes.{place_of_cell, state_of_cells}
 use Rattle.kr_aes.proofs.Cases.{bytes_below, same_below}
 use Rattle.kr_aes.proofs.InverseBlocks.{IsBlock-inverse_sub_bytes}
 use Rattle.kr_aes.proofs.RoundCounts.{one_round}
 use Rattle.kr_aes.proofs.Powers.{times_squares, times_squares-inverse}
 use Rattle.kr_aes.proofs.TableCells.{inverse-inverse_affine}
-use Rattle.kr_aes.proofs.Undone.{add_round_key_twice, state_of-cell}
+use Rattle.kr_aes.proofs.Undone.{add_round_key_twice, cell_state-cell}
 use Rattle.kr_aes.proofs.MixedBack.{IsBlock-inverse_mix_columns, mix_columns-inverse_mix_columns}
 
 -- ---- each transformation undoes its inverse
@@ -44,12 +44,12 @@ sub_bytes-inverse_sub_bytes state is =
 
 shift_rows-inverse_shift_rows : (state : List ℕ) → length state ≡ 16 → shift_rows (inverse_shift_rows state) ≡ state
 unfolding inverse_shift_rows shift_rows
-shift_rows-inverse_shift_rows state size = sym (state_of-cell state size)
+shift_rows-inverse_shift_rows state size = sym (cell_state-cell state size)
 
 IsBlock-inverse_shift_rows : (state : List ℕ) → IsBlock state → IsBlock (inverse_shift_rows state)
 unfolding inverse_shift_rows
 IsBlock-inverse_shift_rows state is =
-    IsBlock-state_of (λ row column. cell state row ((column + 4 - row) % 4)) (λ row column. cell-lt state is (row + 4 * ((column + 4 - row) % 4)))
+    IsBlock-cell_state (λ row column. cell state row ((column + 4 - row) % 4)) (λ row column. cell-lt state is (row + 4 * ((column + 4 - row) % 4)))
 
 -- ---- the rounds
 

@@ -3,7 +3,7 @@ use Rattle.std.proofs.Common.{◌≡◌, ℕ, ◌<◌, ◌-◌, ◌==◌, List, 
 use Rattle.kr_aes.specs.declared.Rounds.{Rounds}
 use Rattle.kr_aes.specs.Cipher.{IsBlock, cell, round_count, sbox}
 use Rattle.kr_aes.specs.InverseCipher.{after_inverse_rounds, inverse_cipher, inverse_sbox, inverse_shift_rows, inverse_sub_bytes}
-use Rattle.kr_aes.proofs.Blocks.{IsBlock-add_round_key, IsBlock-state_of}
+use Rattle.kr_aes.proofs.Blocks.{IsBlock-add_round_key, IsBlock-cell_state}
 use Rattle.kr_aes.proofs.Search.{find-lt}
 
 inverse_sbox-lt : (b : ℕ) → inverse_sbox b < 256
@@ -13,7 +13,7 @@ inverse_sbox-lt b = find-lt (λ c. sbox c == b) 0 256 256 (omega arith) (omega a
 pub IsBlock-inverse_sub_bytes : (state : List ℕ) → IsBlock (inverse_sub_bytes state)
 unfolding inverse_sub_bytes
 IsBlock-inverse_sub_bytes state =
-    IsBlock-state_of (λ row column. inverse_sbox (cell state row column)) (λ row column. inverse_sbox-lt (cell state row column))
+    IsBlock-cell_state (λ row column. inverse_sbox (cell state row column)) (λ row column. inverse_sbox-lt (cell state row column))
 
 pub IsBlock-inverse_cipher : (words : List ℕ) (rounds : Rounds) (block : List ℕ) → IsBlock (inverse_cipher words rounds block)
 unfolding inverse_cipher

@@ -1,12 +1,12 @@
 -- MixColumns undoes InvMixColumns.
 use Rattle.std.proofs.Common.{◌≡◌, ℕ, zero, suc, List, [], ◌∷◌, bit_xor, length, slice_index, refl, sym, ap, ◌∙◌, arith, ◌+◌, ◌*◌, ◌/◌, ◌%◌, ◌<◌}
 use Rattle.kr_aes.specs.Field.{polynomial_product, remainder, product}
-use Rattle.kr_aes.specs.Cipher.{IsBlock, cell, column_sum, mix_columns, matrix_product, state_of}
+use Rattle.kr_aes.specs.Cipher.{IsBlock, cell, column_sum, mix_columns, matrix_product, cell_state}
 use Rattle.kr_aes.specs.InverseCipher.{inverse_mix_columns}
-use Rattle.kr_aes.proofs.Blocks.{IsBlock-state_of, cell-lt, slice_index-state_of}
+use Rattle.kr_aes.proofs.Blocks.{IsBlock-cell_state, cell-lt, slice_index-cell_state}
 use Rattle.kr_aes.proofs.Boxes.{place_of_cell, state_of_cells}
 use Rattle.kr_aes.proofs.Cases.{bytes_below, same_below}
-use Rattle.kr_aes.proofs.MixedColumns.{cell-state_of, factors, inverse_factors}
+use Rattle.kr_aes.proofs.MixedColumns.{cell-cell_state, factors, inverse_factors}
 use Rattle.kr_aes.proofs.Sums.{product-sum4, sum4, sum4-lt, sum4-same, sum4-sum4, sum4-turned, sum4_alone}
 
 -- a byte times the inverse factors and then the factors, in its own row and in the three others
@@ -70,12 +70,12 @@ inverse_sum-lt x y z w hx hy hz hw = sum4-lt _ _ _ _ (product_14-lt x hx) (produ
 
 cell-mixed : (state : List ℕ) (row column : ℕ) → row < 4 → column < 4 → cell (matrix_product inverse_factors state) row column ≡ column_sum inverse_factors state row column
 unfolding matrix_product
-cell-mixed state row column hr hc = cell-state_of (column_sum inverse_factors state) row column hr hc
+cell-mixed state row column hr hc = cell-cell_state (column_sum inverse_factors state) row column hr hc
 
 pub IsBlock-inverse_mix_columns : (state : List ℕ) → IsBlock state → IsBlock (inverse_mix_columns state)
 unfolding matrix_product sum4
 IsBlock-inverse_mix_columns state is =
-    IsBlock-state_of (column_sum inverse_factors state) (λ row column. inverse_sum-lt
+    IsBlock-cell_state (column_sum inverse_factors state) (λ row column. inverse_sum-lt
     (cell state row column) (cell state ((row + 1) % 4) column) (cell state ((row + 2) % 4) column) (cell state ((row + 3) % 4) column)
     (cell-lt state is _) (cell-lt state is _) (cell-lt state is _) (cell-lt state is _))
 

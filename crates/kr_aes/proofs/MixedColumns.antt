@@ -1,17 +1,17 @@
 -- InvMixColumns undoes MixColumns.
 use Rattle.std.proofs.Common.{◌≡◌, ℕ, zero, suc, List, [], ◌∷◌, length, slice_index, sym, ap, ◌∙◌, arith, ◌+◌, ◌*◌, ◌/◌, ◌%◌, ◌<◌}
 use Rattle.kr_aes.specs.Field.{product}
-use Rattle.kr_aes.specs.Cipher.{IsBlock, cell, column_sum, mix_columns, matrix_product, state_of}
+use Rattle.kr_aes.specs.Cipher.{IsBlock, cell, column_sum, mix_columns, matrix_product, cell_state}
 use Rattle.kr_aes.specs.InverseCipher.{inverse_mix_columns}
-use Rattle.kr_aes.proofs.Blocks.{IsBlock-state_of, cell-lt, slice_index-state_of}
+use Rattle.kr_aes.proofs.Blocks.{IsBlock-cell_state, cell-lt, slice_index-cell_state}
 use Rattle.kr_aes.proofs.Boxes.{place_of_cell, state_of_cells}
 use Rattle.kr_aes.proofs.Sums.{mixed_sum, mixed_sum-lt, sum4, unmixed_sum}
 
-pub cell-state_of : (s : ℕ → ℕ → ℕ) (row column : ℕ) → row < 4 → column < 4 → cell (state_of s) row column ≡ s row column
-cell-state_of s row column hr hc =
+pub cell-cell_state : (s : ℕ → ℕ → ℕ) (row column : ℕ) → row < 4 → column < 4 → cell (cell_state s) row column ≡ s row column
+cell-cell_state s row column hr hc =
     let low : (row + 4 * column) % 4 ≡ row = omega arith in
     let high : (row + 4 * column) / 4 ≡ column = omega arith in
-    slice_index-state_of s (row + 4 * column) (omega arith) ∙ (λ i. s (low i) (high i))
+    slice_index-cell_state s (row + 4 * column) (omega arith) ∙ (λ i. s (low i) (high i))
 
 -- the factors
 abbrev pub factors : List ℕ
@@ -22,12 +22,12 @@ inverse_factors = 14 ∷ 11 ∷ 13 ∷ 9 ∷ []
 
 cell-mixed : (state : List ℕ) (row column : ℕ) → row < 4 → column < 4 → cell (matrix_product factors state) row column ≡ column_sum factors state row column
 unfolding matrix_product
-cell-mixed state row column hr hc = cell-state_of (column_sum factors state) row column hr hc
+cell-mixed state row column hr hc = cell-cell_state (column_sum factors state) row column hr hc
 
 pub IsBlock-mix_columns : (state : List ℕ) → IsBlock state → IsBlock (mix_columns state)
 unfolding matrix_product sum4
 IsBlock-mix_columns state is =
-    IsBlock-state_of (column_sum factors state) (λ row column. mixed_sum-lt
+    IsBlock-cell_state (column_sum factors state) (λ row column. mixed_sum-lt
     (cell state row column) (cell state ((row + 1) % 4) column) (cell state ((row + 2) % 4) column) (cell state ((row + 3) % 4) column)
     (cell-lt state is _) (cell-lt state is _) (cell-lt state is _) (cell-lt state is _))
 

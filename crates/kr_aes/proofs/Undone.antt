@@ -2,19 +2,19 @@
 use Rattle.std.proofs.Common.{◌≡◌, ℕ, List, length, slice_index, bit_xor, sym, ap, ◌∙◌, ◌+◌, ◌*◌, ◌/◌, ◌%◌}
 use Rattle.std.specs.Int.Bits.{xor_self, xor_zero_r}
 use lib.Bits.{xor_assoc}
-use Rattle.kr_aes.specs.Cipher.{IsBlock, add_round_key, cell, sbox, shift_rows, state_of, sub_bytes, word_byte}
+use Rattle.kr_aes.specs.Cipher.{IsBlock, add_round_key, cell, sbox, shift_rows, cell_state, sub_bytes, word_byte}
 use Rattle.kr_aes.specs.InverseCipher.{inverse_sbox, inverse_shift_rows, inverse_sub_bytes}
 use Rattle.kr_aes.proofs.Blocks.{cell-lt}
 use Rattle.kr_aes.proofs.Boxes.{place_of_cell, state_of_cells}
 use Rattle.kr_aes.proofs.TableCells.{inverse_sbox-sbox}
 
 -- a state is its cells
-pub state_of-cell : (state : List ℕ) → length state ≡ 16 → state ≡ state_of (cell state)
-state_of-cell state size = state_of_cells state (cell state) size (λ k lt. ap (slice_index state) (place_of_cell k))
+pub cell_state-cell : (state : List ℕ) → length state ≡ 16 → state ≡ cell_state (cell state)
+cell_state-cell state size = state_of_cells state (cell state) size (λ k lt. ap (slice_index state) (place_of_cell k))
 
 pub inverse_shift_rows-shift_rows : (state : List ℕ) → length state ≡ 16 → inverse_shift_rows (shift_rows state) ≡ state
 unfolding inverse_shift_rows shift_rows
-inverse_shift_rows-shift_rows state size = sym (state_of-cell state size)
+inverse_shift_rows-shift_rows state size = sym (cell_state-cell state size)
 
 pub add_round_key_twice : (words : List ℕ) (round : ℕ) (state : List ℕ) → length state ≡ 16 → add_round_key words round (add_round_key words round state) ≡ state
 unfolding add_round_key

@@ -23,8 +23,8 @@ abbrev pub cell : List ℕ → ℕ → ℕ → ℕ
 cell state row column = slice_index state (row + 4 * column)
 
 -- the state with these cells, by row and column
-abbrev pub state_of : (ℕ → ℕ → ℕ) → List ℕ
-state_of s =
+abbrev pub cell_state : (ℕ → ℕ → ℕ) → List ℕ
+cell_state s =
     s 0 0 ∷ s 1 0 ∷ s 2 0 ∷ s 3 0 ∷
     s 0 1 ∷ s 1 1 ∷ s 2 1 ∷ s 3 1 ∷
     s 0 2 ∷ s 1 2 ∷ s 2 2 ∷ s 3 2 ∷
@@ -48,12 +48,12 @@ unfoldable pub sbox : ℕ → ℕ
 sbox b = affine (inverse b)
 
 unfoldable pub sub_bytes : List ℕ → List ℕ
-sub_bytes state = state_of (λ row column. sbox (cell state row column))
+sub_bytes state = cell_state (λ row column. sbox (cell state row column))
 
 -- ---- ShiftRows (5.1.2): row r goes r cells to the left, in a ring
 
 unfoldable pub shift_rows : List ℕ → List ℕ
-shift_rows state = state_of (λ row column. cell state row ((column + row) % 4))
+shift_rows state = cell_state (λ row column. cell state row ((column + row) % 4))
 
 -- ---- MixColumns (5.1.3)
 
@@ -68,7 +68,7 @@ column_sum factors state row column =
 
 -- each column times the matrix with these factors (4.3)
 unfoldable pub matrix_product : List ℕ → List ℕ → List ℕ
-matrix_product factors state = state_of (column_sum factors state)
+matrix_product factors state = cell_state (column_sum factors state)
 
 abbrev pub mix_columns : List ℕ → List ℕ
 mix_columns state = matrix_product (2 ∷ 3 ∷ 1 ∷ 1 ∷ []) state
@@ -81,7 +81,7 @@ word_byte word r = slice_index (to_be_bytes w32 word) r
 
 -- word 4 * round + column of the schedule is added to that column
 unfoldable pub add_round_key : List ℕ → ℕ → List ℕ → List ℕ
-add_round_key words round state = state_of (λ row column.
+add_round_key words round state = cell_state (λ row column.
     bit_xor (cell state row column) (word_byte (slice_index words (4 * round + column)) row))
 
 -- ---- Cipher (5.1)

@@ -5,13 +5,13 @@ use Rattle.std.specs.Int.{w32, to_be_bytes}
 use Rattle.std.specs.List.{range_with_len}
 use Rattle.kr_aes.specs.declared.Rounds.{Rounds}
 use Rattle.kr_aes.specs.Cipher.{add_round_key, column_sum, round_count}
-use Rattle.kr_aes.specs.KeyExpansion.{word_of}
+use Rattle.kr_aes.specs.KeyExpansion.{packed_word}
 use Rattle.kr_aes.specs.InverseCipher.{inverse_cipher, inverse_mix_columns, inverse_shift_rows, inverse_sub_bytes}
 
 -- InvMixColumns of a word as a column
 unfoldable pub inverse_mixed_word : ℕ → ℕ
 inverse_mixed_word word =
-    word_of (λ row. column_sum (0xe ∷ 0xb ∷ 0xd ∷ 0x9 ∷ []) (to_be_bytes w32 word) row 0)
+    packed_word (λ row. column_sum (0xe ∷ 0xb ∷ 0xd ∷ 0x9 ∷ []) (to_be_bytes w32 word) row 0)
 
 -- word i of its schedule: the words of the first and of the last round are those of the key
 -- expansion, and so are the zeros behind them

@@ -2,12 +2,12 @@
 use Rattle.std.specs.Prelude.{◌≡◌, ℕ, zero, suc, ◌+◌, ◌-◌, ◌%◌, ◌==◌, List, [], ◌∷◌, find, unwrap_or}
 use Rattle.std.specs.List.{range_with_len}
 use Rattle.kr_aes.specs.declared.Rounds.{Rounds}
-use Rattle.kr_aes.specs.Cipher.{IsBlock, add_round_key, cell, cipher, matrix_product, round_count, sbox, state_of}
+use Rattle.kr_aes.specs.Cipher.{IsBlock, add_round_key, cell, cipher, matrix_product, round_count, sbox, cell_state}
 
 -- ---- InvShiftRows (5.3.1): row r goes r cells to the right, in a ring
 
 unfoldable pub inverse_shift_rows : List ℕ → List ℕ
-inverse_shift_rows state = state_of (λ row column. cell state row ((column + 4 - row) % 4))
+inverse_shift_rows state = cell_state (λ row column. cell state row ((column + 4 - row) % 4))
 
 -- ---- InvSubBytes (5.3.2)
 
@@ -16,7 +16,7 @@ unfoldable pub inverse_sbox : ℕ → ℕ
 inverse_sbox b = unwrap_or (find (λ c. sbox c == b) (range_with_len 0 256)) 0
 
 unfoldable pub inverse_sub_bytes : List ℕ → List ℕ
-inverse_sub_bytes state = state_of (λ row column. inverse_sbox (cell state row column))
+inverse_sub_bytes state = cell_state (λ row column. inverse_sbox (cell state row column))
 
 -- ---- InvMixColumns (5.3.3)
 

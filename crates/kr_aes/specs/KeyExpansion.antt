@@ -7,15 +7,15 @@ use Rattle.kr_aes.specs.Field.{product}
 use Rattle.kr_aes.specs.Cipher.{round_count, sbox, word_byte}
 
 -- the word with these bytes
-abbrev pub word_of : (ℕ → ℕ) → ℕ
-word_of byte = from_be_bytes w32 (byte 0 ∷ byte 1 ∷ byte 2 ∷ byte 3 ∷ [])
+abbrev pub packed_word : (ℕ → ℕ) → ℕ
+packed_word byte = from_be_bytes w32 (byte 0 ∷ byte 1 ∷ byte 2 ∷ byte 3 ∷ [])
 
 abbrev pub sub_word : ℕ → ℕ
-sub_word word = word_of (λ r. sbox (word_byte word r))
+sub_word word = packed_word (λ r. sbox (word_byte word r))
 
 -- each byte goes one place to the left, in a ring
 abbrev pub rot_word : ℕ → ℕ
-rot_word word = word_of (λ r. word_byte word ((r + 1) % 4))
+rot_word word = packed_word (λ r. word_byte word ((r + 1) % 4))
 
 -- x to the power n in the field
 unfoldable pub power_of_x : ℕ → ℕ
@@ -37,7 +37,7 @@ addend nk i previous =
 unfoldable pub next_word : List ℕ → List ℕ → ℕ → ℕ
 next_word key words i =
     let nk = length key / 4 in
-    if nat_lt i nk then word_of (λ r. slice_index key (4 * i + r))
+    if nat_lt i nk then packed_word (λ r. slice_index key (4 * i + r))
     else bit_xor (slice_index words (i - nk)) (addend nk i (slice_index words (i - 1)))
 
 -- the first n words of the expansion

@@ -91,7 +91,7 @@ impl<'a> Begun<'a> {
             state = next;
         }
         let ciphered = columns::last_forward_round(words, count, state);
-        columns::block_of(ciphered)
+        columns::columns_to_block(ciphered)
     }
 
     #[inline(always)]

@@ -155,7 +155,7 @@ pub(crate) fn last_inverse_round(words: &[u32; 60], round: usize, state: [u32; 4
 }
 
 #[inline(always)]
-pub(crate) fn block_of(columns: [u32; 4]) -> [u8; 16]
+pub(crate) fn columns_to_block(columns: [u32; 4]) -> [u8; 16]
     ensures { result ≡ block_of_columns columns }
 {
     let [a, b, c, d] = columns;

@@ -95,7 +95,7 @@ pub fn encrypt_block(words: &[u32; 60], rounds: Rounds, block: &mut [u8; 16])
         state = next;
     }
     let ciphered = columns::last_forward_round(words, last, state);
-    *block = columns::block_of(ciphered);
+    *block = columns::columns_to_block(ciphered);
 }
 
 /// Writes the schedule of the equivalent inverse cipher (FIPS 197 section 5.3.5), by which many

@@ -64,5 +64,5 @@ pub(crate) fn last_inverse(inverse: &[u32; 60], state: [u32; 4]) -> [u8; 16]
         (inverse_shift_rows (inverse_sub_bytes (block_of_columns state))) }
 {
     let deciphered = columns::last_inverse_round(inverse, 0, state);
-    columns::block_of(deciphered)
+    columns::columns_to_block(deciphered)
 }

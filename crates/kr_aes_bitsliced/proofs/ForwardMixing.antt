@@ -9,7 +9,7 @@ use Rattle.kr_aes.proofs.Linear.{product-xor}
 use Rattle.kr_aes.proofs.MixedColumns.{factors}
 use Rattle.kr_aes_bitsliced.specs.declared.planes.Planes.{Planes}
 use Rattle.kr_aes_bitsliced.specs.inner.Planes.{place_of, sliced_block, sliced_byte}
-use Rattle.kr_aes_bitsliced.proofs.SlicedBlocks.{column_by_bytes, sliced_block-state_of, sliced_byte-lt}
+use Rattle.kr_aes_bitsliced.proofs.SlicedBlocks.{column_by_bytes, sliced_block-cell_state, sliced_byte-lt}
 
 -- the four bytes of a column, from a row downwards, as the code mixes them
 abbrev by_doubles : ℕ → ℕ → ℕ → ℕ → ℕ
@@ -43,7 +43,7 @@ pub mixed_columns_block : (planes outcome : Planes) (b : ℕ)
     → sliced_block outcome b ≡ mix_columns (sliced_block planes b)
 unfolding matrix_product
 mixed_columns_block planes outcome b is =
-    sliced_block-state_of outcome b (column_sum factors (sliced_block planes b))
+    sliced_block-cell_state outcome b (column_sum factors (sliced_block planes b))
     (λ row column hr hc.
     let own = λ (row : ℕ). sliced_byte planes b (place_of row column) in
     let fourth : ((row + 2) % 4 + 1) % 4 ≡ (row + 3) % 4 = omega arith in

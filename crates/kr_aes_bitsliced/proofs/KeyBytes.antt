@@ -9,7 +9,7 @@ use Rattle.kr_aes_bitsliced.specs.declared.planes.Planes.{Planes}
 use Rattle.kr_aes_bitsliced.specs.KeyPlanes.{key_plane, key_planes, round_planes}
 use Rattle.kr_aes_bitsliced.specs.inner.Planes.{place_of, plane, sliced_block, sliced_byte}
 use Rattle.kr_aes_bitsliced.proofs.ByteBits.{byte_of_bits, each_of_eight, same_bits}
-use Rattle.kr_aes_bitsliced.proofs.SlicedBlocks.{cell-sliced_block, sliced_block-state_of}
+use Rattle.kr_aes_bitsliced.proofs.SlicedBlocks.{cell-sliced_block, sliced_block-cell_state}
 
 -- 255 times a bit has that bit at each place
 spread_bit : (bit b : ℕ) → bit < 2 → b < 8 → bit_at (255 * bit) b ≡ bit
@@ -63,7 +63,7 @@ pub added_key : (words : List ℕ) (round b : ℕ) (planes key sum : Planes) →
     → sliced_block sum b ≡ add_round_key words round (sliced_block planes b)
 unfolding add_round_key
 added_key words round b planes key sum some key_is is =
-    sliced_block-state_of sum b
+    sliced_block-cell_state sum b
     (λ row column. bit_xor (cell (sliced_block planes b) row column)
     (word_byte (slice_index words (4 * round + column)) row))
     (λ row column hr hc.

@@ -2,8 +2,8 @@
 use Rattle.std.proofs.Common.{◌≡◌, ℕ, ◌+◌, ◌*◌, ◌-◌, ◌%◌, ◌<◌, List, ◌++◌, length, slice_index, ap, ◌∙◌, arith}
 use Rattle.std.specs.Int.{bit_at}
 use Rattle.std.proofs.lemmas.List.{get_or_append_left}
-use Rattle.kr_aes.specs.Cipher.{state_of}
-use Rattle.kr_aes.proofs.MixedColumns.{cell-state_of}
+use Rattle.kr_aes.specs.Cipher.{cell_state}
+use Rattle.kr_aes.proofs.MixedColumns.{cell-cell_state}
 use Rattle.kr_aes_bitsliced.specs.declared.planes.Planes.{Planes}
 use Rattle.kr_aes_bitsliced.specs.inner.Planes.{place_of, plane, sliced_byte}
 use Rattle.kr_aes_bitsliced.proofs.ByteBits.{same_bits}
@@ -23,22 +23,22 @@ abbrev pub on_the_right : ℕ → ℕ → ℕ
 on_the_right row column = place_of row ((column + row) % 4)
 
 -- cells that lie by rows
-abbrev rows_of : (ℕ → ℕ → ℕ) → List ℕ
-rows_of s = state_of (λ column row. s row column)
+abbrev block_rows : (ℕ → ℕ → ℕ) → List ℕ
+block_rows s = cell_state (λ column row. s row column)
 
-at-rows_of : (s : ℕ → ℕ → ℕ) (row column : ℕ) → row < 4 → column < 4
-    → slice_index (rows_of s) (place_of row column) ≡ s row column
-at-rows_of s row column hr hc =
+at-block_rows : (s : ℕ → ℕ → ℕ) (row column : ℕ) → row < 4 → column < 4
+    → slice_index (block_rows s) (place_of row column) ≡ s row column
+at-block_rows s row column hr hc =
     let turned : place_of row column ≡ column + 4 * row = omega arith in
-    ap (slice_index (rows_of s)) turned ∙ cell-state_of (λ column row. s row column) column row hc hr
+    ap (slice_index (block_rows s)) turned ∙ cell-cell_state (λ column row. s row column) column row hc hr
 
 -- the cells of a swizzle, which picks its bytes from two copies of the plane
 abbrev picked : (ℕ → ℕ → ℕ) → List ℕ → List ℕ
-picked from plane = rows_of (λ row column. slice_index (plane ++ plane) (from row column))
+picked from plane = block_rows (λ row column. slice_index (plane ++ plane) (from row column))
 
 picked_cell : (from : ℕ → ℕ → ℕ) (plane : List ℕ) (row column : ℕ) → row < 4 → column < 4 → from row column < length plane → slice_index (picked from plane) (place_of row column) ≡ slice_index plane (from row column)
 picked_cell from plane row column hr hc within =
-    at-rows_of (λ row column. slice_index (plane ++ plane) (from row column)) row column hr hc
+    at-block_rows (λ row column. slice_index (plane ++ plane) (from row column)) row column hr hc
     ∙ get_or_append_left plane plane 0 (from row column) within
 
 pub one_below_cell : (plane : List ℕ) → length plane ≡ 16 → (row column : ℕ) → row < 4 → column < 4 → slice_index (picked one_below plane) (place_of row column) ≡ slice_index plane (place_of ((row + 1) % 4) column)

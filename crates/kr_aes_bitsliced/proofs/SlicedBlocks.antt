@@ -3,15 +3,15 @@ use Rattle.std.proofs.Common.{◌≡◌, ℕ, ◌+◌, ◌%◌, ◌<◌, List, b
 use Rattle.std.specs.Int.{bit_at}
 use Rattle.std.proofs.lemmas.Nat.Bits.{bit_at-lt}
 use Rattle.kr_aes.specs.Field.{product}
-use Rattle.kr_aes.specs.Cipher.{cell, column_sum, state_of}
-use Rattle.kr_aes.proofs.MixedColumns.{cell-state_of}
+use Rattle.kr_aes.specs.Cipher.{cell, column_sum, cell_state}
+use Rattle.kr_aes.proofs.MixedColumns.{cell-cell_state}
 use Rattle.kr_aes.proofs.Rows.{same16}
 use Rattle.kr_aes_bitsliced.specs.declared.planes.Planes.{Planes}
 use Rattle.kr_aes_bitsliced.specs.inner.Planes.{place_of, plane, sliced_block, sliced_byte}
 use Rattle.kr_aes_bitsliced.proofs.ByteBits.{byte_of-lt}
 use Rattle.kr_aes_bitsliced.proofs.PlaneMoves.{HasMoved, moved_bytes}
 
-pub same_cells : (s t : ℕ → ℕ → ℕ) → ((row column : ℕ) → row < 4 → column < 4 → s row column ≡ t row column) → state_of s ≡ state_of t
+pub same_cells : (s t : ℕ → ℕ → ℕ) → ((row column : ℕ) → row < 4 → column < 4 → s row column ≡ t row column) → cell_state s ≡ cell_state t
 same_cells s t h =
     same16
     (h 0 0 (lit< tt) (lit< tt)) (h 1 0 (lit< tt) (lit< tt)) (h 2 0 (lit< tt) (lit< tt)) (h 3 0 (lit< tt) (lit< tt))
@@ -26,20 +26,20 @@ sliced_byte-lt planes b p =
 
 pub cell-sliced_block : (planes : Planes) (b row column : ℕ) → row < 4 → column < 4 → cell (sliced_block planes b) row column ≡ sliced_byte planes b (place_of row column)
 unfolding sliced_block
-cell-sliced_block planes b row column hr hc = cell-state_of (λ row column. sliced_byte planes b (place_of row column)) row column hr hc
+cell-sliced_block planes b row column hr hc = cell-cell_state (λ row column. sliced_byte planes b (place_of row column)) row column hr hc
 
 -- a block of planes with these cells
-pub sliced_block-state_of : (planes : Planes) (b : ℕ) (s : ℕ → ℕ → ℕ) → ((row column : ℕ) → row < 4 → column < 4 → sliced_byte planes b (place_of row column) ≡ s row column) → sliced_block planes b ≡ state_of s
+pub sliced_block-cell_state : (planes : Planes) (b : ℕ) (s : ℕ → ℕ → ℕ) → ((row column : ℕ) → row < 4 → column < 4 → sliced_byte planes b (place_of row column) ≡ s row column) → sliced_block planes b ≡ cell_state s
 unfolding sliced_block
-sliced_block-state_of planes b s h = same_cells (λ row column. sliced_byte planes b (place_of row column)) s h
+sliced_block-cell_state planes b s h = same_cells (λ row column. sliced_byte planes b (place_of row column)) s h
 
 -- planes whose bytes are each made of one byte
 pub sliced_boxed : (box : ℕ → ℕ) (planes boxed : Planes) (b : ℕ)
     → ((p : ℕ) → p < 16 → sliced_byte boxed b p ≡ box (sliced_byte planes b p))
     → sliced_block boxed b
-    ≡ state_of (λ row column. box (cell (sliced_block planes b) row column))
+    ≡ cell_state (λ row column. box (cell (sliced_block planes b) row column))
 sliced_boxed box planes boxed b is =
-    sliced_block-state_of boxed b (λ row column. box (cell (sliced_block planes b) row column))
+    sliced_block-cell_state boxed b (λ row column. box (cell (sliced_block planes b) row column))
     (λ row column hr hc.
     is (place_of row column) (omega arith)
     ∙ ap box (sym (cell-sliced_block planes b row column hr hc)))
@@ -50,9 +50,9 @@ pub sliced_turned : (from : ℕ → ℕ → ℕ) (planes turned : Planes)
     → ((k : ℕ) → k < 8
     → HasMoved (λ row column. place_of row (from row column)) (plane planes k) (plane turned k))
     → (b : ℕ) → sliced_block turned b
-    ≡ state_of (λ row column. cell (sliced_block planes b) row (from row column))
+    ≡ cell_state (λ row column. cell (sliced_block planes b) row (from row column))
 sliced_turned from planes turned within moves b =
-    sliced_block-state_of turned b
+    sliced_block-cell_state turned b
     (λ row column. cell (sliced_block planes b) row (from row column))
     (λ row column hr hc.
     moved_bytes (λ row column. place_of row (from row column)) planes turned moves b row column hr hc

@@ -25,19 +25,19 @@ pub(crate) fn up_by_one(planes: Planes) -> Planes
         p7: h,
     } = planes;
     Planes {
-        p0: one_up(a),
-        p1: one_up(b),
-        p2: one_up(c),
-        p3: one_up(d),
-        p4: one_up(e),
-        p5: one_up(f),
-        p6: one_up(g),
-        p7: one_up(h),
+        p0: rotate_one_row(a),
+        p1: rotate_one_row(b),
+        p2: rotate_one_row(c),
+        p3: rotate_one_row(d),
+        p4: rotate_one_row(e),
+        p5: rotate_one_row(f),
+        p6: rotate_one_row(g),
+        p7: rotate_one_row(h),
     }
 }
 
 #[inline(always)]
-fn one_up(plane: u8x16) -> u8x16
+fn rotate_one_row(plane: u8x16) -> u8x16
     ensures { (row column : ℕ) → row < 4 → column < 4
         → slice_index result (place_of row column)
         ≡ slice_index plane (place_of ((row + 1) % 4) column) }
@@ -63,19 +63,19 @@ pub(crate) fn up_by_two(planes: Planes) -> Planes
         p7: h,
     } = planes;
     Planes {
-        p0: two_up(a),
-        p1: two_up(b),
-        p2: two_up(c),
-        p3: two_up(d),
-        p4: two_up(e),
-        p5: two_up(f),
-        p6: two_up(g),
-        p7: two_up(h),
+        p0: rotate_two_rows(a),
+        p1: rotate_two_rows(b),
+        p2: rotate_two_rows(c),
+        p3: rotate_two_rows(d),
+        p4: rotate_two_rows(e),
+        p5: rotate_two_rows(f),
+        p6: rotate_two_rows(g),
+        p7: rotate_two_rows(h),
     }
 }
 
 #[inline(always)]
-fn two_up(plane: u8x16) -> u8x16
+fn rotate_two_rows(plane: u8x16) -> u8x16
     ensures { (row column : ℕ) → row < 4 → column < 4
         → slice_index result (place_of row column)
         ≡ slice_index plane (place_of ((row + 2) % 4) column) }

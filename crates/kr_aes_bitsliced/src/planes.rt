@@ -29,20 +29,20 @@ pub(crate) fn of_blocks(blocks: &[[u8; 16]; 8]) -> Planes
 {
     let [a, b, c, d, e, f, g, h] = blocks;
     transposed(Planes {
-        p0: rows_of(a),
-        p1: rows_of(b),
-        p2: rows_of(c),
-        p3: rows_of(d),
-        p4: rows_of(e),
-        p5: rows_of(f),
-        p6: rows_of(g),
-        p7: rows_of(h),
+        p0: block_rows(a),
+        p1: block_rows(b),
+        p2: block_rows(c),
+        p3: block_rows(d),
+        p4: block_rows(e),
+        p5: block_rows(f),
+        p6: block_rows(g),
+        p7: block_rows(h),
     })
 }
 
 /// The bytes of a block by rows of the state.
 #[inline(always)]
-fn rows_of(block: &[u8]) -> u8x16
+fn block_rows(block: &[u8]) -> u8x16
     requires { length block.now ≡ 16 }
     ensures { block_of_rows result ≡ block.now }
 {
@@ -51,7 +51,7 @@ fn rows_of(block: &[u8]) -> u8x16
 
 /// The block whose bytes lie by rows.
 #[inline(always)]
-fn block_of(rows: u8x16) -> [u8; 16]
+fn rows_to_block(rows: u8x16) -> [u8; 16]
     ensures { result ≡ block_of_rows rows }
 {
     by_rows(rows).to_array()
@@ -70,12 +70,12 @@ fn by_rows(bytes: u8x16) -> u8x16
 pub(crate) fn to_blocks(planes: Planes) -> [[u8; 16]; 8]
     ensures { (b : ℕ) → b < 8 → get_or result b [] ≡ sliced_block planes b }
 {
-    blocks_of(transposed(planes))
+    rows_to_blocks(transposed(planes))
 }
 
 /// The blocks whose bytes lie by rows, one in each plane.
 #[inline(always)]
-fn blocks_of(rows: Planes) -> [[u8; 16]; 8]
+fn rows_to_blocks(rows: Planes) -> [[u8; 16]; 8]
     ensures { (b : ℕ) → b < 8 → get_or result b [] ≡ block_of_rows (plane rows b) }
 {
     let Planes {
@@ -89,14 +89,14 @@ fn blocks_of(rows: Planes) -> [[u8; 16]; 8]
         p7: h,
     } = rows;
     [
-        block_of(a),
-        block_of(b),
-        block_of(c),
-        block_of(d),
-        block_of(e),
-        block_of(f),
-        block_of(g),
-        block_of(h),
+        rows_to_block(a),
+        rows_to_block(b),
+        rows_to_block(c),
+        rows_to_block(d),
+        rows_to_block(e),
+        rows_to_block(f),
+        rows_to_block(g),
+        rows_to_block(h),
     ]
 }
 

@@ -6,7 +6,7 @@ use Rattle.std.specs.List.{list_all}
 use Rattle.std.proofs.lemmas.Bool.{leb-true, le-leb}
 use Rattle.std.proofs.lemmas.Bool.Decides.{Decides-eqb, Decides-and, Decides-or, Decides-not, Decides-by_and, Decides-like}
 use Rattle.kr_base.specs.Pairs.{Pairs}
-use Rattle.kr_base.specs.Limits.{AreFew, are_few, size_of}
+use Rattle.kr_base.specs.Limits.{AreFew, are_few, pairs_size}
 use Rattle.kr_base.specs.Rules.{IsGraphic, IsPath, IsName, IsLabelByte, IsLabel, IsResource, is_graphic, is_path, is_name, is_label_byte, is_label, is_resource, first_part, later_parts}
 use Rattle.kr_base.proofs.Labels.{Parted, parted_labels, labels_parted}
 
@@ -84,4 +84,4 @@ pub resource : (bytes : List ℕ) → Decides (is_resource bytes) (IsResource by
 resource bytes = Decides-and _ _ (at_most (length bytes) 253) (Decides-like _ (parted_labels bytes) (labels_parted bytes) (parted bytes).1)
 
 pub few : (pairs : Pairs) → Decides (are_few pairs) (AreFew pairs)
-few pairs = Decides-and _ _ (at_most (length pairs) 256) (at_most (size_of pairs) 32768)
+few pairs = Decides-and _ _ (at_most (length pairs) 256) (at_most (pairs_size pairs) 32768)

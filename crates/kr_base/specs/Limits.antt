@@ -49,13 +49,13 @@ abbrev pub IsShort : List ℕ → Type 0
 IsShort bytes = (1 ≤ length bytes) × (length bytes ≤ short_limit)
 
 -- the bytes of all keys and values
-abbrev pub size_of : Pairs → ℕ
-size_of [] = 0
-size_of (pair ∷ pairs) = length pair.0 + length pair.1 + size_of pairs
+abbrev pub pairs_size : Pairs → ℕ
+pairs_size [] = 0
+pairs_size (pair ∷ pairs) = length pair.0 + length pair.1 + pairs_size pairs
 
 -- at most 256 annotations of at most 32,768 bytes in all
 abbrev pub AreFew : Pairs → Type 0
-AreFew pairs = (length pairs ≤ annotations_limit) × (size_of pairs ≤ annotations_size_limit)
+AreFew pairs = (length pairs ≤ annotations_limit) × (pairs_size pairs ≤ annotations_size_limit)
 
 -- the same limits as tests that compute, for definitions by cases
 
@@ -64,4 +64,4 @@ is_short bytes = nat_le 1 (length bytes) && nat_le (length bytes) short_limit
 
 abbrev pub are_few : Pairs → Bool
 are_few pairs = nat_le (length pairs) annotations_limit
-    && nat_le (size_of pairs) annotations_size_limit
+    && nat_le (pairs_size pairs) annotations_size_limit

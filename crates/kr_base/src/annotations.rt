@@ -53,7 +53,7 @@ impl Annotations {
         ensures ok { OnOk result (self.new ≡ with_pair self.old key value) }
         ensures err { OnErr result (self.new ≡ self.old) }
     {
-        match place_of(&self.pairs, &key) {
+        match key_place(&self.pairs, &key) {
             Ok(at) => {
                 self.pairs[at] = (key, value);
                 return Ok(());
@@ -111,7 +111,7 @@ fn copied(alloc: Global, pairs: &[(Text, Bytes)]) -> Result<Vec<(Text, Bytes)>, 
 }
 
 /// Where the key stands, or else before which pair it belongs.
-fn place_of(pairs: &[(Text, Bytes)], key: &Text) -> Result<usize, usize>
+fn key_place(pairs: &[(Text, Bytes)], key: &Text) -> Result<usize, usize>
     requires { IsSortedByKey pairs.now }
     ensures { IsPlaceOf pairs.now key.now result }
 {

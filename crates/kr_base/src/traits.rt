@@ -105,8 +105,8 @@ pub trait Tape {
         ensures bytes { Cuts (told self.old) (told self.new) len result }
         ensures cause { IsCounted (count self.old) (count self.new) result };
 
-    /// Lets what was put, and where the tape was cut, stand on the device: once this answers, a loss
-    /// of power takes none of it. After a fault nothing is known of what stands there.
+    /// Lets what was put, and where the tape was cut, stand on the device: once this answers, a
+    /// loss of power takes none of it. After a fault nothing is known of what stands there.
     fn settle(&mut self) -> Result<(), Failed>
         ensures settled { OnOk result (settled self.new ≡ true) }
         ensures same { told self.new ≡ told self.old }

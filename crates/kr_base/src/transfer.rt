@@ -33,7 +33,7 @@ fn next_ask(rest: u64) -> usize
 }
 
 /// No bytes, with room for some.
-fn room_for(alloc: Global, limit: u64) -> Result<Vec<u8>, ReadNo>
+fn reserve_bytes(alloc: Global, limit: u64) -> Result<Vec<u8>, ReadNo>
     ensures { MatchResult result (λ room. room.items ≡ []) (λ why. why ≡ ReadNo.NoMemory) }
 {
     match Vec::with_capacity(alloc, (limit.min(ROOM) + MORE) as usize) {
@@ -49,7 +49,7 @@ pub fn read_all<S: Source>(alloc: Global, source: &mut S, limit: u64) -> Result<
     ensures failed { IsErrOf result ReadNo.Failed → Rose (S.count source.old) (S.count source.new) }
     ensures once { S.count source.new ≡ counted_read (S.count source.old) result }
 {
-    let mut taken = room_for(alloc, limit)?;
+    let mut taken = reserve_bytes(alloc, limit)?;
     let mut piece = [0u8; PIECE];
     for _ in 0..u64::MAX {
         let rest = limit - taken.len() as u64;

@@ -8,7 +8,7 @@ use Rattle.kr_store.specs.Stores.{Kept}
 use Rattle.kr_watch.specs.declared.item.Item.{Item}
 use Rattle.kr_cmd_steps.specs.Around.{Around}
 use Rattle.kr_cmd_fleet.specs.Fleets.{Replicas, starting}
-use Rattle.kr_cmd_fleet.specs.declared.fleet_file.Plan.{Plan}
+use Rattle.kr_cmd_fleet.specs.declared.fleet_file.LoadedFleet.{LoadedFleet}
 use Rattle.kr_cmd_messages.specs.declared.refusal.Refusal.TheVariants.{Stray, OtherSecret, Unfit}
 use Rattle.kr_cmd_fleet.specs.inner.Beginnings.{begun_with}
 use Rattle.kr_cmd_steps.specs.inner.Starts.{start_stop}
@@ -19,7 +19,7 @@ use Rattle.kr_cmd_steps.proofs.Goes.{home_refl, reach}
 
 -- ---- the core
 
-module _ (plan : Plan) (budgets : List ℕ) (store : Kept) (replicas : Replicas) (a : Around)
+module _ (plan : LoadedFleet) (budgets : List ℕ) (store : Kept) (replicas : Replicas) (a : Around)
     (items : List Item) where
   pub started : MayStart store.rows (settings_of replicas)
       → Does (starting (plan_of plan) (stored_of store) budgets replicas items) a a

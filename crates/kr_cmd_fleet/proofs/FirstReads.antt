@@ -21,11 +21,11 @@ use Rattle.kr_store.proofs.Listings.{nexts_are_listing}
 use Rattle.kr_watch.specs.declared.item.Item.{Item}
 use Rattle.kr_cmd_messages.specs.declared.refusal.Stop.{Stop}
 use Rattle.kr_cmd_messages.specs.declared.refusal.Stop.TheVariants.{NoMemory}
-use Rattle.kr_cmd_steps.specs.Around.{Around}
+use Rattle.kr_cmd_steps.specs.Around.{Around, IsUnheard}
 use Rattle.kr_cmd_steps.specs.inner.Phases.{Does}
 use Rattle.kr_cmd_steps.specs.inner.ProgramNames.{names_in}
 use Rattle.kr_cmd_fleet.specs.FirstItems.{reading_live, reading_rows, watching}
-use Rattle.kr_cmd_fleet.specs.declared.fleet_file.Plan.{Plan}
+use Rattle.kr_cmd_fleet.specs.declared.fleet_file.LoadedFleet.{LoadedFleet}
 use Rattle.kr_cmd_fleet.specs.declared.outfit.Outfit.{Outfit}
 use Rattle.kr_cmd_fleet.specs.inner.Beginnings.{with_first}
 use Rattle.kr_cmd_fleet.specs.inner.FleetOutcomes.{ArePublished}
@@ -44,14 +44,14 @@ pub is_first : (replicas : List (Option Publication)) (p : Publication)
 is_first [] p e = absurd (let x : None ≡ Some p = e in cc)
 is_first (replica ∷ others) p e = (others, ap (λ r. r ∷ others) e)
 
-seeds_told : (truth : Truth) (plan : Plan) (replicas : List (List ℕ × List ℕ)) (p : Publication)
+seeds_told : (truth : Truth) (plan : LoadedFleet) (replicas : List (List ℕ × List ℕ)) (p : Publication)
     (others : List (Option Publication))
     → ArePublished truth (named plan.files.0) replicas (Some p ∷ others)
     → All (λ row. TellsOf truth (key_of row) row.seed) p.seeds
 seeds_told truth plan [] p others all = absurd all
 seeds_told truth plan (replica ∷ replicas) p others all = all.0.1
 
-module _ {L D : Type 0} (truth : Truth) (link : L → Link) (plan : Plan)
+module _ {L D : Type 0} (truth : Truth) (link : L → Link) (plan : LoadedFleet)
     (whole : IsWholePlan (plan_of plan)) where
   pub has_first : (outfits : List (Outfit L D)) (made : List (Option Publication))
       → AreNamed link (names_in plan.programs) outfits
@@ -162,10 +162,10 @@ module _ {L D : Type 0} (truth : Truth) (link : L → Link) (left : D → Option
       -- the live rows were read with the first outfit
       pub reads_out : (rows : List LogRow) (p : Publication) (others : List (Option Publication))
           (listing : List Row) → IsListing rows listing → (result : Result (List Item) Stop)
-          → ((b : Around) → b.truth ≡ truth → Does (reading_rows p listing [])
+          → ((b : Around) → IsUnheard truth b → Does (reading_rows p listing [])
           (with_first link first.links (left first.dice) (count first.dice) b)
           (with_first link new.links (left first.dice) (count first.dice) b) result)
-          → (a : Around) → a.truth ≡ truth
+          → (a : Around) → IsUnheard truth a
           → Does (reading_live rows (Some p ∷ others)) (With outfits a) (With back a) result
       reads_out rows p others listing lists result d a t =
           let steps = reading_live rows (Some p ∷ others) in
@@ -183,10 +183,10 @@ module _ {L D : Type 0} (truth : Truth) (link : L → Link) (left : D → Option
           (replicas : List (Option Publication)) (p : Publication) → IsFirst p replicas
           → (listing : List Row) → IsListing rows listing
           → (result : Result (List Item) Stop)
-          → ((b : Around) → b.truth ≡ truth → Does (reading_rows p listing [])
+          → ((b : Around) → IsUnheard truth b → Does (reading_rows p listing [])
           (with_first link first.links (left first.dice) (count first.dice) b)
           (with_first link new.links (left first.dice) (count first.dice) b) result)
-          → (a : Around) → a.truth ≡ truth
+          → (a : Around) → IsUnheard truth a
           → Does (watching watched rows replicas) (With outfits a) (With back a) result
       reads_watched watched on rows replicas p (others, is_first) listing lists result d a t =
           subst (λ w. Does (watching w rows replicas) (With outfits a) (With back a) result) (sym on)

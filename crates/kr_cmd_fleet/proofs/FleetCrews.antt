@@ -35,7 +35,7 @@ use Rattle.kr_cmd_fleet.specs.FleetFiles.{all_rows}
 use Rattle.kr_cmd_fleet.specs.Fleets.{AreEquipped, Begun, HasRows, IsEquipped, LeavesRest, Replicas, RunsFleet, opening_of, launching, parts_of}
 use Rattle.kr_cmd_steps.specs.Steps.{Steps}
 use Rattle.kr_cmd_fleet.specs.declared.fleet.Record.{Record}
-use Rattle.kr_cmd_fleet.specs.declared.fleet_file.Plan.{Plan}
+use Rattle.kr_cmd_fleet.specs.declared.fleet_file.LoadedFleet.{LoadedFleet}
 use Rattle.kr_cmd_fleet.specs.declared.outfit.Outfit.{Outfit}
 use Rattle.kr_cmd_fleet.specs.declared.watch_start.WatchStart.{WatchStart}
 use Rattle.kr_cmd_steps.specs.declared.programs.Program.{Program}
@@ -45,17 +45,17 @@ use Rattle.kr_cmd_fleet.specs.inner.Beginnings.{begun_with, first_core}
 use Rattle.kr_cmd_fleet.specs.inner.Crews.{IsReadyCore, outfit_of, outfits_of}
 use Rattle.kr_cmd_fleet.specs.inner.CrewRuns.{KeepsStore, RunsCrew, WorkersRan}
 use Rattle.kr_cmd_fleet.specs.inner.Plans.{IsWholePlan, named, plan_of}
-use Rattle.kr_cmd_fleet.specs.inner.FleetOutcomes.{ArePublished, LacksWorkers}
+use Rattle.kr_cmd_fleet.specs.inner.FleetOutcomes.{ArePublished, LacksWorkers, RunsBy}
 use Rattle.kr_cmd_fleet.specs.inner.Readings.{KnowsItems}
 use Rattle.kr_cmd_steps.specs.inner.Lent.{Tapes, lent_links, with_lent_tape}
 use Rattle.kr_cmd_fleet.specs.inner.Outfits.{AreLater, AreNamed, with_outfits}
 use Rattle.kr_cmd_steps.specs.inner.ProgramNames.{names_in}
 use Rattle.kr_cmd_steps.specs.inner.Phases.{Does}
 use Rattle.kr_cmd_steps.specs.inner.Tapes.{stored_of}
-use Rattle.kr_cmd_fleet.specs.inner.Workings.{RunsWith}
-use Rattle.kr_cmd_steps.proofs.Goes.{files_same, goes_on}
+use Rattle.kr_cmd_fleet.specs.inner.Workings.{TakesOutfits}
+use Rattle.kr_cmd_steps.proofs.Goes.{files_same, goes_on, home_trans}
 use Rattle.kr_cmd_steps.proofs.Lending.{by_key, home_behind, home_same}
-use Rattle.kr_cmd_fleet.proofs.Outfits.{LinksOf, later_named, later_refl, later_trans, names_differ, outfits_asked, outfits_equipped, outfits_file, outfits_home, outfits_input, outfits_said, outfits_tapes, outfits_truth, told_apart, outfits_faults, later_many}
+use Rattle.kr_cmd_fleet.proofs.Outfits.{LinksOf, later_named, later_refl, later_trans, names_differ, outfits_asked, outfits_equipped, outfits_file, outfits_heard, outfits_home, outfits_input, outfits_said, outfits_tapes, outfits_truth, told_apart, outfits_faults, later_many}
 use Rattle.kr_cmd_fleet.proofs.Publishings.{published_open, published_settings}
 use Rattle.kr_cmd_steps.proofs.Tapes.{own_name}
 
@@ -68,7 +68,7 @@ same_reloads [] = refl
 same_reloads (part ∷ parts) = ap (λ l. reloads_of part.lines.0 ∷ l) (same_reloads parts)
 
 -- the core as it started is ready
-pub ready : (plan : Plan) (budgets reloads : List ℕ) (store : Kept) (replicas : Replicas)
+pub ready : (plan : LoadedFleet) (budgets reloads : List ℕ) (store : Kept) (replicas : Replicas)
     (core : CoreState) → core ≡ first_core plan reloads (sum budgets) store replicas
     → reloads ≡ all_reloads plan.script.workers.0
     → length replicas ≡ length plan.script.replicas.0 → IsReadyCore plan budgets core
@@ -223,7 +223,7 @@ module _ {L D : Type 0} (link : L → Link) (left : D → Option (List ℕ)) (co
 -- what the workers had comes back as it was, or later
 pub ran_back : {T L D : Type 0} (truth : Truth) (link : L → Link) (step : L → Exchange → L → Type 0)
     (left : D → Option (List ℕ))
-    (count : D → ℕ) (plan : Plan) (budgets : List ℕ) (olds outs : List (Outfit L D))
+    (count : D → ℕ) (plan : LoadedFleet) (budgets : List ℕ) (olds outs : List (Outfit L D))
     → AreLater link count olds outs → (o : Opening) (start : WatchStart)
     (workers : List (Worker T L D)) → outfits_of workers ≡ outs → (kept : Kept)
     (back : List (Outfit L D)) (result : Result Record Stop)
@@ -241,7 +241,7 @@ ran_back truth link step left count plan budgets olds outs later o start workers
 
 module _ {L D : Type 0} (truth : Truth) (link : L → Link) (step : L → Exchange → L → Type 0)
     (left : D → Option (List ℕ))
-    (count : D → ℕ) (watched : Bool) (plan : Plan) (whole : IsWholePlan (plan_of plan))
+    (count : D → ℕ) (watched : Bool) (plan : LoadedFleet) (whole : IsWholePlan (plan_of plan))
     (budgets : List ℕ) (name : List ℕ) (a : Around) (store : Kept) where
   -- these outfits and the store's tape stand as if they were at home
   abbrev pub With : List (Outfit L D) → Kept → Around
@@ -251,8 +251,9 @@ module _ {L D : Type 0} (truth : Truth) (link : L → Link) (step : L → Exchan
   abbrev pub Next : Steps Begun
   Next = launching watched (plan_of plan) (stored_of store) budgets
 
-  module _ (olds outs : List (Outfit L D)) (replicas : Replicas) (start : WatchStart)
-      (all_does : Does Next (With olds store) (With outs store)
+  module _ (olds outs : List (Outfit L D)) (first : Around) (replicas : Replicas)
+      (start : WatchStart)
+      (all_does : Does Next first (With outs store)
       (Ok (begun_with plan budgets store replicas start.items.0)))
       (knows : KnowsItems watched truth store.rows replicas start.items.0)
       (revision : start.revision ≡ length store.rows)
@@ -299,11 +300,10 @@ module _ {L D : Type 0} (truth : Truth) (link : L → Link) (step : L → Exchan
 
     module _ (kept : Kept) (back : List (Outfit L D)) (further : AreLater link count outs back)
       where
-        new_home : o.count ≤ kept.count → IsHome (With olds store) (With back kept)
-        new_home rises = outfits_home link left count 0 olds back
-            (later_trans link left count olds outs back later further)
+        new_home : o.count ≤ kept.count → IsHome first (With back kept)
+        new_home rises = home_trans all_does.home (outfits_home link left count 0 outs back further
             (over_home name a store.told kept.told
-            (omega (arith, rises, ap (λ (p : Opening). p.count) opens)))
+            (omega (arith, rises, ap (λ (p : Opening). p.count) opens))))
 
         count_now : (With back kept).world.tapes.faults name ≡ kept.count
         count_now = ap (λ (t : Tapes). t.faults name)
@@ -368,11 +368,10 @@ module _ {L D : Type 0} (truth : Truth) (link : L → Link) (step : L → Exchan
     -- memory lacked for the workers
     pub unhired : (T : Type 0) → (kept : Kept) → KeepsStore o o.rows kept
         → (back : List (Outfit L D)) → back ≡ outs
-        → LacksWorkers T truth link step left count Next name (With olds store) (With back kept)
-        NoMemory
+        → LacksWorkers T truth link step left count Next name first (With back kept) NoMemory
     unhired T kept k back are =
         let same = later_refl link left count outs in
-        subst (λ os. LacksWorkers T truth link step left count Next name (With olds store)
+        subst (λ os. LacksWorkers T truth link step left count Next name first
         (With os kept) NoMemory) (sym are) (record {
           stops = refl;
           begun = begun;
@@ -443,28 +442,29 @@ module _ {L D : Type 0} (truth : Truth) (link : L → Link) (step : L → Exchan
 
       pub ran_with : (result : Result Record Stop)
           → RunsCrew truth link step left count plan budgets o start workers result kept back
-          → RunsWith link left count T truth step watched Next name (plan_of plan) outs
-          (With olds store)
-          (With back kept) result
+          → RunsBy T truth link step left count (TakesOutfits a.heard outs back) watched Next name
+          (plan_of plan) first (With back kept) result
       unfolding runs
       ran_with (Ok made) r = record {
-        leaves = record {
-          begun = begun;
-          plan_is = refl;
-          mid = Mid;
-          does = all_does;
-          history = r.history;
-          ended = r.ended;
-          runs = runs made r;
-          lines = r.lines_are;
-          replies = r.replies_are;
-          items_are = ap (λ (s : WatchStart). s.items.0) r.start_is;
-          revision_is = ap (λ (s : WatchStart). s.revision) r.start_is ∙ revision;
-          known = knows;
-          home = new_home kept back (further_on made r) r.kept.later;
-        };
-        outfits_are = are;
+        begun = begun;
+        plan_is = refl;
+        mid = Mid;
+        does = all_does;
+        history = r.history;
+        ended = r.ended;
+        runs = runs made r;
+        begins = (
+          outfits_heard link left count 0 outs (Over_now store),
+          are,
+          sym r.outfits_are,
+        );
+        lines = r.lines_are;
+        replies = r.replies_are;
+        items_are = ap (λ (s : WatchStart). s.items.0) r.start_is;
+        revision_is = ap (λ (s : WatchStart). s.revision) r.start_is ∙ revision;
+        known = knows;
+        home = new_home kept back (further_on made r) r.kept.later;
       }
       ran_with (Err stop) r = inr (subst (λ s. LacksWorkers T truth link step left count Next name
-          (With olds store) (With back kept) s) (sym r.stops)
+          first (With back kept) s) (sym r.stops)
           (unhired T kept r.kept back (r.outfits_are ∙ are)))

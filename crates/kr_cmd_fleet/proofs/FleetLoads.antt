@@ -9,7 +9,7 @@ use Rattle.std.proofs.lemmas.Slice.Eq.{bytes_eq-Decides}
 use Rattle.std.proofs.lemmas.List.{append_assoc, take_all, take_more, flat_map_more, map-append}
 use Rattle.kr_base.specs.Limits.{store_limit}
 use Rattle.kr_base.specs.Told.{Agrees}
-use Rattle.kr_config.specs.Kept.{Row, rows_of}
+use Rattle.kr_config.specs.Kept.{ConfigEntry, rows_of}
 use Rattle.kr_config.specs.declared.settings.Settings.{Settings}
 use Rattle.kr_kms.specs.Outside.{Outside, KeepsFiles, KeepsObjects, with_call}
 use Rattle.kr_kms.specs.declared.world.WorldCall.TheVariants.{File}
@@ -22,8 +22,8 @@ use Rattle.kr_script.specs.declared.script.ScriptNo.TheVariants as no
 use Rattle.kr_workers.specs.declared.files.SettingsFile.{SettingsFile}
 use Rattle.kr_workers.specs.Files as workers
 use Rattle.kr_cmd_steps.specs.Around.{Around, Ends, Reaches, Stays, with_world}
-use Rattle.kr_cmd_steps.specs.Commands.{configuration, with_memory}
-use Rattle.kr_cmd_fleet.specs.FleetFiles.{NamedRows, file_in, files_in, fleet_in, named_rows, rows_at, unless_read}
+use Rattle.kr_cmd_steps.specs.Phases.{configuration, with_memory}
+use Rattle.kr_cmd_fleet.specs.FleetFiles.{NamedRows, file_in, files_in, fleet_in, named_rows, file_entries, unless_read}
 use Rattle.kr_cmd_steps.specs.Steps.{Steps, Left, and_then, awaits, loading, with_asked}
 use Rattle.kr_cmd_messages.specs.declared.refusal.Refusal.{Refusal}
 use Rattle.kr_cmd_messages.specs.declared.refusal.Stop.{Stop}
@@ -107,14 +107,14 @@ module _ {old new : Outside} (files : KeepsFiles old new) (objects : KeepsObject
 
 -- the file of the name was read
 abbrev pub IsRead : List NamedRows → List ℕ → Type 0
-IsRead files name = IsSome (rows_at files name)
+IsRead files name = IsSome (file_entries files name)
 
 covers_none : (files : List NamedRows) → Covers files files []
 covers_none files = record { read = All-nil (IsRead files); stays = λ name is. refl }
 
 -- what was read is there later on
 still_read : (f g : List NamedRows)
-    → ((name : List ℕ) → IsRead f name → rows_at g name ≡ rows_at f name) → (name : List ℕ)
+    → ((name : List ℕ) → IsRead f name → file_entries g name ≡ file_entries f name) → (name : List ℕ)
     → IsRead f name → IsRead g name
 still_read f g stays name is = subst IsSome (sym (stays name is)) is
 
@@ -128,37 +128,37 @@ covers_both f g h xs ys first second = record {
 }
 
 -- the steps of a search, by the test of the first
-abbrev pub found_by : Bool → NamedRows → Option (List Row) → Option (List Row)
+abbrev pub found_by : Bool → NamedRows → Option (List ConfigEntry) → Option (List ConfigEntry)
 found_by b file behind = if b then Some file.1 else behind
 
 pub first_found : (file : NamedRows) (files : List NamedRows) (name : List ℕ)
-    → rows_at (file ∷ files) name ≡ found_by (bytes_eq file.0 name) file (rows_at files name)
+    → file_entries (file ∷ files) name ≡ found_by (bytes_eq file.0 name) file (file_entries files name)
 first_found file files name = by (bytes_eq file.0 name)
   where
     by : (b : Bool) → option_map (λ (f : NamedRows). f.1) (if b then Some file
         else find (λ (f : NamedRows). bytes_eq f.0 name) files)
-        ≡ found_by b file (rows_at files name)
+        ≡ found_by b file (file_entries files name)
     by true = refl
     by false = refl
 
 -- one more behind them changes nothing of those that are there
 pub more_stays : (files : List NamedRows) (file : NamedRows) (name : List ℕ) → IsRead files name
-    → rows_at (files ++ file ∷ []) name ≡ rows_at files name
+    → file_entries (files ++ file ∷ []) name ≡ file_entries files name
 more_stays [] file name is = absurd (let f : false ≡ true = is in cc)
 more_stays (first ∷ files) file name is = first_found first (files ++ file ∷ []) name
     ∙ by (bytes_eq first.0 name) (subst IsSome (first_found first files name) is)
     (more_stays files file name)
     ∙ sym (first_found first files name)
   where
-    by : (b : Bool) → IsSome (found_by b first (rows_at files name))
-        → (IsRead files name → rows_at (files ++ file ∷ []) name ≡ rows_at files name)
-        → found_by b first (rows_at (files ++ file ∷ []) name)
-        ≡ found_by b first (rows_at files name)
+    by : (b : Bool) → IsSome (found_by b first (file_entries files name))
+        → (IsRead files name → file_entries (files ++ file ∷ []) name ≡ file_entries files name)
+        → found_by b first (file_entries (files ++ file ∷ []) name)
+        ≡ found_by b first (file_entries files name)
     by true is behind = refl
     by false is behind = behind is
 
 -- it is there itself
-pub last_read : (files : List NamedRows) (name : List ℕ) (rows : List Row)
+pub last_read : (files : List NamedRows) (name : List ℕ) (rows : List ConfigEntry)
     → IsRead (files ++ (name, rows) ∷ []) name
 last_read [] name rows = subst IsSome
     (sym (first_found (name, rows) [] name
@@ -168,7 +168,7 @@ last_read (first ∷ files) name rows = subst IsSome
     (by (bytes_eq first.0 name) (last_read files name rows))
   where
     by : (b : Bool) → IsRead (files ++ (name, rows) ∷ []) name
-        → IsSome (found_by b first (rows_at (files ++ (name, rows) ∷ []) name))
+        → IsSome (found_by b first (file_entries (files ++ (name, rows) ∷ []) name))
     by true behind = refl
     by false behind = behind
 
@@ -270,11 +270,11 @@ lines_mentioned (part ∷ parts) =
 
 -- a file that was read is there by its name
 pub same_rows : (files : List SettingsFile) (name : List ℕ)
-    → rows_at (named files) name ≡ workers.rows_at files name
+    → file_entries (named files) name ≡ workers.rows_at files name
 same_rows [] name = refl
 same_rows (file ∷ files) name = by (bytes_eq file.name name) (same_rows files name)
   where
-    by : (b : Bool) → rows_at (named files) name ≡ workers.rows_at files name
+    by : (b : Bool) → file_entries (named files) name ≡ workers.rows_at files name
         → option_map (λ (f : NamedRows). f.1) (if b then Some (named_rows file)
         else find (λ (f : NamedRows). bytes_eq f.0 name) (named files))
         ≡ option_map (λ (f : SettingsFile). rows_of f.settings.entries.0) (if b then Some file
@@ -284,11 +284,11 @@ same_rows (file ∷ files) name = by (bytes_eq file.name name) (same_rows files 
 
 module _ (files : List NamedRows) (name : List ℕ) where
   -- the steps of the name, by what was read of it
-  abbrev once : List (List ℕ) → Option (List Row) → Steps (List NamedRows)
+  abbrev once : List (List ℕ) → Option (List ConfigEntry) → Steps (List NamedRows)
   once names read = unless_read read (files_in files names) (and_then (configuration name)
       (λ rows. with_memory (files_in (files ++ (name, rows) ∷ []) names)))
 
-  pub already : (world : Outside) (rows : List Row) → rows_at files name ≡ Some rows
+  pub already : (world : Outside) (rows : List ConfigEntry) → file_entries files name ≡ Some rows
       → GoesThrough files files (name ∷ []) world world (Ok tt)
   already world rows there = (
     record {
@@ -301,7 +301,7 @@ module _ (files : List NamedRows) (name : List ℕ) where
   )
 
   module _ {old new : Outside} (kept : KeepsFiles old new) (objects : KeepsObjects old new)
-      (absent : rows_at files name ≡ None) where
+      (absent : file_entries files name ≡ None) where
     pub loaded : (settings : Settings) → Configures old new name (Ok settings)
         → AskedFor {T = Settings} old.asked new.asked (File name) (Ok settings)
         → GoesThrough files (files ++ (name, rows_of settings.entries.0) ∷ []) (name ∷ []) old new
@@ -349,7 +349,7 @@ module _ (files : List NamedRows) (name : List ℕ) where
 
 -- it stands behind the others
 pub named_more : (files all : List SettingsFile) (file : SettingsFile) (name : List ℕ)
-    (rows : List Row) → all ≡ files ++ file ∷ [] → file.name ≡ name
+    (rows : List ConfigEntry) → all ≡ files ++ file ∷ [] → file.name ≡ name
     → rows_of file.settings.entries.0 ≡ rows
     → named all ≡ named files ++ (name, rows) ∷ []
 named_more files all file name rows is n r = ap named is
@@ -376,7 +376,7 @@ all_through files names {old} {new} all a =
 
 pub all_read : (files : List NamedRows) (names : List (List ℕ)) {old new : Outside}
     → GoesThrough [] files names old new (Ok tt)
-    → All (λ name. IsSome (rows_at files name)) names
+    → All (λ name. IsSome (file_entries files name)) names
 all_read files names all = all.0.read
 
 pub not_through : (files : List NamedRows) (names : List (List ℕ)) {old new : Outside}

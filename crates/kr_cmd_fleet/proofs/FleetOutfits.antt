@@ -13,7 +13,7 @@ use Rattle.kr_cmd_fleet.specs.declared.fleet.Record.{Record}
 use Rattle.kr_cmd_fleet.specs.declared.outfit.Outfit.{Outfit}
 use Rattle.kr_cmd_steps.specs.declared.programs.Program.{Program}
 use Rattle.kr_cmd_messages.specs.declared.refusal.Stop.{Stop}
-use Rattle.kr_cmd_fleet.specs.inner.FleetOutcomes.{RunsBy}
+use Rattle.kr_cmd_fleet.specs.inner.FleetOutcomes.{Beginning, RunsBy}
 use Rattle.kr_cmd_steps.specs.inner.Lent.{Tapes, with_lent_tape, with_tapes}
 use Rattle.kr_cmd_fleet.specs.inner.Outfits.{with_outfits}
 use Rattle.kr_cmd_steps.specs.inner.Phases.{Does}
@@ -23,12 +23,16 @@ use Rattle.kr_cmd_fleet.proofs.Outfitting.{equipped_then}
 
 module _ (T : Type 0) {L D : Type 0} (truth : Truth) (link : L → Link)
     (step : L → Exchange → L → Type 0)
-    (left : D → Option (List ℕ)) (count : D → ℕ) (watched : Bool) (name : List ℕ)
-    (plan : FleetPlan) (a : Around) (programs : List Program) (seats : ℕ) (next : Steps Begun)
+    (left : D → Option (List ℕ)) (count : D → ℕ) (Begins : Beginning T L D) (watched : Bool)
+    (name : List ℕ) (plan : FleetPlan) (a : Around) (programs : List Program) (seats : ℕ)
+    (next : Steps Begun)
     (old mid new : Outside) (opened : List (Outfit L D)) where
   -- with the store's tape out
+  abbrev With : Around → Outside → (told : Option (List ℕ)) → ℕ → Around
+  With around world told n = with_lent_tape name told n (with_world world around)
+
   abbrev Over : Outside → (told : Option (List ℕ)) → ℕ → Around
-  Over world told n = with_lent_tape name told n (with_world world a)
+  Over world told n = With a world told n
 
   abbrev pub Opened : Result (Unit {0}) Stop → Type 0
   Opened result = (tapes : Tapes) (b : Around) → Does (equipping programs 0 seats nothing)
@@ -51,39 +55,44 @@ module _ (T : Type 0) {L D : Type 0} (truth : Truth) (link : L → Link)
         result) (sym lent)
         (opens (with_lent same_name name (option_map Some told) n old.tapes) a)
 
-    closed_over : (outfits : List (Outfit L D)) (told : Option (List ℕ)) (n : ℕ) → Closed outfits
-        → with_outfits link left count 0 outfits (Over mid told n) ≡ Over new told n
-    closed_over outfits told n back =
-        back (with_lent same_name name (option_map Some told) n mid.tapes) a
+    closed_over : (around : Around) (outfits : List (Outfit L D)) (told : Option (List ℕ)) (n : ℕ)
+        → Closed outfits
+        → with_outfits link left count 0 outfits (With around mid told n) ≡ With around new told n
+    closed_over around outfits told n back =
+        back (with_lent same_name name (option_map Some told) n mid.tapes) around
         ∙ ap (λ t. with_world (with_tapes (with_lent same_name name (option_map Some told) n t) new)
-        a) (sym still)
+        around) (sym still)
 
     -- they were borrowed, and the fleet ran by what follows
-    pub runs_equipped : (told back : Option (List ℕ)) (n last : ℕ) (closed : List (Outfit L D))
-        → Opened (Ok tt) → Closed closed → (result : Result Record Stop)
-        → RunsBy T truth link step left count watched next name plan
+    pub runs_equipped : (around : Around) (told back : Option (List ℕ)) (n last : ℕ)
+        (closed : List (Outfit L D)) → Opened (Ok tt) → Closed closed
+        → (result : Result Record Stop)
+        → RunsBy T truth link step left count Begins watched next name plan
         (with_outfits link left count 0 opened (Over mid told n))
-        (with_outfits link left count 0 closed (Over mid back last)) result
-        → RunsBy T truth link step left count watched (equipping programs 0 seats next) name plan
-        (Over old told n) (Over new back last) result
-    runs_equipped told back n last closed opens closes result runs =
-        subst (λ s. RunsBy T truth link step left count watched s name plan (Over old told n)
-        (Over new back last) result) (equipped_then programs 0 seats next)
-        (before T truth link step left count watched name plan (equipping programs 0 seats nothing)
-        (λ u. next) tt (Over new back last) (opened_over told n (Ok tt) opens) result
-        (subst (λ b. RunsBy T truth link step left count watched next name plan
+        (with_outfits link left count 0 closed (With around mid back last)) result
+        → RunsBy T truth link step left count Begins watched (equipping programs 0 seats next) name
+        plan
+        (Over old told n) (With around new back last) result
+    runs_equipped around told back n last closed opens closes result runs =
+        subst (λ s. RunsBy T truth link step left count Begins watched s name plan (Over old told n)
+        (With around new back last) result) (equipped_then programs 0 seats next)
+        (before T truth link step left count Begins watched name plan
+        (equipping programs 0 seats nothing)
+        (λ u. next) tt (With around new back last) (opened_over told n (Ok tt) opens) result
+        (subst (λ b. RunsBy T truth link step left count Begins watched next name plan
         (with_outfits link left count 0 opened (Over mid told n)) b result)
-        (closed_over closed back last closes) runs))
+        (closed_over around closed back last closes) runs))
 
     -- one wasn't
     pub runs_unequipped : (told : Option (List ℕ)) (n : ℕ) (stop : Stop) → Opened (Err stop)
         → Closed opened
-        → RunsBy T truth link step left count watched (equipping programs 0 seats next) name plan
+        → RunsBy T truth link step left count Begins watched (equipping programs 0 seats next) name
+        plan
         (Over old told n) (Over new told n) (Err stop)
     runs_unequipped told n stop opens closes = inl
         (subst (λ s. Does s (Over old told n) (Over new told n) (Err stop))
         (equipped_then programs 0 seats next)
         (subst (λ b. Does (and_then (equipping programs 0 seats nothing) (λ u. next))
-        (Over old told n) b (Err stop)) (closed_over opened told n closes)
+        (Over old told n) b (Err stop)) (closed_over a opened told n closes)
         (stops (equipping programs 0 seats nothing) (λ u. next) stop
         (opened_over told n (Err stop) opens))))

@@ -3,11 +3,11 @@ use Rattle.std.proofs.Common.{◌≡◌, ℕ, ◌+◌, ◌<◌, ◌≤◌, ◌�
 use Rattle.std.specs.List.{flat_map}
 use Rattle.std.proofs.lemmas.Grind.{flat_map-append}
 use Rattle.std.proofs.lemmas.List.Elements.{Contains-append_cases}
-use Rattle.kr_config.specs.Kept.{Row, plugins_in, rows_of}
+use Rattle.kr_config.specs.Kept.{ConfigEntry, plugins_in, rows_of}
 use Rattle.kr_config.specs.Providers.{plugins_among}
 use Rattle.kr_config.specs.Nexts.{earlier, name_cmp, IsNextName}
 use Rattle.kr_config.proofs.Nexts.{names_joined, no_name}
-use Rattle.kr_provider.proofs.NameOrder.{IsStrictlySortedBy-none, is_before}
+use Rattle.kr_provider.proofs.NameOrder.{IsStrictlySortedBy-none, comes_earlier}
 use Rattle.kr_provider.proofs.PluginNames.{names_some}
 use Rattle.kr_workers.specs.declared.files.SettingsFile.{SettingsFile}
 use Rattle.kr_cmd_fleet.specs.FleetFiles.{all_rows}
@@ -24,7 +24,7 @@ names_parts : (files : List SettingsFile)
     → plugins_in (all_rows (named files)) ≡ flat_map file_names files
 names_parts [] = refl
 names_parts (file ∷ files) =
-    flat_map-append (λ (row : Row). plugins_among row.providers)
+    flat_map-append (λ (row : ConfigEntry). plugins_among row.providers)
     (rows_of file.settings.entries.0) (all_rows (named files))
     ∙ ap (λ l. file_names file ++ l) (names_parts files)
 
@@ -53,15 +53,15 @@ files_end files i after next h all = subst (λ l. IsNextName l after next)
 -- ---- no name is empty
 
 some_names : (files : List SettingsFile) (name : List ℕ)
-    → Contains (flat_map file_names files) name → is_before [] name ≡ true
+    → Contains (flat_map file_names files) name → comes_earlier [] name ≡ true
 some_names [] name c = absurd (omega (arith, c.1))
 some_names (file ∷ files) name c =
     by (Contains-append_cases (file_names file) (flat_map file_names files) name c)
     (some_names files name)
   where
     by : Contains (file_names file) name ⊎ Contains (flat_map file_names files) name
-        → (Contains (flat_map file_names files) name → is_before [] name ≡ true)
-        → is_before [] name ≡ true
+        → (Contains (flat_map file_names files) name → comes_earlier [] name ≡ true)
+        → comes_earlier [] name ≡ true
     by (inl here) later = names_some (rows_of file.settings.entries.0) file.settings.kept name here
     by (inr behind) later = later behind
 

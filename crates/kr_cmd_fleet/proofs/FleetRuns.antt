@@ -2,6 +2,7 @@
 use Rattle.kr_cmd_messages.specs.Message.{line_of, status_of as stop_status}
 use Rattle.std.proofs.Common.{◌≡◌, ℕ, ◌+◌, ◌<◌, ◌≤◌, ◌⊎◌, List, [], ◌∷◌, map, codes, Option, Some, Result, Ok, Err, refl, sym, ◌∙◌, ap, subst, inl, inr, arith}
 use Rattle.std.specs.Prelude.{Bool, false, true, sum, count_by}
+use Rattle.std.proofs.lemmas.List.Elements.{All-nil}
 use Rattle.std.proofs.lemmas.List.Sums.{sum_by-cons}
 use Rattle.kr_kms.specs.Outside.{Outside}
 use Rattle.kr_kms.specs.Calls.{Link}
@@ -17,8 +18,8 @@ use Rattle.kr_words.specs.declared.command.Verb.TheVariants as verbs
 use Rattle.kr_words.proofs.Meanings.{mean_one}
 use Rattle.kr_words.specs.Options.{value_of}
 use Rattle.kr_base.specs.Limits.{journal_limit}
-use Rattle.kr_workers.specs.Budgets.{AreBudgets, all_reloads, budget_of, budgets_of, is_put, put_lines}
-use Rattle.kr_workers.specs.Endings.{ending_of}
+use Rattle.kr_workers.specs.Budgets.{AreBudgets, all_reloads, budget_of, script_budgets, is_put, put_lines}
+use Rattle.kr_workers.specs.Endings.{gravest_ending}
 use Rattle.kr_workers.specs.declared.budget.BudgetNo.{BudgetNo}
 use Rattle.kr_workers.specs.declared.budget.BudgetNo.TheVariants as budget
 use Rattle.kr_workers.specs.declared.ending.Ending.{Ending}
@@ -28,9 +29,9 @@ use Rattle.kr_cmd_steps.specs.Around.{Around, left_of, with_world}
 use Rattle.kr_cmd_messages.specs.FleetAsked.{AskAlone, AsksFleet}
 use Rattle.kr_cmd_fleet.specs.FleetFiles.{FleetPlan, planning}
 use Rattle.kr_cmd_fleet.specs.Fleets.{Begun, DidFleet, RanFleet, WritesFleet, budgeting, over_store, parts_of}
-use Rattle.kr_cmd_steps.specs.Ran.{IsIdle, StopsAtOnce}
+use Rattle.kr_cmd_steps.specs.Ran.{WroteNothing, StopsAtOnce}
 use Rattle.kr_cmd_messages.specs.Receipts.{Receipt, Tells}
-use Rattle.kr_cmd_steps.specs.Steps.{Steps, and_then}
+use Rattle.kr_cmd_steps.specs.Steps.{Steps, and_then, hearing}
 use Rattle.kr_cmd_fleet.specs.declared.fleet.Record.{Record}
 use Rattle.kr_cmd_messages.specs.declared.fleet_words.FleetWords.{FleetWords}
 use Rattle.kr_cmd_messages.specs.declared.refusal.Limit.TheVariants as limit
@@ -38,127 +39,167 @@ use Rattle.kr_cmd_messages.specs.declared.refusal.Refusal.TheVariants.{Limit}
 use Rattle.kr_cmd_messages.specs.declared.refusal.Stop.{Stop}
 use Rattle.kr_cmd_messages.specs.declared.refusal.Stop.TheVariants.{Words, Refused, Fault, NoMemory}
 use Rattle.kr_cmd_messages.specs.inner.FleetAnswers.{IsFleetAsked}
-use Rattle.kr_cmd_fleet.specs.inner.FleetOutcomes.{LacksSettling, LacksWorkers, LeavesRecord, RunsBy, budget_stop}
+use Rattle.kr_cmd_fleet.specs.inner.FleetOutcomes.{Beginning, LacksSettling, LacksWorkers, LeavesRecord, RunsBy, budget_stop}
 use Rattle.kr_cmd_steps.specs.inner.Lent.{with_lent_tape}
 use Rattle.kr_cmd_steps.specs.inner.Phases.{Does}
-use Rattle.kr_cmd_fleet.specs.inner.Workings.{Outfits, RunsWith}
+use Rattle.kr_cmd_fleet.specs.inner.Workings.{BeginsLent}
+use Rattle.kr_cmd_fleet.specs.StartExchanges.{WereAsked}
+use Rattle.kr_cmd_steps.proofs.Hearing.{heard_none}
 use Rattle.kr_cmd_steps.proofs.Goes.{goes_on, home_refl, home_trans, reach, stays_refl, stops}
 
+-- no link was asked
+pub none_asked : {L : Type 0} (lent : ℕ → L → Type 0) (step : L → Exchange → L → Type 0)
+    → WereAsked lent step []
+none_asked lent step =
+    record { olds = []; news = []; lent_are = All-nil (lent 0); walk = refl }
+
 module _ (T : Type 0) {L D : Type 0} (truth : Truth) (link : L → Link)
-    (step : L → Exchange → L → Type 0)
+    (step : L → Exchange → L → Type 0) (lent took : ℕ → L → Type 0)
     (left : D → Option (List ℕ)) (count : D → ℕ) (words : FleetWords) where
   -- the plan wasn't made
   pub unplanned : (old new : Around) (file : List ℕ) → file ≡ words.file → (stop : Stop)
       (output : Receipt) → Does (planning file words.options) old new (Err stop)
-      → IsIdle output
-      → DidFleet T truth link step left count words old new output (Err stop)
-  unplanned old new file is stop output d idle =
+      → WroteNothing output → new.heard ≡ old.heard
+      → DidFleet T truth link step lent took left count words old new output (Err stop)
+  unplanned old new file is stop output d idle same =
       let all = stops (planning words.file words.options) (over_store false words.store) stop
       (subst (λ f. Does (planning f words.options) old new (Err stop)) is d) in
       record {
         home = all.home;
+        exchanges = [];
+        heard = same ∙ sym (heard_none old.heard);
+        asked = none_asked lent step;
         did = inl (inl (all.ends (left_of old) (stays_refl old)), idle);
       }
 
   module _ (plan : FleetPlan) (old now new : Around) (file : List ℕ) (is : file ≡ words.file)
       (planned : Does (planning file words.options) old now (Ok plan)) (store : List ℕ)
-      (is_store : store ≡ words.store) where
-    d : Does (planning words.file words.options) old now (Ok plan)
-    d = subst (λ f. Does (planning f words.options) old now (Ok plan)) is planned
+      (is_store : store ≡ words.store) (exchanges : List Exchange)
+      (heard : new.heard ≡ hearing exchanges old.heard) (asked : WereAsked lent step exchanges)
+    where
+      d : Does (planning words.file words.options) old now (Ok plan)
+      d = subst (λ f. Does (planning f words.options) old now (Ok plan)) is planned
 
-    -- the steps behind it ended the command, or want of memory did, or the store couldn't be settled
-    pub stopped : (stop : Stop) (output : Receipt)
-        → Does (over_store false store plan) now new (Err stop)
-        ⊎ LacksWorkers T truth link step left count (over_store false store plan) store now new stop
-        ⊎ LacksSettling T truth link step left count
-        (over_store false store plan) store now new stop
-        → IsIdle output → DidFleet T truth link step left count words old new output (Err stop)
-    stopped stop output (inl e) idle =
-        let all = goes_on (planning words.file words.options) (over_store false words.store) plan d
-        (subst (λ s. Does (over_store false s plan) now new (Err stop)) is_store e) in
-        record {
-          home = all.home;
-          did = inl (inl (all.ends (left_of old) (stays_refl old)), idle);
-        }
-    stopped stop output (inr (inl lacking)) idle =
-        let l = subst (λ s. LacksWorkers T truth link step left count (over_store false s plan) s
-        now new
-        stop) is_store lacking in
-        let all =
-        goes_on (planning words.file words.options) (over_store false words.store) plan d l.does in
-        record {
-          home = home_trans d.home l.home;
-          did = inl (
-            inr (inl (
-              l.stops,
-              (l.mid, l.begun, all.ends (left_of old) (stays_refl old), l.none, all.home),
-            )),
-            idle,
-          );
-        }
-    stopped stop output (inr (inr lacking)) idle =
-        let l = subst (λ s. LacksSettling T truth link step left count (over_store false s plan) s
-        now new
-        stop) is_store lacking in
-        let all =
-        goes_on (planning words.file words.options) (over_store false words.store) plan d l.does in
-        record {
-          home = home_trans d.home l.home;
-          did = inl (
-            inr (inr (
-              l.mid,
-              l.begun,
-              all.ends (left_of old) (stays_refl old),
-              l.fails,
-              all.home,
-            )),
-            idle,
-          );
-        }
+      -- the steps behind it ended the command, or want of memory did, or the store couldn't be
+      -- settled
+      pub stopped : (stop : Stop) (output : Receipt)
+          → Does (over_store false store plan) now new (Err stop)
+          ⊎ LacksWorkers T truth link step left count (over_store false store plan) store now new
+          stop
+          ⊎ LacksSettling T truth link step left count
+          (over_store false store plan) store now new stop
+          → WroteNothing output
+          → DidFleet T truth link step lent took left count words old new output (Err stop)
+      stopped stop output (inl e) idle =
+          let all = goes_on (planning words.file words.options) (over_store false words.store) plan
+          d
+          (subst (λ s. Does (over_store false s plan) now new (Err stop)) is_store e) in
+          record {
+            home = all.home;
+            exchanges = exchanges;
+            heard = heard;
+            asked = asked;
+            did = inl (inl (all.ends (left_of old) (stays_refl old)), idle);
+          }
+      stopped stop output (inr (inl lacking)) idle =
+          let l = subst (λ s. LacksWorkers T truth link step left count (over_store false s plan) s
+          now new
+          stop) is_store lacking in
+          let all =
+          goes_on (planning words.file words.options) (over_store false words.store) plan d l.does
+          in
+          record {
+            home = home_trans d.home l.home;
+            exchanges = exchanges;
+            heard = heard;
+            asked = asked;
+            did = inl (
+              inr (inl (
+                l.stops,
+                (l.mid, l.begun, all.ends (left_of old) (stays_refl old), l.none, all.home),
+              )),
+              idle,
+            );
+          }
+      stopped stop output (inr (inr lacking)) idle =
+          let l = subst (λ s. LacksSettling T truth link step left count (over_store false s plan) s
+          now new
+          stop) is_store lacking in
+          let all =
+          goes_on (planning words.file words.options) (over_store false words.store) plan d l.does
+          in
+          record {
+            home = home_trans d.home l.home;
+            exchanges = exchanges;
+            heard = heard;
+            asked = asked;
+            did = inl (
+              inr (inr (
+                l.mid,
+                l.begun,
+                all.ends (left_of old) (stays_refl old),
+                l.fails,
+                all.home,
+              )),
+              idle,
+            );
+          }
 
-    -- the workers ran
-    pub ran : (made : Record) (output : Receipt) (result : Result Ending Stop)
-        → LeavesRecord T truth link step left count true false
-        (over_store false store plan) store plan now new made
-        → WritesFleet (fleet_output plan.fleet made.lines.0 made.replies.0)
-        (ending_of made.replies.0) output result
-        → DidFleet T truth link step left count words old new output result
-    ran made output result left_so w =
-        let l = subst (λ s. LeavesRecord T truth link step left count true false
-        (over_store false s plan) s plan now
-        new made) is_store left_so in
-        let all =
-        goes_on (planning words.file words.options) (over_store false words.store) plan d l.does in
-        let journal = map (λ (e : Entry). e.line) l.history in
-        let told = map (λ (worker : fleet_worker.Worker T L D). worker.told) l.ended in
-        let by_lines = subst (λ lines. WritesFleet (fleet_output plan.fleet lines made.replies.0)
-        (ending_of made.replies.0) output result) l.lines w in
-        let by_replies = subst (λ replies. WritesFleet (fleet_output plan.fleet journal replies)
-        (ending_of replies) output result) l.replies by_lines in
-        record {
-          home = home_trans d.home l.home;
-          did = inr (record {
-            begun = l.begun;
-            mid = l.mid;
-            reaches = all.ends (left_of old) (stays_refl old);
-            since = all.home;
-            history = l.history;
-            ended = l.ended;
-            runs = l.runs;
-            writes = subst (λ p. WritesFleet (fleet_output p.fleet journal told)
-                (ending_of told) output result) (sym l.plan_is) by_replies;
-          });
-        }
+      -- the workers ran
+      pub ran : (made : Record) (output : Receipt) (result : Result Ending Stop)
+          → LeavesRecord T truth link step left count
+          (BeginsLent (hearing exchanges old.heard) step false exchanges lent took) true false
+          (over_store false store plan) store plan now new made
+          → WritesFleet (fleet_output plan.fleet made.lines.0 made.replies.0)
+          (gravest_ending made.replies.0) output result
+          → DidFleet T truth link step lent took left count words old new output result
+      ran made output result left_so w =
+          let l = subst (λ s. LeavesRecord T truth link step left count
+          (BeginsLent (hearing exchanges old.heard) step false exchanges lent took) true false
+          (over_store false s plan) s plan now
+          new made) is_store left_so in
+          let all =
+          goes_on (planning words.file words.options) (over_store false words.store) plan d l.does
+          in
+          let journal = map (λ (e : Entry). e.line) l.history in
+          let told = map (λ (worker : fleet_worker.Worker T L D). worker.told) l.ended in
+          let by_lines = subst (λ lines. WritesFleet (fleet_output plan.fleet lines made.replies.0)
+          (gravest_ending made.replies.0) output result) l.lines w in
+          let by_replies = subst (λ replies. WritesFleet (fleet_output plan.fleet journal replies)
+          (gravest_ending replies) output result) l.replies by_lines in
+          record {
+            home = home_trans d.home l.home;
+            exchanges = exchanges;
+            heard = heard;
+            asked = asked;
+            did = inr (
+              record {
+                begun = l.begun;
+                mid = l.mid;
+                reaches = all.ends (left_of old) (stays_refl old);
+                since = all.home;
+                exchanges = exchanges;
+                heard = l.begins.0;
+                began = l.begins.1 refl;
+                history = l.history;
+                ended = l.ended;
+                runs = l.runs;
+                writes = subst (λ p. WritesFleet (fleet_output p.fleet journal told)
+                    (gravest_ending told) output result) (sym l.plan_is) by_replies;
+              },
+              refl,
+            );
+          }
 
 -- ---- phases up to the workers
 
 module _ (T : Type 0) {L D : Type 0} (truth : Truth) (link : L → Link)
     (step : L → Exchange → L → Type 0)
-    (left : D → Option (List ℕ)) (count : D → ℕ) (watched : Bool) (store : List ℕ)
-    (plan : FleetPlan) where
+    (left : D → Option (List ℕ)) (count : D → ℕ) (Begins : Beginning T L D) (watched : Bool)
+    (store : List ℕ) (plan : FleetPlan) where
   abbrev pub Runs : Steps Begun → (old new : Around) → Result Record Stop → Type 0
   Runs steps old new result =
-      RunsBy T truth link step left count watched steps store plan old new result
+      RunsBy T truth link step left count Begins watched steps store plan old new result
 
   module _ {A : Type 0} (first : Steps A) (others : A → Steps Begun) where
     -- the first steps gave something, and the fleet ran by the others
@@ -173,6 +214,7 @@ module _ (T : Type 0) {L D : Type 0} (truth : Truth) (link : L → Link)
       history = l.history;
       ended = l.ended;
       runs = l.runs;
+      begins = l.begins;
       lines = l.lines;
       replies = l.replies;
       items_are = l.items_are;
@@ -204,17 +246,36 @@ module _ (T : Type 0) {L D : Type 0} (truth : Truth) (link : L → Link)
         subst (λ b. Runs steps old (with_lent_tape store b last a) result) (sym t)
         (subst (λ m. Runs steps old (with_lent_tape store told m a) result) (sym e) r)
 
--- what is known of the workers beside, left out
-pub runs_with : (T : Type 0) {L D : Type 0} (truth : Truth) (link : L → Link)
+-- of the workers something else holds
+pub runs_so : (T : Type 0) {L D : Type 0} (truth : Truth) (link : L → Link)
     (step : L → Exchange → L → Type 0)
-    (left : D → Option (List ℕ)) (count : D → ℕ) (watched : Bool) (store : List ℕ)
-    (plan : FleetPlan) (steps : Steps Begun) (outfits : Outfits L D) (old new : Around)
+    (left : D → Option (List ℕ)) (count : D → ℕ) (Begins Others : Beginning T L D)
+    (so : (heard : Option (List Exchange)) (workers ended : List (fleet_worker.Worker T L D))
+    → Begins heard workers ended → Others heard workers ended) (watched : Bool)
+    (steps : Steps Begun) (store : List ℕ) (plan : FleetPlan) (old new : Around)
     (result : Result Record Stop)
-    → RunsWith link left count T truth step watched steps store plan outfits old new result
-    → RunsBy T truth link step left count watched steps store plan old new result
-runs_with T truth link step left count watched store plan steps outfits old new
-    (Ok made) r = r.leaves
-runs_with T truth link step left count watched store plan steps outfits old new (Err stop) r = r
+    → RunsBy T truth link step left count Begins watched steps store plan old new result
+    → RunsBy T truth link step left count Others watched steps store plan old new result
+runs_so T truth link step left count Begins Others so watched steps store plan old new (Ok made) l =
+    record {
+      begun = l.begun;
+      plan_is = l.plan_is;
+      mid = l.mid;
+      does = l.does;
+      history = l.history;
+      ended = l.ended;
+      runs = l.runs;
+      begins = so l.mid.heard l.runs.workers l.ended l.begins;
+      lines = l.lines;
+      replies = l.replies;
+      items_are = l.items_are;
+      revision_is = l.revision_is;
+      known = l.known;
+      home = l.home;
+    }
+runs_so T truth link step left count Begins Others so watched steps store plan old new (Err stop) r
+    =
+    r
 
 -- ---- budgets
 
@@ -223,7 +284,7 @@ abbrev pub parts_again : List Part → List Part
 parts_again parts = parts_of (record { replicas = []; workers = map worker_of parts })
 
 same_budgets : (paths : ℕ) (parts : List Part)
-    → budgets_of paths (parts_again parts) ≡ budgets_of paths parts
+    → script_budgets paths (parts_again parts) ≡ script_budgets paths parts
 same_budgets paths [] = refl
 same_budgets paths (part ∷ parts) =
     ap (λ rest. budget_of paths part.lines.0 ∷ rest) (same_budgets paths parts)
@@ -241,7 +302,7 @@ same_puts (part ∷ parts) =
 
 module _ (rows : List LogRow) (parts : List Part) (live : ℕ) (is : IsLiveCount rows live) where
   abbrev pub Needed : List ℕ
-  Needed = budgets_of (live + put_lines parts) parts
+  Needed = script_budgets (live + put_lines parts) parts
 
   pub are_budgets : (budgets : List ℕ) → budgets ≡ Needed → AreBudgets rows parts budgets
   are_budgets budgets e = (live, is, e)
@@ -251,7 +312,7 @@ module _ (rows : List LogRow) (parts : List Part) (live : ℕ) (is : IsLiveCount
     live,
     is,
     e ∙ sym (same_budgets (live + put_lines parts) parts)
-        ∙ ap (λ n. budgets_of (live + n) (parts_again parts)) (sym (same_puts parts)),
+        ∙ ap (λ n. script_budgets (live + n) (parts_again parts)) (sym (same_puts parts)),
   )
 
   pub budgeted : (budgets : List ℕ) → budgets ≡ Needed → sum budgets ≤ journal_limit
@@ -277,11 +338,11 @@ module _ (rows : List LogRow) (parts : List Part) (live : ℕ) (is : IsLiveCount
       record { home = home_refl a; ends = λ l s. inr (reach l (inl (refl, refl)) s) }
 
 pub budgets_fit : (paths : ℕ) (parts : List Part) (entries reloads : List ℕ)
-    → entries ≡ budgets_of paths parts → reloads ≡ all_reloads parts
+    → entries ≡ script_budgets paths parts → reloads ≡ all_reloads parts
     → sum reloads ≤ sum entries
 budgets_fit paths parts entries reloads e r =
     let fits = parts_fit paths parts in
-    let same : sum entries ≡ sum (budgets_of paths parts) = ap sum e in
+    let same : sum entries ≡ sum (script_budgets paths parts) = ap sum e in
     let all : sum reloads ≡ sum (all_reloads parts) = ap sum r in
     omega (arith, fits, same, all)
 
@@ -304,14 +365,16 @@ one_fleet words a b p q =
     ∙ ap (fleet_words b.file b.store) same
 
 pub for_asked : {T L D : Type 0} {truth : Truth} {link : L → Link}
-    {step : L → Exchange → L → Type 0} {left : D → Option (List ℕ)}
-    {count : D → ℕ} {a b : FleetWords} {old new : Around} {output errors : Receipt} {status : ℕ}
-    → a ≡ b → RanFleet T truth link step left count a old new output errors status
-    → RanFleet T truth link step left count b old new output errors status
-for_asked {T} {truth = truth} {link = link} {step = step} {left = left} {count = count} {old = old}
+    {step : L → Exchange → L → Type 0} {lent took : ℕ → L → Type 0}
+    {left : D → Option (List ℕ)} {count : D → ℕ} {a b : FleetWords} {old new : Around}
+    {output errors : Receipt} {status : ℕ}
+    → a ≡ b → RanFleet T truth link step lent took left count a old new output errors status
+    → RanFleet T truth link step lent took left count b old new output errors status
+for_asked {T} {truth = truth} {link = link} {step = step} {lent = lent} {took = took} {left = left}
+    {count = count} {old = old}
     {new = new}
     {output = output} {errors = errors} {status = status} e r =
-    subst (λ w. RanFleet T truth link step left count w old new output errors status) e r
+    subst (λ w. RanFleet T truth link step lent took left count w old new output errors status) e r
 
 -- ---- the words stop the call
 
@@ -333,15 +396,19 @@ alone_or_memory words (Fault object count) h errors status t = absurd h
 alone_or_memory words NoMemory h errors status t = inr t
 
 module _ (T : Type 0) {L D : Type 0} (truth : Truth) (link : L → Link)
-    (step : L → Exchange → L → Type 0)
+    (step : L → Exchange → L → Type 0) (lent took : ℕ → L → Type 0)
     (left : D → Option (List ℕ)) (count : D → ℕ) where
   pub unread : (words : List (List ℕ)) (asked : FleetWords) → AsksFleet words asked
       → (stop : Stop) → IsFleetAsked words (Err stop) → (a : Around) (output : Receipt)
-      → IsIdle output → DidFleet T truth link step left count asked a a output (Err stop)
+      → WroteNothing output
+      → DidFleet T truth link step lent took left count asked a a output (Err stop)
   unread words asked asks (Words why) h a output idle = absurd (h.1 asked asks)
   unread words asked asks (Refused why) h a output idle = absurd h
   unread words asked asks (Fault object n) h a output idle = absurd h
   unread words asked asks NoMemory h a output idle = record {
     home = home_refl a;
+    exchanges = [];
+    heard = sym (heard_none a.heard);
+    asked = none_asked lent step;
     did = inl (inl (inr (reach (left_of a) (inl (refl, refl)) (stays_refl a))), idle);
   }

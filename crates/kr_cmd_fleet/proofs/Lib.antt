@@ -15,3 +15,4 @@ pub mod Publishings
 pub mod Returning
 pub mod SettledRuns
 pub mod RowReads
+pub mod StartExchanges

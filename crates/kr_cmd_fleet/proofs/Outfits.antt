@@ -8,23 +8,24 @@ use Rattle.std.specs.Str.{bytes_eq}
 use Rattle.std.specs.declared.cmp.Ordering.TheVariants.{Less}
 use Rattle.std.proofs.lemmas.List.Elements.{Contains-get_or}
 use Rattle.std.proofs.lemmas.Slice.Eq.{bytes_eq-Decides}
-use Rattle.kr_config.specs.Kept.{Row, plugins_in}
+use Rattle.kr_config.specs.Kept.{ConfigEntry, plugins_in}
 use Rattle.kr_config.specs.Nexts.{name_cmp}
 use Rattle.kr_kms.specs.Calls.{Link}
+use Rattle.kr_kms.specs.Exchanges.{Exchange}
 use Rattle.kr_kms.specs.Outside.{Objects, at_key, same_link, same_seat}
 use Rattle.kr_kms.specs.declared.plugin.Status.{Status}
 use Rattle.kr_kms.proofs.Lent.{links_decide, seats_decide}
 use Rattle.kr_provider.specs.AskedLinks.{AskedOnly}
 use Rattle.kr_provider.specs.Names.{AreDistinct, names_of}
 use Rattle.kr_provider.specs.PluginOrder.{plugin_order}
-use Rattle.kr_provider.proofs.NameOrder.{is_before, not_itself, to_false}
+use Rattle.kr_provider.proofs.NameOrder.{comes_earlier, not_itself, to_false}
 use Rattle.kr_provider.proofs.PluginOrder.{order_ascends}
 use Rattle.kr_provider.proofs.AskedLists.{asked_none, asked_then, names_stay}
-use Rattle.kr_cmd_steps.specs.Around.{Around, AreHome, IsHome, with_lent}
+use Rattle.kr_cmd_steps.specs.Around.{Around, AreHome, IsHome, with_exchanges, with_lent}
 use Rattle.kr_cmd_fleet.specs.Fleets.{IsEquipped}
 use Rattle.kr_cmd_fleet.specs.declared.outfit.Outfit.{Outfit}
 use Rattle.kr_cmd_steps.specs.declared.programs.Program.{Program}
-use Rattle.kr_cmd_steps.specs.inner.Lent.{lent_links}
+use Rattle.kr_cmd_steps.specs.inner.Lent.{lent_links, with_lent_dice, with_lent_links}
 use Rattle.kr_cmd_fleet.specs.inner.Outfits.{AreLater, AreNamed, IsLater, with_outfits}
 use Rattle.kr_cmd_steps.specs.inner.ProgramNames.{names_in}
 use Rattle.kr_cmd_steps.proofs.Lending.{by_key, home_behind}
@@ -147,6 +148,21 @@ module _ {L D : Type 0} (link : L → Link) (left : D → Option (List ℕ)) (co
       → (with_outfits link left count seat outfits a).truth ≡ a.truth
   outfits_truth seat [] a = refl
   outfits_truth seat (outfit ∷ outfits) a = outfits_truth (seat + 1) outfits a
+
+  pub outfits_heard : (seat : ℕ) (outfits : List (Outfit L D)) (a : Around)
+      → (with_outfits link left count seat outfits a).heard ≡ a.heard
+  outfits_heard seat [] a = refl
+  outfits_heard seat (outfit ∷ outfits) a = outfits_heard (seat + 1) outfits a
+
+  pub outfits_exchanges : (es : List Exchange) (seat : ℕ) (outfits : List (Outfit L D))
+      (a : Around)
+      → with_outfits link left count seat outfits (with_exchanges es a)
+      ≡ with_exchanges es (with_outfits link left count seat outfits a)
+  outfits_exchanges es seat [] a = refl
+  outfits_exchanges es seat (outfit ∷ outfits) a =
+      ap (λ b. with_lent_links link seat outfit.links
+      (with_lent_dice seat (left outfit.dice) (count outfit.dice) b))
+      (outfits_exchanges es (seat + 1) outfits a)
 
   pub outfits_file : (seat : ℕ) (outfits : List (Outfit L D)) (a : Around)
       → (with_outfits link left count seat outfits a).world.file ≡ a.world.file
@@ -291,7 +307,7 @@ none_less : (name : List ℕ) (names : List (List ℕ))
 none_less name [] a = tt
 none_less name (other ∷ names) a = (
   to_false (bytes_eq name other) (λ same. not_itself name
-      (subst (λ n. is_before name n ≡ true) (sym ((bytes_eq-Decides name other).0 same))
+      (subst (λ n. comes_earlier name n ≡ true) (sym ((bytes_eq-Decides name other).0 same))
       (ap is_lt a.0))),
   none_less name names a.1,
 )
@@ -303,7 +319,7 @@ differ_in_order [] s = tt
 differ_in_order (name ∷ names) s = (none_less name names s.0, differ_in_order names s.1)
 
 -- they differ
-pub names_differ : (programs : List Program) (rows : List Row)
+pub names_differ : (programs : List Program) (rows : List ConfigEntry)
     → names_in programs ≡ plugin_order rows → IsDistinct bytes_eq (names_in programs)
 names_differ programs rows is = subst (IsDistinct bytes_eq) (sym is)
     (differ_in_order (plugin_order rows) (order_ascends (plugins_in rows)))

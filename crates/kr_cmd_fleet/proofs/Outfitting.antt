@@ -4,7 +4,7 @@ use Rattle.std.specs.Prelude.{Bool, true, false, ◌==◌, if◌then◌else◌, 
 use Rattle.std.proofs.lemmas.Bool.Decides.{Decides-eqb}
 use Rattle.std.proofs.lemmas.List.{length_push}
 use Rattle.std.proofs.lemmas.List.Elements.{All-pop, All-push, Contains-append_cases}
-use Rattle.kr_config.specs.Kept.{Row}
+use Rattle.kr_config.specs.Kept.{ConfigEntry}
 use Rattle.kr_kms.specs.Calls.{Link}
 use Rattle.kr_kms.specs.Outside.{HandsOut, KeepsFiles, KeepsObjects, Objects, Outside, at_key, file_faults, same_link, same_seat}
 use Rattle.kr_kms.specs.declared.world.WorldCall.{WorldCall}
@@ -356,7 +356,7 @@ module _ {L D : Type 0} (link : L → Link) (left : D → Option (List ℕ)) (co
   all_named at now links so h = sym (no_more_names (names_of link links))
       ∙ ap (λ ps. names_of link links ++ names_in ps) (sym (none_left programs at h)) ∙ so.named
 
-  module _ (rows : List Row) (order : names_in programs ≡ plugin_order rows) (at : ℕ)
+  module _ (rows : List ConfigEntry) (order : names_in programs ≡ plugin_order rows) (at : ℕ)
       (now : Outside) (links : List L) (so : IsLinking at now links) (program : Program)
       (less : at < length programs) (is : program ≡ get_or programs at program)
       (plugin file : List ℕ) (plugin_is : plugin ≡ program.plugin)

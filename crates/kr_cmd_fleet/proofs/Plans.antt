@@ -10,7 +10,7 @@ use Rattle.std.proofs.lemmas.List.{length-map}
 use Rattle.std.proofs.lemmas.List.Elements.{All-cons, All-head, All-nil, All-tail, Contains-append_left, Contains-append_right, Contains-get_or}
 use Rattle.kr_base.proofs.RuleTests as tests
 use Rattle.kr_base.specs.Rules.{is_name}
-use Rattle.kr_config.specs.Kept.{Row, plugins_in}
+use Rattle.kr_config.specs.Kept.{ConfigEntry, plugins_in}
 use Rattle.kr_config.specs.Providers.{plugins_among}
 use Rattle.kr_provider.specs.Names.{HasLinks}
 use Rattle.kr_provider.proofs.PluginOrder.{order_has}
@@ -21,11 +21,11 @@ use Rattle.kr_script.specs.Rules.{first_is_in, is_line, is_worker}
 use Rattle.kr_script.specs.declared.script.Part.{Part}
 use Rattle.kr_script.specs.declared.script.ScriptLine.{ScriptLine}
 use Rattle.kr_script.specs.declared.script.ScriptLine.TheVariants as line
-use Rattle.kr_workers.specs.ScriptLines.{MayBring, MayDo}
+use Rattle.kr_workers.specs.ScriptLines.{MayBringFile, MayDo}
 use Rattle.kr_workers.specs.declared.files.SettingsFile.{SettingsFile}
-use Rattle.kr_cmd_fleet.specs.FleetFiles.{NamedRows, all_rows, file_in, file_of_replica, no_file, rows_at}
+use Rattle.kr_cmd_fleet.specs.FleetFiles.{NamedRows, all_rows, file_in, file_of_replica, no_file, file_entries}
 use Rattle.kr_cmd_fleet.specs.Fleets.{rows_of_replica}
-use Rattle.kr_cmd_fleet.specs.declared.fleet_file.Plan.{Plan}
+use Rattle.kr_cmd_fleet.specs.declared.fleet_file.LoadedFleet.{LoadedFleet}
 use Rattle.kr_cmd_fleet.specs.inner.Plans.{IsWholePlan, named, plan_of}
 use Rattle.kr_cmd_steps.specs.inner.ProgramNames.{names_in}
 use Rattle.kr_cmd_fleet.proofs.FleetLoads.{IsRead, same_rows}
@@ -33,8 +33,8 @@ use Rattle.kr_cmd_fleet.proofs.FleetLoads.{IsRead, same_rows}
 -- ---- files that were read
 
 -- a configuration that was read is among all of them
-pub rows_among : (files : List NamedRows) (name : List ℕ) (rows : List Row) (plugin : List ℕ)
-    → rows_at files name ≡ Some rows → Contains (plugins_in rows) plugin
+pub rows_among : (files : List NamedRows) (name : List ℕ) (rows : List ConfigEntry) (plugin : List ℕ)
+    → file_entries files name ≡ Some rows → Contains (plugins_in rows) plugin
     → Contains (plugins_in (all_rows files)) plugin
 rows_among [] name rows plugin e c = absurd cc
 rows_among (file ∷ files) name rows plugin e c =
@@ -43,12 +43,12 @@ rows_among (file ∷ files) name rows plugin e c =
   where
     parted : plugins_in (all_rows (file ∷ files))
         ≡ plugins_in file.1 ++ plugins_in (all_rows files)
-    parted = flat_map-append (λ (row : Row). plugins_among row.providers) file.1 (all_rows files)
+    parted = flat_map-append (λ (row : ConfigEntry). plugins_among row.providers) file.1 (all_rows files)
 
     by : (b : Bool)
         → option_map (λ (f : NamedRows). f.1) (if b then Some file
         else find (λ (f : NamedRows). bytes_eq f.0 name) files) ≡ Some rows
-        → (rows_at files name ≡ Some rows → Contains (plugins_in rows) plugin
+        → (file_entries files name ≡ Some rows → Contains (plugins_in rows) plugin
         → Contains (plugins_in (all_rows files)) plugin)
         → Contains (plugins_in file.1 ++ plugins_in (all_rows files)) plugin
     by true e behind =
@@ -70,15 +70,15 @@ halves P (x ∷ xs) ys h =
 
 module _ (files : List SettingsFile) (names : List (List ℕ)) (o : Opening) (many : ℕ)
     (names_are : o.names ≡ names) (replicas_are : length o.replicas ≡ many)
-    (among : (name : List ℕ) (rows : List Row) → rows_at (named files) name ≡ Some rows
+    (among : (name : List ℕ) (rows : List ConfigEntry) → file_entries (named files) name ≡ Some rows
     → NamesAmong names rows) where
   there : (replica : ℕ) → nat_lt replica many ≡ true → replica < length o.replicas
   there replica e =
       let less : replica < many = ltb-true replica many e in omega (arith, less, replicas_are)
 
-  brings : (replica : ℕ) (file : List ℕ) (read : Option (List Row))
-      → rows_at (named files) file ≡ read → nat_lt replica many ≡ true → IsSome read
-      → MayBring o files replica file
+  brings : (replica : ℕ) (file : List ℕ) (read : Option (List ConfigEntry))
+      → file_entries (named files) file ≡ read → nat_lt replica many ≡ true → IsSome read
+      → MayBringFile o files replica file
   brings replica file (Some rows) e below is = (
     there replica below,
     rows,
@@ -96,11 +96,11 @@ module _ (files : List SettingsFile) (names : List (List ℕ)) (o : Opening) (ma
   may_do (line.Delete path) e read = (tests.path path).0 e
   may_do line.Rewrite e read = tt
   may_do (line.Reload replica file) e read =
-      brings replica file (rows_at (named files) file) refl e
+      brings replica file (file_entries (named files) file) refl e
       (All-head (IsRead (named files)) file [] read)
   may_do line.Refresh e read = tt
   may_do (line.Join replica file) e read =
-      brings replica file (rows_at (named files) file) refl e
+      brings replica file (file_entries (named files) file) refl e
       (All-head (IsRead (named files)) file [] read)
   may_do (line.Leave replica) e read = there replica e
 
@@ -150,7 +150,7 @@ replicas_read files (replica ∷ replicas) read =
 
 -- ---- a whole plan
 
-module _ (plan : Plan) (whole : IsWholePlan (plan_of plan)) where
+module _ (plan : LoadedFleet) (whole : IsWholePlan (plan_of plan)) where
   pub plan_workers : (1 ≤ length plan.script.workers.0) × (length plan.script.workers.0 ≤ 64)
   plan_workers =
       let same = length-map plan.script.workers.0 worker_of in
@@ -164,7 +164,7 @@ module _ (plan : Plan) (whole : IsWholePlan (plan_of plan)) where
 
   -- a replica that is in has its file among the files
   pub plan_read : All (λ replica. bytes_eq replica.1 no_file ≡ false
-      → IsSome (rows_at (named plan.files.0) replica.1)) plan.script.replicas.0
+      → IsSome (file_entries (named plan.files.0) replica.1)) plan.script.replicas.0
   plan_read = replicas_read (named plan.files.0) plan.script.replicas.0
       (halves (IsRead (named plan.files.0)) (flat_map file_of_replica plan.script.replicas.0)
       (flat_map (λ (worker : Worker). flat_map file_in worker.lines)
@@ -182,18 +182,18 @@ module _ (plan : Plan) (whole : IsWholePlan (plan_of plan)) where
       not-true (bytes_eq replica.1 no_file) first in
       let read = All-head (λ r. bytes_eq r.1 no_file ≡ false → IsRead files r.1) replica replicas
       (subst (All (λ r. bytes_eq r.1 no_file ≡ false → IsRead files r.1)) is plan_read) in
-      subst (λ b. IsSome (if b then None else rows_at files replica.1)) (sym other) (read other)
+      subst (λ b. IsSome (if b then None else file_entries files replica.1)) (sym other) (read other)
 
   -- each file names plugins of the programs alone
-  pub plan_links : (name : List ℕ) (rows : List Row)
-      → rows_at (named plan.files.0) name ≡ Some rows → HasLinks (names_in plan.programs) rows
+  pub plan_links : (name : List ℕ) (rows : List ConfigEntry)
+      → file_entries (named plan.files.0) name ≡ Some rows → HasLinks (names_in plan.programs) rows
   plan_links name rows e plugin c =
       subst (λ l. Contains l plugin) (sym whole.programs)
       ((order_has (plugins_in (all_rows (named plan.files.0))) plugin).1
       (rows_among (named plan.files.0) name rows plugin e c))
 
-  pub plan_names : (name : List ℕ) (rows : List Row)
-      → rows_at (named plan.files.0) name ≡ Some rows → NamesAmong (names_in plan.programs) rows
+  pub plan_names : (name : List ℕ) (rows : List ConfigEntry)
+      → file_entries (named plan.files.0) name ≡ Some rows → NamesAmong (names_in plan.programs) rows
   plan_names name rows e k d below = plan_links name rows e (get_or (plugins_in rows) k d)
       (Contains-get_or (plugins_in rows) k d below)
 

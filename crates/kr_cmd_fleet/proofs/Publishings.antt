@@ -5,12 +5,15 @@ use Rattle.std.specs.Option.{option_map}
 use Rattle.std.specs.Str.{bytes_eq}
 use Rattle.std.proofs.lemmas.List.{drop_all, take_all, take_more}
 use Rattle.std.proofs.lemmas.List.Elements.{All-cons, All-nil}
-use Rattle.kr_config.specs.Kept.{Row, rows_of}
+use Rattle.kr_config.specs.Kept.{ConfigEntry, rows_of}
 use Rattle.kr_config.specs.declared.settings.Settings.{Settings}
+use Rattle.kr_base.specs.Walks.{Talk, Walk}
+use Rattle.kr_base.proofs.Walks.{talk_none, talk_so, talk_then}
 use Rattle.kr_kms.specs.Calls.{Link}
+use Rattle.kr_kms.specs.Exchanges.{Exchange}
 use Rattle.kr_kms.specs.Truth.{TellsOf, Truth, key_of}
 use Rattle.kr_kms.specs.declared.seeds.SeedRow.{SeedRow}
-use Rattle.kr_provider.specs.AskedLinks.{AskedOnly}
+use Rattle.kr_provider.specs.AskedLinks.{Among, AskedOnly}
 use Rattle.kr_provider.specs.Names.{HasLinks, names_of}
 use Rattle.kr_provider.specs.PluginOrder.{plugin_order}
 use Rattle.kr_provider.specs.Publication.{Publication}
@@ -20,26 +23,28 @@ use Rattle.kr_rollout.specs.Openings.{AreAmong, NamesAmong}
 use Rattle.kr_opening.specs.Replicas.{IsFirstIn, settings_of}
 use Rattle.kr_workers.specs.Files as workers
 use Rattle.kr_workers.specs.declared.files.SettingsFile.{SettingsFile}
-use Rattle.kr_cmd_steps.specs.Around.{Around}
-use Rattle.kr_cmd_steps.specs.Commands.{with_memory}
-use Rattle.kr_cmd_fleet.specs.FleetFiles.{NamedRows, no_file, rows_at}
+use Rattle.kr_cmd_steps.specs.Around.{Around, IsUnheard, with_exchanges}
+use Rattle.kr_cmd_steps.specs.Phases.{with_memory}
+use Rattle.kr_cmd_fleet.specs.FleetFiles.{NamedRows, no_file, file_entries}
 use Rattle.kr_cmd_fleet.specs.Fleets.{Replicas, publishes, publishing, rows_of_replica}
 use Rattle.kr_cmd_steps.specs.Plugins.{make_seeds}
 use Rattle.kr_cmd_steps.specs.Steps.{Steps, give}
-use Rattle.kr_cmd_fleet.specs.declared.fleet_file.Plan.{Plan}
+use Rattle.kr_cmd_fleet.specs.declared.fleet_file.LoadedFleet.{LoadedFleet}
 use Rattle.kr_cmd_fleet.specs.declared.outfit.Outfit.{Outfit}
 use Rattle.kr_cmd_messages.specs.declared.refusal.Stop.{Stop}
 use Rattle.kr_cmd_messages.specs.declared.refusal.Stop.TheVariants.{NoMemory}
 use Rattle.kr_cmd_fleet.specs.inner.Beginnings.{MayPublish, PublishesNext, with_first}
 use Rattle.kr_cmd_fleet.specs.inner.Plans.{IsWholePlan, named, plan_of}
 use Rattle.kr_cmd_fleet.specs.inner.FleetOutcomes.{ArePublished, IsPublishedBy}
-use Rattle.kr_cmd_fleet.specs.inner.Outfits.{AreLater, AreNamed, IsLater, with_outfits}
+use Rattle.kr_cmd_fleet.specs.StartExchanges.{AsksFirst}
+use Rattle.kr_cmd_fleet.specs.inner.Outfits.{AreLater, AreNamed, IsLater, links_of, with_outfits}
 use Rattle.kr_cmd_steps.specs.inner.ProgramNames.{names_in}
 use Rattle.kr_cmd_steps.specs.inner.Phases.{Does}
 use Rattle.kr_cmd_fleet.proofs.FleetLoads.{same_rows}
+use Rattle.kr_cmd_steps.proofs.Hearing.{around_more, around_none}
 use Rattle.kr_cmd_steps.proofs.Goes.{given, goes_on, home_refl, reach, stops}
 use Rattle.kr_cmd_steps.proofs.Made.{remembers}
-use Rattle.kr_cmd_fleet.proofs.Outfits.{later_refl, outfits_truth}
+use Rattle.kr_cmd_fleet.proofs.Outfits.{later_refl, outfits_exchanges, outfits_heard, outfits_truth}
 use Rattle.kr_cmd_fleet.proofs.Plans.{plan_links, plan_read}
 use Rattle.kr_cmd_steps.proofs.Works.{lacks}
 
@@ -47,7 +52,7 @@ use Rattle.kr_cmd_steps.proofs.Works.{lacks}
 
 -- memory lacks for what is still to come
 lacks_by : (files : List NamedRows) (made : Replicas) (others : List (List ℕ × List ℕ))
-    (a : Around) (rows : Option (List Row))
+    (a : Around) (rows : Option (List ConfigEntry))
     → Does (publishing files (made ++ None ∷ []) others) a a (Err NoMemory)
     → Does (publishes rows made (λ more. publishing files more others)) a a (Err NoMemory)
 lacks_by files made others a None rest = rest
@@ -64,12 +69,13 @@ lacks_rest files made (replica ∷ others) a =
 module _ (files : List NamedRows) (replica : List ℕ × List ℕ) where
   rows_gap : bytes_eq replica.1 no_file ≡ true → rows_of_replica files replica ≡ None
   rows_gap gap =
-      ap {B = Option (List Row)} (λ b. if b then None else rows_at files replica.1) gap
+      ap {B = Option (List ConfigEntry)} (λ b. if b then None else file_entries files replica.1) gap
 
-  pub rows_in_file : (rows : List Row) → bytes_eq replica.1 no_file ≡ false
-      → rows_at files replica.1 ≡ Some rows → rows_of_replica files replica ≡ Some rows
+  pub rows_in_file : (rows : List ConfigEntry) → bytes_eq replica.1 no_file ≡ false
+      → file_entries files replica.1 ≡ Some rows → rows_of_replica files replica ≡ Some rows
   rows_in_file rows there is =
-      ap {B = Option (List Row)} (λ b. if b then None else rows_at files replica.1) there ∙ is
+      ap {B = Option (List ConfigEntry)} (λ b. if b then None else file_entries files replica.1)
+      there ∙ is
 
   -- it isn't in
   pub next_gap : bytes_eq replica.1 no_file ≡ true → (a : Around)
@@ -85,7 +91,7 @@ module _ (files : List NamedRows) (replica : List ℕ × List ℕ) where
   pub next_lacks : (a : Around) → PublishesNext files replica a a (Err NoMemory)
   next_lacks a made others = lacks_rest files made (replica ∷ others) a
 
-  module _ (rows : List Row) (is : rows_of_replica files replica ≡ Some rows) where
+  module _ (rows : List ConfigEntry) (is : rows_of_replica files replica ≡ Some rows) where
     -- the others, behind what was published
     abbrev behind : Replicas → List (List ℕ × List ℕ) → List SeedRow → Steps Replicas
     behind made others seeds =
@@ -134,18 +140,31 @@ module _ (files : List NamedRows) (replica : List ℕ × List ℕ) where
           (remembers d)
           (lacks_rest files (made ++ Some (record { rows = rows; seeds = seeds }) ∷ []) others new))
 
+-- nothing was asked
+pub none_next : {L : Type 0} (truth : Truth) (step : L → Exchange → L → Type 0)
+    (files : List NamedRows) (replica : List ℕ × List ℕ) (links : List L)
+    (with_parts : Around → Around) (result : Result (Option Publication) Stop)
+    → ((a : Around) → PublishesNext files replica a a result)
+    → Talk (Among step) links links (λ es. (a : Around) → a.truth ≡ truth
+    → PublishesNext files replica (with_parts a) (with_parts (with_exchanges es a)) result)
+none_next truth step files replica links with_parts result next =
+    talk_none (Among step) (λ es. (a : Around) → a.truth ≡ truth
+    → PublishesNext files replica (with_parts a) (with_parts (with_exchanges es a)) result) links
+    (λ a t. subst (λ b. PublishesNext files replica (with_parts a) (with_parts b) result)
+    (sym (around_none a)) (next (with_parts a)))
+
 -- ---- the file of a replica
 
 pub read_rows : (files : List SettingsFile) (text file : List ℕ) (settings shared : Settings)
     → text ≡ file → Some (rows_of settings.entries.0) ≡ workers.rows_at files text
-    → shared ≡ settings → rows_at (named files) file ≡ Some (rows_of shared.entries.0)
+    → shared ≡ settings → file_entries (named files) file ≡ Some (rows_of shared.entries.0)
 read_rows files text file settings shared e is same = same_rows files file
     ∙ ap (λ n. workers.rows_at files n) (sym e) ∙ sym is
     ∙ ap (λ (s : Settings). Some (rows_of s.entries.0)) (sym same)
 
 pub has_links : (names : List (List ℕ)) (files : List NamedRows) (file : List ℕ)
-    (rows : List Row) → MayPublish names files file → bytes_eq file no_file ≡ false
-    → rows_at files file ≡ Some rows → HasLinks names rows
+    (rows : List ConfigEntry) → MayPublish names files file → bytes_eq file no_file ≡ false
+    → file_entries files file ≡ Some rows → HasLinks names rows
 has_links names files file rows may there is =
     let m = may there in
     let same : m.0 ≡ rows = let e : Some m.0 ≡ Some rows = sym m.1 ∙ is in cc in
@@ -186,25 +205,36 @@ published_more truth files (r ∷ replicas) [] replica p all is = absurd all
 published_more truth files (r ∷ replicas) (q ∷ made) replica p all is =
     (all.0, published_more truth files replicas made replica p all.1 is)
 
-module _ {L D : Type 0} (truth : Truth) (link : L → Link) (left : D → Option (List ℕ))
-    (count : D → ℕ) (files : List NamedRows) (replicas : List (List ℕ × List ℕ)) where
+module _ {L D : Type 0} (truth : Truth) (link : L → Link) (step : L → Exchange → L → Type 0)
+    (left : D → Option (List ℕ)) (count : D → ℕ) (files : List NamedRows)
+    (replicas : List (List ℕ × List ℕ)) where
   -- while the first seat has these links and this random source
   abbrev First : List L → D → Around → Around
   First links dice a = with_first link links (left dice) (count dice) a
 
-  -- so many were gone through: what the others do completes it
+  -- behind these exchanges, what the others do completes it
+  abbrev pub Onward : (number : ℕ) (made : Replicas) (olds mids : List L) (old mid : D)
+      → List Exchange → Type 0
+  Onward number made olds mids old mid es = (a : Around) → a.truth ≡ truth → (end : Around)
+      (result : Result Replicas Stop)
+      → Does (publishing files made (drop number replicas)) (First mids mid (with_exchanges es a))
+      end result
+      → Does (publishing files [] replicas) (First olds old a) end result
+
+  -- so many were gone through
   pub record IsPublishing (number : ℕ) (made : Replicas) (olds mids : List L) (old mid : D)
       : Type 0 where
-    pub onward : (a : Around) → a.truth ≡ truth → (end : Around) (result : Result Replicas Stop)
-        → Does (publishing files made (drop number replicas)) (First mids mid a) end result
-        → Does (publishing files [] replicas) (First olds old a) end result
+    pub onward : Talk (Among step) olds mids (Onward number made olds mids old mid)
     pub published : ArePublished truth files (take number replicas) made
     pub asked : AskedOnly link (names_of link olds) olds mids
     pub later : count old ≤ count mid
 
   pub publishing_none : (links : List L) (dice : D) → IsPublishing 0 [] links links dice dice
   publishing_none links dice = record {
-    onward = λ a t end result d. d;
+    onward = talk_none (Among step) (Onward 0 [] links links dice dice) links
+        (λ a t end result d. subst (λ b. Does (publishing files [] replicas) (First links dice b)
+        end
+        result) (around_none a) d);
     published = tt;
     asked = asked_none link (names_of link links) links;
     later = omega arith;
@@ -218,6 +248,12 @@ module _ {L D : Type 0} (truth : Truth) (link : L → Link) (left : D → Option
     pub may_publish : (file : List ℕ) → MayPublish (names_of link olds) files file
         → MayPublish (names_of link mids) files file
     may_publish file may = subst (λ n. MayPublish n files file) (sym same_names) may
+
+    -- how all of it is said of what was asked
+    abbrev pub Ended : (news : List L) (new : D) → Result Replicas Stop → List Exchange → Type 0
+    Ended news new result es = (a : Around) → a.truth ≡ truth
+        → Does (publishing files [] replicas) (First olds old a)
+        (First news new (with_exchanges es a)) result
 
     module _ (news : List L) (new : D) where
       pub asked_further : AskedOnly link (names_of link mids) mids news
@@ -236,17 +272,32 @@ module _ {L D : Type 0} (truth : Truth) (link : L → Link) (left : D → Option
             ∙ ap (λ k. replica ∷ drop k replicas) (sym (add-one number))
 
         -- the next one, and then these steps
-        onward_by : (a : Around) → a.truth ≡ truth → (end : Around)
-            (result : Result Replicas Stop)
+        onward_by : (es : List Exchange) → Onward number made olds mids old mid es → (a : Around)
+            → a.truth ≡ truth → (end : Around) (result : Result Replicas Stop)
             → Does (publishing files made (replica ∷ drop (number + 1) replicas))
-            (First mids mid a) end result
+            (First mids mid (with_exchanges es a)) end result
             → Does (publishing files [] replicas) (First olds old a) end result
-        onward_by a t end result d = so_far.onward a t end result
-            (subst (λ l. Does (publishing files made l) (First mids mid a) end result)
-            (sym next_is) d)
+        onward_by es onward a t end result d = onward a t end result
+            (subst (λ l. Does (publishing files made l) (First mids mid (with_exchanges es a)) end
+            result) (sym next_is) d)
 
-        module _ (p : Option Publication) (next : (a : Around) → a.truth ≡ truth
-            → PublishesNext files replica (First mids mid a) (First news new a) (Ok p)) where
+        -- what the next one's exchanges lead to
+        abbrev Next : Result (Option Publication) Stop → List Exchange → Type 0
+        Next result es = (a : Around) → a.truth ≡ truth
+            → PublishesNext files replica (First mids mid a) (First news new (with_exchanges es a))
+            result
+
+        -- it ended there
+        both_end : (result : Result Replicas Stop) (first others : List Exchange)
+            → ((a : Around) → a.truth ≡ truth → Does (publishing files [] replicas)
+            (First olds old a)
+            (First news new (with_exchanges others (with_exchanges first a))) result)
+            → Ended news new result (first ++ others)
+        both_end result first others does a t =
+            subst (λ b. Does (publishing files [] replicas) (First olds old a) (First news new b)
+            result) (around_more first others a) (does a t)
+
+        module _ (p : Option Publication) (next : Talk (Among step) mids news (Next (Ok p))) where
           pub publishing_more : IsPublishedBy truth files replica p
               → AskedOnly link (names_of link mids) mids news → count mid ≤ count new
               → (all : Replicas) → all ≡ made ++ p ∷ []
@@ -254,8 +305,14 @@ module _ {L D : Type 0} (truth : Truth) (link : L → Link) (left : D → Option
           publishing_more by asked later all e = subst
               (λ m. IsPublishing (number + 1) m olds news old new) (sym e)
               (record {
-                onward = λ a t end result d. onward_by a t end result
-                    (next a t made (drop (number + 1) replicas) end result d);
+                onward = talk_then (Among step) (Onward number made olds mids old mid) (Next (Ok p))
+                    (Onward (number + 1) (made ++ p ∷ []) olds news old new) olds mids news
+                    so_far.onward next (λ es fs so goes a t end result d.
+                    onward_by es so a t end result
+                    (goes (with_exchanges es a) t made (drop (number + 1) replicas) end result
+                    (subst (λ b. Does
+                    (publishing files (made ++ p ∷ []) (drop (number + 1) replicas))
+                    (First news new b) end result) (sym (around_more es fs a)) d)));
                 published = subst (λ l. ArePublished truth files l (made ++ p ∷ []))
                     (ap (λ r. take number replicas ++ r ∷ []) is
                     ∙ sym (take_more replicas number replica below))
@@ -265,28 +322,31 @@ module _ {L D : Type 0} (truth : Truth) (link : L → Link) (left : D → Option
                 later = later_further later;
               })
 
-          pub publishing_unkept : (a : Around) → a.truth ≡ truth
-              → Does (publishing files [] replicas) (First olds old a) (First news new a)
-              (Err NoMemory)
-          publishing_unkept a t = onward_by a t (First news new a) (Err NoMemory)
-              (next a t made (drop (number + 1) replicas) (First news new a) (Err NoMemory)
-              (lacks_rest files (made ++ p ∷ []) (drop (number + 1) replicas) (First news new a)))
+          pub publishing_unkept : Talk (Among step) olds news (Ended news new (Err NoMemory))
+          publishing_unkept = talk_then (Among step) (Onward number made olds mids old mid)
+              (Next (Ok p)) (Ended news new (Err NoMemory)) olds mids news so_far.onward next
+              (λ es fs so goes. both_end (Err NoMemory) es fs (λ a t.
+              let end = First news new (with_exchanges fs (with_exchanges es a)) in
+              onward_by es so a t end (Err NoMemory)
+              (goes (with_exchanges es a) t made (drop (number + 1) replicas) end (Err NoMemory)
+              (lacks_rest files (made ++ p ∷ []) (drop (number + 1) replicas) end))))
 
-        pub publishing_stops : (stop : Stop)
-            → ((a : Around) → a.truth ≡ truth
-            → PublishesNext files replica (First mids mid a) (First news new a) (Err stop))
-            → (a : Around) → a.truth ≡ truth
-            → Does (publishing files [] replicas) (First olds old a) (First news new a) (Err stop)
-        publishing_stops stop next a t = onward_by a t (First news new a) (Err stop)
-            (next a t made (drop (number + 1) replicas))
+        pub publishing_stops : (stop : Stop) → Talk (Among step) mids news (Next (Err stop))
+            → Talk (Among step) olds news (Ended news new (Err stop))
+        publishing_stops stop next = talk_then (Among step) (Onward number made olds mids old mid)
+            (Next (Err stop)) (Ended news new (Err stop)) olds mids news so_far.onward next
+            (λ es fs so goes. both_end (Err stop) es fs (λ a t. onward_by es so a t
+            (First news new (with_exchanges fs (with_exchanges es a))) (Err stop)
+            (goes (with_exchanges es a) t made (drop (number + 1) replicas))))
 
     module _ (past : length replicas ≤ number) where
-      pub publishing_all : (a : Around) → a.truth ≡ truth
-          → Does (publishing files [] replicas) (First olds old a) (First mids mid a) (Ok made)
-      publishing_all a t = so_far.onward a t (First mids mid a) (Ok made)
-          (subst (λ l. Does (publishing files made l) (First mids mid a) (First mids mid a)
-          (Ok made)) (sym (drop_all number replicas past))
-          (remembers (given made (First mids mid a))))
+      pub publishing_all : Talk (Among step) olds mids (Ended mids mid (Ok made))
+      publishing_all = talk_so (Among step) (Onward number made olds mids old mid)
+          (Ended mids mid (Ok made)) olds mids so_far.onward (λ es so a t.
+          let end = First mids mid (with_exchanges es a) in
+          so a t end (Ok made)
+          (subst (λ l. Does (publishing files made l) end end (Ok made))
+          (sym (drop_all number replicas past)) (remembers (given made end))))
 
       pub published_all : ArePublished truth files replicas made
       published_all = subst (λ l. ArePublished truth files l made) (take_all number replicas past)
@@ -313,10 +373,10 @@ module _ (truth : Truth) (files : List NamedRows) where
   published_settings (replica ∷ replicas) (p ∷ made) all =
       λ i. all.0.0 i ∷ published_settings replicas made all.1 i
 
-  is_in : (p : Option Publication) (rows : Option (List Row))
+  is_in : (p : Option Publication) (rows : Option (List ConfigEntry))
       → option_map (λ (q : Publication). q.rows) p ≡ rows → IsSome rows → IsSome p
   is_in (Some p) rows e some = refl
-  is_in None rows e some = subst (λ (r : Option (List Row)). IsSome r) (sym e) some
+  is_in None rows e some = subst (λ (r : Option (List ConfigEntry)). IsSome r) (sym e) some
 
   pub published_first : (replicas : List (List ℕ × List ℕ)) (made : Replicas)
       → ArePublished truth files replicas made → 1 ≤ length replicas
@@ -328,10 +388,10 @@ module _ (truth : Truth) (files : List NamedRows) where
   published_first (replica ∷ replicas) (p ∷ made) all some first =
       is_in p (rows_of_replica files replica) all.0.0 (first replica replicas refl)
 
-  module _ (names : List (List ℕ)) (among : (name : List ℕ) (rows : List Row)
-      → rows_at files name ≡ Some rows → NamesAmong names rows) where
-    names_by : (file : List ℕ) (rows : List Row) (gap : Bool)
-        → Some rows ≡ (if gap then None else rows_at files file) → NamesAmong names rows
+  module _ (names : List (List ℕ)) (among : (name : List ℕ) (rows : List ConfigEntry)
+      → file_entries files name ≡ Some rows → NamesAmong names rows) where
+    names_by : (file : List ℕ) (rows : List ConfigEntry) (gap : Bool)
+        → Some rows ≡ (if gap then None else file_entries files file) → NamesAmong names rows
     names_by file rows true e = absurd cc
     names_by file rows false e = among file rows (sym e)
 
@@ -370,11 +430,13 @@ module _ (truth : Truth) (files : List NamedRows) where
 -- ---- by the first worker's outfit
 
 -- each replica that is in has its file, and there is a link to each plugin that it names
-module _ (plan : Plan) (whole : IsWholePlan (plan_of plan)) (names : List (List ℕ))
+module _ (plan : LoadedFleet) (whole : IsWholePlan (plan_of plan)) (names : List (List ℕ))
     (names_are : names ≡ names_in plan.programs) where
-  may_by : (file : List ℕ) (read : Option (List Row)) → rows_at (named plan.files.0) file ≡ read
+  may_by : (file : List ℕ) (read : Option (List ConfigEntry))
+      → file_entries (named plan.files.0) file ≡ read
       → IsSome read
-      → (rows : List Row) × (rows_at (named plan.files.0) file ≡ Some rows) × HasLinks names rows
+      → (rows : List ConfigEntry) × (file_entries (named plan.files.0) file ≡ Some rows)
+      × HasLinks names rows
   may_by file (Some rows) e some =
       (rows, e, subst (λ n. HasLinks n rows) (sym names_are) (plan_links plan whole file rows e))
   may_by file None e some = absurd (let f : false ≡ true = some in cc)
@@ -397,10 +459,10 @@ module _ {L D : Type 0} (truth : Truth) (link : L → Link) (left : D → Option
   pub with_the_first : {A : Type 0} (next : Steps A) (result : Result A Stop)
       (outfits : List (Outfit L D)) (first new : Outfit L D) → 1 ≤ length outfits
       → first ≡ get_or outfits 0 first
-      → ((b : Around) → b.truth ≡ truth → Does next
+      → ((b : Around) → IsUnheard truth b → Does next
       (with_first link first.links (left first.dice) (count first.dice) b)
       (with_first link new.links (left new.dice) (count new.dice) b) result)
-      → (a : Around) → a.truth ≡ truth
+      → (a : Around) → IsUnheard truth a
       → Does next (With outfits a) (With (set outfits 0 new) a) result
   with_the_first next result [] first new some is does a t = absurd (omega (arith, some))
   with_the_first next result (outfit ∷ rest) first new some is does a t =
@@ -408,7 +470,45 @@ module _ {L D : Type 0} (truth : Truth) (link : L → Link) (left : D → Option
       subst (λ (f : Outfit L D). Does next
       (with_first link f.links (left f.dice) (count f.dice) b)
       (with_first link new.links (left new.dice) (count new.dice) b) result) is
-      (does b (outfits_truth link left count 1 rest a ∙ t))
+      (does b (
+        outfits_truth link left count 1 rest a ∙ t.0,
+        outfits_heard link left count 1 rest a ∙ t.1,
+      ))
+
+  -- the same, where what was asked is told
+  pub heard_first : {A : Type 0} (next : Steps A) (result : Result A Stop)
+      (outfits : List (Outfit L D)) (first new : Outfit L D) (es : List Exchange)
+      → 1 ≤ length outfits → first ≡ get_or outfits 0 first
+      → ((b : Around) → b.truth ≡ truth → Does next
+      (with_first link first.links (left first.dice) (count first.dice) b)
+      (with_first link new.links (left new.dice) (count new.dice) (with_exchanges es b)) result)
+      → (a : Around) → a.truth ≡ truth
+      → Does next (With outfits a) (With (set outfits 0 new) (with_exchanges es a)) result
+  heard_first next result [] first new es some is does a t = absurd (omega (arith, some))
+  heard_first next result (outfit ∷ rest) first new es some is does a t =
+      let b = with_outfits link left count 1 rest a in
+      subst (λ (c : Around). Does next
+      (with_first link outfit.links (left outfit.dice) (count outfit.dice) b)
+      (with_first link new.links (left new.dice) (count new.dice) c) result)
+      (sym (outfits_exchanges link left count es 1 rest a))
+      (subst (λ (f : Outfit L D). Does next
+      (with_first link f.links (left f.dice) (count f.dice) b)
+      (with_first link new.links (left new.dice) (count new.dice) (with_exchanges es b)) result) is
+      (does b (outfits_truth link left count 1 rest a ∙ t)))
+
+  pub first_asks : (step : L → Exchange → L → Type 0) (outfits : List (Outfit L D))
+      (first new : Outfit L D) (es : List Exchange) → 1 ≤ length outfits
+      → first ≡ get_or outfits 0 first → Walk (Among step) first.links es new.links
+      → AsksFirst step es (links_of outfits) (links_of (set outfits 0 new))
+  first_asks step [] first new es some is walk = absurd (omega (arith, some))
+  first_asks step (outfit ∷ rest) first new es some is walk = record {
+    old = outfit.links;
+    new = new.links;
+    others = links_of rest;
+    olds_are = refl;
+    news_are = refl;
+    walk = subst (λ (f : Outfit L D). Walk (Among step) f.links es new.links) is walk;
+  }
 
   pub first_later : (outfits : List (Outfit L D)) (first new : Outfit L D) → 1 ≤ length outfits
       → first ≡ get_or outfits 0 first

@@ -21,19 +21,20 @@ use Rattle.kr_watch.specs.declared.item.Item.{Item}
 use Rattle.kr_cmd_messages.specs.declared.refusal.Object.TheVariants.{Plugin}
 use Rattle.kr_cmd_messages.specs.declared.refusal.Stop.{Stop}
 use Rattle.kr_cmd_messages.specs.declared.refusal.Stop.TheVariants.{Fault, NoMemory}
-use Rattle.kr_cmd_steps.specs.Around.{Around}
-use Rattle.kr_cmd_steps.specs.Commands.{value_read, with_memory}
+use Rattle.kr_cmd_steps.specs.Around.{Around, IsUnheard}
+use Rattle.kr_cmd_steps.specs.ValueSteps.{value_read}
+use Rattle.kr_cmd_steps.specs.Phases.{with_memory}
 use Rattle.kr_cmd_steps.specs.Steps.{Steps, and_then, give}
 use Rattle.kr_cmd_steps.specs.inner.Phases.{Does}
 use Rattle.kr_cmd_fleet.specs.FirstItems.{item_with, plain_read, reading_rows}
-use Rattle.kr_cmd_fleet.specs.declared.watch_start.ReadNo.{ReadNo}
-use Rattle.kr_cmd_fleet.specs.declared.watch_start.ReadNo.TheVariants as no
+use Rattle.kr_cmd_fleet.specs.declared.watch_start.RowReadNo.{RowReadNo}
+use Rattle.kr_cmd_fleet.specs.declared.watch_start.RowReadNo.TheVariants as no
 use Rattle.kr_cmd_fleet.specs.inner.Beginnings.{with_first}
 use Rattle.kr_cmd_fleet.specs.inner.Readings.{Answered, AreReadOf, IsReadEnd, IsReadOf, Names, NoneFailed, ReadsAll, ReadsRow, Unsealed, plain_of}
 use Rattle.kr_cmd_steps.proofs.Goes.{given, goes_on, home_refl, reach, stops}
 use Rattle.kr_cmd_steps.proofs.Made.{remembers}
 use Rattle.kr_cmd_steps.proofs.Unsealed.{asks_reader}
-use Rattle.kr_cmd_steps.proofs.ValueRead.{value_does}
+use Rattle.kr_cmd_steps.proofs.UnheardReads.{value_by_links}
 use Rattle.kr_cmd_steps.proofs.Works.{lacks, names_unread}
 
 -- ---- links
@@ -91,7 +92,7 @@ First link links left count a = with_first link links left count a
 -- so many rows were read: what the others do completes it
 pub record IsWalk {L : Type 0} (truth : Truth) (link : L → Link) (p : Publication)
     (rows : List Row) (number : ℕ) (items : List Item) (olds mids : List L) : Type 0 where
-  pub onward : (left : Option (List ℕ)) (count : ℕ) (a : Around) → a.truth ≡ truth
+  pub onward : (left : Option (List ℕ)) (count : ℕ) (a : Around) → IsUnheard truth a
       → (end : Around) (result : Result (List Item) Stop)
       → Does (reading_rows p (drop number rows) items) (First link mids left count a) end result
       → Does (reading_rows p rows []) (First link olds left count a) end result
@@ -135,14 +136,14 @@ module _ {L : Type 0} (truth : Truth) (link : L → Link) (p : Publication)
       with_memory (reading_rows p rows (items ++ item_with row (plain_read read) ∷ []))
 
   module _ (row : Row) (olds news : List L) (distinct : AreDistinct link olds)
-      (left : Option (List ℕ)) (count : ℕ) (a : Around) (t : a.truth ≡ truth) where
+      (left : Option (List ℕ)) (count : ℕ) (a : Around) (t : IsUnheard truth a) where
     valued : (result : Result Opened UnsealNo) → Unsealed truth link p row olds result news
         → Answered result
         → Does (Value row) (First link olds left count a) (First link news left count a)
         (Ok (value_of result))
-    valued (Ok opened) u answered = value_does truth link p.seeds opens (list_at p row.resource)
+    valued (Ok opened) u answered = value_by_links truth link p.seeds opens (list_at p row.resource)
         row.path row.stored olds news distinct left count a t (Ok opened) (Ok (Ok opened)) u refl
-    valued (Err (unseal.Refused why)) u answered = value_does truth link p.seeds opens
+    valued (Err (unseal.Refused why)) u answered = value_by_links truth link p.seeds opens
         (list_at p row.resource) row.path row.stored olds news distinct left count a t
         (Err (unseal.Refused why)) (Ok (Err why)) u refl
     valued (Err (unseal.PluginFailed name)) u answered = absurd answered
@@ -185,7 +186,7 @@ module _ {L : Type 0} (truth : Truth) (link : L → Link) (p : Publication)
     row_lacks rows items (Err (unseal.PluginFailed name)) u none = absurd none
     row_lacks rows items (Err unseal.NoMemory) u none =
         stops (Value row) (Behind rows items row) NoMemory
-        (value_does truth link p.seeds opens (list_at p row.resource) row.path row.stored olds
+        (value_by_links truth link p.seeds opens (list_at p row.resource) row.path row.stored olds
         news distinct left count a t (Err unseal.NoMemory) (Err NoMemory) u refl)
 
     -- or its plugin failed
@@ -200,7 +201,7 @@ module _ {L : Type 0} (truth : Truth) (link : L → Link) (p : Publication)
         subst (λ m. Does (reading_rows p (row ∷ rows) items) (First link olds left count a)
         (First link news left count a) m) (sym h.has)
         (stops (Value row) (Behind rows items row) stop
-        (value_does truth link p.seeds opens (list_at p row.resource) row.path row.stored olds
+        (value_by_links truth link p.seeds opens (list_at p row.resource) row.path row.stored olds
         news distinct left count a t (Err (unseal.PluginFailed name)) (Err stop) u (record {
           it = h.it;
           there = h.there;
@@ -237,7 +238,7 @@ module _ {L : Type 0} (truth : Truth) (link : L → Link) (p : Publication)
             ∙ ap (λ r. r ∷ drop (suc number) rows) (sym is)
             ∙ ap (λ k. row ∷ drop k rows) (sym (add-one number))
 
-        onward_by : (left : Option (List ℕ)) (count : ℕ) (a : Around) → a.truth ≡ truth
+        onward_by : (left : Option (List ℕ)) (count : ℕ) (a : Around) → IsUnheard truth a
             → (end : Around) (result : Result (List Item) Stop)
             → Does (reading_rows p (row ∷ drop (number + 1) rows) items)
             (First link mids left count a) end result
@@ -283,7 +284,7 @@ module _ {L : Type 0} (truth : Truth) (link : L → Link) (p : Publication)
             none_failed (Err unseal.NoMemory) so = absurd so
 
         -- it wasn't
-        pub walk_stops : (why : ReadNo) → ReadsRow truth link p row mids (Err why) news
+        pub walk_stops : (why : RowReadNo) → ReadsRow truth link p row mids (Err why) news
             → ReadsAll truth link p rows olds (Err why) news
         walk_stops (no.PluginFailed name) u = record {
           does = λ left count a t made end. onward_by left count a t (First link news left count a)
@@ -373,7 +374,7 @@ module _ {L : Type 0} (truth : Truth) (link : L → Link) (rows : List Row) (num
         walk_unkept truth link p opens rows w distinct row below is news item r
 
     pub walks_stop : (o : Option Publication) → AllOpen truth o
-        → WalksTo truth link o rows number items olds mids → (why : ReadNo)
+        → WalksTo truth link o rows number items olds mids → (why : RowReadNo)
         → IfSome o (λ p. ReadsRow truth link p row mids (Err why) news)
         → IfSome o (λ p. ReadsAll truth link p rows olds (Err why) news)
     walks_stop None opens w why r = tt
@@ -390,12 +391,12 @@ module _ {L : Type 0} (truth : Truth) (link : L → Link) (rows : List Row) (num
 
 -- by a bench that adopted the configuration
 pub read_by : {L : Type 0} (truth : Truth) (link : L → Link) (p q : Publication)
-    (rows : List Row) (olds mid : List L) (result : Result (List Item × ℕ) ReadNo)
+    (rows : List Row) (olds mid : List L) (result : Result (List Item × ℕ) RowReadNo)
     (news out : List L) (published : Option Publication)
     → IfSome published (λ x. ReadsAll truth link x rows mid result news)
     → published ≡ Some q → q ≡ p → mid ≡ olds → out ≡ news
     → (made : Result (List Item) Stop) → IsReadEnd link out result made
-    → (left : Option (List ℕ)) (count : ℕ) (a : Around) → a.truth ≡ truth
+    → (left : Option (List ℕ)) (count : ℕ) (a : Around) → IsUnheard truth a
     → Does (reading_rows p rows []) (with_first link olds left count a)
     (with_first link out left count a) made
 read_by {L} truth link p q rows olds mid result news out published reads is same from back made

@@ -1,5 +1,5 @@
 -- The store's tape, which is settled behind the workers before it is back.
-use Rattle.std.proofs.Common.{◌≡◌, ℕ, ◌≤◌, List, Bool, true, false, Option, None, Some, Result, Ok, Err, refl, sym, ◌∙◌, ap, subst, inl, inr, arith}
+use Rattle.std.proofs.Common.{◌≡◌, ℕ, ◌≤◌, List, Bool, true, false, Option, Result, Ok, Err, refl, sym, ◌∙◌, ap, subst, inl, inr, arith}
 use Rattle.std.specs.Option.{option_map}
 use Rattle.std.specs.Prelude.{if◌then◌else◌}
 use Rattle.kr_base.specs.Faults.{Rose}
@@ -10,27 +10,25 @@ use Rattle.kr_kms.specs.Outside.{Outside, same_name, with_call}
 use Rattle.kr_kms.specs.Truth.{Truth}
 use Rattle.kr_kms.specs.declared.world.WorldCall.TheVariants.{Settled}
 use Rattle.kr_kms.specs.declared.world.Access.TheVariants.{ToMake}
-use Rattle.kr_rollout.specs.Histories.{state_of}
 use Rattle.kr_rollout.specs.Openings.{start_of}
 use Rattle.kr_rollout.specs.declared.opening.Entry.{Entry}
-use Rattle.kr_store.specs.declared.rows.LogRow.{LogRow}
 use Rattle.kr_workers.specs.declared.worker.Worker as fleet_worker
 use Rattle.kr_cmd_steps.specs.Around.{Around, IsHome, with_world}
-use Rattle.kr_cmd_steps.specs.Commands.{tape_for}
+use Rattle.kr_cmd_steps.specs.Phases.{tape_for}
 use Rattle.kr_cmd_steps.specs.Steps.{Steps}
 use Rattle.kr_cmd_steps.specs.declared.programs.Program.{Program}
 use Rattle.kr_cmd_fleet.specs.FleetFiles.{FleetPlan}
-use Rattle.kr_cmd_fleet.specs.Fleets.{AreEquipped, Begun, FailsToSettle, HasRows, LeavesRest, RunsFleet, opening_of, settled_behind}
+use Rattle.kr_cmd_fleet.specs.Fleets.{AreEquipped, Begun, FailsToSettle, LeavesRest, RunsFleet, opening_of, settled_behind}
 use Rattle.kr_cmd_fleet.specs.declared.fleet.Record.{Record}
 use Rattle.kr_cmd_messages.specs.declared.refusal.Object.TheVariants.{Store}
 use Rattle.kr_cmd_messages.specs.declared.refusal.Stop.{Stop}
 use Rattle.kr_cmd_messages.specs.declared.refusal.Stop.TheVariants.{Fault}
-use Rattle.kr_cmd_fleet.specs.inner.FleetOutcomes.{LacksSettling, LacksWorkers, LeavesRecord, RunsBy, SettlesBy}
+use Rattle.kr_cmd_fleet.specs.inner.FleetOutcomes.{Beginning, LacksSettling, LacksWorkers, LeavesRecord, RunsBy, SettlesBy}
 use Rattle.kr_cmd_steps.specs.inner.Lent.{with_lent_tape}
 use Rattle.kr_cmd_steps.specs.inner.Phases.{Does}
 use Rattle.kr_cmd_steps.specs.inner.Tapes.{LentTape, ReturnedTape, ReturnsSettled, with_settled}
 use Rattle.kr_cmd_steps.proofs.Goes.{goes_on, home_trans}
-use Rattle.kr_cmd_steps.proofs.Loading.{count_here, rose_on, tape_home}
+use Rattle.kr_cmd_steps.proofs.Loading.{count_here, tape_home}
 use Rattle.kr_cmd_steps.proofs.RisingCounts.{counted}
 use Rattle.kr_cmd_steps.proofs.Tapes.{came_back, lent, nothing, own_name}
 
@@ -98,29 +96,27 @@ settled_run truth link step left count store begun mid new history ended r = rec
   };
 }
 
--- rows that are there stay, as the count goes on
-rows_still : (told : Option (Option (List ℕ))) (begun : Begun) (rows : List LogRow)
-    (before now later : ℕ) → now ≤ later → HasRows told begun rows before now
-    → HasRows told begun rows before later
-rows_still (Some (Some bytes)) begun rows before now later more (file, rest, is, e, inl none) =
-    (file, rest, is, e, inl none)
-rows_still (Some (Some bytes)) begun rows before now later more (file, rest, is, e, inr rose) =
-    (file, rest, is, e, inr (rose_on before now later rose more))
-rows_still (Some None) begun rows before now later more h = absurd h
-rows_still None begun rows before now later more h = tt
+-- where the store couldn't be settled, its count rose since the workers started
+pub rose_unsettled : {T L D : Type 0} {truth : Truth} {link : L → Link}
+    {step : L → Exchange → L → Type 0} {left : D → Option (List ℕ)} {count : D → ℕ}
+    {store : List ℕ} {begun : Begun} {mid new : Around} {stop : Stop}
+    → FailsToSettle T truth link step left count store begun mid new stop
+    → Rose (mid.world.tapes.faults store) (new.world.tapes.faults store)
+rose_unsettled {store = store} {begun = begun} {mid = mid} f =
+    let opening = opening_of store begun mid in
+    let risen = counted opening (start_of opening) f.history f.runs.one.legal.runs in
+    Rose-later _ _ _ (omega (arith, risen, f.runs.counted)) f.rose
 
 module _ (T : Type 0) {L D : Type 0} (truth : Truth) (link : L → Link)
     (step : L → Exchange → L → Type 0)
-    (left : D → Option (List ℕ)) (count : D → ℕ) (watched : Bool) (store : List ℕ)
-    (plan : FleetPlan) (steps : Steps Begun) where
-  abbrev Runs : (old new : Around) → Result Record Stop → Type 0
-  Runs old new result = RunsBy T truth link step left count watched steps store plan old new result
-
+    (left : D → Option (List ℕ)) (count : D → ℕ) (Begins : Beginning T L D) (watched : Bool)
+    (store : List ℕ) (plan : FleetPlan) (steps : Steps Begun) where
   -- the tape was settled
   pub settled_record : (old new : Around) (made : Record)
-      → LeavesRecord T truth link step left count false watched steps store plan old new made
-      → LeavesRecord T truth link step left count true watched steps store plan old
+      → LeavesRecord T truth link step left count Begins false watched steps store plan old new made
+      → LeavesRecord T truth link step left count Begins true watched steps store plan old
       (settled_behind store new) made
+  unfolding settled_run
   settled_record old new made l = record {
     begun = l.begun;
     plan_is = l.plan_is;
@@ -129,6 +125,7 @@ module _ (T : Type 0) {L D : Type 0} (truth : Truth) (link : L → Link)
     history = l.history;
     ended = l.ended;
     runs = settled_run truth link step left count store l.begun l.mid new l.history l.ended l.runs;
+    begins = l.begins;
     lines = l.lines;
     replies = l.replies;
     items_are = l.items_are;
@@ -139,7 +136,7 @@ module _ (T : Type 0) {L D : Type 0} (truth : Truth) (link : L → Link)
 
   -- or it couldn't be
   unsettled : (old a : Around) (told : Option (List ℕ)) (n later : ℕ) (made : Record) (stop : Stop)
-      → LeavesRecord T truth link step left count false watched steps store plan old
+      → LeavesRecord T truth link step left count Begins false watched steps store plan old
       (with_lent_tape store told n a) made
       → Rose n later → stop ≡ Fault Store later
       → LacksSettling T truth link step left count steps store old
@@ -148,34 +145,29 @@ module _ (T : Type 0) {L D : Type 0} (truth : Truth) (link : L → Link)
   unsettled old a told n later made stop l rose is =
       let here = count_here store told n a n in
       let now = count_here store told n a later in
-      let risen = counted (opening_of store l.begun l.mid)
-      (start_of (opening_of store l.begun l.mid)) l.history l.runs.one.legal.runs in
       record {
         begun = l.begun;
         mid = l.mid;
         does = l.does;
         fails = record {
+          ran = with_lent_tape store told n a;
           history = l.history;
-          legal = l.runs.one.legal;
-          stored = rows_still ((with_lent_tape store told n a).world.tapes.told store) l.begun
-              (state_of (opening_of store l.begun l.mid) l.history).rows
-              (l.mid.world.tapes.faults store) ((with_lent_tape store told n a).world.tapes.faults
-              store) ((with_lent_tape store told later a).world.tapes.faults store)
-              (let less = rose_later n later rose in omega (arith, here, now, less)) l.runs.stored;
-          rose = Rose-later _ _ _
-              (omega (arith, risen, l.runs.counted, here))
-              (subst (λ m. Rose n m) (sym now) rose);
+          ended = l.ended;
+          runs = l.runs;
+          told = refl;
+          rose = subst (λ m. Rose m ((with_lent_tape store told later a).world.tapes.faults store))
+              (sym here) (subst (λ m. Rose n m) (sym now) rose);
           stops = is ∙ ap (λ m. Fault Store m) (sym now);
           rest = record {
-            truth = l.runs.rest.truth;
-            file = l.runs.rest.file;
-            tapes = l.runs.rest.tapes;
-            dice = l.runs.rest.dice;
-            links = l.runs.rest.links;
-            faults = l.runs.rest.faults;
-            asked = l.runs.rest.asked;
-            input = l.runs.rest.input;
-            said = l.runs.rest.said;
+            truth = refl;
+            file = refl;
+            tapes = λ other differs. refl;
+            dice = λ seat least. refl;
+            links = λ seat plugin least. refl;
+            faults = refl;
+            asked = refl;
+            input = refl;
+            said = refl;
           };
         };
         home = home_trans l.home (tape_home store told n a later (rose_later n later rose));
@@ -184,21 +176,21 @@ module _ (T : Type 0) {L D : Type 0} (truth : Truth) (link : L → Link)
 -- the tape is borrowed for it, is settled behind it, and comes back
 module _ (T : Type 0) {L D : Type 0} (truth : Truth) (link : L → Link)
     (step : L → Exchange → L → Type 0)
-    (left : D → Option (List ℕ)) (count : D → ℕ) (watched : Bool) (store : List ℕ)
-    (plan : FleetPlan) (steps : Steps Begun) (a : Around) (old out : Outside)
+    (left : D → Option (List ℕ)) (count : D → ℕ) (Begins : Beginning T L D) (watched : Bool)
+    (store : List ℕ) (plan : FleetPlan) (steps : Steps Begun) (a b : Around) (old out : Outside)
     (given : Option (List ℕ)) (first : ℕ) (mid new : Outside) (back : Option (List ℕ)) (n : ℕ) where
   abbrev pub Began : Around
   Began = with_lent_tape store given first (with_world out a)
 
   abbrev pub Settles : Around → Result Record Stop → Type 0
-  Settles end result = SettlesBy T truth link step left count watched
+  Settles end result = SettlesBy T truth link step left count Begins watched
       (tape_for store ToMake steps) store
       plan (with_world old a) end result
 
   -- behind the borrowing
   pub borrowed : LentTape store ToMake old out given first → (end : Around)
       (result : Result Record Stop)
-      → SettlesBy T truth link step left count watched steps store plan Began end result
+      → SettlesBy T truth link step left count Begins watched steps store plan Began end result
       → Settles end result
   borrowed h end (Ok made) l = let d = lent store ToMake _ h a in record {
     begun = l.begun;
@@ -208,6 +200,7 @@ module _ (T : Type 0) {L D : Type 0} (truth : Truth) (link : L → Link)
     history = l.history;
     ended = l.ended;
     runs = l.runs;
+    begins = l.begins;
     lines = l.lines;
     replies = l.replies;
     items_are = l.items_are;
@@ -235,34 +228,35 @@ module _ (T : Type 0) {L D : Type 0} (truth : Truth) (link : L → Link)
 
   back_so : (result : Result Record Stop) {told : Option (List ℕ)} {m : ℕ} {world : Outside}
       → LentTape store ToMake old out given first → ReturnedTape store world new told m
-      → SettlesBy T truth link step left count watched steps store plan Began
-      (with_lent_tape store told m (with_world world a)) result
-      → Settles (with_world new a) result
-  back_so result h returned s = borrowed h (with_world new a) result
-      (subst (λ b. SettlesBy T truth link step left count watched steps store plan Began b result)
-      (came_back store returned a) s)
+      → SettlesBy T truth link step left count Begins watched steps store plan Began
+      (with_lent_tape store told m (with_world world b)) result
+      → Settles (with_world new b) result
+  back_so result h returned s = borrowed h (with_world new b) result
+      (subst (λ end. SettlesBy T truth link step left count Begins watched steps store plan Began
+      end result) (came_back store returned b) s)
 
   pub over_settled : (made result : Result Record Stop) → LentTape store ToMake old out given first
       → ReturnsSettled store Store mid new back n made result
-      → RunsBy T truth link step left count watched steps store plan Began
-      (with_lent_tape store back n (with_world mid a)) made
-      → Settles (with_world new a) result
+      → RunsBy T truth link step left count Begins watched steps store plan Began
+      (with_lent_tape store back n (with_world mid b)) made
+      → Settles (with_world new b) result
   over_settled (Ok m) (Ok x) h (same, returned) r =
-      subst (λ y. Settles (with_world new a) (Ok y)) (sym same)
-      (back_so (Ok m) h returned (settled_record T truth link step left count watched store plan
+      subst (λ y. Settles (with_world new b) (Ok y)) (sym same)
+      (back_so (Ok m) h returned (settled_record T truth link step left count Begins watched store
+      plan
       steps
-      Began (with_lent_tape store back n (with_world mid a)) m r))
+      Began (with_lent_tape store back n (with_world mid b)) m r))
   over_settled (Ok m) (Err stop) h (later, rose, same, returned) r =
       back_so (Err stop) h returned (inr
-      (inr (unsettled T truth link step left count watched store plan
-      steps Began (with_world mid a) back n later m stop r rose same)))
+      (inr (unsettled T truth link step left count Begins watched store plan
+      steps Began (with_world mid b) back n later m stop r rose same)))
   over_settled (Err why) result h (same, returned) r =
-      subst (λ y. Settles (with_world new a) y) (sym same)
+      subst (λ y. Settles (with_world new b) y) (sym same)
       (back_so (Err why) h returned (by_end r))
     where
-      by_end : RunsBy T truth link step left count watched steps store plan Began
-          (with_lent_tape store back n (with_world mid a)) (Err why)
-          → SettlesBy T truth link step left count watched steps store plan Began
-          (with_lent_tape store back n (with_world mid a)) (Err why)
+      by_end : RunsBy T truth link step left count Begins watched steps store plan Began
+          (with_lent_tape store back n (with_world mid b)) (Err why)
+          → SettlesBy T truth link step left count Begins watched steps store plan Began
+          (with_lent_tape store back n (with_world mid b)) (Err why)
       by_end (inl e) = inl e
       by_end (inr l) = inr (inl l)

@@ -9,7 +9,7 @@ use Rattle.kr_workers.specs.declared.ending.Ending.TheVariants as ending
 use Rattle.kr_cmd_steps.specs.Around.{Around, Reaches, count_at, faults_at, left_of}
 use Rattle.kr_cmd_fleet.specs.Fleets.{Begun}
 use Rattle.kr_cmd_messages.specs.Message.{refusal_line, status_of_refusal}
-use Rattle.kr_cmd_steps.specs.Ran.{IsIdle}
+use Rattle.kr_cmd_steps.specs.Ran.{WroteNothing}
 use Rattle.kr_cmd_messages.specs.Receipts.{Receipt}
 use Rattle.kr_cmd_steps.specs.Steps.{Call, Goes, Left, Point, Steps, awaits, gives, refuses}
 use Rattle.kr_cmd_messages.specs.declared.refusal.Refusal.{Refusal}
@@ -23,7 +23,7 @@ pub record NoneRose (old new : Around) (output errors : Receipt) : Type 0 where
 
 -- the workers did their lines, just what these tell was written, and the replies end so
 abbrev pub HasEnded : (Result Ending Stop → Type 0) → (errors : Receipt) → Ending → Type 0
-HasEnded HasStarted errors ending = HasStarted (Ok ending) × IsIdle errors
+HasEnded HasStarted errors ending = HasStarted (Ok ending) × WroteNothing errors
 
 -- a call of the steps up to the workers failed, so that its count and its object's rose
 abbrev pub HasFailed : Steps Begun → (old new : Around) → Call → Type 0
@@ -35,15 +35,15 @@ HasFailed steps old new call = Reaches steps (left_of old) new (awaits call)
 abbrev pub HasRefused : Steps Begun → (old new : Around) → (output errors : Receipt) → Refusal
     → Type 0
 HasRefused steps old new output errors why = Reaches steps (left_of old) new (refuses why)
-    × IsIdle output × Appends errors.old errors.new (refusal_line why)
+    × WroteNothing output × Appends errors.old errors.new (refusal_line why)
 
 -- the steps up to the workers, over what is told and some drawn bytes, come to this point
 abbrev pub WouldBegin : Steps Begun → (old : Around) → Point Begun → Type 0
 WouldBegin steps old point = (end : Left) × Goes point end steps (left_of old)
 
 -- `HasStarted`: what the call did once the workers were started, by how it ended
-module _ (steps : Steps Begun) (HasStarted : Result Ending Stop → Type 0) (old new : Around)
-    (output errors : Receipt) where
+module _ (steps : Steps Begun) (store : List ℕ) (HasStarted : Result Ending Stop → Type 0)
+    (old new : Around) (output errors : Receipt) where
   -- such a point decides how the call ends, but for a fault, 4, and want of memory, 5: by this
   -- refusal, or by the workers' replies
   abbrev pub IsDecidedBy : Point Begun → ℕ → Type 0
@@ -57,11 +57,11 @@ module _ (steps : Steps Begun) (HasStarted : Result Ending Stop → Type 0) (old
 
   -- `IsTold`: what these steps go by is told
   pub record Causes (IsTold : Type 0) (status : ℕ) : Type 0 where
-    -- 4 comes only where a call, the output or the line failed, or a reply tells a fault, or a tape
-    -- failed, as where it couldn't be settled behind the workers
+    -- 4 comes only where a call, the output or the line failed, or a reply tells a fault, or the
+    -- store's tape failed, as where it couldn't be settled behind the workers
     pub caused : status ≡ 4
         → ((call : Call) × HasFailed steps old new call)
-        ⊎ ((name : List ℕ) × Rose (old.world.tapes.faults name) (new.world.tapes.faults name))
+        ⊎ Rose (old.world.tapes.faults store) (new.world.tapes.faults store)
         ⊎ Rose output.old_faults output.new_faults
         ⊎ Rose errors.old_faults errors.new_faults
         ⊎ HasEnded HasStarted errors ending.Fault

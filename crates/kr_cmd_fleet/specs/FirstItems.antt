@@ -9,7 +9,8 @@ use Rattle.kr_store.specs.Stores.{IsListing}
 use Rattle.kr_store.specs.declared.rows.LogRow.{LogRow}
 use Rattle.kr_store.specs.declared.rows.Row.{Row}
 use Rattle.kr_watch.specs.declared.item.Item.{Item}
-use Rattle.kr_cmd_steps.specs.Commands.{value_read, with_memory}
+use Rattle.kr_cmd_steps.specs.ValueSteps.{value_read}
+use Rattle.kr_cmd_steps.specs.Phases.{with_memory}
 use Rattle.kr_cmd_steps.specs.Steps.{Steps, and_then, find, give}
 
 abbrev pub Items : Type 0

@@ -6,17 +6,17 @@ use Rattle.std.specs.Option.{option_map}
 use Rattle.std.specs.Prelude as std
 use Rattle.std.specs.Str.{bytes_eq}
 use Rattle.kr_base.specs.Limits.{store_limit}
-use Rattle.kr_config.specs.Kept.{Row, rows_of}
+use Rattle.kr_config.specs.Kept.{ConfigEntry, rows_of}
 use Rattle.kr_provider.specs.PluginOrder.{plugin_order}
 use Rattle.kr_script.specs.Fleets.{Fleet, Worker}
-use Rattle.kr_script.specs.Meanings.{Means}
+use Rattle.kr_script.specs.Meanings.{MeansScript}
 use Rattle.kr_script.specs.declared.script.ScriptLine.{ScriptLine}
 use Rattle.kr_script.specs.declared.script.ScriptLine.TheVariants as line
 use Rattle.kr_script.specs.declared.script.ScriptNo.{ScriptNo}
 use Rattle.kr_script.specs.declared.script.ScriptNo.TheVariants as no
 use Rattle.kr_workers.specs.declared.files.SettingsFile.{SettingsFile}
-use Rattle.kr_cmd_steps.specs.Commands.{by_result, configuration, with_memory}
-use Rattle.kr_cmd_steps.specs.Plugins.{programs_of}
+use Rattle.kr_cmd_steps.specs.Phases.{by_result, configuration, with_memory}
+use Rattle.kr_cmd_steps.specs.Plugins.{settings_programs}
 use Rattle.kr_cmd_steps.specs.Steps.{Steps, load, find, give, and_then}
 use Rattle.kr_base.specs.Visible.{visible}
 use Rattle.kr_cmd_steps.specs.declared.programs.Program.{Program}
@@ -36,9 +36,9 @@ script_refusal no.NoMemory = None
 
 -- bytes mean this fleet, or are refused so
 abbrev pub MeansFleet : List ℕ → Result Fleet Refusal → Type 0
-MeansFleet bytes (Ok fleet) = Means bytes (Ok fleet)
+MeansFleet bytes (Ok fleet) = MeansScript bytes (Ok fleet)
 MeansFleet bytes (Err why) =
-    (cause : ScriptNo) × Means bytes (Err cause) × (script_refusal cause ≡ Some why)
+    (cause : ScriptNo) × MeansScript bytes (Err cause) × (script_refusal cause ≡ Some why)
 
 -- what the file of a name is read as
 abbrev pub IsFleetFile : (name : List ℕ) → Option (List ℕ) → Result Fleet Refusal → Type 0
@@ -77,18 +77,18 @@ all_files fleet = flat_map file_of_replica fleet.replicas
 
 -- a configuration with the name of its file
 abbrev pub NamedRows : Type 0
-NamedRows = List ℕ × List Row
+NamedRows = List ℕ × List ConfigEntry
 
 abbrev pub named_rows : SettingsFile → NamedRows
 named_rows file = (file.name, rows_of file.settings.entries.0)
 
 -- the entries of the file of a name, if it was read
-abbrev pub rows_at : List NamedRows → (name : List ℕ) → Option (List Row)
-rows_at files name = option_map (λ (file : NamedRows). file.1)
+abbrev pub file_entries : List NamedRows → (name : List ℕ) → Option (List ConfigEntry)
+file_entries files name = option_map (λ (file : NamedRows). file.1)
     (std.find (λ (file : NamedRows). bytes_eq file.0 name) files)
 
 -- these steps, unless the file was read already
-abbrev pub unless_read : Option (List Row) → Steps (List NamedRows) → Steps (List NamedRows)
+abbrev pub unless_read : Option (List ConfigEntry) → Steps (List NamedRows) → Steps (List NamedRows)
     → Steps (List NamedRows)
 unless_read (Some rows) next others = next
 unless_read None next others = others
@@ -96,18 +96,18 @@ unless_read None next others = others
 -- each file once, where it is named first
 abbrev pub files_in : (read : List NamedRows) → (names : List (List ℕ)) → Steps (List NamedRows)
 files_in read [] = give read
-files_in read (name ∷ names) = unless_read (rows_at read name) (files_in read names)
+files_in read (name ∷ names) = unless_read (file_entries read name) (files_in read names)
     (and_then (configuration name)
     (λ rows. with_memory (files_in (read ++ (name, rows) ∷ []) names)))
 
 -- the entries of all of them
-abbrev pub all_rows : List NamedRows → List Row
+abbrev pub all_rows : List NamedRows → List ConfigEntry
 all_rows files = flat_map (λ (file : NamedRows). file.1) files
 
-abbrev pub programs_in : (options : List (List ℕ × List ℕ)) → List NamedRows
+abbrev pub file_programs : (options : List (List ℕ × List ℕ)) → List NamedRows
     → Steps (List Program)
-programs_in options files =
-    with_memory (by_result (programs_of options (plugin_order (all_rows files))))
+file_programs options files =
+    with_memory (by_result (settings_programs options (plugin_order (all_rows files))))
 
 -- ---- all of it
 
@@ -120,5 +120,5 @@ abbrev pub planning : (file : List ℕ) → (options : List (List ℕ × List �
 planning file options =
     and_then (fleet_in file) (λ fleet.
     and_then (files_in [] (all_files fleet)) (λ files.
-    and_then (programs_in options files) (λ programs.
+    and_then (file_programs options files) (λ programs.
     give (record { fleet = fleet; files = files; programs = programs }))))

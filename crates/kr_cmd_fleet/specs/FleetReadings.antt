@@ -12,7 +12,7 @@ use Rattle.kr_cmd_steps.specs.Around.{Around}
 use Rattle.kr_cmd_fleet.specs.Causes.{Causes, HasEnded, NoneRose}
 use Rattle.kr_cmd_fleet.specs.FleetReady.{IsFleetTold, IsReady}
 use Rattle.kr_cmd_fleet.specs.Fleets.{Starts, fleet_steps}
-use Rattle.kr_cmd_steps.specs.Ran.{IsIdle}
+use Rattle.kr_cmd_steps.specs.Ran.{WroteNothing}
 use Rattle.kr_cmd_messages.specs.Receipts.{Receipt}
 use Rattle.kr_cmd_messages.specs.declared.fleet_words.FleetWords.{FleetWords}
 use Rattle.kr_cmd_messages.specs.declared.refusal.Stop.{Stop}
@@ -23,16 +23,16 @@ PassesLimit history = (e : Entry) × Contains history e × (needed : ℕ)
     × (e.line.gave ≡ gave.StoreFull needed) × (store_limit < needed)
 
 module _ (T : Type 0) {L D : Type 0} (truth : Truth) (link : L → Link)
-    (step : L → Exchange → L → Type 0)
+    (step : L → Exchange → L → Type 0) (lent took : ℕ → L → Type 0)
     (left : D → Option (List ℕ)) (count : D → ℕ) (words : FleetWords) (old new : Around)
     (output errors : Receipt) where
   abbrev pub HasStarted : Result Ending Stop → Type 0
-  HasStarted result = Starts T truth link step left count words old new output result
+  HasStarted result = Starts T truth link step lent took left count words old new output result
 
   -- the workers did their lines; an entry found the store full: with its row the file would have
   -- passed its limit
   abbrev pub HasFilled : Type 0
-  HasFilled = (s : HasStarted (Ok ending.Full)) × IsIdle errors × PassesLimit s.history
+  HasFilled = (s : HasStarted (Ok ending.Full)) × WroteNothing errors × PassesLimit s.history
 
   -- all lines have replies, which decide the status: 0, or 1 where some reply isn't that its line
   -- was done, or 6 where a write would have passed the store's limit; or memory lacked
@@ -43,7 +43,7 @@ module _ (T : Type 0) {L D : Type 0} (truth : Truth) (link : L → Link)
       ⊎ (status ≡ 5)
 
   pub record FleetReadings (status : ℕ) : Type 0 where
-    pub causes : Causes (fleet_steps words) HasStarted old new output errors
+    pub causes : Causes (fleet_steps words) words.store HasStarted old new output errors
         (IsFleetTold words old) status
     -- where all is told to be ready and no count rose, nothing else stands in the way of the lines
     pub complete : IsReady words old → NoneRose old new output errors → IsCompleted status

@@ -2,12 +2,12 @@
 -- passes no limit. All this is of what is told before the call.
 use Rattle.std.specs.Prelude.{◌≡◌, ◌≢◌, ℕ, ◌<◌, List, [], ◌∷◌, length, Contains, All, Option, None, Some, IsSome, Ok, ⊤}
 use Rattle.kr_base.specs.Told.{Agrees}
-use Rattle.kr_config.specs.Kept.{Row, plugins_in}
+use Rattle.kr_config.specs.Kept.{ConfigEntry, plugins_in}
 use Rattle.kr_kms.specs.Health.{breach_in}
 use Rattle.kr_kms.specs.declared.plugin.Status.{Status}
 use Rattle.kr_opening.specs.Starts.{MayStart}
 use Rattle.kr_script.specs.Fleets.{Fleet}
-use Rattle.kr_words.specs.Arguments.{program_of}
+use Rattle.kr_words.specs.Arguments.{plugin_program}
 use Rattle.kr_cmd_steps.specs.Around.{Around}
 use Rattle.kr_cmd_steps.specs.Configuration.{IsConfiguration}
 use Rattle.kr_cmd_fleet.specs.FleetFiles.{IsFleetFile, all_files, no_file}
@@ -23,7 +23,7 @@ TellsFleet old name fleet = (file : Option (List ℕ)) × (old.world.file name �
     × IsFleetFile name file (Ok fleet)
 
 -- or these entries of a configuration
-abbrev pub TellsRows : Around → (name : List ℕ) → List Row → Type 0
+abbrev pub TellsRows : Around → (name : List ℕ) → List ConfigEntry → Type 0
 TellsRows old name rows = (file : Option (List ℕ)) × (old.world.file name ≡ Some file)
     × IsConfiguration name file (Ok rows)
 
@@ -33,26 +33,28 @@ TellsStore old name stored = (bytes : List ℕ)
     × (or_empty (old.world.tapes.told name) ≡ Some (Some bytes)) × IsStored bytes (Ok stored)
 
 -- at each of so many seats the link to the plugin tells a status that breaks no rule
-abbrev pub IsHealthy : Around → (seats : ℕ) → (plugin : List ℕ) → Type 0
-IsHealthy old seats plugin = (seat : ℕ) → seat < seats
+abbrev pub IsHealthyAtSeats : Around → (seats : ℕ) → (plugin : List ℕ) → Type 0
+IsHealthyAtSeats old seats plugin = (seat : ℕ) → seat < seats
     → (status : Status) × (old.world.links.told (seat, plugin) ≡ Some status)
     × (breach_in status ≡ None)
 
 -- a configuration is told, and each plugin that it names has a program and is healthy
 pub record IsConfigured (words : FleetWords) (old : Around) (seats : ℕ) (name : List ℕ)
     : Type 0 where
-  pub rows : List Row
+  pub rows : List ConfigEntry
   pub told : TellsRows old name rows
   pub programs : (plugin : List ℕ) → Contains (plugins_in rows) plugin
-      → IsSome (program_of words.options plugin)
-  pub healthy : (plugin : List ℕ) → Contains (plugins_in rows) plugin → IsHealthy old seats plugin
+      → IsSome (plugin_program words.options plugin)
+  pub healthy : (plugin : List ℕ) → Contains (plugins_in rows) plugin
+      → IsHealthyAtSeats old seats plugin
 
 -- the settings of a replica are the entries of its file; none where it isn't in
-abbrev pub HasSettings : Around → List ℕ × List ℕ → Option (List Row) → Type 0
+abbrev pub HasSettings : Around → List ℕ × List ℕ → Option (List ConfigEntry) → Type 0
 HasSettings old replica None = replica.1 ≡ no_file
 HasSettings old replica (Some rows) = (replica.1 ≢ no_file) × TellsRows old replica.1 rows
 
-abbrev pub HaveSettings : Around → List (List ℕ × List ℕ) → List (Option (List Row)) → Type 0
+abbrev pub HaveSettings : Around → List (List ℕ × List ℕ) → List (Option (List ConfigEntry))
+    → Type 0
 HaveSettings old [] [] = ⊤
 HaveSettings old [] (rows ∷ more) = ⊥
 HaveSettings old (replica ∷ replicas) [] = ⊥
@@ -70,7 +72,7 @@ pub record IsReady (words : FleetWords) (old : Around) : Type 0 where
   pub store : TellsStore old words.store stored
   pub budgets : List ℕ
   pub within : AreWithin stored.rows (parts_of fleet) (Ok budgets)
-  pub settings : List (Option (List Row))
+  pub settings : List (Option (List ConfigEntry))
   pub settings_are : HaveSettings old fleet.replicas settings
   pub fits : MayStart stored.rows settings
 
@@ -82,5 +84,5 @@ pub record IsFleetTold (words : FleetWords) (old : Around) : Type 0 where
   pub files : (file : Option (List ℕ)) (fleet : Fleet) → Agrees (old.world.file words.file) file
       → IsFleetFile words.file file (Ok fleet) → AreTold old.world.file (all_files fleet)
   pub store : IsSome (old.world.tapes.told words.store)
-  pub statuses : (plugin : List ℕ) → IsSome (program_of words.options plugin)
+  pub statuses : (plugin : List ℕ) → IsSome (plugin_program words.options plugin)
       → IsSome (old.world.links.told (0, plugin))

@@ -5,7 +5,7 @@ use Rattle.std.specs.Str.{bytes_eq}
 use Rattle.kr_base.specs.Faults.{Rose}
 use Rattle.kr_base.specs.Limits.{store_limit, journal_limit}
 use Rattle.kr_base.specs.Streams.{AppendsFront}
-use Rattle.kr_config.specs.Kept.{Row}
+use Rattle.kr_config.specs.Kept.{ConfigEntry}
 use Rattle.kr_kms.specs.Calls.{Link}
 use Rattle.kr_kms.specs.Exchanges.{Exchange}
 use Rattle.kr_kms.specs.Outside.{link_at, with_call}
@@ -15,7 +15,7 @@ use Rattle.kr_kms.specs.declared.world.Access.TheVariants.{ToMake}
 use Rattle.kr_provider.specs.Names.{names_of}
 use Rattle.kr_provider.specs.PluginOrder.{plugin_order}
 use Rattle.kr_provider.specs.Publication.{Publication}
-use Rattle.kr_rollout.specs.Histories.{IsLegal, state_of}
+use Rattle.kr_rollout.specs.Histories.{state_of}
 use Rattle.kr_history.specs.Honesty.{IsHonest}
 use Rattle.kr_opening.specs.Replicas.{settings_of}
 use Rattle.kr_opening.specs.Starts.{IsNoStart, MayStart}
@@ -29,25 +29,26 @@ use Rattle.kr_store.specs.File.{IsFile}
 use Rattle.kr_store.specs.declared.rows.LogRow.{LogRow}
 use Rattle.kr_watch.specs.declared.item.Item.{Item}
 use Rattle.kr_workers.specs.Budgets.{AreBudgets, all_reloads}
-use Rattle.kr_workers.specs.Endings.{ending_of, status_of}
+use Rattle.kr_workers.specs.Endings.{gravest_ending, status_of}
 use Rattle.kr_workers.specs.Histories.{IsOneHistory}
 use Rattle.kr_workers.specs.declared.ending.Ending.{Ending}
 use Rattle.kr_workers.specs.declared.files.SettingsFile.{SettingsFile}
 use Rattle.kr_workers.specs.declared.worker.Worker as fleet_worker
 use Rattle.kr_cmd_steps.specs.Afterwards.{AreLeft}
 use Rattle.kr_cmd_steps.specs.Around.{Around, Ends, IsHome, Reaches, left_of, with_world}
-use Rattle.kr_cmd_steps.specs.Commands.{by_result, stored_on, tape_for, with_memory}
+use Rattle.kr_cmd_steps.specs.Phases.{by_result, stored_on, tape_for, with_memory}
 use Rattle.kr_cmd_messages.specs.FleetAsked.{AskAlone, AsksFleet}
 use Rattle.kr_cmd_fleet.specs.FirstItems.{watching}
-use Rattle.kr_cmd_fleet.specs.FleetFiles.{FleetPlan, NamedRows, named_rows, no_file, planning, rows_at}
+use Rattle.kr_cmd_fleet.specs.StartExchanges.{BeganWith, WereAsked}
+use Rattle.kr_cmd_fleet.specs.FleetFiles.{FleetPlan, NamedRows, named_rows, no_file, planning, file_entries}
 use Rattle.kr_cmd_steps.specs.Judgements.{start_refusal}
 use Rattle.kr_cmd_messages.specs.LoadAsked.{AsksLoad}
 use Rattle.kr_cmd_messages.specs.WatchAsked.{AsksWatch}
 use Rattle.kr_cmd_steps.specs.Plugins.{borrow_links_of, make_seeds}
-use Rattle.kr_cmd_steps.specs.Ran.{IsIdle, IsUntouched, Ran, Readings}
+use Rattle.kr_cmd_steps.specs.Ran.{WroteNothing, IsUntouched, Ran, Readings}
 use Rattle.kr_cmd_messages.specs.Receipts.{Receipt, Tells}
 use Rattle.kr_cmd_messages.specs.Message.{line_of, status_of as stop_status}
-use Rattle.kr_cmd_steps.specs.Steps.{Steps, borrow_dice, find, gives, give, and_then}
+use Rattle.kr_cmd_steps.specs.Steps.{Steps, borrow_dice, find, gives, give, hearing, and_then}
 use Rattle.kr_cmd_steps.specs.StoreFiles.{Stored}
 use Rattle.kr_cmd_messages.specs.declared.fleet_words.FleetWords.{FleetWords}
 use Rattle.kr_cmd_messages.specs.declared.load_words.LoadWords.{LoadWords}
@@ -94,12 +95,12 @@ abbrev pub Replicas : Type 0
 Replicas = List (Option Publication)
 
 -- the configuration of a replica; none where it isn't in
-abbrev pub rows_of_replica : List NamedRows → List ℕ × List ℕ → Option (List Row)
+abbrev pub rows_of_replica : List NamedRows → List ℕ × List ℕ → Option (List ConfigEntry)
 rows_of_replica files replica =
-    if bytes_eq replica.1 no_file then None else rows_at files replica.1
+    if bytes_eq replica.1 no_file then None else file_entries files replica.1
 
 -- it is published with a seed of each plugin, and the others go on
-abbrev pub publishes : Option (List Row) → Replicas → (Replicas → Steps Replicas)
+abbrev pub publishes : Option (List ConfigEntry) → Replicas → (Replicas → Steps Replicas)
     → Steps Replicas
 publishes None made next = next (made ++ None ∷ [])
 publishes (Some rows) made next = and_then (with_memory (make_seeds (plugin_order rows)))
@@ -275,37 +276,25 @@ pub record StartsNone (store : List ℕ) (begun : Begun) (mid new : Around) : Ty
   pub dice : new.world.dice.told ≡ mid.world.dice.told
   pub rest : LeavesRest store (length begun.plan.fleet.workers) mid new
 
--- The workers ran by a legal history, and the store has its rows; then it couldn't be settled, and
--- its count rose
-pub record FailsToSettle (store : List ℕ) (begun : Begun) (mid new : Around) (stop : Stop)
-    : Type 0 where
+-- The workers ran, and left this; then what they stored couldn't be settled, so that the store's
+-- count rose once more. It tells what it told, and all else stayed
+pub record FailsToSettle (T : Type 0) {L D : Type 0} (truth : Truth) (link : L → Link)
+    (step : L → Exchange → L → Type 0)
+    (left : D → Option (List ℕ)) (count : D → ℕ) (store : List ℕ) (begun : Begun)
+    (mid new : Around) (stop : Stop) : Type 0 where
+  pub ran : Around
   pub history : List Entry
-  pub legal : IsLegal (opening_of store begun mid) history
-  pub stored : HasRows (new.world.tapes.told store) begun
-      (state_of (opening_of store begun mid) history).rows (mid.world.tapes.faults store)
-      (new.world.tapes.faults store)
-  pub rose : Rose (mid.world.tapes.faults store) (new.world.tapes.faults store)
+  pub ended : List (fleet_worker.Worker T L D)
+  pub runs : RunsFleet truth link step left count store begun mid ran history ended
+  pub told : new.world.tapes.told store ≡ ran.world.tapes.told store
+  pub rose : Rose (ran.world.tapes.faults store) (new.world.tapes.faults store)
   pub stops : stop ≡ Fault Store (new.world.tapes.faults store)
-  pub rest : LeavesRest store (length begun.plan.fleet.workers) mid new
+  pub rest : LeavesRest store 0 ran new
 
 -- the store was settled behind the workers, and the world was told so
 abbrev pub settled_behind : (store : List ℕ) → Around → Around
 settled_behind store mid = with_world
     (record mid.world { asked = with_call (Settled store) mid.world.asked }) mid
-
--- nothing was written: the steps up to the workers ended the command, or want of memory did before
--- they started, or what they stored couldn't be settled
-abbrev pub StopsBefore : Steps Begun → (store : List ℕ) → (old new : Around) → Receipt
-    → Result Ending Stop → Type 0
-StopsBefore steps store old new output (Ok ending) = ⊥
-StopsBefore steps store old new output (Err stop) =
-    (Ends steps (left_of old) old new (Err stop)
-    ⊎ ((stop ≡ NoMemory) × ((mid : Around) × (begun : Begun)
-    × Reaches steps (left_of old) mid (gives begun)
-    × StartsNone store begun mid new × IsHome old mid))
-    ⊎ ((mid : Around) × (begun : Begun) × Reaches steps (left_of old) mid (gives begun)
-    × FailsToSettle store begun mid new stop × IsHome old mid))
-    × IsIdle output
 
 -- the journal and the replies
 abbrev pub text_of : {T L D : Type 0} → Fleet → List Entry → List (fleet_worker.Worker T L D)
@@ -327,43 +316,70 @@ WritesFleet text ending output (Err why) = ⊥
 module _ (T : Type 0) {L D : Type 0} (truth : Truth) (link : L → Link)
     (step : L → Exchange → L → Type 0)
     (left : D → Option (List ℕ)) (count : D → ℕ) where
-  -- the workers were started, and what they stored is settled
+  -- nothing was written: the steps up to the workers ended the command, or want of memory did
+  -- before they started, or what they stored couldn't be settled
+  abbrev pub StopsBefore : Steps Begun → (store : List ℕ) → (old new : Around) → Receipt
+      → Result Ending Stop → Type 0
+  StopsBefore steps store old new output (Ok ending) = ⊥
+  StopsBefore steps store old new output (Err stop) =
+      (Ends steps (left_of old) old new (Err stop)
+      ⊎ ((stop ≡ NoMemory) × ((mid : Around) × (begun : Begun)
+      × Reaches steps (left_of old) mid (gives begun)
+      × StartsNone store begun mid new × IsHome old mid))
+      ⊎ ((mid : Around) × (begun : Begun) × Reaches steps (left_of old) mid (gives begun)
+      × FailsToSettle T truth link step left count store begun mid new stop × IsHome old mid))
+      × WroteNothing output
+
+module _ (T : Type 0) {L D : Type 0} (truth : Truth) (link : L → Link)
+    (step : L → Exchange → L → Type 0) (lent took : ℕ → L → Type 0)
+    (left : D → Option (List ℕ)) (count : D → ℕ) where
+  -- The workers were started, and what they stored is settled. What the steps up to them asked of
+  -- plugins is just what the first seat's links answered before the first worker had them
   pub record Starts (words : FleetWords) (old new : Around) (output : Receipt)
       (result : Result Ending Stop) : Type 0 where
     pub begun : Begun
     pub mid : Around
     pub reaches : Reaches (fleet_steps words) (left_of old) mid (gives begun)
     pub since : IsHome old mid
+    pub exchanges : List Exchange
+    pub heard : mid.heard ≡ hearing exchanges old.heard
     pub history : List Entry
     pub ended : List (fleet_worker.Worker T L D)
     pub runs : RunsFleet truth link step left count words.store begun
         (settled_behind words.store mid) new history ended
     pub writes : WritesFleet (text_of begun.plan.fleet history ended)
-        (ending_of (map (λ (w : fleet_worker.Worker T L D). w.told) ended)) output result
+        (gravest_ending (map (λ (w : fleet_worker.Worker T L D). w.told) ended)) output result
+    pub began : BeganWith lent took step exchanges runs.workers ended
 
-  -- all that was handed out is back
+  -- all that was handed out is back; what the steps up to the workers asked, as far as they went,
+  -- some links that were lent to the first seat answered; where the workers were started, it is
+  -- just what those answered with which the first worker began (one list, that of `Starts`)
   pub record DidFleet (words : FleetWords) (old new : Around) (output : Receipt)
       (result : Result Ending Stop) : Type 0 where
     pub home : IsHome old new
-    pub did : StopsBefore (fleet_steps words) words.store old new output result
-        ⊎ Starts words old new output result
+    pub exchanges : List Exchange
+    pub heard : new.heard ≡ hearing exchanges old.heard
+    pub asked : WereAsked lent step exchanges
+    pub did : StopsBefore T truth link step left count (fleet_steps words) words.store old new
+        output result
+        ⊎ ((start : Starts words old new output result) × (start.exchanges ≡ exchanges))
 
 -- ---- the status
 
 -- the replies decide the status, and nothing is said beside the output; else the line of what
 -- ended the command is
 abbrev pub TellsFleet : Result Ending Stop → Receipt → ℕ → Type 0
-TellsFleet (Ok ending) errors status = (status ≡ status_of ending) × IsIdle errors
+TellsFleet (Ok ending) errors status = (status ≡ status_of ending) × WroteNothing errors
 TellsFleet (Err stop) errors status = Tells (line_of (Err stop)) (stop_status (Err stop)) errors
     status
 
 -- what a call of `run` did for a fleet
 pub record RanFleet (T : Type 0) {L D : Type 0} (truth : Truth) (link : L → Link)
-    (step : L → Exchange → L → Type 0)
+    (step : L → Exchange → L → Type 0) (lent took : ℕ → L → Type 0)
     (left : D → Option (List ℕ)) (count : D → ℕ) (words : FleetWords) (old new : Around)
     (output errors : Receipt) (status : ℕ) : Type 0 where
   pub result : Result Ending Stop
-  pub did : DidFleet T truth link step left count words old new output result
+  pub did : DidFleet T truth link step lent took left count words old new output result
   pub tells : TellsFleet result errors status
   pub written : output.old_faults ≤ output.new_faults
   pub told : errors.old_faults ≤ errors.new_faults
@@ -379,4 +395,4 @@ RanAlone words old new output errors (Some status) =
 RanAlone words old new output errors None =
     (((asked : FleetWords) × AsksFleet words asked) ⊎ ((asked : LoadWords) × AsksLoad words asked)
     ⊎ ((asked : WatchWords) × AsksWatch words asked))
-    × IsUntouched old new output × IsIdle errors
+    × IsUntouched old new output × WroteNothing errors

@@ -5,4 +5,5 @@ pub mod FleetFiles
 pub mod FleetReadings
 pub mod FleetReady
 pub mod Fleets
+pub mod StartExchanges
 pub mod inner

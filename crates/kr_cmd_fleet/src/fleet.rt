@@ -2,20 +2,22 @@
 //! source and links, what each replica publishes, and the workers at one core.
 ghost use Rattle.std.specs.Prelude.{◌≡◌, ◌≤◌, Bool, All, IfErr, IfOk, [], false, length, sum};
 ghost use Rattle.kr_base.specs.Limits.{store_limit, journal_limit};
-ghost use Rattle.kr_provider.specs.AskedLinks.{AskedOnly};
+ghost use Rattle.kr_base.specs.Walks.{Talk};
+ghost use Rattle.kr_provider.specs.AskedLinks.{Among, AskedOnly};
 ghost use Rattle.kr_provider.specs.Names.{names_of as plugin_names};
 ghost use Rattle.kr_rollout.specs.Openings.{AreAmong};
 ghost use Rattle.kr_opening.specs.Replicas.{IsFirstIn};
 ghost use Rattle.kr_script.specs.Fleets.{fleet_of};
 ghost use Rattle.kr_script.specs.Output.{fleet_output};
-ghost use Rattle.kr_cmd_steps.specs.Around.{Around, with_world};
-ghost use Rattle.kr_cmd_steps.specs.Commands.{stored_on};
+ghost use Rattle.kr_cmd_steps.specs.Around.{Around, with_exchanges, with_world};
+ghost use Rattle.kr_cmd_steps.specs.Phases.{stored_on};
 ghost use Rattle.kr_cmd_fleet.specs.FirstItems.{Items};
+ghost use Rattle.kr_cmd_fleet.specs.StartExchanges.{AsksFirst, Exchanges};
 ghost use Rattle.kr_cmd_fleet.specs.Fleets.{DidFleet, WritesFleet, beginning, equipping_all, launching};
 ghost use Rattle.kr_cmd_fleet.specs.Fleets.{over_store, publishing, starting};
 ghost use Rattle.kr_cmd_messages.specs.Receipts.{receipt};
-ghost use Rattle.kr_cmd_steps.specs.Steps.{and_then};
-ghost use Rattle.kr_cmd_fleet.specs.inner.Beginnings.{MayPublish, PublishesNext, begun_in, begun_with};
+ghost use Rattle.kr_cmd_steps.specs.Steps.{and_then, hearing};
+ghost use Rattle.kr_cmd_fleet.specs.inner.Beginnings.{MayHear, MayPublish, PublishesNext, begun_in, begun_with};
 ghost use Rattle.kr_cmd_fleet.specs.inner.Beginnings.{first_core, with_first};
 ghost use Rattle.kr_cmd_steps.specs.inner.Starts.{start_stop};
 ghost use Rattle.kr_cmd_fleet.specs.inner.Crews.{IsCrew, IsReadyCore, outfits_of};
@@ -24,28 +26,32 @@ ghost use Rattle.kr_cmd_fleet.specs.inner.Plans.{IsWholePlan, named, plan_of};
 ghost use Rattle.kr_cmd_fleet.specs.inner.FleetOutcomes.{ArePublished, IsPublishedBy, RunsBy, SettlesBy, budget_stop};
 ghost use Rattle.kr_cmd_fleet.specs.inner.FleetOutcomes.{published_in};
 ghost use Rattle.kr_cmd_steps.specs.inner.Lent.{Name, with_lent_tape};
-ghost use Rattle.kr_cmd_fleet.specs.inner.Outfits.{AreLater, AreNamed, with_outfits};
+ghost use Rattle.kr_cmd_fleet.specs.inner.Outfits.{AreLater, AreNamed, links_of, with_outfits};
 ghost use Rattle.kr_cmd_steps.specs.inner.ProgramNames.{names_in};
 ghost use Rattle.kr_cmd_steps.specs.inner.Phases.{Does};
 ghost use Rattle.kr_cmd_steps.specs.inner.Tapes.{stored_of};
-ghost use Rattle.kr_cmd_fleet.specs.inner.Workings.{IsPublished, Outfits, RunsWith, with_crew};
+ghost use Rattle.kr_cmd_fleet.specs.inner.Workings.{AsksOutfits, BeginsLent, IsPublished, Outfits};
+ghost use Rattle.kr_cmd_fleet.specs.inner.Workings.{StartsFrom, StartsLent, TakesOutfits, with_crew};
 ghost use Rattle.kr_workers.specs.Budgets.{AreBudgets, all_reloads};
-ghost use Rattle.kr_workers.specs.Endings.{ending_of};
+ghost use Rattle.kr_workers.specs.Endings.{gravest_ending};
 
 use crate::crew::{Crew, hire};
-use crate::fleet_file::{NO_FILE, Plan, load_plan};
+use crate::fleet_file::{LoadedFleet, NO_FILE, load_plan};
 use crate::outfit::{Outfit, close_outfits, open_outfits};
 use crate::watch_start::{WatchStart, read_first};
 use kr_base::{Dice, List, NoMemory, Shared, Sink, Tape, Text};
 use kr_cmd_messages::{FleetWords, Limit, Object, Refusal, Stop};
-use kr_cmd_steps::{load_store, names_of, open_tape, publish_by, settle_tape, start_stop};
+use kr_cmd_steps::{
+    load_store, open_tape, program_plugins, publish_settings, settle_tape, start_stop,
+};
 use kr_kms::{Access, Kms, World};
 use kr_provider::{Links, Published};
 use kr_rollout::{Core, Line};
 use kr_script::{Script, Told, WriteNo, write_fleet};
 use kr_store::Store;
 use kr_workers::{
-    BudgetNo, Budgets, Ending, SettingsFile, budgets_of, ending_of, run_fleet, settings_at,
+    BudgetNo, Budgets, Ending, SettingsFile, file_settings, gravest_ending, run_fleet,
+    script_budgets,
 };
 use std::alloc::Global;
 use std::sync::Wait;
@@ -70,18 +76,19 @@ pub fn fleet<R: Threads + Wait + Sync, W: World, O: Sink>(
     world: &mut W,
     output: &mut O,
 ) -> Result<Ending, Stop>
-    ensures did { (a : Around) → a.truth ≡ W.Link.truth
-        → DidFleet W.Tap W.Link.truth W.Link.link W.Link.step W.Rand.left W.Rand.count words.now
-        (with_world (W.told world.old) a) (with_world (W.told world.new) a)
+    ensures did { (es : Exchanges) × ((a : Around) → a.truth ≡ W.Link.truth
+        → DidFleet W.Tap W.Link.truth W.Link.link W.Link.step W.lent W.took W.Rand.left
+        W.Rand.count words.now
+        (with_world (W.told world.old) a) (with_world (W.told world.new) (with_exchanges es a))
         (receipt (O.held output.old) (O.held output.new) (O.count output.old) (O.count output.new))
-        result }
+        result) }
     ensures later { O.count output.old ≤ O.count output.new }
 {
     let plan = match load_plan(alloc, words.file.as_str(), &words.options, world) {
         Ok(plan) => plan,
         Err(stop) => return Err(stop),
     };
-    let record = match fleet_by(rt, alloc, words.store.as_str(), &plan, false, world) {
+    let record = match run_fleet_over_store(rt, alloc, words.store.as_str(), &plan, false, world) {
         Ok(record) => record,
         Err(stop) => return Err(stop),
     };
@@ -89,57 +96,61 @@ pub fn fleet<R: Threads + Wait + Sync, W: World, O: Sink>(
 }
 
 /// Runs the fleet over the store of this name, where someone may watch.
-pub fn fleet_by<R: Threads + Wait + Sync, W: World>(
+pub fn run_fleet_over_store<R: Threads + Wait + Sync, W: World>(
     rt: &R,
     alloc: Global,
     store: &str,
-    plan: &Plan,
+    plan: &LoadedFleet,
     watched: bool,
     world: &mut W,
 ) -> Result<Record, Stop>
     requires plan { IsWholePlan (plan_of plan.now) }
-    ensures { (a : Around) → a.truth ≡ W.Link.truth
-        → SettlesBy W.Tap W.Link.truth W.Link.link W.Link.step W.Rand.left W.Rand.count watched
+    ensures { StartsLent W.lent W.Link.step (λ es. (a : Around) → MayHear W.Link.truth watched a
+        → SettlesBy W.Tap W.Link.truth W.Link.link W.Link.step W.Rand.left W.Rand.count
+        (BeginsLent (hearing es a.heard) W.Link.step watched es W.lent W.took) watched
         (over_store watched store.now (plan_of plan.now)) store.now (plan_of plan.now)
-        (with_world (W.told world.old) a) (with_world (W.told world.new) a) result }
+        (with_world (W.told world.old) a) (with_world (W.told world.new) (with_exchanges es a))
+        result) }
 {
     let tape = match open_tape(alloc, world, store, Access::ToMake) {
         Ok(tape) => tape,
         Err(stop) => return Err(stop),
     };
-    let (made, tape) = fleet_on(rt, alloc, plan, watched, tape, world);
+    let (made, tape) = run_fleet_on_tape(rt, alloc, plan, watched, tape, world);
     settle_tape(world, store, Object::Store, tape, made)
 }
 
 /// Runs the fleet over the store on a tape, which comes back.
-fn fleet_on<R: Threads + Wait + Sync, W: World>(
+fn run_fleet_on_tape<R: Threads + Wait + Sync, W: World>(
     rt: &R,
     alloc: Global,
-    plan: &Plan,
+    plan: &LoadedFleet,
     watched: bool,
     tape: W::Tap,
     world: &mut W,
 ) -> (Result<Record, Stop>, W::Tap)
     requires plan { IsWholePlan (plan_of plan.now) }
-    ensures made { (name : Name) (a : Around) → a.truth ≡ W.Link.truth
-        → RunsBy W.Tap W.Link.truth W.Link.link W.Link.step W.Rand.left W.Rand.count watched
+    ensures made { StartsLent W.lent W.Link.step (λ es. (name : Name) (a : Around)
+        → MayHear W.Link.truth watched a
+        → RunsBy W.Tap W.Link.truth W.Link.link W.Link.step W.Rand.left W.Rand.count
+        (BeginsLent (hearing es a.heard) W.Link.step watched es W.lent W.took) watched
         (and_then (stored_on Object.Store name) (beginning watched (plan_of plan.now))) name
         (plan_of plan.now)
         (with_lent_tape name (W.Tap.told tape) (W.Tap.count tape)
         (with_world (W.told world.old) a))
         (with_lent_tape name (W.Tap.told result.1) (W.Tap.count result.1)
-        (with_world (W.told world.new) a)) result.0 }
+        (with_world (W.told world.new) (with_exchanges es a))) result.0) }
     ensures out { (W.told world.new).tapes ≡ (W.told world.old).tapes }
 {
     let store = match load_store(alloc, tape, Object::Store) {
         Ok(store) => store,
         Err((stop, tape)) => return (Err(stop), tape),
     };
-    let budgets = match budgets_of(alloc, store.live_count(), plan.script.workers.as_slice()) {
+    let budgets = match script_budgets(alloc, store.live_count(), plan.script.workers.as_slice()) {
         Ok(budgets) => budgets,
         Err(why) => return (Err(budget_stop(why)), store.close()),
     };
-    let (made, store) = fleet_with(rt, alloc, plan, watched, &budgets, store, world);
+    let (made, store) = run_outfitted_fleet(rt, alloc, plan, watched, &budgets, store, world);
     (made, store.close())
 }
 
@@ -154,10 +165,10 @@ pub fn budget_stop(why: BudgetNo) -> Stop
 }
 
 /// Runs the fleet with an outfit for each worker. The store comes back.
-fn fleet_with<R: Threads + Wait + Sync, W: World>(
+fn run_outfitted_fleet<R: Threads + Wait + Sync, W: World>(
     rt: &R,
     alloc: Global,
-    plan: &Plan,
+    plan: &LoadedFleet,
     watched: bool,
     budgets: &Budgets,
     store: Store<W::Tap>,
@@ -169,13 +180,15 @@ fn fleet_with<R: Threads + Wait + Sync, W: World>(
     requires fit { sum budgets.now.reloads.items ≤ sum budgets.now.entries.items }
     requires store { (store.limit ≡ store_limit) × (store.torn ≡ false) }
     requires plan { IsWholePlan (plan_of plan.now) }
-    ensures made { (name : Name) (a : Around) → a.truth ≡ W.Link.truth
-        → RunsBy W.Tap W.Link.truth W.Link.link W.Link.step W.Rand.left W.Rand.count watched
+    ensures made { StartsLent W.lent W.Link.step (λ es. (name : Name) (a : Around)
+        → MayHear W.Link.truth watched a
+        → RunsBy W.Tap W.Link.truth W.Link.link W.Link.step W.Rand.left W.Rand.count
+        (BeginsLent (hearing es a.heard) W.Link.step watched es W.lent W.took) watched
         (equipping_all watched (plan_of plan.now) (stored_of store) budgets.now.entries.items) name
         (plan_of plan.now)
         (with_lent_tape name store.told store.count (with_world (W.told world.old) a))
-        (with_lent_tape name result.1.told result.1.count (with_world (W.told world.new) a))
-        result.0 }
+        (with_lent_tape name result.1.told result.1.count
+        (with_world (W.told world.new) (with_exchanges es a))) result.0) }
     ensures out { (W.told world.new).tapes ≡ (W.told world.old).tapes }
 {
     let mut outfits = List::new(alloc);
@@ -196,10 +209,10 @@ fn fleet_with<R: Threads + Wait + Sync, W: World>(
 
 /// Publishes for each replica, reads the live rows where someone watches, starts the core, and lets
 /// the workers work. The store and the outfits come back.
-fn begin<R: Threads + Wait + Sync, T: Tape + Send, L: Kms + Send, D: Dice + Send>(
+pub fn begin<R: Threads + Wait + Sync, T: Tape + Send, L: Kms + Send, D: Dice + Send>(
     rt: &R,
     alloc: Global,
-    plan: &Plan,
+    plan: &LoadedFleet,
     watched: bool,
     budgets: &Budgets,
     store: Store<T>,
@@ -213,14 +226,16 @@ fn begin<R: Threads + Wait + Sync, T: Tape + Send, L: Kms + Send, D: Dice + Send
     requires plan { IsWholePlan (plan_of plan.now) }
     requires seats { length outfits.0 ≡ length plan.now.script.workers.0 }
     requires named { AreNamed L.link (names_in plan.now.programs) outfits.0 }
-    ensures made { (name : Name) (a : Around) → a.truth ≡ L.truth
-        → RunsBy T L.truth L.link L.step D.left D.count watched
+    ensures made { StartsFrom L.step outfits.0 (λ es. (name : Name) (a : Around)
+        → MayHear L.truth watched a
+        → RunsBy T L.truth L.link L.step D.left D.count
+        (AsksOutfits (hearing es a.heard) L.step watched es outfits.0 result.2.0) watched
         (launching watched (plan_of plan.now) (stored_of store) budgets.now.entries.items) name
         (plan_of plan.now)
         (with_outfits L.link D.left D.count 0 outfits.0
         (with_lent_tape name store.told store.count a))
         (with_outfits L.link D.left D.count 0 result.2.0
-        (with_lent_tape name result.1.told result.1.count a)) result.0 }
+        (with_lent_tape name result.1.told result.1.count (with_exchanges es a))) result.0) }
     ensures later { AreLater L.link D.count outfits.0 result.2.0 }
 {
     let (published, outfits) = publish_first(alloc, plan, outfits);
@@ -233,15 +248,15 @@ fn begin<R: Threads + Wait + Sync, T: Tape + Send, L: Kms + Send, D: Dice + Send
         Ok(start) => start,
         Err(stop) => return (Err(stop), store, outfits),
     };
-    work_with(rt, alloc, plan, budgets, store, replicas, start, outfits)
+    run_core_and_workers(rt, alloc, plan, budgets, store, replicas, start, outfits)
 }
 
 /// Starts the core with what the replicas published, and lets the workers work with these outfits.
 /// The store and the outfits come back.
-pub fn work_with<R: Threads + Wait + Sync, T: Tape + Send, L: Kms + Send, D: Dice + Send>(
+fn run_core_and_workers<R: Threads + Wait + Sync, T: Tape + Send, L: Kms + Send, D: Dice + Send>(
     rt: &R,
     alloc: Global,
-    plan: &Plan,
+    plan: &LoadedFleet,
     budgets: &Budgets,
     store: Store<T>,
     replicas: List<Option<Shared<Published>>>,
@@ -259,13 +274,13 @@ pub fn work_with<R: Threads + Wait + Sync, T: Tape + Send, L: Kms + Send, D: Dic
     requires published { ArePublished L.truth (named plan.now.files.0)
         plan.now.script.replicas.0 replicas.0 }
     requires revision { start.revision ≡ length store.rows }
-    ensures made { (name : Name) (a : Around) (olds : Outfits L D) (watched : Bool)
-        → a.truth ≡ L.truth
+    ensures made { (name : Name) (first a : Around) (olds : Outfits L D) (watched : Bool)
         → IsPublished L.link D.left D.count L.truth watched plan.now budgets.now.entries.items name
-        store a olds outfits.0 replicas.0 start.items.0
-        → RunsWith L.link D.left D.count T L.truth L.step watched
+        store first a olds outfits.0 replicas.0 start.items.0
+        → RunsBy T L.truth L.link L.step D.left D.count
+        (TakesOutfits a.heard outfits.0 result.2.0) watched
         (launching watched (plan_of plan.now) (stored_of store) budgets.now.entries.items) name
-        (plan_of plan.now) outfits.0 (with_crew L.link D.left D.count name store olds a)
+        (plan_of plan.now) first
         (with_crew L.link D.left D.count name result.1 result.2.0 a) result.0 }
     ensures later { AreLater L.link D.count outfits.0 result.2.0 }
 {
@@ -288,7 +303,7 @@ pub fn work_with<R: Threads + Wait + Sync, T: Tape + Send, L: Kms + Send, D: Dic
 fn run_crew<R: Threads + Wait + Sync, T: Tape + Send, L: Kms + Send, D: Dice + Send>(
     rt: &R,
     alloc: Global,
-    plan: &Plan,
+    plan: &LoadedFleet,
     budgets: &Budgets,
     start: WatchStart,
     core: Core<T>,
@@ -339,7 +354,7 @@ fn run_crew<R: Threads + Wait + Sync, T: Tape + Send, L: Kms + Send, D: Dice + S
 /// Publishes the configuration of each replica that is in, with the first worker's outfit.
 fn publish_first<L: Kms, D: Dice>(
     alloc: Global,
-    plan: &Plan,
+    plan: &LoadedFleet,
     outfits: List<Outfit<L, D>>,
 ) -> (
     Result<List<Option<Shared<Published>>>, Stop>,
@@ -348,10 +363,13 @@ fn publish_first<L: Kms, D: Dice>(
     requires plan { IsWholePlan (plan_of plan.now) }
     requires some { 1 ≤ length outfits.0 }
     requires named { AreNamed L.link (names_in plan.now.programs) outfits.0 }
-    ensures does { (a : Around) → a.truth ≡ L.truth
+    ensures does { (es : Exchanges)
+        × AsksFirst L.step es (links_of outfits.0) (links_of result.1.0)
+        × ((a : Around) → a.truth ≡ L.truth
         → Does (publishing (named plan.now.files.0) [] plan.now.script.replicas.0)
         (with_outfits L.link D.left D.count 0 outfits.0 a)
-        (with_outfits L.link D.left D.count 0 result.1.0 a) (published_in result.0) }
+        (with_outfits L.link D.left D.count 0 result.1.0 (with_exchanges es a))
+        (published_in result.0)) }
     ensures replicas { IfOk result.0 (λ made. ArePublished L.truth
         (named plan.now.files.0) plan.now.script.replicas.0 made.0) }
     ensures later { AreLater L.link D.count outfits.0 result.1.0 }
@@ -365,7 +383,7 @@ fn publish_first<L: Kms, D: Dice>(
 }
 
 /// Publishes the configuration of each replica that is in.
-pub fn publish_each<L: Kms, D: Dice>(
+fn publish_each<L: Kms, D: Dice>(
     alloc: Global,
     files: &[SettingsFile],
     replicas: &[(Text, Text)],
@@ -374,11 +392,12 @@ pub fn publish_each<L: Kms, D: Dice>(
 ) -> Result<List<Option<Shared<Published>>>, Stop>
     requires read { All (λ replica. MayPublish (plugin_names L.link links.old)
         (named files.now) replica.1) replicas.now }
-    ensures does { (a : Around) → a.truth ≡ L.truth
+    ensures does { Talk (Among L.step) links.old links.new (λ es. (a : Around)
+        → a.truth ≡ L.truth
         → Does (publishing (named files.now) [] replicas.now)
         (with_first L.link links.old (D.left dice.old) (D.count dice.old) a)
-        (with_first L.link links.new (D.left dice.new) (D.count dice.new) a)
-        (published_in result) }
+        (with_first L.link links.new (D.left dice.new) (D.count dice.new) (with_exchanges es a))
+        (published_in result)) }
     ensures replicas { IfOk result (λ made. ArePublished L.truth (named files.now) replicas.now
         made.0) }
     ensures asked { AskedOnly L.link (plugin_names L.link links.old) links.old links.new }
@@ -386,7 +405,7 @@ pub fn publish_each<L: Kms, D: Dice>(
 {
     let mut made = List::new(alloc);
     for replica in replicas {
-        let published = match publish_at(alloc, files, replica, links, dice) {
+        let published = match publish_replica(alloc, files, replica, links, dice) {
             Ok(published) => published,
             Err(stop) => return Err(stop),
         };
@@ -399,7 +418,7 @@ pub fn publish_each<L: Kms, D: Dice>(
 }
 
 /// Publishes the configuration of a replica, if it is in.
-fn publish_at<L: Kms, D: Dice>(
+fn publish_replica<L: Kms, D: Dice>(
     alloc: Global,
     files: &[SettingsFile],
     replica: &(Text, Text),
@@ -407,10 +426,11 @@ fn publish_at<L: Kms, D: Dice>(
     dice: &mut D,
 ) -> Result<Option<Shared<Published>>, Stop>
     requires read { MayPublish (plugin_names L.link links.old) (named files.now) replica.now.1 }
-    ensures does { (a : Around) → a.truth ≡ L.truth
-        → PublishesNext (named files.now) replica.now
+    ensures does { Talk (Among L.step) links.old links.new (λ es. (a : Around)
+        → a.truth ≡ L.truth → PublishesNext (named files.now) replica.now
         (with_first L.link links.old (D.left dice.old) (D.count dice.old) a)
-        (with_first L.link links.new (D.left dice.new) (D.count dice.new) a) result }
+        (with_first L.link links.new (D.left dice.new) (D.count dice.new) (with_exchanges es a))
+        result) }
     ensures published { IfOk result (IsPublishedBy L.truth (named files.now) replica.now) }
     ensures asked { AskedOnly L.link (plugin_names L.link links.old) links.old links.new }
     ensures later { D.count dice.old ≤ D.count dice.new }
@@ -419,13 +439,13 @@ fn publish_at<L: Kms, D: Dice>(
     if file == NO_FILE {
         return Ok(None);
     }
-    let Some(settings) = settings_at(files, file) else {
+    let Some(settings) = file_settings(files, file) else {
         unreachable!();
     };
     let Ok(settings) = settings.share() else {
         return Err(Stop::NoMemory);
     };
-    match publish_by(alloc, settings, links, dice) {
+    match publish_settings(alloc, settings, links, dice) {
         Ok(published) => match Shared::new(alloc, published) {
             Ok(published) => Ok(Some(published)),
             Err(_) => Err(Stop::NoMemory),
@@ -437,7 +457,7 @@ fn publish_at<L: Kms, D: Dice>(
 /// The core at its opening. A refusal gives the store back.
 fn start_core<T: Tape>(
     alloc: Global,
-    plan: &Plan,
+    plan: &LoadedFleet,
     budgets: &Budgets,
     store: Store<T>,
     replicas: List<Option<Shared<Published>>>,
@@ -457,7 +477,7 @@ fn start_core<T: Tape>(
         (sum budgets.now.entries.items) store replicas.0) }
     ensures back { IfErr result (λ refused. refused.1 ≡ store) }
 {
-    let names = match names_of(alloc, plan.programs.as_slice()) {
+    let names = match program_plugins(alloc, plan.programs.as_slice()) {
         Ok(names) => names,
         Err(NoMemory) => return Err((Stop::NoMemory, store)),
     };
@@ -486,14 +506,14 @@ fn write_record<O: Sink>(
 ) -> Result<Ending, Stop>
     ensures written { WritesFleet
         (fleet_output (fleet_of script.now) made.now.lines.0 made.now.replies.0)
-        (ending_of made.now.replies.0) (receipt (O.held output.old) (O.held output.new)
+        (gravest_ending made.now.replies.0) (receipt (O.held output.old) (O.held output.new)
         (O.count output.old) (O.count output.new)) result }
     ensures later { O.count output.old ≤ O.count output.new }
 {
     let lines = made.lines.as_slice();
     let replies = made.replies.as_slice();
     match write_fleet(alloc, output, script, lines, replies) {
-        Ok(()) => Ok(ending_of(replies)),
+        Ok(()) => Ok(gravest_ending(replies)),
         Err(WriteNo::Failed) => Err(Stop::Fault(Object::Output, output.faults())),
         Err(WriteNo::NoMemory) => Err(Stop::NoMemory),
     }

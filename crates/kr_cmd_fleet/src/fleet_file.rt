@@ -11,7 +11,7 @@ ghost use Rattle.kr_kms.specs.declared.world.WorldCall.{WorldCall};
 ghost use Rattle.kr_provider.specs.PluginOrder.{plugin_order};
 ghost use Rattle.kr_script.specs.Fleets.{fleet_of, worker_of};
 ghost use Rattle.kr_cmd_steps.specs.Around.{Around, with_world};
-ghost use Rattle.kr_cmd_fleet.specs.FleetFiles.{all_rows, file_in, file_of_replica, fleet_in, all_files, planning, programs_in};
+ghost use Rattle.kr_cmd_fleet.specs.FleetFiles.{all_rows, file_in, file_of_replica, fleet_in, all_files, planning, file_programs};
 ghost use Rattle.kr_cmd_fleet.specs.inner.Plans.{GoesThrough, IsRuled, IsWholePlan, ReadsBytes, ReadsFleet};
 ghost use Rattle.kr_cmd_fleet.specs.inner.Plans.{fleet_in_result, named, plan_in, plan_of, script_stop};
 ghost use Rattle.kr_cmd_steps.specs.inner.Phases.{AskedFor, Does};
@@ -21,13 +21,13 @@ use kr_cmd_messages::{Limit, Object, Options, Refusal, Stop, visible};
 use kr_cmd_steps::{Programs, load_settings, without_program};
 use kr_kms::{FileNo, World};
 use kr_script::{Part, Script, ScriptLine, ScriptNo, read_script};
-use kr_workers::{SettingsFile, settings_at};
+use kr_workers::{SettingsFile, file_settings};
 use std::alloc::Global;
 use std::cmp::Ordering;
 
 /// What a fleet works by.
 #[derive(Drop)]
-pub struct Plan {
+pub struct LoadedFleet {
     /// The replicas and the workers' lines.
     pub script: Script,
     /// The configurations that the script names, each once, in the order of their first mention.
@@ -42,7 +42,7 @@ pub fn load_plan<W: World>(
     name: &str,
     options: &Options,
     world: &mut W,
-) -> Result<Plan, Stop>
+) -> Result<LoadedFleet, Stop>
     ensures does { (a : Around) → Does (planning name.now options.now)
         (with_world (W.told world.old) a) (with_world (W.told world.new) a) (plan_in result) }
     ensures whole { IfOk result (λ plan. IsWholePlan (plan_of plan)) }
@@ -56,11 +56,11 @@ pub fn load_plan<W: World>(
         Ok(()) => {}
         Err(stop) => return Err(stop),
     }
-    let programs = match programs_in(alloc, options, files.as_slice()) {
+    let programs = match file_programs(alloc, options, files.as_slice()) {
         Ok(programs) => programs,
         Err(stop) => return Err(stop),
     };
-    Ok(Plan {
+    Ok(LoadedFleet {
         script,
         files,
         programs,
@@ -96,11 +96,11 @@ fn load_script<W: World>(alloc: Global, world: &mut W, name: &str) -> Result<Scr
         Err(FileNo::Failed) => return Err(Stop::Fault(Object::Files, world.faults())),
         Err(FileNo::NoMemory) => return Err(Stop::NoMemory),
     };
-    script_by(alloc, file.as_slice())
+    script_from_bytes(alloc, file.as_slice())
 }
 
 /// The script by its bytes.
-fn script_by(alloc: Global, bytes: &[u8]) -> Result<Script, Stop>
+fn script_from_bytes(alloc: Global, bytes: &[u8]) -> Result<Script, Stop>
     ensures { ReadsBytes bytes.now result }
 {
     match read_script(alloc, bytes) {
@@ -243,7 +243,7 @@ fn load_once<W: World>(
     ensures { GoesThrough (named files.old.0) (named files.new.0) (name.now ∷ [])
         (W.told world.old) (W.told world.new) result }
 {
-    let None = settings_at(files.as_slice(), name) else {
+    let None = file_settings(files.as_slice(), name) else {
         return Ok(());
     };
     let settings = match load_settings(alloc, world, name) {
@@ -267,14 +267,14 @@ fn load_once<W: World>(
 
 /// The program of each plugin that the configurations name, in the order of the names' bytes. The
 /// first name for which the options give no program is refused.
-fn programs_in(alloc: Global, options: &Options, files: &[SettingsFile]) -> Result<Programs, Stop>
-    ensures does { (a : Around) → Does (programs_in options.now (named files.now)) a a result }
+fn file_programs(alloc: Global, options: &Options, files: &[SettingsFile]) -> Result<Programs, Stop>
+    ensures does { (a : Around) → Does (file_programs options.now (named files.now)) a a result }
     ensures names { IfOk result (λ programs. map (λ program. program.plugin) programs
         ≡ plugin_order (all_rows (named files.now))) }
 {
     let mut programs = Programs::new(alloc);
     let mut after = "";
-    while let Some(plugin) = next_plugin_in(files, after) {
+    while let Some(plugin) = next_named_plugin(files, after) {
         let Some(file) = options.program(plugin) else {
             return Err(without_program(alloc, plugin));
         };
@@ -290,26 +290,26 @@ fn programs_in(alloc: Global, options: &Options, files: &[SettingsFile]) -> Resu
 
 /// The least name of a plugin after this one by bytes, in any of the configurations.
 #[tactic(auto, using(crate::proofs::FleetPrograms::files_begin, crate::proofs::FleetPrograms::files_more, crate::proofs::FleetPrograms::files_end))]
-fn next_plugin_in<'a>(files: &'a [SettingsFile], after: &str) -> Option<&'a str>
+fn next_named_plugin<'a>(files: &'a [SettingsFile], after: &str) -> Option<&'a str>
     ensures { IsNextName (plugins_in (all_rows (named files.now))) after.now
         (option_map (λ name. name.now) result) }
 {
     let mut next = None;
     for file in files {
-        next = first_of(next, file.settings.get().next_plugin(after));
+        next = first_name(next, file.settings.get().next_plugin(after));
     }
     next
 }
 
 /// The first of two names by bytes.
-fn first_of<'a>(one: Option<&'a str>, other: Option<&'a str>) -> Option<&'a str>
+fn first_name<'a>(one: Option<&'a str>, other: Option<&'a str>) -> Option<&'a str>
     ensures { option_map (λ name. name.now) result
         ≡ earlier name_cmp (option_map (λ name. name.now) one.entry)
         (option_map (λ name. name.now) other.entry) }
 {
     match (one, other) {
         (Some(name), Some(rival)) => {
-            if is_before(rival, name) {
+            if comes_earlier(rival, name) {
                 Some(rival)
             } else {
                 Some(name)
@@ -321,7 +321,7 @@ fn first_of<'a>(one: Option<&'a str>, other: Option<&'a str>) -> Option<&'a str>
 }
 
 /// Whether the name comes before the other by bytes.
-fn is_before(name: &str, other: &str) -> bool
+fn comes_earlier(name: &str, other: &str) -> bool
     ensures { result ≡ is_lt (name_cmp name.now other.now) }
 {
     match name.cmp(other) {

@@ -9,6 +9,6 @@ mod outfit;
 mod watch_start;
 
 pub use crew::{Crew, hire};
-pub use fleet_file::{NO_FILE, Plan, load_plan};
+pub use fleet_file::{LoadedFleet, NO_FILE, load_plan};
 pub use outfit::{Outfit, close_outfits, open_outfits};
 pub use watch_start::WatchStart;

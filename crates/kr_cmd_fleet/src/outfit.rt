@@ -1,13 +1,14 @@
 //! What a worker has of the world: a random source, and a link to each plugin.
-ghost use Rattle.std.specs.Prelude.{◌≡◌, ◌<◌, ◌≤◌, ◌^◌, IfOk, OnOk, [], length};
+ghost use Rattle.std.specs.Prelude.{◌≡◌, ◌<◌, ◌≤◌, ◌^◌, All, IfOk, OnOk, [], length};
 ghost use Rattle.kr_provider.specs.Names.{names_of};
 ghost use Rattle.kr_cmd_steps.specs.Around.{Around, with_world};
 ghost use Rattle.kr_cmd_fleet.specs.Fleets.{equipping};
+ghost use Rattle.kr_cmd_fleet.specs.StartExchanges.{AreOfSeats};
 ghost use Rattle.kr_cmd_steps.specs.Steps.{give};
 ghost use Rattle.kr_cmd_steps.specs.inner.Lent.{Tapes, with_tapes};
 ghost use Rattle.kr_cmd_fleet.specs.inner.Outfits.{AreBorrowed, AreNamed, AreOut, ArePlugins, HasOut, IsOut};
 ghost use Rattle.kr_cmd_fleet.specs.inner.Outfits.{KeepsOthers, LinksReturn, Opens, OpensLinks, OutfitReturn};
-ghost use Rattle.kr_cmd_fleet.specs.inner.Outfits.{with_outfits};
+ghost use Rattle.kr_cmd_fleet.specs.inner.Outfits.{links_of, with_outfits};
 ghost use Rattle.kr_cmd_steps.specs.inner.ProgramNames.{names_in};
 ghost use Rattle.kr_cmd_steps.specs.inner.Phases.{Does};
 
@@ -46,6 +47,7 @@ pub fn open_outfits<W: World>(
     ensures few { length outfits.new.0 ≤ seats }
     ensures named { AreNamed W.Link.link (names_in programs.now) outfits.new.0 }
     ensures out { AreOut (names_in programs.now) (length outfits.new.0) (W.told world.new) }
+    ensures lent { AreOfSeats W.lent 0 (links_of outfits.new.0) }
 {
     match outfits.reserve(seats as usize) {
         Ok(()) => {}
@@ -69,6 +71,7 @@ pub fn close_outfits<W: World>(world: &mut W, outfits: List<Outfit<W::Link, W::R
         (with_world (with_tapes tapes (W.told world.old)) a)
         ≡ with_world (with_tapes tapes (W.told world.new)) a }
     ensures tapes { (W.told world.new).tapes ≡ (W.told world.old).tapes }
+    ensures taken { AreOfSeats W.took 0 (links_of outfits.0) }
 {
     let mut outfits = outfits;
     while let Some(outfit) = outfits.pop() {
@@ -92,6 +95,7 @@ fn open_outfit<W: World>(
     ensures named { IfOk result
         (λ outfit. names_of W.Link.link outfit.links ≡ names_in programs.now) }
     ensures out { OnOk result (IsOut (names_in programs.now) seat (W.told world.new)) }
+    ensures lent { IfOk result (λ outfit. All (W.lent seat) outfit.links) }
     ensures others { KeepsOthers seat (W.told world.old) (W.told world.new) }
 {
     let dice = match open_dice(alloc, world, seat) {
@@ -124,6 +128,7 @@ fn open_links<W: World>(
     ensures dice { (W.told world.new).dice ≡ (W.told world.old).dice }
     ensures named { OnOk result (names_of W.Link.link links.new ≡ names_in programs.now) }
     ensures out { HasOut W.Link.link seat links.new (W.told world.new) }
+    ensures lent { All (W.lent seat) links.new }
     ensures others { KeepsOthers seat (W.told world.old) (W.told world.new) }
 {
     for program in programs {
@@ -151,8 +156,9 @@ fn open_links<W: World>(
 /// Gives an outfit of the seat back.
 fn close_outfit<W: World>(world: &mut W, seat: u32, outfit: Outfit<W::Link, W::Rand>)
     requires out { IsOut (names_of W.Link.link outfit.links) seat (W.told world.old) }
-    ensures { OutfitReturn W.Link.link W.Rand.left W.Rand.count seat (W.told world.old)
+    ensures back { OutfitReturn W.Link.link W.Rand.left W.Rand.count seat (W.told world.old)
         (W.told world.new) outfit }
+    ensures taken { All (W.took seat) outfit.links }
 {
     let Outfit { links, dice } = outfit;
     close_links(world, seat, links);
@@ -162,7 +168,8 @@ fn close_outfit<W: World>(world: &mut W, seat: u32, outfit: Outfit<W::Link, W::R
 /// Gives links of the seat back, the last one first.
 fn close_links<W: World>(world: &mut W, seat: u32, links: Links<W::Link>)
     requires out { HasOut W.Link.link seat links (W.told world.old) }
-    ensures { LinksReturn W.Link.link seat (W.told world.old) (W.told world.new) links }
+    ensures back { LinksReturn W.Link.link seat (W.told world.old) (W.told world.new) links }
+    ensures taken { All (W.took seat) links }
 {
     links.known();
     let mut links = links;

@@ -1,20 +1,20 @@
 //! What a watch begins with: the live rows of the opening, as the first replica's configuration
 //! reads them.
-ghost use Rattle.std.specs.Prelude.{◌≡◌, ◌≤◌, All, Err, IfOk, IfSome, IsSome, Some, [], length};
+ghost use Rattle.std.specs.Prelude.{◌≡◌, ◌≤◌, All, Err, IfOk, IfSome, IsSome, Some, [], false, length};
 ghost use Rattle.kr_kms.specs.Truth.{TellsOf, key_of};
 ghost use Rattle.kr_provider.specs.Names.{AreDistinct, HasLinks, names_of as plugin_names};
 ghost use Rattle.kr_provider.specs.AskedLinks.{AskedOnly};
 ghost use Rattle.kr_opening.specs.Replicas.{IsFirstIn};
 ghost use Rattle.kr_store.specs.Stores.{IsListing};
 ghost use Rattle.kr_cmd_fleet.specs.FirstItems.{item_with, reading_rows, watching};
-ghost use Rattle.kr_cmd_fleet.specs.inner.Beginnings.{with_first};
+ghost use Rattle.kr_cmd_fleet.specs.inner.Beginnings.{MayHear, with_first};
 ghost use Rattle.kr_cmd_fleet.specs.inner.Outfits.{AreLater, with_outfits};
 ghost use Rattle.kr_cmd_fleet.specs.inner.Readings.{AreReadOf, HasFirst, IsReadEnd, IsReadable};
 ghost use Rattle.kr_cmd_fleet.specs.inner.Readings.{KnowsItems, NamesALink, ReadsAll, ReadsRow};
 ghost use Rattle.kr_cmd_fleet.specs.inner.Readings.{first_in, items_in, read_in};
-ghost use Rattle.kr_cmd_steps.specs.Around.{Around};
+ghost use Rattle.kr_cmd_steps.specs.Around.{Around, IsUnheard};
 ghost use Rattle.kr_cmd_steps.specs.inner.Phases.{Does};
-ghost use Rattle.kr_cmd_steps.specs.inner.Tapes.{path_of};
+ghost use Rattle.kr_cmd_steps.specs.inner.Tapes.{walk_path};
 
 use crate::crew::in_turn;
 use crate::outfit::Outfit;
@@ -54,7 +54,7 @@ impl WatchStart {
 }
 
 /// Why a row wasn't read.
-enum ReadNo {
+enum RowReadNo {
     /// The plugin of this name failed.
     PluginFailed { name: Text },
     /// There was no memory.
@@ -73,13 +73,14 @@ pub(crate) fn read_first<T: Tape, L: Kms, D: Dice>(
     requires first { IsFirstIn replicas.now }
     requires some { 1 ≤ length outfits.0 }
     requires links { HasFirst L.truth L.link outfits.0 replicas.now }
-    ensures does { (a : Around) → a.truth ≡ L.truth
+    ensures does { (a : Around) → MayHear L.truth watched a
         → Does (watching watched store.now.rows replicas.now)
         (with_outfits L.link D.left D.count 0 outfits.0 a)
         (with_outfits L.link D.left D.count 0 result.1.0 a) (read_in result.0) }
     ensures known { IfOk result.0 (λ start.
         KnowsItems watched L.truth store.now.rows replicas.now start.items.0) }
     ensures revision { IfOk result.0 (λ start. start.revision ≡ length store.now.rows) }
+    ensures unread { watched ≡ false → result.1.0 ≡ outfits.0 }
     ensures later { AreLater L.link D.count outfits.0 result.1.0 }
 {
     let mut start = WatchStart::unread(alloc, store);
@@ -95,7 +96,7 @@ pub(crate) fn read_first<T: Tape, L: Kms, D: Dice>(
     let Some(outfit) = outfits.pop() else {
         unreachable!();
     };
-    let (read, outfit) = read_with(alloc, rows.as_slice(), published, outfit);
+    let (read, outfit) = read_start_rows(alloc, rows.as_slice(), published, outfit);
     outfits.push_in_room(outfit);
     let outfits = in_turn(outfits);
     match read {
@@ -127,7 +128,7 @@ fn live_rows<T: Tape>(alloc: Global, store: &Store<T>) -> Result<List<Shared<Row
     let mut rows = List::new(alloc);
     let mut last = None;
     loop {
-        let row = match store.next_after(path_of(&last)) {
+        let row = match store.successor(walk_path(&last)) {
             Ok(Some(row)) => row,
             Ok(None) => return Ok(rows),
             Err(_) => return Err(NoMemory),
@@ -142,8 +143,8 @@ fn live_rows<T: Tape>(alloc: Global, store: &Store<T>) -> Result<List<Shared<Row
 }
 
 /// The path of the row where the walk is; the empty one at its begin.
-fn path_of(last: &Option<Shared<Row>>) -> &str
-    ensures { result.now ≡ path_of last.now }
+fn walk_path(last: &Option<Shared<Row>>) -> &str
+    ensures { result.now ≡ walk_path last.now }
 {
     match last {
         Some(row) => row.get().path.as_str(),
@@ -152,7 +153,7 @@ fn path_of(last: &Option<Shared<Row>>) -> &str
 }
 
 /// Reads the rows by a bench over the outfit, which comes back.
-fn read_with<L: Kms, D: Dice>(
+fn read_start_rows<L: Kms, D: Dice>(
     alloc: Global,
     rows: &[Shared<Row>],
     published: &Shared<Published>,
@@ -161,7 +162,8 @@ fn read_with<L: Kms, D: Dice>(
     requires links { HasLinks (plugin_names L.link outfit.links) published.now.rows }
     requires opens { All (λ row. TellsOf L.truth (key_of row) row.seed) published.now.seeds }
     requires rules { All IsReadable rows.now }
-    ensures does { (a : Around) → a.truth ≡ L.truth → Does (reading_rows published.now rows.now [])
+    ensures does { (a : Around) → IsUnheard L.truth a
+        → Does (reading_rows published.now rows.now [])
         (with_first L.link outfit.links (D.left outfit.dice) (D.count outfit.dice) a)
         (with_first L.link result.1.links (D.left outfit.dice) (D.count outfit.dice) a)
         (items_in result.0) }
@@ -196,16 +198,16 @@ fn read_with<L: Kms, D: Dice>(
 }
 
 /// Why the rows weren't read, as a command says it.
-fn read_stop<L: Kms>(why: ReadNo, links: &Links<L>) -> Stop
+fn read_stop<L: Kms>(why: RowReadNo, links: &Links<L>) -> Stop
     requires { NamesALink (plugin_names L.link links.now) why }
     ensures { IsReadEnd L.link links.now (Err why) (Err result) }
 {
     match why {
-        ReadNo::PluginFailed { name } => {
+        RowReadNo::PluginFailed { name } => {
             let count = links.faults(name.as_str());
             Stop::Fault(Object::Plugin(name), count)
         }
-        ReadNo::NoMemory => Stop::NoMemory,
+        RowReadNo::NoMemory => Stop::NoMemory,
     }
 }
 
@@ -214,7 +216,7 @@ fn read_rows<L: Kms, D: Dice>(
     alloc: Global,
     rows: &[Shared<Row>],
     bench: &mut Bench<L, D>,
-) -> Result<List<Item>, ReadNo>
+) -> Result<List<Item>, RowReadNo>
     requires adopted { IsSome bench.old.published }
     requires distinct { AreDistinct L.link bench.old.links }
     requires opens { IfSome bench.old.published
@@ -233,7 +235,7 @@ fn read_rows<L: Kms, D: Dice>(
         };
         match items.push(item) {
             Ok(()) => {}
-            Err(_) => return Err(ReadNo::NoMemory),
+            Err(_) => return Err(RowReadNo::NoMemory),
         }
     }
     Ok(items)
@@ -244,7 +246,7 @@ fn read_row<L: Kms, D: Dice>(
     alloc: Global,
     row: &Row,
     bench: &mut Bench<L, D>,
-) -> Result<Item, ReadNo>
+) -> Result<Item, RowReadNo>
     requires adopted { IsSome bench.old.published }
     requires rules { IsReadable row.now }
     ensures read { IfSome bench.old.published (λ p. ReadsRow L.truth L.link p row.now
@@ -257,17 +259,17 @@ fn read_row<L: Kms, D: Dice>(
     let plain = match bench.unseal(alloc, resource, path, row.stored.as_slice()) {
         Ok(opened) => Some(opened.plain),
         Err(UnsealNo::Refused(_)) => None,
-        Err(UnsealNo::PluginFailed { name }) => return Err(ReadNo::PluginFailed { name }),
-        Err(UnsealNo::NoMemory) => return Err(ReadNo::NoMemory),
+        Err(UnsealNo::PluginFailed { name }) => return Err(RowReadNo::PluginFailed { name }),
+        Err(UnsealNo::NoMemory) => return Err(RowReadNo::NoMemory),
     };
-    match item_of(alloc, row, plain) {
+    match watched_item(alloc, row, plain) {
         Ok(item) => Ok(item),
-        Err(NoMemory) => Err(ReadNo::NoMemory),
+        Err(NoMemory) => Err(RowReadNo::NoMemory),
     }
 }
 
 /// The object of a row with these data.
-fn item_of(alloc: Global, row: &Row, plain: Option<Bytes>) -> Result<Item, NoMemory>
+fn watched_item(alloc: Global, row: &Row, plain: Option<Bytes>) -> Result<Item, NoMemory>
     ensures { IfOk result (λ item. item ≡ item_with row.now plain) }
 {
     let path = Text::copy(alloc, row.path.as_str())?;

@@ -1,12 +1,16 @@
 -- A load over a store without rows ends with its whole summary, or memory lacked.
-use Rattle.std.proofs.Common.{◌≡◌, ℕ, zero, suc, ◌+◌, ◌*◌, ◌≤◌, ◌⊎◌, Bool, true, false, List, [], ◌∷◌, codes, map, sum, Contains, Option, Some, Result, Ok, Err, refl, sym, ◌∙◌, ap, subst, inl, inr, arith}
-use Rattle.std.specs.Prelude.{if◌then◌else◌}
-use Rattle.std.specs.List.{list_any}
+use Rattle.std.proofs.Common.{◌≡◌, ℕ, zero, suc, ◌+◌, ◌*◌, ◌≤◌, ◌<◌, ◌^◌, length, ◌⊎◌, Bool, true, false, List, [], ◌∷◌, codes, map, sum, Contains, Option, Some, Result, Ok, Err, refl, sym, ◌∙◌, ap, subst, inl, inr, arith}
+use Rattle.std.specs.Io.KnownBytes.{Keeps}
+use Rattle.std.specs.List.{list_any, slice_get}
+use Rattle.std.specs.Prelude.{All, get_or, if◌then◌else◌}
+use Rattle.std.proofs.lemmas.Bool.Decides.{nat_tests}
+use Rattle.std.proofs.lemmas.List.{length-append}
 use Rattle.std.proofs.lemmas.List.Sums.{sum_by-cons}
-use Rattle.std.proofs.lemmas.Option.{get_or_from_slice_get, none-some, slice_get_within}
+use Rattle.std.proofs.lemmas.Option.{get_or_from_slice_get, none-some, slice_get-get_or, slice_get_within}
 use Rattle.kr_base.specs.Faults.{Rose}
+use Rattle.kr_base.specs.Streams.{TakesAtMost}
 use Rattle.kr_base.proofs.Counting.{Rose-later}
-use Rattle.kr_config.specs.Kept.{Row}
+use Rattle.kr_config.specs.Kept.{ConfigEntry}
 use Rattle.kr_config.specs.Lists.{class_list, first_list}
 use Rattle.kr_config.specs.Patterns.{covers_group, covers_rest, matches}
 use Rattle.kr_config.specs.declared.class.Class.{Class}
@@ -16,15 +20,15 @@ use Rattle.kr_config.specs.declared.pattern.Pattern.TheVariants.{Exact}
 use Rattle.kr_config.specs.declared.who.Who.TheVariants.{Identity}
 use Rattle.kr_kms.specs.Calls.{Link}
 use Rattle.kr_kms.specs.Exchanges.{Exchange}
-use Rattle.kr_kms.specs.Outside.{same_seat}
 use Rattle.kr_kms.specs.Truth.{Truth}
 use Rattle.kr_judge.specs.Fits.{ReadsWriter}
 use Rattle.kr_workload.specs.Endings.{ending_of_load}
 use Rattle.kr_workload.specs.FullLoads.{AreFull, IsBlankRun}
 use Rattle.kr_workload.specs.LoadRuns.{IsLoadRun, opening_rows}
 use Rattle.kr_workload.specs.Loads.{g1, lines_of, load_fleet}
-use Rattle.kr_workload.specs.Summaries.{IsDigest, Replies, objects_of, text_of}
-use Rattle.kr_workload.proofs.FullRuns.{loads_are_full}
+use Rattle.kr_workload.specs.Streams.{StreamState, link_faults, left_in}
+use Rattle.kr_workload.specs.Summaries.{IsDigest, Replies, objects_of, summary_text}
+use Rattle.kr_workload.proofs.FullRuns.{draws_few, four_old, loads_are_full}
 use Rattle.kr_workload.proofs.KeptPuts.{puts_are_kept}
 use Rattle.kr_workload.proofs.LoadLines.{budget_few}
 use Rattle.kr_provider.specs.Names.{names_of}
@@ -33,25 +37,24 @@ use Rattle.kr_opening.specs.Starts.{MayStart}
 use Rattle.kr_opening.specs.declared.opening_board.StartNo.TheVariants as no
 use Rattle.kr_history.proofs.Judging.{refusal_is_exact}
 use Rattle.kr_store.specs.Rows.{live}
-use Rattle.kr_workers.specs.Budgets.{budget_of, budgets_of, put_lines}
+use Rattle.kr_workers.specs.Budgets.{budget_of, script_budgets, put_lines}
 use Rattle.kr_workers.specs.Endings.{status_of}
 use Rattle.kr_workers.specs.declared.ending.Ending.{Ending}
 use Rattle.kr_workers.specs.declared.ending.Ending.TheVariants as ending
 use Rattle.kr_workers.specs.declared.worker.Worker as fleet_worker
-use Rattle.kr_base.specs.declared.seeded_dice.SeededDice.{SeededDice}
-use Rattle.rand_chacha.specs.ChaCha.{ChaCha}
 use Rattle.kr_cmd_steps.specs.Around.{Around, faults_at, left_of}
 use Rattle.kr_cmd_fleet.specs.Causes.{NoneRose}
-use Rattle.kr_cmd_steps.specs.Commands.{by_result, with_memory}
+use Rattle.kr_cmd_steps.specs.Phases.{by_result, with_memory}
 use Rattle.kr_cmd_fleet.specs.FleetFiles.{FleetPlan}
 use Rattle.kr_cmd_fleet.specs.Fleets.{AreWithin, Begun, IsStart, Replicas, StopsBefore, TellsFleet, launching, opening_of, parts_of, rows_of_replica, starting_with}
+use Rattle.kr_cmd_fleet.proofs.SettledRuns.{rose_unsettled}
 use Rattle.kr_cmd_gen.specs.FullLoads.{IsBlank, IsFullLoad, KeepsPuts}
-use Rattle.kr_cmd_gen.specs.GeneratedLoads.{RanLoad, StartsLoad, load_beginning, load_plan, load_steps, no_faults, nothing_told, with_streams}
+use Rattle.kr_cmd_gen.specs.GeneratedLoads.{RanLoad, StartsLoad, load_beginning, load_plan, load_steps, with_sources, with_streams}
 use Rattle.kr_cmd_steps.specs.Judgements.{start_refusal}
 use Rattle.kr_cmd_messages.specs.Message.{status_of as stop_status}
-use Rattle.kr_cmd_steps.specs.Ran.{IsIdle}
+use Rattle.kr_cmd_steps.specs.Ran.{WroteNothing}
 use Rattle.kr_cmd_messages.specs.Receipts.{Receipt}
-use Rattle.kr_cmd_steps.specs.Steps.{Left, and_then, give, gives, or_empty, refuses, tapes_with, Call, asking, drawing, lending, linking, loading, opening, reading, scanning, writing, settling}
+use Rattle.kr_cmd_steps.specs.Steps.{Left, and_then, give, gives, or_empty, awaits, refuses, tapes_with, Call, asking, drawing, lending, linking, loading, opening, reading, scanning, writing, settling}
 use Rattle.kr_cmd_steps.specs.StoreFiles.{IsStored, Stored}
 use Rattle.kr_cmd_messages.specs.declared.load_words.LoadWords.{LoadWords}
 use Rattle.kr_cmd_steps.specs.declared.programs.Program.{Program}
@@ -60,6 +63,7 @@ use Rattle.kr_cmd_messages.specs.declared.refusal.Refusal.{Refusal}
 use Rattle.kr_cmd_messages.specs.declared.refusal.Stop.{Stop}
 use Rattle.kr_cmd_messages.specs.declared.refusal.Stop.TheVariants.{Words, Refused, Fault, NoMemory}
 use Rattle.kr_cmd_laws.proofs.FleetWalk.{is_told, some_same}
+use Rattle.kr_cmd_gen.proofs.Undrawn.{IsNoDraw, load_undrawn, whole_told}
 use Rattle.kr_cmd_steps.proofs.GivesOnly.{GivesOnly, allowed}
 use Rattle.kr_cmd_laws.proofs.Listed.{one_stored}
 use Rattle.kr_cmd_steps.proofs.Tapes.{own_name}
@@ -82,7 +86,7 @@ class_writer seed (classes.Group group) =
     first_writer (λ pattern. covers_group pattern group) seed
 class_writer seed classes.Rest = first_writer covers_rest seed
 
-rows_there : (seed : ℕ) (rows : List Row)
+rows_there : (seed : ℕ) (rows : List ConfigEntry)
     → Contains (Some (opening_rows seed) ∷ (Some (opening_rows seed) ∷ [])) (Some rows)
     → opening_rows seed ≡ rows
 rows_there seed rows (zero, below, is) = some_same is
@@ -131,7 +135,7 @@ four_few a b c d n la lb lc ld = omega (
 )
 
 within_journal : (seed size paths : ℕ) → size ≤ 10000
-    → sum (budgets_of paths (parts_of (load_fleet seed size))) ≤ 4000000
+    → sum (script_budgets paths (parts_of (load_fleet seed size))) ≤ 4000000
 within_journal seed size paths small =
     let few = four_few (budget_of paths (lines_of seed size 0))
     (budget_of paths (lines_of seed size 1)) (budget_of paths (lines_of seed size 2))
@@ -188,7 +192,7 @@ module _ (words : LoadWords) (small : words.size ≤ 10000) (stored : Stored)
       (and_then (by_result k) (load_beginning (load_plan words))) left) e (begins_blank left)
 
 walks_blank : (words : LoadWords) → words.size ≤ 10000 → (old : Around) → IsBlank words old
-    → GivesOnly BeginsBlank (load_steps words) (left_of (with_streams old))
+    → GivesOnly BeginsBlank (load_steps words) (left_of (with_streams words.seed old))
 walks_blank words small old (stored, (file, told, holds), empty) = (
   refl,
   λ bytes agrees r is.
@@ -201,34 +205,17 @@ walks_blank words small old (stored, (file, told, holds), empty) = (
       (one_stored bytes (Ok stored) r (subst (λ b. IsStored b (Ok stored)) held holds) is),
 )
 
--- ---- counts
-
-never_rose : Rose 0 0 → ⊥
-never_rose (inl l) = omega (arith, l)
-never_rose (inr e) = let is = e.0 in omega (arith, is)
-
-beside_streams : (a b c d : Bool) (before now : ℕ)
-    → Rose (if a then 0 else if b then 0 else if c then 0 else if d then 0 else before)
-    (if a then 0 else if b then 0 else if c then 0 else if d then 0 else now) → Rose before now
-beside_streams true b c d before now rose = absurd (never_rose rose)
-beside_streams false true c d before now rose = absurd (never_rose rose)
-beside_streams false false true d before now rose = absurd (never_rose rose)
-beside_streams false false false true before now rose = absurd (never_rose rose)
-beside_streams false false false false before now rose = rose
-
 -- ---- the workers
-
-abbrev Source : Type 0
-Source = SeededDice ChaCha
 
 -- they are those of the load
 pub load_run : (T : Type 0) → {L : Type 0} → (truth : Truth) (link : L → Link)
     (step : L → Exchange → L → Type 0)
-    (words : LoadWords) (old new : Around) (output : Receipt) (result : Result Ending Stop)
-    → (s : StartsLoad T truth link step words old new output result)
-    → IsLoadRun truth link step nothing_told no_faults words.seed words.size s.runs.files s.history
+    (words : LoadWords) (sources : List StreamState) (old new : Around) (output : Receipt)
+    (result : Result Ending Stop)
+    → (s : StartsLoad T truth link step words sources old new output result)
+    → IsLoadRun truth link step left_in link_faults words.seed words.size s.runs.files s.history
     (opening_of words.store s.begun s.mid) s.runs.parts s.begun.budgets s.runs.workers s.ended
-load_run T truth link step words old new output result s = record {
+load_run T truth link step words sources old new output result s = record {
   parts_are = s.runs.parts_are ∙ ap (λ (p : FleetPlan). p.fleet.workers) s.plan_is;
   files_are = s.runs.files_are ∙ ap (λ (p : FleetPlan). p.files) s.plan_is;
   opens = s.runs.published
@@ -239,46 +226,124 @@ load_run T truth link step words old new output result s = record {
 -- so each put that was done has its row
 pub keeps_puts : (T : Type 0) → {L : Type 0} → (truth : Truth) (link : L → Link)
     (step : L → Exchange → L → Type 0)
-    (words : LoadWords) (old new : Around) (output : Receipt) (result : Result Ending Stop)
-    → (s : StartsLoad T truth link step words old new output result)
-    → KeepsPuts T truth link step words old new output result s
-keeps_puts T truth link step words old new output result s = puts_are_kept T truth link step
-    nothing_told
-    no_faults words.seed words.size s.runs.files s.history (opening_of words.store s.begun s.mid)
-    s.runs.parts s.begun.budgets s.runs.workers s.ended
-    (load_run T truth link step words old new output result s)
+    (words : LoadWords) (sources : List StreamState) (old new : Around) (output : Receipt)
+    (result : Result Ending Stop)
+    → (s : StartsLoad T truth link step words sources old new output result)
+    → KeepsPuts T truth link step words sources old new output result s
+keeps_puts T truth link step words sources old new output result s =
+    puts_are_kept T truth link step left_in link_faults words.seed words.size s.runs.files s.history
+    (opening_of words.store s.begun s.mid) s.runs.parts s.begun.budgets s.runs.workers s.ended
+    (load_run T truth link step words sources old new output result s)
+
+-- ---- their draws
+
+never_rose : (before : ℕ) → Rose before 0 → ⊥
+never_rose before (inl l) = omega (arith, l)
+never_rose before (inr e) = let is = e.1 in omega (arith, is)
+
+-- a source of which much is left has not failed
+none_failed : (source : StreamState) → 2 ^ 64 ≤ length source.left → link_faults source ≡ 0
+none_failed source much = grind (arith, nat_tests)
+
+-- so its count never rose
+calm_source : (before : ℕ) (source : StreamState) → Rose before (link_faults source)
+    → 2 ^ 64 ≤ length source.left → ⊥
+calm_source before source rose much =
+    never_rose before (subst (λ n. Rose before n) (none_failed source much) rose)
+
+still_much : (size : ℕ) (old new : List ℕ) → size ≤ 10000 → length old ≡ 2 ^ 70
+    → TakesAtMost (Some old) (Some new) (44 * (2 * size + 4)) → 2 ^ 64 ≤ length new
+still_much size old new small whole (bytes, is, few) =
+    let long : length old ≡ length bytes + length new = ap length is ∙ length-append bytes new in
+    omega (arith, small, whole, few, long)
+
+-- what is told of a source that is at its place
+told_so : (told : Option (List ℕ)) (source : StreamState) → left_in source ≡ told
+    → (dice : Option (List ℕ)) → Keeps dice told → Keeps dice (Some source.left)
+told_so told source is dice keeps = subst (λ t. Keeps dice t) (sym is) keeps
 
 module _ (T : Type 0) {L : Type 0} (truth : Truth) (link : L → Link)
-    (step : L → Exchange → L → Type 0) (words : LoadWords)
+    (step : L → Exchange → L → Type 0) (words : LoadWords) (sources : List StreamState)
+    (old new : Around) (output : Receipt) (result : Result Ending Stop)
+    (s : StartsLoad T truth link step words sources old new output result) where
+  -- a worker's source
+  pub source_whole : (number : ℕ) (before : fleet_worker.Worker T L StreamState) → number < 4
+      → slice_get s.runs.workers number ≡ Some before
+      → length before.bench.dice.left ≡ 2 ^ 70
+  source_whole number before few is =
+      let had = s.runs.before number before
+      (slice_get_within s.runs.workers number before is) in
+      let own = get_or_from_slice_get s.runs.workers number before before is in
+      let undrawn = (load_undrawn words (gives s.begun) s.reaches.end
+      (left_of (with_streams words.seed old)) s.reaches.goes).1 in
+      whole_told words.seed old number few before.bench.dice.left
+      (subst (λ (dice : ℕ → Option (List ℕ)). Keeps (dice number) (Some before.bench.dice.left))
+      undrawn
+      (told_so (s.mid.world.dice.told number) before.bench.dice
+      (ap (λ (w : fleet_worker.Worker T L StreamState). left_in w.bench.dice) (sym own)
+      ∙ had.left_is) (s.reaches.end.dice number) (s.reaches.stays.dice number)))
+
+  its_run : IsLoadRun truth link step left_in link_faults words.seed words.size s.runs.files
+      s.history (opening_of words.store s.begun s.mid) s.runs.parts s.begun.budgets s.runs.workers
+      s.ended
+  its_run = load_run T truth link step words sources old new output result s
+
+  -- so none of them failed
+  pub calm_sources : words.size ≤ 10000
+      → All (λ (w : fleet_worker.Worker T L StreamState). link_faults w.bench.dice ≡ 0) s.ended
+  calm_sources small number d below =
+      let four : length s.runs.workers ≡ 4 =
+      four_old T truth link step left_in link_faults words.seed words.size s.runs.files s.history
+      (opening_of words.store s.begun s.mid) s.runs.parts s.begun.budgets s.runs.workers s.ended
+      its_run in
+      let few : number < 4 = omega (arith, below, four, s.runs.one.many) in
+      let before = get_or s.runs.workers number d in
+      let after = get_or s.ended number d in
+      let was : slice_get s.runs.workers number ≡ Some before =
+      slice_get-get_or s.runs.workers number d (omega (arith, few, four)) in
+      let now : slice_get s.ended number ≡ Some after =
+      slice_get-get_or s.ended number d below in
+      none_failed after.bench.dice
+      (still_much words.size before.bench.dice.left after.bench.dice.left small
+      (source_whole number before few was)
+      (draws_few T truth link step left_in link_faults words.seed words.size s.runs.files s.history
+      (opening_of words.store s.begun s.mid) s.runs.parts s.begun.budgets s.runs.workers s.ended
+      its_run number before after was now))
+
+module _ (T : Type 0) {L : Type 0} (truth : Truth) (link : L → Link)
+    (step : L → Exchange → L → Type 0) (words : LoadWords) (sources : List StreamState)
     (old new : Around) (output errors : Receipt) (small : words.size ≤ 10000)
     (blank : IsBlank words old)
     (none : NoneRose old new output errors) where
-  -- so none rose with the workers' streams in place of random sources either
-  calls : (call : Call)
-      → Rose (faults_at call (with_streams old)) (faults_at call (with_streams new)) → ⊥
-  calls (loading name) rose = none.calls (loading name) rose
-  calls reading rose = none.calls reading rose
-  calls (opening seat) rose = none.calls (opening seat) rose
-  calls (lending name) rose = none.calls (lending name) rose
-  calls (scanning object name) rose = none.calls (scanning object name) rose
-  calls (settling object name) rose = none.calls (settling object name) rose
-  calls (writing object name) rose = none.calls (writing object name) rose
-  calls (drawing seat) rose = none.calls (drawing seat)
-      (beside_streams (same_seat 0 seat) (same_seat 1 seat) (same_seat 2 seat)
-      (same_seat 3 seat) (old.world.dice.faults seat) (new.world.dice.faults seat) rose)
-  calls (linking seat plugin) rose = none.calls (linking seat plugin) rose
-  calls (asking seat plugin) rose = none.calls (asking seat plugin) rose
+  abbrev Began : Around
+  Began = with_streams words.seed old
+
+  abbrev Ended : Around
+  Ended = with_sources sources new
+
+  -- so none rose with the workers' sources among the world's, but perhaps theirs
+  calls : (call : Call) → IsNoDraw call → Rose (faults_at call Began) (faults_at call Ended) → ⊥
+  calls (loading name) free rose = none.calls (loading name) rose
+  calls reading free rose = none.calls reading rose
+  calls (opening seat) free rose = none.calls (opening seat) rose
+  calls (lending name) free rose = none.calls (lending name) rose
+  calls (scanning object name) free rose = none.calls (scanning object name) rose
+  calls (settling object name) free rose = none.calls (settling object name) rose
+  calls (writing object name) free rose = none.calls (writing object name) rose
+  calls (drawing seat) free rose = absurd free
+  calls (linking seat plugin) free rose = none.calls (linking seat plugin) rose
+  calls (asking seat plugin) free rose = none.calls (asking seat plugin) rose
 
   module _ (result : Result Ending Stop)
-      (s : StartsLoad T truth link step words old new output result) where
+      (s : StartsLoad T truth link step words sources old new output result) where
     rows_none : s.begun.stored.rows ≡ []
     rows_none = allowed BeginsBlank (gives s.begun) s.reaches.end (load_steps words)
-        (left_of (with_streams old)) (walks_blank words small old blank) s.reaches.goes
+        (left_of (with_streams words.seed old)) (walks_blank words small old blank) s.reaches.goes
 
     no_programs : s.begun.plan.programs ≡ []
     no_programs = ap (λ (p : FleetPlan). p.programs) s.plan_is
 
-    blank_run : IsBlankRun link no_faults words.size s.history
+    blank_run : IsBlankRun link link_faults words.size s.history
         (opening_of words.store s.begun s.mid) s.runs.workers s.ended
     blank_run = record {
       few = small;
@@ -289,29 +354,44 @@ module _ (T : Type 0) {L : Type 0} (truth : Truth) (link : L → Link)
           let had = s.runs.before number worker
           (slice_get_within s.runs.workers number worker is) in
           let own = get_or_from_slice_get s.runs.workers number worker worker is in
-          ap (λ (w : fleet_worker.Worker T L Source). names_of link w.bench.links) (sym own)
+          ap (λ (w : fleet_worker.Worker T L StreamState). names_of link w.bench.links) (sym own)
           ∙ had.names ∙ ap (map (λ (program : Program). program.plugin)) no_programs;
-      stored = λ rose. calls (scanning Store words.store)
+      stored = λ rose. calls (scanning Store words.store) tt
           (Rose-later _ _ _ (s.since.tapes.later words.store)
           (subst (λ n. Rose (s.mid.world.tapes.faults words.store) n) (sym s.runs.counted) rose));
-      drawn = λ number before after was now rose. never_rose rose;
+      drawn = λ number before after was now rose.
+          let run = load_run T truth link step words sources old new output result s in
+          let few : number < 4 = omega (
+            arith,
+            slice_get_within s.runs.workers number before was,
+            four_old T truth link step left_in link_faults words.seed words.size s.runs.files
+                s.history (opening_of words.store s.begun s.mid) s.runs.parts s.begun.budgets
+                s.runs.workers s.ended run,
+          ) in
+          calm_source (link_faults before.bench.dice) after.bench.dice rose
+          (still_much words.size before.bench.dice.left after.bench.dice.left small
+          (source_whole T truth link step words sources old new output result s number before few
+          was)
+          (draws_few T truth link step left_in link_faults words.seed words.size s.runs.files
+          s.history (opening_of words.store s.begun s.mid) s.runs.parts s.begun.budgets
+          s.runs.workers s.ended run number before after was now));
     }
 
     abbrev told_by : Replies
-    told_by = map (λ (w : fleet_worker.Worker T L Source). w.told) s.ended
+    told_by = map (λ (w : fleet_worker.Worker T L StreamState). w.told) s.ended
 
     full_run : (ending_of_load told_by ≡ ending.Memory)
         ⊎ AreFull words.seed words.size told_by
-    full_run = loads_are_full T truth link step nothing_told no_faults words.seed words.size
+    full_run = loads_are_full T truth link step left_in link_faults words.seed words.size
         s.runs.files s.history (opening_of words.store s.begun s.mid) s.runs.parts
         s.begun.budgets s.runs.workers s.ended
-        (load_run T truth link step words old new output result s) blank_run
+        (load_run T truth link step words sources old new output result s) blank_run
 
   abbrev Ends : ℕ → Type 0
   Ends status = IsFullLoad words output errors status
 
   ended_so : (status : ℕ) (e : Ending)
-      → (s : StartsLoad T truth link step words old new output (Ok e)) → IsIdle errors
+      → (s : StartsLoad T truth link step words sources old new output (Ok e)) → WroteNothing errors
       → status ≡ status_of e → Ends status
   ended_so status e s idle is = by (full_run (Ok e) s)
     where
@@ -325,7 +405,7 @@ module _ (T : Type 0) {L : Type 0} (truth : Truth) (link : L → Link)
           let over = subst (λ g. IsDigest g made.digest)
           (ap (λ ws. objects_of ws (told_by (Ok e) s)) workers ∙ full.objects) made.over in
           let is_text = made.text_is
-          ∙ (λ i. text_of words.seed words.size (full.puts i) (full.gets i) made.digest) in
+          ∙ (λ i. summary_text words.seed words.size (full.puts i) (full.gets i) made.digest) in
           inl (
             is ∙ ap status_of (s.writes.0 ∙ full.ended),
             idle,
@@ -335,8 +415,8 @@ module _ (T : Type 0) {L : Type 0} (truth : Truth) (link : L → Link)
           )
 
   stopped_so : (status : ℕ) (stop : Stop) → status ≡ stop_status (Err stop)
-      → StopsBefore (load_steps words) words.store (with_streams old) (with_streams new) output
-      (Err stop) ⊎ StartsLoad T truth link step words old new output (Err stop) → Ends status
+      → StopsBefore T truth link step left_in link_faults (load_steps words) words.store Began Ended output (Err stop)
+      ⊎ StartsLoad T truth link step words sources old new output (Err stop) → Ends status
   stopped_so status (Words why) is (inl (inl ends, idle)) = absurd ends
   stopped_so status (Words why) is (inl (inr (inl (e, lacking)), idle)) = absurd cc
   stopped_so status (Words why) is (inl (inr (inr (mid, begun, reaches, fails, home)), idle)) =
@@ -344,30 +424,37 @@ module _ (T : Type 0) {L : Type 0} (truth : Truth) (link : L → Link)
   stopped_so status (Words why) is (inr s) = absurd s.writes
   stopped_so status (Refused why) is (inl (inl ends, idle)) =
       absurd (allowed BeginsBlank (refuses why) ends.end (load_steps words)
-      (left_of (with_streams old)) (walks_blank words small old blank) ends.goes)
+      (left_of (with_streams words.seed old)) (walks_blank words small old blank) ends.goes)
   stopped_so status (Refused why) is (inl (inr (inl (e, lacking)), idle)) = absurd cc
   stopped_so status (Refused why) is (inl (inr (inr (mid, begun, reaches, fails, home)), idle)) =
       absurd (let e : Refused why ≡ Fault Store _ = fails.stops in cc)
   stopped_so status (Refused why) is (inr s) = absurd s.writes
   stopped_so status (Fault object n) is (inl (inl (call, reaches, fault), idle)) =
-      absurd (calls call fault.1)
+      absurd (calls call (load_undrawn words (awaits call) reaches.end (left_of Began)
+      reaches.goes).0 fault.1)
   stopped_so status (Fault object n) is (inl (inr (inl (e, lacking)), idle)) = absurd cc
   stopped_so status (Fault object n) is
       (inl (inr (inr (mid, begun, reaches, fails, home)), idle)) =
-      absurd (calls (settling Store words.store)
-      (Rose-later _ _ _ (home.tapes.later words.store) fails.rose))
+      absurd (calls (settling Store words.store) tt
+      (Rose-later _ _ _ (home.tapes.later words.store) (rose_unsettled fails)))
   stopped_so status (Fault object n) is (inr s) = absurd (none.written s.writes.2)
   stopped_so status NoMemory is did = inr is
 
   by_result_so : (status : ℕ) (result : Result Ending Stop)
-      → StopsBefore (load_steps words) words.store (with_streams old) (with_streams new) output
-      result ⊎ StartsLoad T truth link step words old new output result
+      → StopsBefore T truth link step left_in link_faults (load_steps words) words.store Began Ended output result
+      ⊎ StartsLoad T truth link step words sources old new output result
       → TellsFleet result errors status → Ends status
   by_result_so status (Ok e) (inl stops) tells = absurd stops
   by_result_so status (Ok e) (inr s) tells = ended_so status e s tells.1 tells.0
   by_result_so status (Err stop) did (inl tells) = stopped_so status stop tells.0 did
   by_result_so status (Err stop) did (inr tells) = absurd (none.told tells.1)
 
-  pub full_load : (status : ℕ) → RanLoad T truth link step words old new output errors status
-      → IsFullLoad words output errors status
-  full_load status ran = by_result_so status ran.result ran.did.did ran.tells
+pub full_load : (T : Type 0) → {L : Type 0} → (truth : Truth) (link : L → Link)
+    (step : L → Exchange → L → Type 0) (words : LoadWords) (old new : Around)
+    (output errors : Receipt) → words.size ≤ 10000 → IsBlank words old
+    → NoneRose old new output errors → (status : ℕ)
+    → RanLoad T truth link step words old new output errors status
+    → IsFullLoad words output errors status
+full_load T truth link step words old new output errors small blank none status ran =
+    by_result_so T truth link step words ran.did.sources old new output errors small blank none
+    status ran.result ran.did.did ran.tells

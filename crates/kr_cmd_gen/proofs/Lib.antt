@@ -6,4 +6,5 @@ pub mod LoadPlans
 pub mod LoadReadings
 pub mod LoadRuns
 pub mod LoadSettled
-pub mod SeededWorlds
+pub mod Undrawn
+pub mod WrongLoads

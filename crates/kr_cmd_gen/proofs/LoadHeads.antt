@@ -1,7 +1,6 @@
 -- The headline of a call, from the relation of a load.
 use Rattle.std.specs.Prelude.{◌⊎◌, map}
 use Rattle.std.proofs.Common.{ℕ, List, Result, Ok, Err, inl, inr, ap, ◌∙◌}
-use Rattle.kr_base.specs.declared.seeded_dice.SeededDice.{SeededDice}
 use Rattle.kr_kms.specs.Calls.{Link}
 use Rattle.kr_kms.specs.Exchanges.{Exchange}
 use Rattle.kr_kms.specs.Truth.{Truth}
@@ -9,18 +8,20 @@ use Rattle.kr_script.specs.Fleets.{Worker}
 use Rattle.kr_workers.specs.Endings.{status_of as status_of_replies}
 use Rattle.kr_workers.specs.declared.ending.Ending.{Ending}
 use Rattle.kr_workers.specs.declared.worker.Worker as fleet_worker
+use Rattle.kr_workload.specs.Streams.{StreamState, link_faults, left_in}
 use Rattle.kr_workload.specs.Summaries.{Replies}
-use Rattle.rand_chacha.specs.ChaCha.{ChaCha}
 use Rattle.kr_cmd_messages.specs.Receipts.{Receipt}
 use Rattle.kr_cmd_messages.specs.declared.load_words.LoadWords.{LoadWords}
 use Rattle.kr_cmd_messages.specs.declared.refusal.Stop.{Stop}
 use Rattle.kr_cmd_messages.specs.declared.refusal.Stop.TheVariants.{Words, Refused, Fault, NoMemory}
 use Rattle.kr_cmd_steps.specs.Around.{Around}
 use Rattle.kr_cmd_fleet.specs.Fleets.{StopsBefore, TellsFleet, settled_behind}
+use Rattle.kr_cmd_laws.specs.RunHeadlines.{StartsNobody}
 use Rattle.kr_cmd_laws.proofs.RunHeads.{tells_output, workers_headline}
-use Rattle.kr_cmd_gen.specs.GeneratedLoads.{StartsLoad, WritesLoad, load_steps, no_faults, nothing_told, with_streams}
+use Rattle.kr_cmd_gen.specs.GeneratedLoads.{StartsLoad, WritesLoad, load_steps, with_sources, with_streams}
 use Rattle.kr_cmd_gen.specs.Laws.{LoadsHaveHeadlines}
-use Rattle.kr_cmd_gen.specs.LoadHeadlines.{LoadHeadline, PrintsSummary, StartsLoadWorkers}
+use Rattle.kr_cmd_gen.specs.LoadHeadlines.{PrintsSummary, StartsLoadWorkers}
+use Rattle.kr_cmd_gen.proofs.FullLoads.{calm_sources}
 
 prints : (words : LoadWords) (workers : List Worker) (replies : Replies)
     (output errors : Receipt) (status : ℕ) (result : Result Ending Stop)
@@ -41,11 +42,12 @@ prints words workers replies output errors status (Err (Words why)) w t = absurd
 prints words workers replies output errors status (Err (Refused why)) w t = absurd w
 
 module _ (T : Type 0) {L : Type 0} (truth : Truth) (link : L → Link)
-    (step : L → Exchange → L → Type 0) (words : LoadWords)
+    (step : L → Exchange → L → Type 0) (words : LoadWords) (sources : List StreamState)
     (old new : Around) (output errors : Receipt) (status : ℕ) where
-  started : (result : Result Ending Stop) → StartsLoad T truth link step words old new output result
+  started : (result : Result Ending Stop)
+      → StartsLoad T truth link step words sources old new output result
       → TellsFleet result errors status
-      → StartsLoadWorkers T truth link step words old new output errors status
+      → StartsLoadWorkers T truth link step words old new output errors status sources
   started result s tells = record {
     begun = s.begun;
     plan_is = s.plan_is;
@@ -54,19 +56,24 @@ module _ (T : Type 0) {L : Type 0} (truth : Truth) (link : L → Link)
     since = s.since;
     history = s.history;
     ended = s.ended;
-    has = workers_headline truth link step nothing_told no_faults words.store s.begun
-        (settled_behind words.store s.mid) (with_streams new) s.history s.ended s.runs;
+    has = workers_headline truth link step left_in link_faults words.store s.begun
+        (settled_behind words.store s.mid) (with_sources sources new) s.history s.ended s.runs;
+    calm = calm_sources T truth link step words sources old new output result s;
     prints = prints words s.begun.plan.fleet.workers
-        (map (λ (w : fleet_worker.Worker T L (SeededDice ChaCha)). w.told) s.ended) output errors
-        status result s.writes tells;
+        (map (λ (w : fleet_worker.Worker T L StreamState). w.told) s.ended) output errors status
+        result s.writes tells;
   }
 
   either : (result : Result Ending Stop)
-      → StopsBefore (load_steps words) words.store (with_streams old) (with_streams new) output
-      result
-      ⊎ StartsLoad T truth link step words old new output result
+      → StopsBefore T truth link step left_in link_faults (load_steps words) words.store
+      (with_streams words.seed old)
+      (with_sources sources new) output result
+      ⊎ StartsLoad T truth link step words sources old new output result
       → TellsFleet result errors status
-      → LoadHeadline T truth link step words old new output errors status
+      → StartsNobody T truth link step left_in link_faults (load_steps words) words.store
+      (with_streams words.seed old)
+      (with_sources sources new) output errors status
+      ⊎ StartsLoadWorkers T truth link step words old new output errors status sources
   either (Ok ending) (inl stops) tells = absurd stops
   either (Err stop) (inl stops) tells =
       inl (record { stop = stop; stops = stops; tells = tells })
@@ -75,5 +82,10 @@ module _ (T : Type 0) {L : Type 0} (truth : Truth) (link : L → Link)
 pub load_headline : (T : Type 0) → {L : Type 0} → (truth : Truth) (link : L → Link)
     (step : L → Exchange → L → Type 0)
     → LoadsHaveHeadlines T truth link step
-load_headline T truth link step words old new output errors status ran =
-    either T truth link step words old new output errors status ran.result ran.did.did ran.tells
+load_headline T truth link step words old new output errors status ran = (
+  ran.did.home,
+  ran.did.others,
+  ran.did.sources,
+  either T truth link step words ran.did.sources old new output errors status ran.result
+      ran.did.did ran.tells,
+)

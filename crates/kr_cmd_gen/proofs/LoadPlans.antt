@@ -6,18 +6,18 @@ use Rattle.std.proofs.lemmas.Grind.{flat_map-append}
 use Rattle.std.proofs.lemmas.List.{append-nil, length-map}
 use Rattle.std.proofs.lemmas.List.Elements.{All-append, All-cons, All-nil}
 use Rattle.std.proofs.lemmas.List.Folds.{flat_map-map}
-use Rattle.kr_workload.specs.Loads.{configurations, get_of, lines_of, load_fleet, load_worker, put_of, reloads_of}
+use Rattle.kr_workload.specs.Loads.{configurations, load_get_line, lines_of, load_fleet, load_worker, put_of, load_reloads}
 use Rattle.kr_workload.proofs.Ruling.{keeps_rules}
 use Rattle.kr_script.specs.Fleets.{Fleet, Worker, fleet_of, worker_of}
-use Rattle.kr_cmd_fleet.specs.FleetFiles.{file_in, file_of_replica, all_files, named_rows, rows_at}
+use Rattle.kr_cmd_fleet.specs.FleetFiles.{file_in, file_of_replica, all_files, named_rows, file_entries}
 use Rattle.kr_cmd_gen.specs.GeneratedLoads.{load_plan}
-use Rattle.kr_cmd_fleet.specs.declared.fleet_file.Plan.{Plan}
+use Rattle.kr_cmd_fleet.specs.declared.fleet_file.LoadedFleet.{LoadedFleet}
 use Rattle.kr_cmd_messages.specs.declared.load_words.LoadWords.{LoadWords}
 use Rattle.kr_cmd_fleet.specs.inner.Plans.{IsWholePlan, plan_of}
 use Rattle.kr_cmd_gen.specs.inner.LoadOutcomes.{IsLoadPlan}
 
 abbrev IsRead : (seed : ℕ) → List ℕ → Type 0
-IsRead seed name = IsSome (rows_at (configurations seed) name)
+IsRead seed name = IsSome (file_entries (configurations seed) name)
 
 -- ---- the files that the fleet names
 
@@ -27,7 +27,7 @@ no_files f first zero none = refl
 no_files f first (suc count) none =
     let rest = no_files f (first + 1) count none in λ i. none first i ++ rest i
 
-reloads_read : (seed worker : ℕ) → All (IsRead seed) (flat_map file_in (reloads_of worker))
+reloads_read : (seed worker : ℕ) → All (IsRead seed) (flat_map file_in (load_reloads worker))
 reloads_read seed zero =
     All-cons (IsRead seed) (codes "B") (codes "B" ∷ (codes "C" ∷ (codes "C" ∷ []))) refl
     (All-cons (IsRead seed) (codes "B") (codes "C" ∷ (codes "C" ∷ [])) refl
@@ -36,20 +36,20 @@ reloads_read seed zero =
 reloads_read seed (suc worker) = All-nil (IsRead seed)
 
 lines_files : (seed size worker : ℕ)
-    → flat_map file_in (lines_of seed size worker) ≡ flat_map file_in (reloads_of worker)
+    → flat_map file_in (lines_of seed size worker) ≡ flat_map file_in (load_reloads worker)
 lines_files seed size worker =
     let puts = map (put_of seed size worker) (range_with_len 0 size) in
-    let gets = map (get_of worker) (range_with_len 0 size) in
+    let gets = map (load_get_line worker) (range_with_len 0 size) in
     let no_puts : flat_map file_in puts ≡ [] =
     flat_map-map file_in (put_of seed size worker) (range_with_len 0 size)
     ∙ no_files (λ k. file_in (put_of seed size worker k)) 0 size (λ k. refl) in
     let no_gets : flat_map file_in gets ≡ [] =
-    flat_map-map file_in (get_of worker) (range_with_len 0 size)
-    ∙ no_files (λ k. file_in (get_of worker k)) 0 size (λ k. refl) in
-    flat_map-append file_in puts (reloads_of worker ++ gets)
-    ∙ (λ i. no_puts i ++ (flat_map-append file_in (reloads_of worker) gets
-    ∙ (λ j. flat_map file_in (reloads_of worker) ++ no_gets j)
-    ∙ append-nil (flat_map file_in (reloads_of worker))) i)
+    flat_map-map file_in (load_get_line worker) (range_with_len 0 size)
+    ∙ no_files (λ k. file_in (load_get_line worker k)) 0 size (λ k. refl) in
+    flat_map-append file_in puts (load_reloads worker ++ gets)
+    ∙ (λ i. no_puts i ++ (flat_map-append file_in (load_reloads worker) gets
+    ∙ (λ j. flat_map file_in (load_reloads worker) ++ no_gets j)
+    ∙ append-nil (flat_map file_in (load_reloads worker))) i)
 
 lines_read : (seed size worker : ℕ)
     → All (IsRead seed) (flat_map file_in (lines_of seed size worker))
@@ -83,14 +83,14 @@ load_whole words small =
       programs = refl;
     }
 
-pub load_plan_is : (words : LoadWords) (plan : Plan)
+pub load_plan_is : (words : LoadWords) (plan : LoadedFleet)
     → fleet_of plan.script ≡ load_fleet words.seed words.size
     → map named_rows plan.files.0 ≡ configurations words.seed → plan.programs ≡ []
     → plan_of plan ≡ load_plan words
 load_plan_is words plan fleet files bare =
     λ i. record { fleet = fleet i; files = files i; programs = bare i }
 
-pub load_known : (words : LoadWords) (plan : Plan)
+pub load_known : (words : LoadWords) (plan : LoadedFleet)
     → fleet_of plan.script ≡ load_fleet words.seed words.size
     → map named_rows plan.files.0 ≡ configurations words.seed → plan.programs ≡ []
     → words.size < 2 ^ 32 → IsLoadPlan plan

@@ -1,12 +1,12 @@
 -- Over a told tape the steps of a load up to its workers come to one end, whatever they draw.
 use Rattle.std.proofs.Common.{◌≡◌, ℕ, ◌<◌, List, [], Contains, Some, refl, sym, subst, arith, false}
 use Rattle.std.specs.Prelude.{IsSome, if◌then◌else◌}
-use Rattle.kr_config.specs.Kept.{Row, plugins_in}
+use Rattle.kr_config.specs.Kept.{ConfigEntry, plugins_in}
 use Rattle.kr_workload.specs.Loads.{configurations}
 use Rattle.kr_provider.specs.PluginOrder.{plugin_order}
 use Rattle.kr_provider.proofs.PluginOrder.{order_has}
 use Rattle.kr_cmd_steps.specs.Around.{Around, left_of}
-use Rattle.kr_cmd_fleet.specs.FleetFiles.{rows_at}
+use Rattle.kr_cmd_fleet.specs.FleetFiles.{file_entries}
 use Rattle.kr_cmd_fleet.specs.Fleets.{launching, parts_of, publishing, starting_with}
 use Rattle.kr_cmd_gen.specs.GeneratedLoads.{load_beginning, load_plan, load_steps, with_streams}
 use Rattle.kr_cmd_gen.specs.LoadReadings.{TellsTape}
@@ -22,8 +22,8 @@ use Rattle.kr_cmd_laws.proofs.Settled.{regroup, settled_pair, told_or_empty}
 use Rattle.kr_cmd_steps.proofs.Tapes.{own_name}
 
 -- the configurations of a load name no plugin
-names_none : (seed : ℕ) (name : List ℕ) (rows : List Row)
-    → rows_at (configurations seed) name ≡ Some rows → (plugin : List ℕ)
+names_none : (seed : ℕ) (name : List ℕ) (rows : List ConfigEntry)
+    → file_entries (configurations seed) name ≡ Some rows → (plugin : List ℕ)
     → Contains (plugin_order rows) plugin → ⊥
 names_none seed name rows is plugin c =
     let among : Contains [] plugin = rows_among (configurations seed) name rows plugin is
@@ -47,7 +47,7 @@ module _ (words : LoadWords) (old : Around) where
       r refl x refl)
 
   pub settled_load : TellsTape words old
-      → GoOneWay (and_then (load_steps words) closing) (left_of (with_streams old))
+      → GoOneWay (and_then (load_steps words) closing) (left_of (with_streams words.seed old))
   settled_load there = (
     there,
     refl,

@@ -7,6 +7,7 @@ use Rattle.kr_kms.specs.Truth.{Truth}
 use Rattle.kr_workload.specs.FullLoads.{IsFull}
 use Rattle.kr_workload.specs.KeptPuts.{HasRow}
 use Rattle.kr_workload.specs.Loads.{put_of}
+use Rattle.kr_workload.specs.Streams.{StreamState}
 use Rattle.kr_rollout.specs.Histories.{state_of}
 use Rattle.kr_script.specs.declared.told.Told.TheVariants as told
 use Rattle.kr_workers.specs.Sentences.{Replies}
@@ -15,7 +16,7 @@ use Rattle.kr_cmd_steps.specs.Around.{Around}
 use Rattle.kr_cmd_fleet.specs.FleetReady.{TellsStore}
 use Rattle.kr_cmd_fleet.specs.Fleets.{opening_of}
 use Rattle.kr_cmd_gen.specs.GeneratedLoads.{StartsLoad}
-use Rattle.kr_cmd_steps.specs.Ran.{IsIdle}
+use Rattle.kr_cmd_steps.specs.Ran.{WroteNothing}
 use Rattle.kr_cmd_messages.specs.Receipts.{Receipt}
 use Rattle.kr_cmd_steps.specs.StoreFiles.{Stored}
 use Rattle.kr_cmd_messages.specs.declared.load_words.LoadWords.{LoadWords}
@@ -29,17 +30,17 @@ IsBlank words old =
 -- each object was put and got, and just the summary was written, which the seed and the size alone
 -- decide; or memory lacked
 abbrev pub IsFullLoad : LoadWords → (output errors : Receipt) → ℕ → Type 0
-IsFullLoad words output errors status = ((status ≡ 0) × IsIdle errors
+IsFullLoad words output errors status = ((status ≡ 0) × WroteNothing errors
     × (text : List ℕ) × IsFull words.seed words.size text × Appends output.old output.new text)
     ⊎ (status ≡ 5)
 
 -- each put that a worker replied to be done has its row behind the workers, a sealing of its data
 abbrev pub KeepsPuts : (T : Type 0) → {L : Type 0} → (truth : Truth) → (link : L → Link)
     (step : L → Exchange → L → Type 0)
-    → (words : LoadWords) → (old new : Around) → (output : Receipt)
-    → (result : Result Ending Stop)
-    → StartsLoad T truth link step words old new output result → Type 0
-KeepsPuts T truth link step words old new output result s = (worker at number revision : ℕ)
+    → (words : LoadWords) → (sources : List StreamState) → (old new : Around)
+    → (output : Receipt) → (result : Result Ending Stop)
+    → StartsLoad T truth link step words sources old new output result → Type 0
+KeepsPuts T truth link step words sources old new output result s = (worker at number revision : ℕ)
     → Replies s.runs.parts s.ended worker at (put_of words.seed words.size worker number)
     (told.Put revision)
     → HasRow words.seed words.size

@@ -1,9 +1,9 @@
 -- `gen`: the steps up to its workers, and what a call did once they were started.
-use Rattle.std.specs.Prelude.{◌≡◌, ℕ, suc, zero, ◌+◌, ◌≤◌, ◌⊎◌, false, List, [], map, Option, None, Result, Ok, Err}
+use Rattle.std.specs.Prelude.{◌≡◌, ℕ, ◌+◌, ◌≤◌, ◌⊎◌, false, List, [], ◌∷◌, map, Option, Result, Ok, Err}
+use Rattle.std.specs.List.{range_with_len}
 use Rattle.std.specs.Io.KnownBytes.{Appends, Keeps}
 use Rattle.kr_base.specs.Faults.{Rose}
 use Rattle.kr_base.specs.Streams.{AppendsFront}
-use Rattle.kr_base.specs.declared.seeded_dice.SeededDice.{SeededDice}
 use Rattle.kr_kms.specs.Calls.{Link}
 use Rattle.kr_kms.specs.Exchanges.{Exchange}
 use Rattle.kr_kms.specs.Outside.{Objects, Outside, same_seat}
@@ -11,14 +11,14 @@ use Rattle.kr_kms.specs.Truth.{Truth}
 use Rattle.kr_kms.specs.declared.world.Access.TheVariants.{ToMake}
 use Rattle.kr_workload.specs.Endings.{ending_of_load}
 use Rattle.kr_workload.specs.Loads.{configurations, load_fleet}
+use Rattle.kr_workload.specs.Streams.{StreamState, link_faults, left_in, worker_dice}
 use Rattle.kr_workload.specs.Summaries.{IsSummary, Replies}
 use Rattle.kr_rollout.specs.declared.opening.Entry.{Entry}
 use Rattle.kr_script.specs.Fleets.{Worker}
 use Rattle.kr_workers.specs.declared.ending.Ending.{Ending}
 use Rattle.kr_workers.specs.declared.worker.Worker as fleet_worker
-use Rattle.rand_chacha.specs.ChaCha.{ChaCha}
 use Rattle.kr_cmd_steps.specs.Around.{Around, IsHome, Reaches, left_of, with_lent, with_world}
-use Rattle.kr_cmd_steps.specs.Commands.{stored_on, tape_for}
+use Rattle.kr_cmd_steps.specs.Phases.{stored_on, tape_for}
 use Rattle.kr_cmd_fleet.specs.FleetFiles.{FleetPlan}
 use Rattle.kr_cmd_fleet.specs.Fleets.{Begun, RunsFleet, StopsBefore, TellsFleet, budgeting, launching, parts_of, settled_behind}
 use Rattle.kr_cmd_messages.specs.Receipts.{Receipt}
@@ -53,19 +53,24 @@ load_steps words = load_over words.store (load_plan words)
 
 -- ---- the workers' random sources
 
--- those of so many seats from this one on tell nothing of what they will give, and never failed
-abbrev pub seeded_dice : (seat seats : ℕ) → Objects ℕ (Option (List ℕ))
+-- sources of the seats from this one on stand among those of the world
+abbrev pub lent_sources : (seat : ℕ) → List StreamState → Objects ℕ (Option (List ℕ))
     → Objects ℕ (Option (List ℕ))
-seeded_dice seat zero dice = dice
-seeded_dice seat (suc more) dice =
-    with_lent same_seat seat None 0 (seeded_dice (seat + 1) more dice)
+lent_sources seat [] dice = dice
+lent_sources seat (source ∷ sources) dice = with_lent same_seat seat (left_in source)
+    (link_faults source) (lent_sources (seat + 1) sources dice)
 
--- the world, as if the sources of the load's workers were those of their seats
-abbrev pub seeded_world : Outside → Outside
-seeded_world world = record world { dice = seeded_dice 0 4 world.dice }
+-- the world, as if these sources of the load's workers were those of their seats
+abbrev pub with_sources : List StreamState → Around → Around
+with_sources sources a =
+    with_world (record a.world { dice = lent_sources 0 sources a.world.dice }) a
 
-abbrev pub with_streams : Around → Around
-with_streams a = with_world (seeded_world a.world) a
+-- as the workers begin: the one of seat i has the whole of stream 1 + i
+abbrev pub streams_of : (seed : ℕ) → List StreamState
+streams_of seed = map (worker_dice seed) (range_with_len 0 4)
+
+abbrev pub with_streams : (seed : ℕ) → Around → Around
+with_streams seed a = with_sources (streams_of seed) a
 
 -- ---- once the workers were started
 
@@ -88,39 +93,36 @@ pub record LeavesOthers (old new : Outside) : Type 0 where
   pub dice : new.dice ≡ old.dice
   pub links : new.links ≡ old.links
 
--- a worker's source tells nothing of what it will give, and never fails
-abbrev pub nothing_told : SeededDice ChaCha → Option (List ℕ)
-nothing_told dice = None
-
-abbrev pub no_faults : SeededDice ChaCha → ℕ
-no_faults dice = 0
-
 module _ (T : Type 0) {L : Type 0} (truth : Truth) (link : L → Link)
     (step : L → Exchange → L → Type 0) where
-  -- the workers were started, and what they stored is settled; from what each of them draws isn't
-  -- said here, since its source tells nothing
-  pub record StartsLoad (words : LoadWords) (old new : Around) (output : Receipt)
-      (result : Result Ending Stop) : Type 0 where
+  -- the workers were started, and what they stored is settled. Each drew from its own stream, from
+  -- its begin on, and left the rest of it in these sources
+  pub record StartsLoad (words : LoadWords) (sources : List StreamState) (old new : Around)
+      (output : Receipt) (result : Result Ending Stop) : Type 0 where
     pub begun : Begun
     pub plan_is : begun.plan ≡ load_plan words
     pub mid : Around
-    pub reaches : Reaches (load_steps words) (left_of (with_streams old)) mid (gives begun)
-    pub since : IsHome (with_streams old) mid
+    pub reaches : Reaches (load_steps words) (left_of (with_streams words.seed old)) mid
+        (gives begun)
+    pub since : IsHome (with_streams words.seed old) mid
     pub history : List Entry
-    pub ended : List (fleet_worker.Worker T L (SeededDice ChaCha))
-    pub runs : RunsFleet truth link step nothing_told no_faults words.store begun
-        (settled_behind words.store mid) (with_streams new) history ended
+    pub ended : List (fleet_worker.Worker T L StreamState)
+    pub runs : RunsFleet truth link step left_in link_faults words.store begun
+        (settled_behind words.store mid) (with_sources sources new) history ended
     pub writes : WritesLoad words begun.plan.fleet.workers
-        (map (λ (w : fleet_worker.Worker T L (SeededDice ChaCha)). w.told) ended) output result
+        (map (λ (w : fleet_worker.Worker T L StreamState). w.told) ended) output result
 
-  -- all that was handed out is back
+  -- all that was handed out is back, and the workers' sources, if there are any, are left so
   pub record DidLoad (words : LoadWords) (old new : Around) (output : Receipt)
       (result : Result Ending Stop) : Type 0 where
     pub home : IsHome old new
     pub others : LeavesOthers old.world new.world
-    pub did : StopsBefore (load_steps words) words.store (with_streams old) (with_streams new)
-        output result
-        ⊎ StartsLoad words old new output result
+    pub sources : List StreamState
+    pub seated : IsHome (with_streams words.seed old) (with_sources sources new)
+    pub did : StopsBefore T truth link step left_in link_faults (load_steps words) words.store
+        (with_streams words.seed old)
+        (with_sources sources new) output result
+        ⊎ StartsLoad words sources old new output result
 
 -- what a call of `run` did for a load
 pub record RanLoad (T : Type 0) {L : Type 0} (truth : Truth) (link : L → Link)

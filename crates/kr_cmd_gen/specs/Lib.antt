@@ -4,4 +4,5 @@ pub mod GeneratedLoads
 pub mod Laws
 pub mod LoadHeadlines
 pub mod LoadReadings
+pub mod WrongLoads
 pub mod inner

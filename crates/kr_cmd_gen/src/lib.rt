@@ -4,5 +4,5 @@
 mod laws;
 mod loads;
 
-pub use laws::{loads_are_read, loads_have_headlines};
+pub use laws::{each_load_is_wrong, loads_are_read, loads_have_headlines};
 pub use loads::load;

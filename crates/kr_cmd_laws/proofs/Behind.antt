@@ -1,10 +1,12 @@
 -- Steps behind others: where the others came to, and how they went on from there.
-use Rattle.std.proofs.Common.{◌≡◌, ◌⊎◌, ℕ, List, Option, refl, sym, ◌∙◌, ap, subst, inl, inr}
-use Rattle.kr_kms.specs.declared.world.WorldCall.TheVariants.{File, Link, RandomSource, Settled, Tape}
+use Rattle.std.proofs.Common.{◌≡◌, ℕ, List, Err, refl, ap, inl, inr}
+use Rattle.kr_kms.specs.Exchanges.{StatusCall, UnwrapCall, WrapCall}
+use Rattle.kr_kms.specs.declared.plugin.KmsNo.TheVariants.{Failed}
+use Rattle.kr_kms.specs.declared.world.WorldCall.TheVariants.{File, Link, RandomSource, Tape}
 use Rattle.kr_kms.specs.declared.world.Access.{Access}
 use Rattle.kr_cmd_steps.specs.Afterwards.{IsSettledLast}
-use Rattle.kr_cmd_steps.specs.Commands.{settled_for}
-use Rattle.kr_cmd_steps.specs.Steps.{Steps, load, take_input, borrow_dice, borrow_tape, read_tape, write_row, keep_rows, settle, draw, borrow_link, ask_status, wrap, unwrap, note, find, refuse, give, and_then, Point, awaits, amid, refuses, gives, Left, Goes, loading, reading, opening, lending, scanning, writing, settling, drawing, linking, asking, with_asked, with_input, with_told}
+use Rattle.kr_cmd_steps.specs.Phases.{settled_for}
+use Rattle.kr_cmd_steps.specs.Steps.{Steps, load, take_input, borrow_dice, borrow_tape, read_tape, write_row, keep_rows, settle, draw, borrow_link, ask_status, wrap, unwrap, note, find, refuse, give, and_then, Point, awaits, amid, refuses, gives, Left, Goes, loading, reading, opening, lending, scanning, writing, settling, drawing, linking, asking, with_asked, with_heard, with_input, with_told}
 use Rattle.kr_cmd_messages.specs.declared.refusal.Object.{Object}
 use Rattle.kr_cmd_steps.proofs.Goes.{Further}
 
@@ -62,8 +64,8 @@ module _ {A B : Type 0} (others : A → Steps B) (p : Point B) (end : Left) wher
   )
   parted (write_row object name store row next) left (inr (told, holds, goes)) =
       let r = parted next _ goes in (r.0, r.1, inr (told, holds, r.2), r.3)
-  parted (keep_rows name store next) left (told, count, later, holds, goes) =
-      let r = parted next _ goes in (r.0, r.1, (told, count, later, holds, r.2), r.3)
+  parted (keep_rows name store next) left (told, holds, goes) =
+      let r = parted next _ goes in (r.0, r.1, (told, holds, r.2), r.3)
   parted (settle object name next) left (inl at) =
       (awaits (settling object name), left, inl (refl, refl), at)
   parted (settle object name next) left (inr goes) =
@@ -81,18 +83,57 @@ module _ {A B : Type 0} (others : A → Steps B) (p : Point B) (end : Left) wher
   )
   parted (borrow_link seat plugin program next) left (inr (inr goes)) =
       let r = parted next _ goes in (r.0, r.1, inr (inr r.2), r.3)
-  parted (ask_status seat plugin next) left (inl at) =
-      (awaits (asking seat plugin), left, inl (refl, refl), at)
-  parted (ask_status seat plugin next) left (inr (status, agrees, goes)) =
-      let r = parted (next status) _ goes in (r.0, r.1, inr (status, agrees, r.2), r.3)
-  parted (wrap seat plugin plain next) left (inl at) =
-      (awaits (asking seat plugin), left, inl (refl, refl), at)
-  parted (wrap seat plugin plain next) left (inr (wrapped, tells, within, goes)) =
-      let r = parted (next wrapped) _ goes in (r.0, r.1, inr (wrapped, tells, within, r.2), r.3)
-  parted (unwrap seat key next) left (inl at) =
-      (awaits (asking seat key.name), left, inl (refl, refl), at)
-  parted (unwrap seat key next) left (inr (bytes, tells, goes)) =
-      let r = parted (next bytes) _ goes in (r.0, r.1, inr (bytes, tells, r.2), r.3)
+  parted (ask_status seat plugin next) left (inl at) = (amid, left, inl (refl, refl), at)
+  parted (ask_status seat plugin next) left (inr (inl (answer, at))) = (
+    amid,
+    with_heard (StatusCall plugin answer) left,
+    inr (inl (answer, (refl, refl))),
+    at,
+  )
+  parted (ask_status seat plugin next) left (inr (inr (inl at))) = (
+    awaits (asking seat plugin),
+    with_heard (StatusCall plugin (Err Failed)) left,
+    inr (inr (inl (refl, refl))),
+    at,
+  )
+  parted (ask_status seat plugin next) left (inr (inr (inr (status, agrees, goes)))) =
+      let r = parted (next status) _ goes in
+      (r.0, r.1, inr (inr (inr (status, agrees, r.2))), r.3)
+  parted (wrap seat plugin plain next) left (inl at) = (amid, left, inl (refl, refl), at)
+  parted (wrap seat plugin plain next) left (inr (inl (answer, at))) = (
+    amid,
+    with_heard (WrapCall plugin plain answer) left,
+    inr (inl (answer, (refl, refl))),
+    at,
+  )
+  parted (wrap seat plugin plain next) left (inr (inr (inl at))) = (
+    awaits (asking seat plugin),
+    with_heard (WrapCall plugin plain (Err Failed)) left,
+    inr (inr (inl (refl, refl))),
+    at,
+  )
+  parted (wrap seat plugin plain next) left (inr (inr (inr (wrapped, tells, within, goes)))) =
+      let r = parted (next wrapped) _ goes in
+      (r.0, r.1, inr (inr (inr (wrapped, tells, within, r.2))), r.3)
+  parted (unwrap seat key next) left (inl at) = (amid, left, inl (refl, refl), at)
+  parted (unwrap seat key next) left (inr (inl (answer, at))) = (
+    amid,
+    with_heard (UnwrapCall key answer) left,
+    inr (inl (answer, (refl, refl))),
+    at,
+  )
+  parted (unwrap seat key next) left (inr (inr (inl at))) = (
+    awaits (asking seat key.name),
+    with_heard (UnwrapCall key (Err Failed)) left,
+    inr (inr (inl (refl, refl))),
+    at,
+  )
+  parted (unwrap seat key next) left (inr (inr (inr (bytes, tells, inl (was, goes))))) =
+      let r = parted (next bytes) _ goes in
+      (r.0, r.1, inr (inr (inr (bytes, tells, inl (was, r.2)))), r.3)
+  parted (unwrap seat key next) left (inr (inr (inr (bytes, tells, inr goes)))) =
+      let r = parted (next bytes) _ goes in
+      (r.0, r.1, inr (inr (inr (bytes, tells, inr r.2))), r.3)
   parted (note text next) left goes = parted next _ goes
   parted (find D P next) left (inl at) = (amid, left, inl (refl, refl), at)
   parted (find D P next) left (inr (d, is, goes)) =

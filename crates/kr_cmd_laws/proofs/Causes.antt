@@ -1,15 +1,19 @@
 -- What the status of a call comes from whose steps lead to workers, by how the call ended.
-use Rattle.std.proofs.Common.{◌≡◌, ℕ, ◌⊎◌, List, Result, Ok, Err, sym, ◌∙◌, subst, inl, inr, arith}
+use Rattle.std.proofs.Common.{◌≡◌, ℕ, ◌⊎◌, List, Option, Result, Ok, Err, sym, ◌∙◌, subst, inl, inr, arith}
 use Rattle.std.specs.Prelude.{⊤}
 use Rattle.std.specs.Io.KnownBytes.{Appends}
 use Rattle.kr_base.specs.Faults.{Rose}
 use Rattle.kr_base.proofs.Counting.{Rose-later}
+use Rattle.kr_kms.specs.Calls.{Link}
+use Rattle.kr_kms.specs.Exchanges.{Exchange}
+use Rattle.kr_kms.specs.Truth.{Truth}
 use Rattle.kr_workers.specs.Endings.{status_of}
 use Rattle.kr_workers.specs.declared.ending.Ending.{Ending}
 use Rattle.kr_workers.specs.declared.ending.Ending.TheVariants as ending
 use Rattle.kr_cmd_steps.specs.Around.{Around, IsHome, left_of}
 use Rattle.kr_cmd_fleet.specs.Causes.{Causes, HasEnded, HasFailed, HasRefused, IsDecidedBy, WouldBegin}
 use Rattle.kr_cmd_fleet.specs.Fleets.{Begun, StopsBefore, TellsFleet}
+use Rattle.kr_cmd_fleet.proofs.SettledRuns.{rose_unsettled}
 use Rattle.kr_cmd_messages.specs.Message.{line_of, status_of as stop_status, status_of_refusal}
 use Rattle.kr_cmd_messages.specs.Receipts.{Receipt}
 use Rattle.kr_cmd_steps.specs.Steps.{Call, Point, Steps, amid, and_then, awaits, gives, refuses}
@@ -27,16 +31,18 @@ BreaksOff output (Refused why) = ⊥
 BreaksOff output (Fault object n) = Rose output.old_faults output.new_faults
 BreaksOff output NoMemory = ⊤
 
-module _ (steps : Steps Begun) (store : List ℕ) (HasStarted : Result Ending Stop → Type 0)
+module _ (T : Type 0) {L D : Type 0} (truth : Truth) (link : L → Link)
+    (step : L → Exchange → L → Type 0) (left : D → Option (List ℕ)) (count : D → ℕ)
+    (steps : Steps Begun) (store : List ℕ) (HasStarted : Result Ending Stop → Type 0)
     (old new : Around) (output errors : Receipt)
     (begins : (e : Ending) → HasStarted (Ok e)
     → (begun : Begun) × WouldBegin steps old (gives begun))
     (breaks : (stop : Stop) → HasStarted (Err stop) → BreaksOff output stop) where
   abbrev Decided : Point Begun → ℕ → Type 0
-  Decided point status = IsDecidedBy steps HasStarted old new output errors point status
+  Decided point status = IsDecidedBy steps store HasStarted old new output errors point status
 
   abbrev Stopped : Stop → Type 0
-  Stopped stop = StopsBefore steps store old new output (Err stop)
+  Stopped stop = StopsBefore T truth link step left count steps store old new output (Err stop)
 
   abbrev Ended : Ending → Type 0
   Ended e = HasEnded HasStarted errors e
@@ -96,7 +102,8 @@ module _ (steps : Steps Begun) (store : List ℕ) (HasStarted : Result Ending St
 
     decided_so : (point : Point Begun) (status : ℕ) → WouldBegin steps old point
         → (result : Result Ending Stop)
-        → StopsBefore steps store old new output result ⊎ HasStarted result
+        → StopsBefore T truth link step left count steps store old new output result
+        ⊎ HasStarted result
         → TellsFleet result errors status → Decided point status
     decided_so point status would (Ok e) (inl never) tells = absurd never
     decided_so point status would (Ok e) (inr s) tells =
@@ -113,7 +120,7 @@ module _ (steps : Steps Begun) (store : List ℕ) (HasStarted : Result Ending St
       (decided : IsTold → (point : Point Begun) → WouldBegin steps old point
       → Decided point status) where
     abbrev AreRead : Type 0
-    AreRead = Causes steps HasStarted old new output errors IsTold status
+    AreRead = Causes steps store HasStarted old new output errors IsTold status
 
     -- the workers ran
     ended : (e : Ending) → Ended e → status ≡ status_of e → AreRead
@@ -152,7 +159,7 @@ module _ (steps : Steps Begun) (store : List ℕ) (HasStarted : Result Ending St
     -- the call was stopped
     failed : status ≡ 4
         → ((call : Call) × HasFailed steps old new call)
-        ⊎ ((name : List ℕ) × Rose (old.world.tapes.faults name) (new.world.tapes.faults name))
+        ⊎ Rose (old.world.tapes.faults store) (new.world.tapes.faults store)
         ⊎ Rose output.old_faults output.new_faults
         ⊎ Rose errors.old_faults errors.new_faults
         ⊎ Ended ending.Fault → AreRead
@@ -198,7 +205,7 @@ module _ (steps : Steps Begun) (store : List ℕ) (HasStarted : Result Ending St
         failed is (inl (call, (reaches, f.1, object_rose call home f.1)))
     stopped (Fault object n) home (inr (inl (e, lacking)), idle) is line = absurd cc
     stopped (Fault object n) home (inr (inr (mid, begun, reaches, fails, since)), idle) is line =
-        failed is (inr (inl (store, Rose-later _ _ _ (since.tapes.later store) fails.rose)))
+        failed is (inr (inl (Rose-later _ _ _ (since.tapes.later store) (rose_unsettled fails))))
     stopped NoMemory home before is line = lacked is
 
     -- or behind them
@@ -209,7 +216,8 @@ module _ (steps : Steps Begun) (store : List ℕ) (HasStarted : Result Ending St
     broke NoMemory s is = lacked is
 
     by_end : (result : Result Ending Stop) → IsHome old new
-        → StopsBefore steps store old new output result ⊎ HasStarted result
+        → StopsBefore T truth link step left count steps store old new output result
+        ⊎ HasStarted result
         → TellsFleet result errors status → AreRead
     by_end (Ok e) home (inl never) tells = absurd never
     by_end (Ok e) home (inr s) tells = ended e (s, tells.1) tells.0
@@ -220,9 +228,10 @@ module _ (steps : Steps Begun) (store : List ℕ) (HasStarted : Result Ending St
   pub causes : (IsTold : Type 0)
       → (IsTold → GoOneWay (and_then steps closing) (left_of old))
       → (status : ℕ) (result : Result Ending Stop) → IsHome old new
-      → StopsBefore steps store old new output result ⊎ HasStarted result
+      → StopsBefore T truth link step left count steps store old new output result
+      ⊎ HasStarted result
       → TellsFleet result errors status
-      → Causes steps HasStarted old new output errors IsTold status
+      → Causes steps store HasStarted old new output errors IsTold status
   causes IsTold settled status result home did tells = by_end IsTold status
       (λ told point would. decided_so (settled told) point status would result did tells) result
       home did tells

@@ -5,7 +5,7 @@ use Rattle.std.specs.Option.{option_map}
 use Rattle.std.proofs.lemmas.List.{append_assoc}
 use Rattle.kr_base.specs.Limits.{store_limit}
 use Rattle.kr_base.specs.Told.{Agrees}
-use Rattle.kr_config.specs.Kept.{Row}
+use Rattle.kr_config.specs.Kept.{ConfigEntry}
 use Rattle.kr_kms.specs.Outside.{same_name}
 use Rattle.kr_kms.specs.declared.world.WorldCall.TheVariants.{File, Tape}
 use Rattle.kr_kms.specs.declared.world.Access.TheVariants.{ToRead, ToMake}
@@ -13,7 +13,9 @@ use Rattle.kr_store.specs.File.{file_bytes}
 use Rattle.kr_store.specs.declared.format.Format.TheVariants.{Two}
 use Rattle.kr_store.specs.declared.rows.LogRow.{LogRow}
 use Rattle.kr_cmd_steps.specs.Afterwards.{IsUngrown, OthersStay, ToldTape, new_store}
-use Rattle.kr_cmd_steps.specs.Commands.{by_result, copied_into, copying, migrated_line, migrated_row, migrating, migrating_into, silently, target_on}
+use Rattle.kr_cmd_steps.specs.Phases.{by_result, silently}
+use Rattle.kr_cmd_steps.specs.StoreSteps.{copied_into, copying, migrated_line, migrated_row, migrating_into, target_on}
+use Rattle.kr_cmd_steps.specs.Commands.{migrating}
 use Rattle.kr_cmd_steps.specs.Configuration.{IsConfiguration}
 use Rattle.kr_cmd_steps.specs.Steps.{Steps, write_row, give, settle, and_then, or_empty, tapes_with, with_asked, with_tape, with_told, Point, awaits, amid, refuses, gives, Left, IsAt, Goes}
 use Rattle.kr_cmd_steps.specs.StoreFiles.{BeginsWith, HoldsRows, IsStored, Stored, begins_new, unless_new, unless_there, with_row}
@@ -24,7 +26,7 @@ use Rattle.kr_cmd_messages.specs.declared.refusal.Outcome.{Outcome}
 use Rattle.kr_cmd_messages.specs.declared.refusal.Refusal.{Refusal}
 use Rattle.kr_cmd_messages.specs.declared.refusal.Refusal.TheVariants.{Limit, NotOld}
 use Rattle.kr_cmd_steps.proofs.EmptyFiles.{empty_file}
-use Rattle.kr_cmd_steps.proofs.Points.{IsShort, IsThrough, IsTorn}
+use Rattle.kr_cmd_steps.proofs.Points.{IsAmidRows, IsShort, IsThrough, IsTorn}
 use Rattle.kr_cmd_steps.proofs.Goes.{Further}
 use Rattle.kr_cmd_laws.proofs.Behind.{parted}
 use Rattle.kr_cmd_steps.proofs.Tapes.{own_name}
@@ -42,7 +44,7 @@ pub record IsLeft (name : List ℕ) (all : List LogRow) (p : Point Outcome)
   pub is_told : new name ≡ option_map Some told
   pub holds : (IsTorn Target name p × (rest ≢ []) × BeginsWith (new_store copied) told)
       ⊎ (IsThrough Target name p × (rest ≡ []) × HoldsRows (new_store copied) told)
-      ⊎ (IsShort p × (rest ≢ []) × HoldsRows (new_store copied) told)
+      ⊎ (IsAmidRows p × (rest ≢ []) × HoldsRows (new_store copied) told)
 
 -- where a tape tells this
 abbrev telling : (name : List ℕ) → Option (List ℕ) → (List ℕ → ToldTape) → List ℕ → ToldTape
@@ -93,7 +95,7 @@ module _ (name : List ℕ) (all : List LogRow) (line : List ℕ) (p : Point Outc
     others = ended at others;
     parts = parts;
     is_told = ap (λ (l : Left). l.tapes name) at.1 ∙ is_told;
-    holds = inr (inr (subst IsShort (sym at.0) tt, (λ none. absurd cc), holds));
+    holds = inr (inr (subst IsAmidRows (sym at.0) tt, (λ none. absurd cc), holds));
   }
   copies_left copied (row ∷ rest) told old left parts others is_told holds (inr (u, v, goes)) =
       by_limit (nat_lt store_limit (length (file_bytes Two (copied ++ row ∷ []))))
@@ -121,7 +123,11 @@ module _ (name : List ℕ) (all : List LogRow) (line : List ℕ) (p : Point Outc
         others = ended at others;
         parts = parts;
         is_told = ap (λ (l : Left). l.tapes name) at.1 ∙ is_told;
-        holds = inr (inr (subst IsShort (sym at.0) tt, (λ none. absurd cc), holds));
+        holds = inr (inr (
+          subst IsAmidRows (sym at.0) (limit.Store, refl),
+          (λ none. absurd cc),
+          holds,
+        ));
       }
       by_limit false further (inl (now, begins, at)) = record {
         copied = copied;
@@ -169,7 +175,7 @@ empty_told (Some held) e = (Some [], ap Some e, (tt, inl (refl, refl, refl)))
 pub record IsMigrated (words : Migration) (p : Point Outcome) (left : Left)
     (new : List ℕ → ToldTape) : Type 0 where
   pub file : Option (List ℕ)
-  pub rows : List Row
+  pub rows : List ConfigEntry
   pub bytes : List ℕ
   pub source : Stored
   pub configured : Agrees (left.file words.config) file
@@ -220,7 +226,7 @@ module _ (words : Migration) (p : Point Outcome) (end left : Left) where
         inr (ap (λ t. t words.to) ends ∙ out_here),
       )
 
-  module _ (file : Option (List ℕ)) (rows : List Row) (bytes : List ℕ) (source : Stored)
+  module _ (file : Option (List ℕ)) (rows : List ConfigEntry) (bytes : List ℕ) (source : Stored)
       (configured : Agrees (left.file words.config) file)
       (means : IsConfiguration words.config file (Ok rows))
       (held : Agrees (left.tapes words.store) (Some bytes))
@@ -268,10 +274,10 @@ module _ (words : Migration) (p : Point Outcome) (end left : Left) where
   -- since the steps before the settling were left so
   through : (new : List ℕ → ToldTape) (q : Point Outcome)
       → (IsThrough Target words.to q → IsThrough Target words.to p) → (IsShort q → IsShort p)
-      → (IsTorn Target words.to q → IsTorn Target words.to p) → Migrates words q left new
-      → Migrates words p left new
-  through new q whole short torn (inl none) = inl (short none.0, none.1, none.2)
-  through new q whole short torn (inr m) = inr (record {
+      → (IsTorn Target words.to q → IsTorn Target words.to p) → (IsAmidRows q → IsAmidRows p)
+      → Migrates words q left new → Migrates words p left new
+  through new q whole short torn amid_rows (inl none) = inl (short none.0, none.1, none.2)
+  through new q whole short torn amid_rows (inr m) = inr (record {
     file = m.file;
     rows = m.rows;
     bytes = m.bytes;
@@ -292,7 +298,7 @@ module _ (words : Migration) (p : Point Outcome) (end left : Left) where
         | inl t ↦ inl (torn t.0, t.1, t.2)
         | inr more ↦ elim more [
           | inl w ↦ inr (inl (whole w.0, w.1, w.2))
-          | inr s ↦ inr (inr (short s.0, s.1, s.2))
+          | inr s ↦ inr (inr (amid_rows s.0, s.1, s.2))
         ]
       ];
     };
@@ -311,13 +317,13 @@ module _ (words : Migration) (p : Point Outcome) (end left : Left) where
   settled_on (gives x) mid m (inl at) =
       subst (λ (l : Left). Migrates words p left l.tapes) (sym at.1)
       (through mid.tapes (gives x) (λ is. subst (IsThrough Target words.to) (sym at.0) refl)
-      (λ none. absurd none) (λ none. absurd none) m)
+      (λ none. absurd none) (λ none. absurd none) (λ none. absurd none) m)
   settled_on (gives x) mid m (inr at) =
       subst (λ (l : Left). Migrates words p left l.tapes) (sym at.1)
       (through mid.tapes (gives x) (λ is. subst (IsThrough Target words.to) (sym at.0) is)
-      (λ none. absurd none) (λ none. absurd none) m)
+      (λ none. absurd none) (λ none. absurd none) (λ none. absurd none) m)
 
-  at_tape : (file : Option (List ℕ)) (rows : List Row) (bytes : List ℕ) (source : Stored)
+  at_tape : (file : Option (List ℕ)) (rows : List ConfigEntry) (bytes : List ℕ) (source : Stored)
       → Agrees (left.file words.config) file → IsConfiguration words.config file (Ok rows)
       → Agrees (left.tapes words.store) (Some bytes) → IsStored bytes (Ok source) → (mid : Left)
       → mid.tapes ≡ left.tapes → Goes p end (migrating_into words.to rows source) mid

@@ -32,9 +32,9 @@ use Rattle.kr_cmd_steps.specs.Around.{Around, IsHome, left_of}
 use Rattle.kr_cmd_fleet.specs.Causes.{NoneRose}
 use Rattle.kr_cmd_fleet.specs.FleetReadings.{IsCompleted}
 use Rattle.kr_cmd_fleet.specs.FleetReady.{IsReady}
-use Rattle.kr_cmd_fleet.specs.Fleets.{Begun, IsEquipped, RanFleet, RunsFleet, Starts, StopsBefore, TellsFleet, fleet_steps, opening_of, settled_behind}
+use Rattle.kr_cmd_fleet.specs.Fleets.{Begun, DidFleet, IsEquipped, RanFleet, RunsFleet, Starts, StopsBefore, TellsFleet, fleet_steps, opening_of, settled_behind}
 use Rattle.kr_cmd_messages.specs.Message.{status_of as stop_status}
-use Rattle.kr_cmd_steps.specs.Ran.{IsIdle}
+use Rattle.kr_cmd_steps.specs.Ran.{WroteNothing}
 use Rattle.kr_cmd_messages.specs.Receipts.{Receipt}
 use Rattle.kr_cmd_steps.specs.Steps.{Left, asking, drawing, gives, refuses, scanning, settling}
 use Rattle.kr_cmd_messages.specs.declared.fleet_words.FleetWords.{FleetWords}
@@ -43,7 +43,7 @@ use Rattle.kr_cmd_messages.specs.declared.refusal.Object.TheVariants.{Store}
 use Rattle.kr_cmd_messages.specs.declared.refusal.Stop.{Stop}
 use Rattle.kr_cmd_messages.specs.declared.refusal.Stop.TheVariants.{Words, Refused, Fault, NoMemory}
 use Rattle.kr_cmd_steps.specs.inner.ProgramNames.{names_in}
-use Rattle.kr_cmd_fleet.proofs.SettledRuns.{home_settled}
+use Rattle.kr_cmd_fleet.proofs.SettledRuns.{home_settled, rose_unsettled}
 use Rattle.kr_cmd_steps.proofs.Loading.{rose_on}
 use Rattle.kr_cmd_steps.proofs.RisingCounts.{counted}
 use Rattle.kr_cmd_laws.proofs.FleetWalk.{BeginsWell, is_told, walks}
@@ -90,8 +90,31 @@ name_there link links it (k, below, is) = (
   get_or-map (λ l. (link l).name) links k it (link it).name below ∙ ap (λ l. (link l).name) is,
 )
 
+-- ---- whether its workers were started
+
+pub started_or_not : {T L D : Type 0} {truth : Truth} {link : L → Link}
+    {step : L → Exchange → L → Type 0} {lent took : ℕ → L → Type 0}
+    {left : D → Option (List ℕ)} {count : D → ℕ} {words : FleetWords} {old new : Around}
+    {output : Receipt} {result : Result Ending Stop}
+    → DidFleet T truth link step lent took left count words old new output result
+    → StopsBefore T truth link step left count (fleet_steps words) words.store old new output result
+    ⊎ Starts T truth link step lent took left count words old new output result
+started_or_not {T} {truth = truth} {link = link} {step = step} {lent = lent} {took = took}
+    {left = left} {count = count} {words = words} {old = old} {new = new} {output = output}
+    {result = result} d = by d.did
+  where
+    by : StopsBefore T truth link step left count (fleet_steps words) words.store old new output
+        result
+        ⊎ ((s : Starts T truth link step lent took left count words old new output result)
+        × (s.exchanges ≡ d.exchanges))
+        → StopsBefore T truth link step left count (fleet_steps words) words.store old new output
+        result
+        ⊎ Starts T truth link step lent took left count words old new output result
+    by (inl stops) = inl stops
+    by (inr began) = inr began.0
+
 module _ (T : Type 0) {L D : Type 0} (truth : Truth) (link : L → Link)
-    (step : L → Exchange → L → Type 0)
+    (step : L → Exchange → L → Type 0) (lent took : ℕ → L → Type 0)
     (left : D → Option (List ℕ)) (count : D → ℕ) (words : FleetWords) (old : Around)
     (ready : IsReady words old) (new : Around) (output errors : Receipt)
     (none : NoneRose old new output errors) where
@@ -207,10 +230,12 @@ module _ (T : Type 0) {L D : Type 0} (truth : Truth) (link : L → Link)
             sym t.2 ∙ ap breach_in same ∙ has.has.2 in cc)
 
   abbrev Completed : ℕ → Type 0
-  Completed status = IsCompleted T truth link step left count words old new output errors status
+  Completed status = IsCompleted T truth link step lent took left count words old new output errors
+      status
 
-  module _ (e : Ending) (s : Starts T truth link step left count words old new output (Ok e))
-      (idle : IsIdle errors) where
+  module _ (e : Ending) (s : Starts T truth link step lent took left count words old new output
+      (Ok e))
+      (idle : WroteNothing errors) where
     begins : BeginsWell words old ready s.begun s.reaches.end
     begins = allowed (BeginsWell words old ready) (gives s.begun) s.reaches.end
         (fleet_steps words) (left_of old) (walks words old ready) s.reaches.goes
@@ -226,7 +251,8 @@ module _ (T : Type 0) {L D : Type 0} (truth : Truth) (link : L → Link)
 
   -- the workers ran
   ended_so : (status : ℕ) (e : Ending)
-      → Starts T truth link step left count words old new output (Ok e) → IsIdle errors
+      → Starts T truth link step lent took left count words old new output (Ok e)
+      → WroteNothing errors
       → status ≡ status_of e → Completed status
   ended_so status ending.Done s idle is = inl (is, (s, idle))
   ended_so status ending.Refused s idle is = inr (inl (is, (s, idle)))
@@ -247,8 +273,10 @@ module _ (T : Type 0) {L D : Type 0} (truth : Truth) (link : L → Link)
 
   -- they didn't
   stopped_so : (status : ℕ) (stop : Stop) → status ≡ stop_status (Err stop)
-      → StopsBefore (fleet_steps words) words.store old new output (Err stop)
-      ⊎ Starts T truth link step left count words old new output (Err stop) → Completed status
+      → StopsBefore T truth link step left count (fleet_steps words) words.store old new output
+      (Err stop)
+      ⊎ Starts T truth link step lent took left count words old new output (Err stop)
+      → Completed status
   stopped_so status (Words why) is (inl (inl ends, idle)) = absurd ends
   stopped_so status (Words why) is (inl (inr (inl (e, lacking)), idle)) = absurd cc
   stopped_so status (Words why) is (inl (inr (inr (mid, begun, reaches, fails, home)), idle)) =
@@ -267,17 +295,19 @@ module _ (T : Type 0) {L D : Type 0} (truth : Truth) (link : L → Link)
   stopped_so status (Fault object n) is
       (inl (inr (inr (mid, begun, reaches, fails, home)), idle)) =
       absurd (none.calls (settling Store words.store)
-      (Rose-later _ _ _ (home.tapes.later words.store) fails.rose))
+      (Rose-later _ _ _ (home.tapes.later words.store) (rose_unsettled fails)))
   stopped_so status (Fault object n) is (inr s) = absurd (none.written s.writes.2)
   stopped_so status NoMemory is did = inr (inr (inr is))
 
   pub completed : (status : ℕ)
-      → RanFleet T truth link step left count words old new output errors status → Completed status
-  completed status ran = by ran.result ran.did.did ran.tells
+      → RanFleet T truth link step lent took left count words old new output errors status
+      → Completed status
+  completed status ran = by ran.result (started_or_not ran.did) ran.tells
     where
       by : (result : Result Ending Stop)
-          → StopsBefore (fleet_steps words) words.store old new output result
-          ⊎ Starts T truth link step left count words old new output result
+          → StopsBefore T truth link step left count (fleet_steps words) words.store old new output
+          result
+          ⊎ Starts T truth link step lent took left count words old new output result
           → TellsFleet result errors status → Completed status
       by (Ok e) (inl never) tells = absurd never
       by (Ok e) (inr s) tells = ended_so status e s tells.1 tells.0

@@ -3,7 +3,7 @@ use Rattle.std.proofs.Common.{◌≡◌, ◌≢◌, ℕ, zero, suc, ◌+◌, Lis
 use Rattle.std.specs.Prelude.{IsSome, false, if◌then◌else◌, sum}
 use Rattle.std.specs.Option.{option_map}
 use Rattle.std.proofs.lemmas.List.{map-append}
-use Rattle.kr_config.specs.Kept.{Row, plugins_in}
+use Rattle.kr_config.specs.Kept.{ConfigEntry, plugins_in}
 use Rattle.kr_kms.specs.declared.seeds.SeedRow.{SeedRow}
 use Rattle.kr_kms.specs.declared.plugin.Status.{Status}
 use Rattle.kr_kms.specs.declared.world.WorldCall.TheVariants.{File, RandomSource}
@@ -22,14 +22,14 @@ use Rattle.kr_script.specs.declared.script.ScriptNo.{ScriptNo}
 use Rattle.kr_script.proofs.OneAnswer.{one_meaning}
 use Rattle.kr_store.specs.declared.rows.LogRow.{LogRow}
 use Rattle.kr_watch.specs.declared.item.Item.{Item}
-use Rattle.kr_words.specs.Arguments.{program_of}
+use Rattle.kr_words.specs.Arguments.{plugin_program}
 use Rattle.kr_cmd_steps.specs.Around.{Around, left_of}
-use Rattle.kr_cmd_steps.specs.Commands.{by_result, configuration, with_memory}
-use Rattle.kr_cmd_fleet.specs.FleetFiles.{FleetPlan, IsFleetFile, NamedRows, all_rows, files_in, all_files, programs_in, rows_at, script_refusal, unless_read}
+use Rattle.kr_cmd_steps.specs.Phases.{by_result, configuration, with_memory}
+use Rattle.kr_cmd_fleet.specs.FleetFiles.{FleetPlan, IsFleetFile, NamedRows, all_rows, files_in, all_files, file_programs, file_entries, script_refusal, unless_read}
 use Rattle.kr_cmd_fleet.specs.FleetReady.{IsFleetTold}
 use Rattle.kr_cmd_fleet.specs.Fleets.{AreWithin, Begun, IsStart, Replicas, beginning, equipping_all, equipping, fleet_steps, launching, over_store, parts_of, publishes, publishing, rows_of_replica, starting, starting_with}
 use Rattle.kr_cmd_steps.specs.Judgements.{start_refusal}
-use Rattle.kr_cmd_steps.specs.Plugins.{join_program, make_seeds, programs_of}
+use Rattle.kr_cmd_steps.specs.Plugins.{join_program, make_seeds, settings_programs}
 use Rattle.kr_cmd_steps.specs.Ran.{AreTold}
 use Rattle.kr_cmd_steps.specs.Steps.{Left, Steps, and_then, give, or_empty, with_asked}
 use Rattle.kr_cmd_steps.specs.StoreFiles.{Stored}
@@ -85,7 +85,7 @@ one_within rows parts (Err v) (Err w) h k = ap (λ r. Err r) (h.0 ∙ sym k.0)
 told_cause : (a : StartNo) (why : Refusal) → start_refusal a ≡ Some why → a ≢ no.NoMemory
 told_cause a why e is = absurd (let f : None ≡ Some why = sym (ap start_refusal is) ∙ e in cc)
 
-may_or_not : (rows : List LogRow) (settings : List (Option (List Row))) (why : Refusal)
+may_or_not : (rows : List LogRow) (settings : List (Option (List ConfigEntry))) (why : Refusal)
     → MayStart rows settings → (a : StartNo) → IsNoStart rows settings a
     → start_refusal a ≡ Some why → ⊥
 may_or_not rows settings why may a is e =
@@ -117,25 +117,25 @@ settled_files : (names : List (List ℕ)) (read : List NamedRows) (first left : 
     → GoOneWay (and_then (files_in read names) next) left
 settled_files [] read first left stays told next s = s read left stays
 settled_files (name ∷ names) read first left stays told next s =
-    by (rows_at read name) (settled_files names read first left stays told.1 next s)
+    by (file_entries read name) (settled_files names read first left stays told.1 next s)
     (λ rows. settled_files names (read ++ (name, rows) ∷ []) first _
     (record { file = stays.file; tapes = stays.tapes; links = stays.links }) told.1 next s)
   where
-    more : List Row → Steps (List NamedRows)
+    more : List ConfigEntry → Steps (List NamedRows)
     more rows = with_memory (files_in (read ++ (name, rows) ∷ []) names)
 
     now : Left
     now = with_asked (File name) left
 
-    by_rows : ((rows : List Row)
+    by_rows : ((rows : List ConfigEntry)
         → GoOneWay (and_then (files_in (read ++ (name, rows) ∷ []) names) next) now)
-        → (r : Result (List Row) Refusal)
+        → (r : Result (List ConfigEntry) Refusal)
         → GoOneWay (and_then (and_then (by_result r) more) next) now
     by_rows goes (Ok rows) = λ u v h k. goes rows
     by_rows goes (Err why) = refl
 
-    by : (o : Option (List Row)) → GoOneWay (and_then (files_in read names) next) left
-        → ((rows : List Row)
+    by : (o : Option (List ConfigEntry)) → GoOneWay (and_then (files_in read names) next) left
+        → ((rows : List ConfigEntry)
         → GoOneWay (and_then (files_in (read ++ (name, rows) ∷ []) names) next) now)
         → GoOneWay (and_then (unless_read o (files_in read names)
         (and_then (configuration name) more)) next) left
@@ -168,7 +168,7 @@ module _ {A : Type 0} (programs : List Program) (next : Steps A) (f : A → Step
 -- ---- what the replicas publish
 
 module _ (files : List NamedRows) (first : ℕ × List ℕ → Option Status)
-    (told : (name : List ℕ) (rows : List Row) → rows_at files name ≡ Some rows
+    (told : (name : List ℕ) (rows : List ConfigEntry) → file_entries files name ≡ Some rows
     → (plugin : List ℕ) → Contains (plugin_order rows) plugin → IsSome (first (0, plugin)))
     (next : Replicas → Steps Outcome)
     (go_on : (x y : Replicas) (l r : Left) → settings_of x ≡ settings_of y
@@ -200,10 +200,10 @@ module _ (files : List NamedRows) (first : ℕ × List ℕ → Option Status)
           ≡ option_map (λ (a : Publication). a.rows) q
           → IsSettled (and_then (More (x ++ p ∷ [])) next) (and_then (More (y ++ q ∷ [])) next) s t
 
-      kept : Replicas → List Row → List SeedRow → Steps Replicas
+      kept : Replicas → List ConfigEntry → List SeedRow → Steps Replicas
       kept made rows seeds = More (made ++ Some (record { rows = rows; seeds = seeds }) ∷ [])
 
-      seeds_so : (rows : List Row) → rows_of_replica files replica ≡ Some rows → Behind
+      seeds_so : (rows : List ConfigEntry) → rows_of_replica files replica ≡ Some rows → Behind
           → IsSettled
           (and_then (make_seeds (plugin_order rows)) (λ seeds. and_then (kept x rows seeds) next))
           (and_then (make_seeds (plugin_order rows)) (λ seeds. and_then (kept y rows seeds) next))
@@ -215,7 +215,7 @@ module _ (files : List NamedRows) (first : ℕ × List ℕ → Option Status)
           (λ a b s t g h. λ m n. behind (Some (record { rows = rows; seeds = a }))
           (Some (record { rows = rows; seeds = b })) s t (m ∙ at) (n ∙ at) refl)
 
-      by : (o : Option (List Row)) → rows_of_replica files replica ≡ o → Behind
+      by : (o : Option (List ConfigEntry)) → rows_of_replica files replica ≡ o → Behind
           → IsSettled (and_then (publishes o x More) next) (and_then (publishes o y More) next) l r
       by None is behind = behind None None l r at also refl
       by (Some rows) is behind = λ u v h k.
@@ -257,29 +257,29 @@ settled_start plan stored budgets items x y l r e = λ a b h k.
 
 -- each plugin for which there are programs has one
 each_program : (options : List (List ℕ × List ℕ)) (plugins : List (List ℕ))
-    (programs : List Program) → programs_of options plugins ≡ Ok programs → (plugin : List ℕ)
-    → Contains plugins plugin → IsSome (program_of options plugin)
+    (programs : List Program) → settings_programs options plugins ≡ Ok programs → (plugin : List ℕ)
+    → Contains plugins plugin → IsSome (plugin_program options plugin)
 each_program options [] programs e plugin (k, below, is) = absurd (omega (arith, below))
 each_program options (first ∷ plugins) programs e plugin c =
-    by (program_of options first) (programs_of options plugins) refl e c
+    by (plugin_program options first) (settings_programs options plugins) refl e c
     (λ more rest. each_program options plugins more rest plugin)
   where
-    by : (o : Option (List ℕ)) (r : Result (List Program) Refusal) → program_of options first ≡ o
+    by : (o : Option (List ℕ)) (r : Result (List Program) Refusal) → plugin_program options first ≡ o
         → join_program first o r ≡ Ok programs → Contains (first ∷ plugins) plugin
         → ((more : List Program) → r ≡ Ok more → Contains plugins plugin
-        → IsSome (program_of options plugin)) → IsSome (program_of options plugin)
+        → IsSome (plugin_program options plugin)) → IsSome (plugin_program options plugin)
     by None r is joined c behind = absurd cc
     by (Some file) (Err why) is joined c behind = absurd cc
     by (Some file) (Ok more) is joined (zero, below, same) behind =
-        subst (λ p. IsSome (program_of options p)) same (subst IsSome (sym is) refl)
+        subst (λ p. IsSome (plugin_program options p)) same (subst IsSome (sym is) refl)
     by (Some file) (Ok more) is joined (suc k, below, same) behind =
         behind more refl (k, omega (arith, below), same)
 
 module _ (words : FleetWords) (old : Around) (told : IsFleetTold words old) where
   -- a plugin of a file that was read tells its status
   statuses : (plan : FleetPlan)
-      → programs_of words.options (plugin_order (all_rows plan.files)) ≡ Ok plan.programs
-      → (name : List ℕ) (rows : List Row) → rows_at plan.files name ≡ Some rows
+      → settings_programs words.options (plugin_order (all_rows plan.files)) ≡ Ok plan.programs
+      → (name : List ℕ) (rows : List ConfigEntry) → file_entries plan.files name ≡ Some rows
       → (plugin : List ℕ) → Contains (plugin_order rows) plugin
       → IsSome (old.world.links.told (0, plugin))
   statuses plan e name rows is plugin c = told.statuses plugin
@@ -288,7 +288,7 @@ module _ (words : FleetWords) (old : Around) (told : IsFleetTold words old) wher
       (rows_among plan.files name rows plugin is ((order_has (plugins_in rows) plugin).0 c))))
 
   settled_outfits : (plan : FleetPlan)
-      → programs_of words.options (plugin_order (all_rows plan.files)) ≡ Ok plan.programs
+      → settings_programs words.options (plugin_order (all_rows plan.files)) ≡ Ok plan.programs
       → (stored : Stored) (budgets : List ℕ) (l r : Left) → l.links ≡ old.world.links.told
       → r.links ≡ old.world.links.told
       → IsSettled (and_then (launching false plan stored budgets) closing)
@@ -302,7 +302,7 @@ module _ (words : FleetWords) (old : Around) (told : IsFleetTold words old) wher
       r x y refl)
 
   settled_over : (plan : FleetPlan) (l : Left) → IsAs (left_of old) l
-      → programs_of words.options (plugin_order (all_rows plan.files)) ≡ Ok plan.programs
+      → settings_programs words.options (plugin_order (all_rows plan.files)) ≡ Ok plan.programs
       → GoOneWay (and_then (over_store false words.store plan) closing) l
   settled_over plan l stays e = (
     there,
@@ -326,17 +326,17 @@ module _ (words : FleetWords) (old : Around) (told : IsFleetTold words old) wher
       there = subst (λ t. IsSome (t words.store)) (sym stays.tapes) told.store
 
   abbrev plan_of_files : Fleet → List NamedRows → Steps FleetPlan
-  plan_of_files fleet files = and_then (programs_in words.options files) (λ programs.
+  plan_of_files fleet files = and_then (file_programs words.options files) (λ programs.
       give (record { fleet = fleet; files = files; programs = programs }))
 
   settled_plan : (fleet : Fleet) (files : List NamedRows) (l : Left) → IsAs (left_of old) l
       → GoOneWay (and_then (and_then (plan_of_files fleet files) (over_store false words.store)) closing)
       l
   settled_plan fleet files l stays = λ u v h k.
-      by (programs_of words.options (plugin_order (all_rows files))) refl
+      by (settings_programs words.options (plugin_order (all_rows files))) refl
     where
       by : (r : Result (List Program) Refusal)
-          → programs_of words.options (plugin_order (all_rows files)) ≡ r
+          → settings_programs words.options (plugin_order (all_rows files)) ≡ r
           → GoOneWay (and_then (and_then (and_then (by_result r) (λ programs.
           give (record { fleet = fleet; files = files; programs = programs })))
           (over_store false words.store)) closing) l

@@ -9,8 +9,9 @@ use Rattle.std.proofs.lemmas.List.{append_assoc, map-append}
 use Rattle.std.proofs.lemmas.List.Elements.{All-append, All-cons, All-head, All-nil, All-tail, All-weaker, Contains-append_cases, Contains-get_or}
 use Rattle.std.proofs.lemmas.Slice.Eq.{bytes_eq-Decides}
 use Rattle.kr_base.specs.Told.{Agrees}
-use Rattle.kr_config.specs.Kept.{Row, plugins_in}
+use Rattle.kr_config.specs.Kept.{ConfigEntry, plugins_in}
 use Rattle.kr_config.specs.Providers.{plugins_among}
+use Rattle.kr_kms.specs.Exchanges.{StatusCall}
 use Rattle.kr_kms.specs.Health.{breach_in}
 use Rattle.kr_provider.specs.PluginOrder.{plugin_order}
 use Rattle.kr_provider.specs.Publication.{Publication}
@@ -23,19 +24,19 @@ use Rattle.kr_script.specs.Fleets.{Fleet, Worker}
 use Rattle.kr_script.proofs.OneAnswer.{one_meaning}
 use Rattle.kr_store.specs.declared.rows.LogRow.{LogRow}
 use Rattle.kr_store.proofs.Listings.{listing_once}
-use Rattle.kr_words.specs.Arguments.{program_of}
+use Rattle.kr_words.specs.Arguments.{plugin_program}
 use Rattle.kr_kms.specs.declared.world.WorldCall.TheVariants.{File}
-use Rattle.kr_workers.specs.Budgets.{AreBudgets, budgets_of, put_lines}
+use Rattle.kr_workers.specs.Budgets.{AreBudgets, script_budgets, put_lines}
 use Rattle.kr_script.specs.declared.script.Part.{Part}
 use Rattle.kr_cmd_steps.specs.Around.{Around, left_of}
-use Rattle.kr_cmd_steps.specs.Commands.{by_result, configuration, with_memory}
+use Rattle.kr_cmd_steps.specs.Phases.{by_result, configuration, with_memory}
 use Rattle.kr_cmd_steps.specs.Configuration.{IsConfiguration}
-use Rattle.kr_cmd_fleet.specs.FleetFiles.{FleetPlan, IsFleetFile, NamedRows, all_rows, file_in, file_of_replica, files_in, all_files, no_file, planning, programs_in, rows_at, unless_read}
-use Rattle.kr_cmd_fleet.specs.FleetReady.{HasSettings, HaveSettings, IsConfigured, IsHealthy, IsReady, TellsRows}
+use Rattle.kr_cmd_fleet.specs.FleetFiles.{FleetPlan, IsFleetFile, NamedRows, all_rows, file_in, file_of_replica, files_in, all_files, no_file, planning, file_programs, file_entries, unless_read}
+use Rattle.kr_cmd_fleet.specs.FleetReady.{HasSettings, HaveSettings, IsConfigured, IsHealthyAtSeats, IsReady, TellsRows}
 use Rattle.kr_cmd_fleet.specs.Fleets.{AreWithin, Begun, IsStart, Replicas, beginning, equipping_all, equipping, fleet_steps, launching, over_store, parts_of, publishes, publishing, rows_of_replica, starting_with}
 use Rattle.kr_cmd_steps.specs.Judgements.{start_refusal}
-use Rattle.kr_cmd_steps.specs.Plugins.{borrow_links_of, join_program, make_seed, make_seeds, programs_of, unless_breach, wrap_seed}
-use Rattle.kr_cmd_steps.specs.Steps.{Left, Steps, and_then, give, or_empty, tapes_with, with_asked}
+use Rattle.kr_cmd_steps.specs.Plugins.{borrow_links_of, join_program, make_seed, make_seeds, settings_programs, unless_breach, wrap_seed}
+use Rattle.kr_cmd_steps.specs.Steps.{Left, Steps, and_then, give, or_empty, tapes_with, with_asked, with_heard}
 use Rattle.kr_cmd_steps.specs.StoreFiles.{IsStored}
 use Rattle.kr_cmd_messages.specs.declared.fleet_words.FleetWords.{FleetWords}
 use Rattle.kr_cmd_steps.specs.declared.programs.Program.{Program}
@@ -90,15 +91,15 @@ pub one_budgets : (rows : List LogRow) (parts : List Part) (a b : List ℕ)
 one_budgets rows parts a b (m, (first, lists, long), is) (n, (second, also, far), so) =
     let same : m ≡ n =
     long ∙ ap length (listing_once rows first second lists also) ∙ sym far in
-    is ∙ ap (λ live. budgets_of (live + put_lines parts) parts) same ∙ sym so
+    is ∙ ap (λ live. script_budgets (live + put_lines parts) parts) same ∙ sym so
 
 -- the rows of a replica are those of its file
-pub file_rows : (files : List NamedRows) (replica : List ℕ × List ℕ) (rows : List Row)
-    → rows_of_replica files replica ≡ Some rows → rows_at files replica.1 ≡ Some rows
+pub file_rows : (files : List NamedRows) (replica : List ℕ × List ℕ) (rows : List ConfigEntry)
+    → rows_of_replica files replica ≡ Some rows → file_entries files replica.1 ≡ Some rows
 file_rows files replica rows e = by (bytes_eq replica.1 no_file) e
   where
-    by : (b : Bool) → (if b then None else rows_at files replica.1) ≡ Some rows
-        → rows_at files replica.1 ≡ Some rows
+    by : (b : Bool) → (if b then None else file_entries files replica.1) ≡ Some rows
+        → file_entries files replica.1 ≡ Some rows
     by true is = absurd cc
     by false is = is
 
@@ -106,7 +107,7 @@ module _ (words : FleetWords) (old : Around) (ready : IsReady words old) where
   abbrev Ready : List ℕ → Type 0
   Ready name = IsConfigured words old (length ready.fleet.workers) name
 
-  one_rows : (name : List ℕ) (a b : List Row) → TellsRows old name a → TellsRows old name b
+  one_rows : (name : List ℕ) (a b : List ConfigEntry) → TellsRows old name a → TellsRows old name b
       → a ≡ b
   one_rows name a b (file, told, is) (other, also, so) =
       let same : other ≡ file = some_same (sym also ∙ told) in
@@ -136,7 +137,7 @@ module _ (words : FleetWords) (old : Around) (ready : IsReady words old) where
     tapes = tapes;
   }
   loads_files done (name ∷ names) read left each there all sees tapes =
-      by (rows_at read name) refl (λ files l is reads s same.
+      by (file_entries read name) refl (λ files l is reads s same.
       subst (λ ns. GivesOnly (Loaded ns) (files_in files names) l)
       (append_assoc done (name ∷ []) names)
       (loads_files (done ++ name ∷ []) names files l (All-tail Ready name names each) is reads s
@@ -151,16 +152,16 @@ module _ (words : FleetWords) (old : Around) (ready : IsReady words old) where
           → l.tapes ≡ old.world.tapes.told
           → GivesOnly (Loaded (done ++ (name ∷ names))) (files_in files names) l
 
-      added : (rows : List Row) → TellsRows old name rows
+      added : (rows : List ConfigEntry) → TellsRows old name rows
           → All IsThere (read ++ (name, rows) ∷ [])
       added rows told = All-append IsThere read ((name, rows) ∷ []) there
           (All-cons IsThere (name, rows) [] (told, own) (All-nil IsThere))
 
-      still : (rows : List Row) (n : List ℕ) → IsRead read n
+      still : (rows : List ConfigEntry) (n : List ℕ) → IsRead read n
           → IsRead (read ++ (name, rows) ∷ []) n
       still rows n is = subst IsSome (sym (more_stays read (name, rows) n is)) is
 
-      reads_more : (rows : List Row)
+      reads_more : (rows : List ConfigEntry)
           → All (IsRead (read ++ (name, rows) ∷ [])) (done ++ name ∷ [])
       reads_more rows =
           let now = read ++ (name, rows) ∷ [] in
@@ -168,7 +169,7 @@ module _ (words : FleetWords) (old : Around) (ready : IsReady words old) where
           (All-weaker (IsRead read) (IsRead now) (still rows) done all)
           (All-cons (IsRead now) name [] (last_read read name rows) (All-nil (IsRead now)))
 
-      by : (o : Option (List Row)) → rows_at read name ≡ o → Behind
+      by : (o : Option (List ConfigEntry)) → file_entries read name ≡ o → Behind
           → GivesOnly (Loaded (done ++ (name ∷ names))) (unless_read o (files_in read names)
           (and_then (configuration name)
           (λ rows. with_memory (files_in (read ++ (name, rows) ∷ []) names)))) left
@@ -191,21 +192,21 @@ module _ (words : FleetWords) (old : Around) (ready : IsReady words old) where
   -- a plugin that one of them names has a program and is healthy
   plugin_there : (files : List NamedRows) (plugin : List ℕ) → All IsThere files
       → Contains (plugins_in (all_rows files)) plugin
-      → IsSome (program_of words.options plugin)
-      × IsHealthy old (length ready.fleet.workers) plugin
+      → IsSome (plugin_program words.options plugin)
+      × IsHealthyAtSeats old (length ready.fleet.workers) plugin
   plugin_there [] plugin there (k, below, e) = absurd (omega (arith, below))
   plugin_there (file ∷ files) plugin there c = by (Contains-append_cases (plugins_in file.1)
       (plugins_in (all_rows files)) plugin
       (subst (λ l. Contains l plugin)
-      (flat_map-append (λ (row : Row). plugins_among row.providers) file.1 (all_rows files)) c))
+      (flat_map-append (λ (row : ConfigEntry). plugins_among row.providers) file.1 (all_rows files)) c))
       (plugin_there files plugin (All-tail IsThere file files there))
     where
       first : IsThere file
       first = All-head IsThere file files there
 
       Fine : Type 0
-      Fine = IsSome (program_of words.options plugin)
-          × IsHealthy old (length ready.fleet.workers) plugin
+      Fine = IsSome (plugin_program words.options plugin)
+          × IsHealthyAtSeats old (length ready.fleet.workers) plugin
 
       by : Contains (plugins_in file.1) plugin ⊎ Contains (plugins_in (all_rows files)) plugin
           → (Contains (plugins_in (all_rows files)) plugin → Fine) → Fine
@@ -223,7 +224,7 @@ module _ (words : FleetWords) (old : Around) (ready : IsReady words old) where
     pub there : All IsThere plan.files
     pub read : All (IsRead plan.files) (all_files ready.fleet)
     pub healthy : (plugin : List ℕ) → Contains (names_in plan.programs) plugin
-        → IsHealthy old (length ready.fleet.workers) plugin
+        → IsHealthyAtSeats old (length ready.fleet.workers) plugin
 
   abbrev Planned : FleetPlan → Left → Type 0
   Planned plan left = IsPlanned plan × Sees old left × (left.tapes ≡ old.world.tapes.told)
@@ -233,32 +234,32 @@ module _ (words : FleetWords) (old : Around) (ready : IsReady words old) where
       give (record { fleet = fleet; files = files; programs = programs })
 
   have_programs : (plugins : List (List ℕ))
-      → All (λ plugin. IsSome (program_of words.options plugin)) plugins
-      → (programs : List Program) × (Ok programs ≡ programs_of words.options plugins)
+      → All (λ plugin. IsSome (plugin_program words.options plugin)) plugins
+      → (programs : List Program) × (Ok programs ≡ settings_programs words.options plugins)
       × (names_in programs ≡ plugins)
   have_programs [] each = ([], refl, refl)
   have_programs (plugin ∷ plugins) each =
-      let Has : List ℕ → Type 0 = λ p. IsSome (program_of words.options p) in
-      by (program_of words.options plugin) refl (All-head Has plugin plugins each)
+      let Has : List ℕ → Type 0 = λ p. IsSome (plugin_program words.options p) in
+      by (plugin_program words.options plugin) refl (All-head Has plugin plugins each)
       (have_programs plugins (All-tail Has plugin plugins each))
     where
-      by : (o : Option (List ℕ)) → program_of words.options plugin ≡ o → IsSome o
-          → (programs : List Program) × (Ok programs ≡ programs_of words.options plugins)
+      by : (o : Option (List ℕ)) → plugin_program words.options plugin ≡ o → IsSome o
+          → (programs : List Program) × (Ok programs ≡ settings_programs words.options plugins)
           × (names_in programs ≡ plugins)
           → (programs : List Program)
-          × (Ok programs ≡ programs_of words.options (plugin ∷ plugins))
+          × (Ok programs ≡ settings_programs words.options (plugin ∷ plugins))
           × (names_in programs ≡ plugin ∷ plugins)
       by None e is more = absurd (let f : false ≡ true = is in cc)
       by (Some file) e is (programs, all, names) = (
         record { plugin = plugin; file = file } ∷ programs,
         ap (join_program plugin (Some file)) all
-            ∙ ap (λ o. join_program plugin o (programs_of words.options plugins)) (sym e),
+            ∙ ap (λ o. join_program plugin o (settings_programs words.options plugins)) (sym e),
         ap (λ l. plugin ∷ l) names,
       )
 
   plans : (fleet : Fleet) (left : Left) → fleet ≡ ready.fleet → (files : List NamedRows)
       → Loaded (all_files ready.fleet) files left
-      → GivesOnly Planned (and_then (programs_in words.options files)
+      → GivesOnly Planned (and_then (file_programs words.options files)
       (λ programs. plan_by fleet files programs)) left
   plans fleet left same files l = λ u t.
       let plugins = plugin_order (all_rows files) in
@@ -267,7 +268,7 @@ module _ (words : FleetWords) (old : Around) (ready : IsReady words old) where
       ((order_has (plugins_in (all_rows files)) (get_or plugins k d)).0
       (Contains-get_or plugins k d below))).0) in
       by_known_then Planned (λ programs. plan_by fleet files programs)
-      (programs_of words.options plugins) made.0 left made.1 (
+      (settings_programs words.options plugins) made.0 left made.1 (
         record {
           fleet_is = same;
           there = l.there;
@@ -286,12 +287,12 @@ module _ (words : FleetWords) (old : Around) (ready : IsReady words old) where
       ready.file.1 agrees in
       let now = with_asked (File words.file) (left_of old) in
       by_known_then Planned (λ fleet. and_then (files_in [] (all_files fleet)) (λ files.
-      and_then (programs_in words.options files) (λ programs.
+      and_then (file_programs words.options files) (λ programs.
       plan_by fleet files programs))) r ready.fleet now
       (one_fleet_file words.file bytes ready.fleet r
       (subst (λ f. IsFleetFile words.file f (Ok ready.fleet)) file ready.file.2) is)
       (gives_then (Loaded (all_files ready.fleet)) Planned
-      (λ files. and_then (programs_in words.options files) (λ programs.
+      (λ files. and_then (file_programs words.options files) (λ programs.
       plan_by ready.fleet files programs))
       (λ files l loaded. plans ready.fleet l refl files loaded)
       (files_in [] (all_files ready.fleet)) now
@@ -344,22 +345,23 @@ module _ (words : FleetWords) (old : Around) (ready : IsReady words old) where
       by (Some bytes) (inl long) = absurd (let e = long.1 in cc)
       by (Some bytes) (inr means) = means.1.2.workers
 
-  wraps : (plugin : List ℕ) (left : Left) → IsHealthy old (length ready.fleet.workers) plugin
+  wraps : (plugin : List ℕ) (left : Left) → IsHealthyAtSeats old (length ready.fleet.workers) plugin
       → Sees old left → GivesOnly Seen (make_seed plugin) left
   wraps plugin left healthy sees = λ status agrees.
       let fine = healthy 0 some_worker in
       let same : fine.0 ≡ status = is_told (left.links (0, plugin)) fine.0 status
       (ap (λ f. f (0, plugin)) sees.links ∙ fine.1) agrees in
-      subst (λ o. GivesOnly Seen (unless_breach plugin o (wrap_seed plugin)) left)
+      subst (λ o. GivesOnly Seen (unless_breach plugin o (wrap_seed plugin))
+      (with_heard (StatusCall plugin (Ok status)) left))
       (sym (subst (λ s. breach_in s ≡ None) same fine.2))
       (λ bytes rest wrapped. record { file = sees.file; links = sees.links })
 
   makes : (plugins : List (List ℕ)) (left : Left)
-      → All (IsHealthy old (length ready.fleet.workers)) plugins → Sees old left
+      → All (IsHealthyAtSeats old (length ready.fleet.workers)) plugins → Sees old left
       → GivesOnly Seen (make_seeds plugins) left
   makes [] left each sees = sees
   makes (plugin ∷ plugins) left each sees =
-      let Fine = IsHealthy old (length ready.fleet.workers) in
+      let Fine = IsHealthyAtSeats old (length ready.fleet.workers) in
       gives_then Seen Seen
       (λ row. and_then (make_seeds plugins) (λ rows. give (row ∷ rows)))
       (λ row l s. gives_then Seen Seen (λ rows. give (row ∷ rows)) (λ rows m t. t)
@@ -369,8 +371,8 @@ module _ (words : FleetWords) (old : Around) (ready : IsReady words old) where
   -- ---- what the replicas publish
 
   -- the file of a name was read, as it is told
-  there_at : (files : List NamedRows) (name : List ℕ) (rows : List Row) → All IsThere files
-      → rows_at files name ≡ Some rows → TellsRows old name rows × Ready name
+  there_at : (files : List NamedRows) (name : List ℕ) (rows : List ConfigEntry) → All IsThere files
+      → file_entries files name ≡ Some rows → TellsRows old name rows × Ready name
   there_at [] name rows there e = absurd cc
   there_at (file ∷ files) name rows there e =
       by (bytes_eq file.0 name) refl (sym (first_found file files name) ∙ e)
@@ -380,8 +382,8 @@ module _ (words : FleetWords) (old : Around) (ready : IsReady words old) where
       first = All-head IsThere file files there
 
       by : (b : Bool) → bytes_eq file.0 name ≡ b
-          → found_by b file (rows_at files name) ≡ Some rows
-          → (rows_at files name ≡ Some rows → TellsRows old name rows × Ready name)
+          → found_by b file (file_entries files name) ≡ Some rows
+          → (file_entries files name ≡ Some rows → TellsRows old name rows × Ready name)
           → TellsRows old name rows × Ready name
       by true same is behind =
           let e : file.0 ≡ name = (bytes_eq-Decides file.0 name).0 same in
@@ -392,11 +394,11 @@ module _ (words : FleetWords) (old : Around) (ready : IsReady words old) where
 
   module _ (files : List NamedRows) (there : All IsThere files) where
     -- the settings come to this
-    abbrev Publishes : List (Option (List Row)) → Replicas → Left → Type 0
+    abbrev Publishes : List (Option (List ConfigEntry)) → Replicas → Left → Type 0
     Publishes settings made left = (settings_of made ≡ settings) × Sees old left
 
-    healthy_rows : (name : List ℕ) (rows : List Row) → rows_at files name ≡ Some rows
-        → All (IsHealthy old (length ready.fleet.workers)) (plugin_order rows)
+    healthy_rows : (name : List ℕ) (rows : List ConfigEntry) → file_entries files name ≡ Some rows
+        → All (IsHealthyAtSeats old (length ready.fleet.workers)) (plugin_order rows)
     healthy_rows name rows e = λ k d below.
         let plugins = plugin_order rows in
         let t = there_at files name rows there e in
@@ -405,8 +407,8 @@ module _ (words : FleetWords) (old : Around) (ready : IsReady words old) where
         same ((order_has (plugins_in rows) (get_or plugins k d)).0
         (Contains-get_or plugins k d below)))
 
-    one_more : (settings : List (Option (List Row))) (made : Replicas) (p : Option Publication)
-        (rows : Option (List Row)) (rest : List (Option (List Row)))
+    one_more : (settings : List (Option (List ConfigEntry))) (made : Replicas) (p : Option Publication)
+        (rows : Option (List ConfigEntry)) (rest : List (Option (List ConfigEntry)))
         → option_map (λ (q : Publication). q.rows) p ≡ rows
         → settings_of made ++ (rows ∷ rest) ≡ settings
         → settings_of (made ++ p ∷ []) ++ rest ≡ settings
@@ -415,7 +417,7 @@ module _ (words : FleetWords) (old : Around) (ready : IsReady words old) where
         ∙ append_assoc (settings_of made) (option_map (λ (q : Publication). q.rows) p ∷ []) rest
         ∙ ap (λ r. settings_of made ++ (r ∷ rest)) e ∙ all
 
-    publishes_all : (settings : List (Option (List Row))) (replicas : List (List ℕ × List ℕ))
+    publishes_all : (settings : List (Option (List ConfigEntry))) (replicas : List (List ℕ × List ℕ))
         (made : Replicas) (left : Left)
         → settings_of made ++ map (rows_of_replica files) replicas ≡ settings → Sees old left
         → GivesOnly (Publishes settings) (publishing files made replicas) left
@@ -439,7 +441,7 @@ module _ (words : FleetWords) (old : Around) (ready : IsReady words old) where
         all_so p is = one_more settings made p (rows_of_replica files replica)
             (map (rows_of_replica files) replicas) is e
 
-        by : (o : Option (List Row)) → rows_of_replica files replica ≡ o → Behind
+        by : (o : Option (List ConfigEntry)) → rows_of_replica files replica ≡ o → Behind
             → GivesOnly (Publishes settings) (publishes o made More) left
         by None is next = next None left (all_so None (sym is)) sees
         by (Some rows) is next = λ u t.
@@ -452,30 +454,30 @@ module _ (words : FleetWords) (old : Around) (ready : IsReady words old) where
             (healthy_rows replica.1 rows (file_rows files replica rows is)) sees)
 
     -- the settings are the told ones
-    settings_so : (replica : List ℕ × List ℕ) (rows : Option (List Row))
+    settings_so : (replica : List ℕ × List ℕ) (rows : Option (List ConfigEntry))
         → HasSettings old replica rows
         → (bytes_eq replica.1 no_file ≡ false → IsRead files replica.1)
         → rows_of_replica files replica ≡ rows
     settings_so replica rows has read = by (bytes_eq replica.1 no_file) refl rows has
       where
-        found : (o : Option (List Row)) → rows_at files replica.1 ≡ o → IsSome o
-            → (own : List Row) → TellsRows old replica.1 own → o ≡ Some own
+        found : (o : Option (List ConfigEntry)) → file_entries files replica.1 ≡ o → IsSome o
+            → (own : List ConfigEntry) → TellsRows old replica.1 own → o ≡ Some own
         found None e is own tells = absurd (let f : false ≡ true = is in cc)
         found (Some rows) e is own tells =
             let t = there_at files replica.1 rows there e in
             ap (λ r. Some r) (one_rows replica.1 rows own t.0 tells)
 
-        by : (b : Bool) → bytes_eq replica.1 no_file ≡ b → (o : Option (List Row))
-            → HasSettings old replica o → (if b then None else rows_at files replica.1) ≡ o
+        by : (b : Bool) → bytes_eq replica.1 no_file ≡ b → (o : Option (List ConfigEntry))
+            → HasSettings old replica o → (if b then None else file_entries files replica.1) ≡ o
         by true gap None is = refl
         by true gap (Some own) (in_it, tells) =
             absurd (in_it ((bytes_eq-Decides replica.1 no_file).0 gap))
         by false other None is = absurd (let t : true ≡ false =
             sym ((bytes_eq-Decides replica.1 no_file).1 is) ∙ other in cc)
         by false other (Some own) (in_it, tells) =
-            found (rows_at files replica.1) refl (read other) own tells
+            found (file_entries files replica.1) refl (read other) own tells
 
-    settings_all : (replicas : List (List ℕ × List ℕ)) (settings : List (Option (List Row)))
+    settings_all : (replicas : List (List ℕ × List ℕ)) (settings : List (Option (List ConfigEntry)))
         → HaveSettings old replicas settings
         → All (λ replica. bytes_eq replica.1 no_file ≡ false → IsRead files replica.1) replicas
         → map (rows_of_replica files) replicas ≡ settings
@@ -495,7 +497,7 @@ module _ (words : FleetWords) (old : Around) (ready : IsReady words old) where
   pub record BeginsWell (begun : Begun) (left : Left) : Type 0 where
     pub fleet_is : begun.plan.fleet ≡ ready.fleet
     pub healthy : (plugin : List ℕ) → Contains (names_in begun.plan.programs) plugin
-        → IsHealthy old (length ready.fleet.workers) plugin
+        → IsHealthyAtSeats old (length ready.fleet.workers) plugin
     pub sees : Sees old left
 
   no_refusal : (rows : List LogRow) (replicas : Replicas) (why : Refusal)

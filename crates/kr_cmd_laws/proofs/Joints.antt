@@ -55,8 +55,8 @@ module _ {A B : Type 0} (others : A → Steps B) (y : B) (end : Left) where
       absurd (no_value at refl)
   joint (write_row object name store row next) left (inr (told, holds, goes)) =
       let j = joint next _ goes in (j.0, j.1, inr (told, holds, j.2), j.3)
-  joint (keep_rows name store next) left (told, count, later, holds, goes) =
-      let j = joint next _ goes in (j.0, j.1, (told, count, later, holds, j.2), j.3)
+  joint (keep_rows name store next) left (told, holds, goes) =
+      let j = joint next _ goes in (j.0, j.1, (told, holds, j.2), j.3)
   joint (settle object name next) left (inl at) = absurd (no_value at refl)
   joint (settle object name next) left (inr goes) =
       let j = joint next _ goes in (j.0, j.1, inr j.2, j.3)
@@ -68,15 +68,26 @@ module _ {A B : Type 0} (others : A → Steps B) (y : B) (end : Left) where
   joint (borrow_link seat plugin program next) left (inr (inr goes)) =
       let j = joint next _ goes in (j.0, j.1, inr (inr j.2), j.3)
   joint (ask_status seat plugin next) left (inl at) = absurd (no_value at refl)
-  joint (ask_status seat plugin next) left (inr (status, agrees, goes)) =
-      let j = joint (next status) left goes in (j.0, j.1, inr (status, agrees, j.2), j.3)
+  joint (ask_status seat plugin next) left (inr (inl (answer, at))) = absurd (no_value at refl)
+  joint (ask_status seat plugin next) left (inr (inr (inl at))) = absurd (no_value at refl)
+  joint (ask_status seat plugin next) left (inr (inr (inr (status, agrees, goes)))) =
+      let j = joint (next status) _ goes in
+      (j.0, j.1, inr (inr (inr (status, agrees, j.2))), j.3)
   joint (wrap seat plugin plain next) left (inl at) = absurd (no_value at refl)
-  joint (wrap seat plugin plain next) left (inr (wrapped, tells, within, goes)) =
-      let j = joint (next wrapped) left goes in
-      (j.0, j.1, inr (wrapped, tells, within, j.2), j.3)
+  joint (wrap seat plugin plain next) left (inr (inl (answer, at))) = absurd (no_value at refl)
+  joint (wrap seat plugin plain next) left (inr (inr (inl at))) = absurd (no_value at refl)
+  joint (wrap seat plugin plain next) left (inr (inr (inr (wrapped, tells, within, goes)))) =
+      let j = joint (next wrapped) _ goes in
+      (j.0, j.1, inr (inr (inr (wrapped, tells, within, j.2))), j.3)
   joint (unwrap seat key next) left (inl at) = absurd (no_value at refl)
-  joint (unwrap seat key next) left (inr (bytes, tells, goes)) =
-      let j = joint (next bytes) left goes in (j.0, j.1, inr (bytes, tells, j.2), j.3)
+  joint (unwrap seat key next) left (inr (inl (answer, at))) = absurd (no_value at refl)
+  joint (unwrap seat key next) left (inr (inr (inl at))) = absurd (no_value at refl)
+  joint (unwrap seat key next) left (inr (inr (inr (bytes, tells, inl (was, goes))))) =
+      let j = joint (next bytes) left goes in
+      (j.0, j.1, inr (inr (inr (bytes, tells, inl (was, j.2)))), j.3)
+  joint (unwrap seat key next) left (inr (inr (inr (bytes, tells, inr goes)))) =
+      let j = joint (next bytes) _ goes in
+      (j.0, j.1, inr (inr (inr (bytes, tells, inr j.2))), j.3)
   joint (note text next) left goes =
       let j = joint next _ goes in (j.0, j.1, j.2, j.3)
   joint (find D P next) left (inl at) = absurd (no_value at refl)
@@ -120,7 +131,7 @@ module _ {A : Type 0} (point : Point A) (end : Left) where
       at_truth at refl
   one_truth (write_row object name store row next) left (inr (told, holds, goes)) =
       one_truth next _ goes
-  one_truth (keep_rows name store next) left (told, count, later, holds, goes) =
+  one_truth (keep_rows name store next) left (told, holds, goes) =
       one_truth next _ goes
   one_truth (settle object name next) left (inl at) = at_truth at refl
   one_truth (settle object name next) left (inr goes) = one_truth next _ goes
@@ -132,14 +143,22 @@ module _ {A : Type 0} (point : Point A) (end : Left) where
   one_truth (borrow_link seat plugin program next) left (inr (inr goes)) =
       one_truth next _ goes
   one_truth (ask_status seat plugin next) left (inl at) = at_truth at refl
-  one_truth (ask_status seat plugin next) left (inr (status, agrees, goes)) =
-      one_truth (next status) left goes
+  one_truth (ask_status seat plugin next) left (inr (inl (answer, at))) = at_truth at refl
+  one_truth (ask_status seat plugin next) left (inr (inr (inl at))) = at_truth at refl
+  one_truth (ask_status seat plugin next) left (inr (inr (inr (status, agrees, goes)))) =
+      one_truth (next status) _ goes
   one_truth (wrap seat plugin plain next) left (inl at) = at_truth at refl
-  one_truth (wrap seat plugin plain next) left (inr (wrapped, tells, within, goes)) =
-      one_truth (next wrapped) left goes
+  one_truth (wrap seat plugin plain next) left (inr (inl (answer, at))) = at_truth at refl
+  one_truth (wrap seat plugin plain next) left (inr (inr (inl at))) = at_truth at refl
+  one_truth (wrap seat plugin plain next) left (inr (inr (inr (wrapped, tells, within, goes)))) =
+      one_truth (next wrapped) _ goes
   one_truth (unwrap seat key next) left (inl at) = at_truth at refl
-  one_truth (unwrap seat key next) left (inr (bytes, tells, goes)) =
+  one_truth (unwrap seat key next) left (inr (inl (answer, at))) = at_truth at refl
+  one_truth (unwrap seat key next) left (inr (inr (inl at))) = at_truth at refl
+  one_truth (unwrap seat key next) left (inr (inr (inr (bytes, tells, inl (was, goes))))) =
       one_truth (next bytes) left goes
+  one_truth (unwrap seat key next) left (inr (inr (inr (bytes, tells, inr goes)))) =
+      one_truth (next bytes) _ goes
   one_truth (note text next) left goes = one_truth next _ goes
   one_truth (find D P next) left (inl at) = at_truth at refl
   one_truth (find D P next) left (inr (d, is, goes)) = one_truth (next d) left goes

@@ -1,6 +1,6 @@
 -- Steps up to workers that go one way over what is told: they refuse in one way, or begin.
 use Rattle.std.proofs.Common.{◌≡◌, [], Ok, Err, refl}
-use Rattle.kr_cmd_steps.specs.Commands.{silently}
+use Rattle.kr_cmd_steps.specs.Phases.{silently}
 use Rattle.kr_cmd_fleet.specs.Fleets.{Begun}
 use Rattle.kr_cmd_steps.specs.Steps.{Goes, Left, Steps, and_then, give, gives, refuses}
 use Rattle.kr_cmd_messages.specs.declared.refusal.Done.TheVariants.{Silent}

@@ -5,7 +5,8 @@ use Rattle.std.specs.Prelude.{Bool, true, false, IsSome}
 use Rattle.std.specs.Io.KnownBytes.{Consumes, IsAtEnd}
 use Rattle.kr_base.specs.Told.{Agrees}
 use Rattle.kr_kms.specs.declared.world.WorldCall.TheVariants.{File, Tape, RandomSource, Link, Settled}
-use Rattle.kr_cmd_steps.specs.Steps.{Steps, load, take_input, borrow_dice, borrow_tape, read_tape, write_row, keep_rows, settle, draw, note, find, refuse, give, Point, refuses, gives, Left, with_input, with_dice, with_tape, with_told, with_count, with_asked, with_said, Goes, borrow_link, ask_status, wrap, unwrap}
+use Rattle.kr_cmd_steps.specs.Steps.{Steps, load, take_input, borrow_dice, borrow_tape, read_tape, write_row, keep_rows, settle, draw, note, find, refuse, give, Point, refuses, gives, Left, with_input, with_dice, with_tape, with_told, with_asked, with_heard, with_said, Goes, borrow_link, ask_status, wrap, unwrap}
+use Rattle.kr_kms.specs.Exchanges.{Exchange, StatusCall}
 use Rattle.kr_kms.specs.Limits.{IsWithinLimits}
 use Rattle.kr_kms.specs.declared.plugin.Status.{Status}
 use Rattle.kr_kms.specs.declared.plugin.Wrapped.{Wrapped}
@@ -57,8 +58,7 @@ IsSettled (read_tape object name next) (read_tape thing other more) left right =
 IsSettled (write_row object name store row next) (write_row thing other held line more) left right =
     (a b : Option (List ℕ)) → IsSettled next more (with_told name a left) (with_told other b right)
 IsSettled (keep_rows name store next) (keep_rows other held more) left right =
-    (a b : Option (List ℕ)) (m n : ℕ) → IsSettled next more
-    (with_count name m (with_told name a left)) (with_count other n (with_told other b right))
+    (a b : Option (List ℕ)) → IsSettled next more (with_told name a left) (with_told other b right)
 IsSettled (settle object name next) (settle thing other more) left right =
     IsSettled next more (with_asked (Settled name) left) (with_asked (Settled other) right)
 IsSettled (draw seat size next) (draw other count more) left right =
@@ -69,12 +69,14 @@ IsSettled (borrow_link seat plugin program next) (borrow_link other name file mo
     (with_asked (Link other name file) right)
 IsSettled (ask_status seat plugin next) (ask_status other name more) left right =
     IsSome (left.links (seat, plugin)) × (right.links (other, name) ≡ left.links (seat, plugin))
-    × ((status : Status) → IsSettled (next status) (more status) left right)
+    × ((status : Status) (h k : Option (List Exchange)) → IsSettled (next status) (more status)
+    (record left { heard = h }) (record right { heard = k }))
 IsSettled (wrap seat plugin plain next) (wrap other name bytes more) left right =
-    (a b : Wrapped) → IsWithinLimits a → IsWithinLimits b
-    → IsSettled (next a) (more b) left right
+    (a b : Wrapped) → IsWithinLimits a → IsWithinLimits b → (h k : Option (List Exchange))
+    → IsSettled (next a) (more b) (record left { heard = h }) (record right { heard = k })
 IsSettled (unwrap seat key next) (unwrap other name more) left right =
-    (a b : List ℕ) → IsSettled (next a) (more b) left right
+    (a b : List ℕ) (h k : Option (List Exchange))
+    → IsSettled (next a) (more b) (record left { heard = h }) (record right { heard = k })
 IsSettled (note text next) (note other more) left right =
     IsSettled next more (with_said text left) (with_said other right)
 IsSettled (find B P next) (find C Q more) left right =
@@ -225,8 +227,8 @@ module _ (p q : Point Outcome) (end last : Left) where
       s (inr (a, x, g)) (inr (b, y, k)) =
       one_point next more _ _ (s a b) g k
   one_point (keep_rows name store next) (keep_rows other held more) left right s
-      (a, m, l, x, g) (b, n, r, y, k) =
-      one_point next more _ _ (s a b m n) g k
+      (a, x, g) (b, y, k) =
+      one_point next more _ _ (s a b) g k
   one_point (settle object name next) (settle thing other more) left right s (inl e) k =
       no_first p q _ refl e.0
   one_point (settle object name next) (settle thing other more) left right s (inr g) (inl f) =
@@ -257,29 +259,74 @@ module _ (p q : Point Outcome) (end last : Left) where
       one_point next more _ _ s g k
   one_point (ask_status seat plugin next) (ask_status other name more) left right s (inl e) k =
       no_first p q _ refl e.0
-  one_point (ask_status seat plugin next) (ask_status other name more) left right s (inr g)
-      (inl f) =
+  one_point (ask_status seat plugin next) (ask_status other name more) left right s
+      (inr (inl (answer, e))) k =
+      no_first p q _ refl e.0
+  one_point (ask_status seat plugin next) (ask_status other name more) left right s
+      (inr (inr (inl e))) k =
+      no_first p q _ refl e.0
+  one_point (ask_status seat plugin next) (ask_status other name more) left right s
+      (inr (inr (inr g))) (inl f) =
       no_second p q _ refl f.0
   one_point (ask_status seat plugin next) (ask_status other name more) left right s
-      (inr (a, x, g)) (inr (b, y, k)) =
-      one_point (next a) (more a) left right (s.2 a) g
-      (subst (λ c. Goes q last (more c) right)
+      (inr (inr (inr g))) (inr (inl (answer, f))) =
+      no_second p q _ refl f.0
+  one_point (ask_status seat plugin next) (ask_status other name more) left right s
+      (inr (inr (inr g))) (inr (inr (inl f))) =
+      no_second p q _ refl f.0
+  one_point (ask_status seat plugin next) (ask_status other name more) left right s
+      (inr (inr (inr (a, x, g)))) (inr (inr (inr (b, y, k)))) =
+      one_point (next a) (more a) _ _ (s.2 a _ _) g
+      (subst (λ c. Goes q last (more c) (with_heard (StatusCall name (Ok b)) right))
       (one_status (left.links (seat, plugin)) a b s.0 x (subst (λ t. Agrees t b) s.1 y)) k)
   one_point (wrap seat plugin plain next) (wrap other name bytes more) left right s (inl e) k =
       no_first p q _ refl e.0
-  one_point (wrap seat plugin plain next) (wrap other name bytes more) left right s (inr g)
-      (inl f) =
+  one_point (wrap seat plugin plain next) (wrap other name bytes more) left right s
+      (inr (inl (answer, e))) k =
+      no_first p q _ refl e.0
+  one_point (wrap seat plugin plain next) (wrap other name bytes more) left right s
+      (inr (inr (inl e))) k =
+      no_first p q _ refl e.0
+  one_point (wrap seat plugin plain next) (wrap other name bytes more) left right s
+      (inr (inr (inr g))) (inl f) =
       no_second p q _ refl f.0
   one_point (wrap seat plugin plain next) (wrap other name bytes more) left right s
-      (inr (a, x, within, g)) (inr (b, y, short, k)) =
-      one_point (next a) (more b) left right (s a b within short) g k
+      (inr (inr (inr g))) (inr (inl (answer, f))) =
+      no_second p q _ refl f.0
+  one_point (wrap seat plugin plain next) (wrap other name bytes more) left right s
+      (inr (inr (inr g))) (inr (inr (inl f))) =
+      no_second p q _ refl f.0
+  one_point (wrap seat plugin plain next) (wrap other name bytes more) left right s
+      (inr (inr (inr (a, x, within, g)))) (inr (inr (inr (b, y, short, k)))) =
+      one_point (next a) (more b) _ _ (s a b within short _ _) g k
   one_point (unwrap seat key next) (unwrap other name more) left right s (inl e) k =
       no_first p q _ refl e.0
-  one_point (unwrap seat key next) (unwrap other name more) left right s (inr g) (inl f) =
+  one_point (unwrap seat key next) (unwrap other name more) left right s
+      (inr (inl (answer, e))) k =
+      no_first p q _ refl e.0
+  one_point (unwrap seat key next) (unwrap other name more) left right s (inr (inr (inl e))) k =
+      no_first p q _ refl e.0
+  one_point (unwrap seat key next) (unwrap other name more) left right s (inr (inr (inr g)))
+      (inl f) =
       no_second p q _ refl f.0
-  one_point (unwrap seat key next) (unwrap other name more) left right s (inr (a, x, g))
-      (inr (b, y, k)) =
-      one_point (next a) (more b) left right (s a b) g k
+  one_point (unwrap seat key next) (unwrap other name more) left right s (inr (inr (inr g)))
+      (inr (inl (answer, f))) =
+      no_second p q _ refl f.0
+  one_point (unwrap seat key next) (unwrap other name more) left right s (inr (inr (inr g)))
+      (inr (inr (inl f))) =
+      no_second p q _ refl f.0
+  one_point (unwrap seat key next) (unwrap other name more) left right s
+      (inr (inr (inr (a, x, inl (was, g))))) (inr (inr (inr (b, y, inl (held, k))))) =
+      one_point (next a) (more b) _ _ (s a b _ _) g k
+  one_point (unwrap seat key next) (unwrap other name more) left right s
+      (inr (inr (inr (a, x, inl (was, g))))) (inr (inr (inr (b, y, inr k)))) =
+      one_point (next a) (more b) _ _ (s a b _ _) g k
+  one_point (unwrap seat key next) (unwrap other name more) left right s
+      (inr (inr (inr (a, x, inr g)))) (inr (inr (inr (b, y, inl (held, k))))) =
+      one_point (next a) (more b) _ _ (s a b _ _) g k
+  one_point (unwrap seat key next) (unwrap other name more) left right s
+      (inr (inr (inr (a, x, inr g)))) (inr (inr (inr (b, y, inr k)))) =
+      one_point (next a) (more b) _ _ (s a b _ _) g k
   one_point (note text next) (note other more) left right s g k = one_point next more _ _ s g k
   one_point (find B P next) (find C Q more) left right s (inl e) k = no_first p q _ refl e.0
   one_point (find B P next) (find C Q more) left right s (inr g) (inl f) =

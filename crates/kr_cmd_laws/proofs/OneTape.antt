@@ -3,7 +3,7 @@ use Rattle.std.proofs.Common.{◌≡◌, ℕ, List, [], ◌∷◌, Bool, true, f
 use Rattle.std.specs.Prelude.{nat_lt, length}
 use Rattle.kr_kms.specs.declared.world.Access.TheVariants.{ToWrite}
 use Rattle.kr_base.specs.Limits.{data_limit}
-use Rattle.kr_config.specs.Kept.{Row}
+use Rattle.kr_config.specs.Kept.{ConfigEntry}
 use Rattle.kr_config.specs.Lists.{list_of}
 use Rattle.kr_provider.specs.PluginOrder.{plugin_order}
 use Rattle.kr_provider.specs.Publication.{Publication}
@@ -13,8 +13,11 @@ use Rattle.kr_provider.specs.declared.refusal.ValueNo.{ValueNo}
 use Rattle.kr_store.specs.Stores.{IsListing}
 use Rattle.kr_store.specs.declared.rows.LogRow.{LogRow}
 use Rattle.kr_store.specs.declared.rows.Row as stored
-use Rattle.kr_cmd_steps.specs.Commands.{Progress, adding, nothing_done, by_result, configuration, driving, linking_programs, one_rewritten, replacing, resealing, rewriting, rewriting_by, rewriting_live, rewriting_on, row_anew, row_by, row_data, row_steps, settled_for, starting, value_read, value_sealed, within_journal, within_limit}
-use Rattle.kr_cmd_steps.specs.Plugins.{borrow_links, make_seeds, programs_of}
+use Rattle.kr_cmd_steps.specs.RewriteSteps.{Progress, nothing_done, driving, one_rewritten, replacing, resealing, rewriting_by, rewriting_live, rewriting_on, row_anew, row_by, row_data, row_steps, starting, within_journal}
+use Rattle.kr_cmd_steps.specs.Phases.{adding, by_result, configuration, linking_programs, settled_for, within_limit}
+use Rattle.kr_cmd_steps.specs.Commands.{rewriting}
+use Rattle.kr_cmd_steps.specs.ValueSteps.{value_read, value_sealed}
+use Rattle.kr_cmd_steps.specs.Plugins.{borrow_links, make_seeds, settings_programs}
 use Rattle.kr_cmd_steps.specs.Steps.{borrow_dice, write_row, find, give, settle, and_then}
 use Rattle.kr_cmd_steps.specs.StoreFiles.{Stored, with_row}
 use Rattle.kr_cmd_messages.specs.declared.command.Rewriting.{Rewriting}
@@ -76,7 +79,7 @@ module _ (name : List ℕ) (p : Publication) where
         (row_is_on row at),
   )
 
-rewriting_by_is_on : (name : List ℕ) (rows : List Row) (store : Stored) (live : List stored.Row)
+rewriting_by_is_on : (name : List ℕ) (rows : List ConfigEntry) (store : Stored) (live : List stored.Row)
     → IsOnTape name (rewriting_by name rows store live)
 rewriting_by_is_on name rows store live u =
     read_then name (λ seeds. and_then (starting store.rows rows) (λ u.
@@ -107,5 +110,5 @@ rewriting_is_on words =
           (by_result read) (result_reads read)),
     ))
     (linking_programs words.options rows)
-    (λ u. result_reads (programs_of words.options (plugin_order rows))))
+    (λ u. result_reads (settings_programs words.options (plugin_order rows))))
     (configuration words.config) (configuration_reads words.config)

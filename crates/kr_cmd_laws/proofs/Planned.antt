@@ -1,6 +1,6 @@
 -- What `plan` shows of two configurations is one thing.
-use Rattle.std.proofs.Common.{◌≡◌, ℕ, List, [], ◌∷◌, Some, Result, Ok, Err, sym, ◌∙◌, ap}
-use Rattle.kr_config.specs.Kept.{Row}
+use Rattle.std.proofs.Common.{◌≡◌, ℕ, List, [], Some, Result, Ok, Err, sym, ◌∙◌, ap}
+use Rattle.kr_config.specs.Kept.{ConfigEntry}
 use Rattle.kr_judge.specs.Verdicts.{first}
 use Rattle.kr_plan.specs.Plans.{reasons}
 use Rattle.kr_plan.specs.declared.refusal.PlanNo.{PlanNo}
@@ -11,7 +11,7 @@ use Rattle.kr_cmd_steps.specs.PlanLines.{ShowsPlan, plan_refusal}
 no_reason : (those : List PlanNo) (cause : PlanNo) → those ≡ [] → first those ≡ Some cause → ⊥
 no_reason those cause none some = absurd (let e = sym (ap first none) ∙ some in cc)
 
-pub one_plan : (words : Planning) (from to : List Row) (a b : Result (List ℕ) Refusal)
+pub one_plan : (words : Planning) (from to : List ConfigEntry) (a b : Result (List ℕ) Refusal)
     → ShowsPlan words from to a → ShowsPlan words from to b → a ≡ b
 one_plan words from to (Ok a) (Ok b) h k = ap (λ t. Ok t) (h.1 ∙ sym k.1)
 one_plan words from to (Ok a) (Err why) h k =

@@ -1,6 +1,6 @@
 -- Steps that write no tape leave all tapes, and steps that write one leave every other.
-use Rattle.std.proofs.Common.{◌≡◌, ℕ, zero, suc, List, [], ◌∷◌, ◌++◌, Bool, false, Option, None, Some, Result, Ok, Err, ◌∙◌, ap, inl, inr}
-use Rattle.kr_config.specs.Kept.{Row}
+use Rattle.std.proofs.Common.{◌≡◌, ℕ, zero, suc, List, [], ◌∷◌, ◌++◌, Bool, false, Option, None, Some, Result, Ok, Err, ◌∙◌, ap, inl, inr, refl}
+use Rattle.kr_config.specs.Kept.{ConfigEntry}
 use Rattle.kr_config.specs.Lists.{list_of}
 use Rattle.kr_store.specs.Rows.{live}
 use Rattle.kr_store.specs.declared.rows.LogRow.{LogRow}
@@ -31,13 +31,16 @@ use Rattle.kr_kms.specs.declared.world.Access.{Access}
 use Rattle.kr_kms.specs.declared.world.Access.TheVariants.{ToRead, ToWrite, ToMake}
 use Rattle.kr_cmd_steps.specs.Afterwards.{OthersStay}
 use Rattle.kr_cmd_steps.specs.Check.{listing}
-use Rattle.kr_cmd_steps.specs.Commands.{by_result, configuration, configurations, judgement_on, judging_at, judging_by, telling, bench_steps, draw_some, input_of, linking_programs, opening, published_source, reading_given, data_steps, live_on, row_finding, row_findings, telling_findings, value_read, value_sealed, value_with, verifying_by, verifying_with, row_found, row_on, show, silently, source_steps, steps, stored_on, tape_for, value_steps, with_memory, working, working_by}
+use Rattle.kr_cmd_steps.specs.Phases.{by_result, configuration, input_of, linking_programs, show, silently, stored_on, tape_for, with_memory}
+use Rattle.kr_cmd_steps.specs.StoreSteps.{configurations, judgement_on, judging_at, judging_by, telling, live_on, row_finding, row_findings, telling_findings, verifying_by, verifying_with, row_found, row_on}
+use Rattle.kr_cmd_steps.specs.ValueSteps.{bench_steps, draw_some, opening, published_source, reading_given, data_steps, value_read, value_sealed, value_with, source_steps, value_steps, working, working_by}
+use Rattle.kr_cmd_steps.specs.Commands.{steps}
 use Rattle.kr_cmd_messages.specs.Command.{replica_names, reload_in, reload_number, reload_file}
 use Rattle.kr_cmd_steps.specs.Inspect.{Inspects}
 use Rattle.kr_cmd_steps.specs.PlanLines.{ShowsPlan}
 use Rattle.kr_cmd_steps.specs.RowFindings.{finding_of}
 use Rattle.kr_cmd_steps.specs.RowLines.{ShowsRows}
-use Rattle.kr_cmd_steps.specs.Plugins.{borrow_links, make_seed, make_seeds, programs_of, unless_breach, wrap_seed}
+use Rattle.kr_cmd_steps.specs.Plugins.{borrow_links, make_seed, make_seeds, settings_programs, unless_breach, wrap_seed}
 use Rattle.kr_cmd_steps.specs.Steps.{Steps, load, take_input, borrow_dice, borrow_tape, read_tape, write_row, keep_rows, settle, draw, borrow_link, ask_status, wrap, unwrap, note, find, refuse, give, and_then, Point, Left, Goes}
 use Rattle.kr_cmd_steps.specs.StoreFiles.{Stored}
 use Rattle.kr_cmd_messages.specs.declared.refusal.Object.TheVariants.{Store}
@@ -56,7 +59,8 @@ MayAsk May name ToRead = Unit {0}
 MayAsk May name ToWrite = May name
 MayAsk May name ToMake = ⊥
 
--- no tape is made, and only tapes of these names are written; the others are asked to be read alone
+-- no tape is made, and only tapes of these names are written; the others are asked to be read
+-- alone; and all draws are those of seat 0
 abbrev pub Writes : {A : Type 0} → (May : List ℕ → Type 0) → Steps A → Type 0
 Writes May (load name next) = (bytes : Option (List ℕ)) → Writes May (next bytes)
 Writes May (take_input limit long next) = (bytes : List ℕ) → Writes May (next bytes)
@@ -66,7 +70,7 @@ Writes May (read_tape object name next) = (bytes : List ℕ) → Writes May (nex
 Writes May (write_row object name store row next) = May name × Writes May next
 Writes May (keep_rows name store next) = May name × Writes May next
 Writes May (settle object name next) = Writes May next
-Writes May (draw seat size next) = (bytes : List ℕ) → Writes May (next bytes)
+Writes May (draw seat size next) = (seat ≡ 0) × ((bytes : List ℕ) → Writes May (next bytes))
 Writes May (borrow_link seat plugin program next) = Writes May next
 Writes May (ask_status seat plugin next) = (status : Status) → Writes May (next status)
 Writes May (wrap seat plugin plain next) = (wrapped : Wrapped) → Writes May (next wrapped)
@@ -127,25 +131,33 @@ module _ {A : Type 0} (May : List ℕ → Type 0) (p : Point A) (end : Left) (ot
       behind name told left r.0 (ap (λ l. l.tapes other) at.1)
   stays (write_row object name store row next) left r (inr (told, holds, goes)) =
       behind name told left r.0 (stays next _ r.1 goes)
-  stays (keep_rows name store next) left r (told, count, later, holds, goes) =
+  stays (keep_rows name store next) left r (told, holds, goes) =
       behind name told left r.0 (stays next _ r.1 goes)
   stays (settle object name next) left r (inl at) = at_end at
   stays (settle object name next) left r (inr goes) = stays next _ r goes
   stays (draw seat size next) left r (inl at) = at_end at
   stays (draw seat size next) left r (inr (bytes, rest, c, fits, goes)) =
-      stays (next bytes) _ (r bytes) goes
+      stays (next bytes) _ (r.1 bytes) goes
   stays (borrow_link seat plugin program next) left r (inl at) = at_end at
   stays (borrow_link seat plugin program next) left r (inr (inl at)) = at_end at
   stays (borrow_link seat plugin program next) left r (inr (inr goes)) = stays next _ r goes
   stays (ask_status seat plugin next) left r (inl at) = at_end at
-  stays (ask_status seat plugin next) left r (inr (status, agrees, goes)) =
-      stays (next status) left (r status) goes
+  stays (ask_status seat plugin next) left r (inr (inl (answer, at))) = at_end at
+  stays (ask_status seat plugin next) left r (inr (inr (inl at))) = at_end at
+  stays (ask_status seat plugin next) left r (inr (inr (inr (status, agrees, goes)))) =
+      stays (next status) _ (r status) goes
   stays (wrap seat plugin plain next) left r (inl at) = at_end at
-  stays (wrap seat plugin plain next) left r (inr (wrapped, tells, within, goes)) =
-      stays (next wrapped) left (r wrapped) goes
+  stays (wrap seat plugin plain next) left r (inr (inl (answer, at))) = at_end at
+  stays (wrap seat plugin plain next) left r (inr (inr (inl at))) = at_end at
+  stays (wrap seat plugin plain next) left r (inr (inr (inr (wrapped, tells, within, goes)))) =
+      stays (next wrapped) _ (r wrapped) goes
   stays (unwrap seat key next) left r (inl at) = at_end at
-  stays (unwrap seat key next) left r (inr (bytes, tells, goes)) =
+  stays (unwrap seat key next) left r (inr (inl (answer, at))) = at_end at
+  stays (unwrap seat key next) left r (inr (inr (inl at))) = at_end at
+  stays (unwrap seat key next) left r (inr (inr (inr (bytes, tells, inl (was, goes))))) =
       stays (next bytes) left (r bytes) goes
+  stays (unwrap seat key next) left r (inr (inr (inr (bytes, tells, inr goes)))) =
+      stays (next bytes) _ (r bytes) goes
   stays (note text next) left r goes = stays next _ r goes
   stays (find B P next) left r (inl at) = at_end at
   stays (find B P next) left r (inr (b, is, goes)) = stays (next b) _ (r b) goes
@@ -178,7 +190,7 @@ module _ (May More : List ℕ → Type 0) (wider : (name : List ℕ) → May nam
   both_write (write_row object name store row next) r = (wider name r.0, both_write next r.1)
   both_write (keep_rows name store next) r = (wider name r.0, both_write next r.1)
   both_write (settle object name next) r = both_write next r
-  both_write (draw seat size next) r = λ bytes. both_write (next bytes) (r bytes)
+  both_write (draw seat size next) r = (r.0, λ bytes. both_write (next bytes) (r.1 bytes))
   both_write (borrow_link seat plugin program next) r = both_write next r
   both_write (ask_status seat plugin next) r = λ status. both_write (next status) (r status)
   both_write (wrap seat plugin plain next) r = λ wrapped. both_write (next wrapped) (r wrapped)
@@ -218,7 +230,7 @@ shows_read Is = λ shown. both_read (λ text. give (silently text)) (λ text. tt
 pub draws_read : {A : Type 0} (size : ℕ) (next : List ℕ → Steps A)
     → ((drawn : List ℕ) → IsReadOnly (next drawn)) → IsReadOnly (draw_some size next)
 draws_read zero next r = r []
-draws_read (suc more) next r = r
+draws_read (suc more) next r = (refl, r)
 
 pub sealed_reads : (seeds : List SeedRow) (who : Who) (path plain : List ℕ)
     → IsReadOnly (value_sealed seeds who path plain)
@@ -264,7 +276,7 @@ data_reads (Err why) = tt
 
 seed_reads : (plugin : List ℕ) (breach : Option (Field × List ℕ))
     → IsReadOnly (unless_breach plugin breach (wrap_seed plugin))
-seed_reads plugin None = λ seed wrapped. tt
+seed_reads plugin None = (refl, λ seed wrapped. tt)
 seed_reads plugin (Some breach) = tt
 
 pub seeds_read : (plugins : List (List ℕ)) → IsReadOnly (make_seeds plugins)
@@ -275,7 +287,7 @@ seeds_read (plugin ∷ plugins) = both_read
     (seeds_read plugins))
     (make_seed plugin) (λ status. seed_reads plugin (breach_in status))
 
-bench_reads : (direction : Direction) (resource path : List ℕ) (rows : List Row) (bytes : List ℕ)
+bench_reads : (direction : Direction) (resource path : List ℕ) (rows : List ConfigEntry) (bytes : List ℕ)
     (seeds : List SeedRow) → IsReadOnly (working_by direction resource path rows bytes seeds)
 bench_reads Encrypt resource path rows bytes seeds =
     let writer = writer_of (list_of rows resource) in
@@ -292,7 +304,7 @@ links_write May [] next r = r
 links_write May (program ∷ programs) next r = links_write May programs next r
 
 pub work_reads : (programs : List Program) (direction : Direction) (resource path : List ℕ)
-    (rows : List Row) (bytes : List ℕ)
+    (rows : List ConfigEntry) (bytes : List ℕ)
     → IsReadOnly (bench_steps programs direction resource path rows bytes)
 work_reads programs direction resource path rows bytes =
     links_write (λ name. ⊥) programs (working direction resource path rows bytes)
@@ -315,7 +327,7 @@ rows_read p (row ∷ live) =
     (both_read (λ read. give (finding_of read)) (λ read. tt) value
     (value_reads p.seeds list row.path row.stored))
 
-findings_read : (programs : List Program) (rows : List Row) (live : List stored.Row)
+findings_read : (programs : List Program) (rows : List ConfigEntry) (live : List stored.Row)
     → IsReadOnly (verifying_with programs rows live)
 findings_read programs rows live =
     links_write (λ name. ⊥) programs (verifying_by rows live)
@@ -335,9 +347,9 @@ IsReader (Migrate words) = ⊥
 IsReader (Rewrite words) = ⊥
 IsReader command = Unit {0}
 
-programs_read : (options : List (List ℕ × List ℕ)) (rows : List Row)
+programs_read : (options : List (List ℕ × List ℕ)) (rows : List ConfigEntry)
     → IsReadOnly (linking_programs options rows)
-programs_read options rows = λ u. result_reads (programs_of options (plugin_order rows))
+programs_read options rows = λ u. result_reads (settings_programs options (plugin_order rows))
 
 row_reads : (store path : List ℕ) → IsReadOnly (row_on store path)
 row_reads store path = λ bytes read. both_read
@@ -345,7 +357,7 @@ row_reads store path = λ bytes read. both_read
     (λ held. λ u. result_reads (row_found path (live held.rows path))) (by_result read)
     (result_reads read)
 
-configurations_read : (read : List (Option (List Row))) (names : List (List ℕ))
+configurations_read : (read : List (Option (List ConfigEntry))) (names : List (List ℕ))
     → IsReadOnly (configurations read names)
 configurations_read read [] = λ u. tt
 configurations_read read (name ∷ names) = both_read
@@ -353,8 +365,8 @@ configurations_read read (name ∷ names) = both_read
     (λ rows. configurations_read (read ++ Some rows ∷ []) names)
     (configuration name) (configuration_reads name)
 
-judgement_reads : (stored : List LogRow) (replicas : List (Option (List Row))) (replica : ℕ)
-    (rows : List Row) → IsReadOnly (judging_at stored replicas replica rows)
+judgement_reads : (stored : List LogRow) (replicas : List (Option (List ConfigEntry))) (replica : ℕ)
+    (rows : List ConfigEntry) → IsReadOnly (judging_at stored replicas replica rows)
 judgement_reads stored replicas replica rows = both_read telling (λ verdict u. tt)
     (judgement_on stored replicas replica rows) (λ read. result_reads read)
 

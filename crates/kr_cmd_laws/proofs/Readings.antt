@@ -10,7 +10,7 @@ use Rattle.kr_cmd_steps.specs.Around.{Around, with_what_is_said, left_of, IsHome
 use Rattle.kr_cmd_messages.specs.Command.{Asks, AskBadly}
 use Rattle.kr_cmd_messages.specs.Message.{status_of, status_of_done, status_of_configuration, status_of_refusal, line_of, fault_line}
 use Rattle.kr_cmd_steps.specs.Steps.{Call, loading, reading, opening, lending, scanning, writing, settling, drawing, object_of, Point, awaits, amid, refuses, gives, linking, asking}
-use Rattle.kr_cmd_steps.specs.Ran.{IsIdle, Reports, IsUntouched, StopsAtOnce, Did, Comes, ComesSaying, ComesReporting, Writes, Answers, FailsAt, FailsToWrite, ReachesEnd, Readings}
+use Rattle.kr_cmd_steps.specs.Ran.{WroteNothing, Reports, IsUntouched, StopsAtOnce, Did, Comes, ComesSaying, ComesReporting, Writes, Answers, FailsAt, FailsToWrite, ReachesEnd, Readings}
 use Rattle.kr_cmd_messages.specs.Receipts.{Receipt, Tells}
 use Rattle.kr_cmd_messages.specs.declared.command.Command.{Command}
 use Rattle.kr_cmd_messages.specs.declared.refusal.BadWords.{BadWords}
@@ -145,7 +145,7 @@ module _ (words : List (List ℕ)) (old new : Around) (output errors : Receipt) 
 
   -- what was written
   abbrev Front : Type 0
-  Front = IsIdle output
+  Front = WroteNothing output
       ⊎ ((point : Point Outcome) × ComesReporting words old new output point)
       ⊎ ((made : Outcome) × Comes words old new (gives made)
       × AppendsFront output.old output.new made.bytes)

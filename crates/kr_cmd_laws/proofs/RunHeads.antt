@@ -12,12 +12,14 @@ use Rattle.kr_rollout.specs.Histories.{state_of}
 use Rattle.kr_rollout.specs.Openings.{start_of}
 use Rattle.kr_rollout.specs.declared.opening.Entry.{Entry}
 use Rattle.kr_store.specs.Rows.{live}
-use Rattle.kr_workers.specs.Endings.{ending_of, status_of as status_of_replies}
+use Rattle.kr_workers.specs.Endings.{gravest_ending, status_of as status_of_replies}
 use Rattle.kr_workers.specs.declared.ending.Ending.{Ending}
 use Rattle.kr_workers.specs.Heard.{Heard}
 use Rattle.kr_workers.specs.declared.worker.Worker as fleet_worker
 use Rattle.kr_headline.specs.Consequences.{LinksAgree}
 use Rattle.kr_headline.specs.Fleets.{AreKnown, FleetHeadline}
+use Rattle.kr_headline.specs.Ties.{IsTied}
+use Rattle.kr_headline.specs.Values.{sealed_values}
 use Rattle.kr_headline.proofs.Agreeing.{all_agree}
 use Rattle.kr_headline.proofs.Answering.{start_alike}
 use Rattle.kr_headline.proofs.Contents.{object_of}
@@ -31,10 +33,12 @@ use Rattle.kr_cmd_messages.specs.declared.refusal.Object.TheVariants.{Output}
 use Rattle.kr_cmd_messages.specs.declared.refusal.Stop.{Stop}
 use Rattle.kr_cmd_messages.specs.declared.refusal.Stop.TheVariants.{Words, Refused, Fault, NoMemory}
 use Rattle.kr_cmd_steps.specs.Around.{Around}
+use Rattle.kr_cmd_steps.specs.Steps.{hearing}
 use Rattle.kr_cmd_steps.specs.declared.programs.Program.{Program}
 use Rattle.kr_cmd_fleet.specs.Fleets.{Begun, RunsFleet, Starts, StopsBefore, TellsFleet, WritesFleet, fleet_steps, opening_of, settled_behind, text_of}
 use Rattle.kr_cmd_laws.specs.HeadlineLaws.{RunsHaveHeadlines}
-use Rattle.kr_cmd_laws.specs.RunHeadlines.{LeavesStore, Prints, RunHeadline, StartsWorkers, TellsStop, WorkersHeadline}
+use Rattle.kr_cmd_laws.proofs.Starts.{starts_make_seeds}
+use Rattle.kr_cmd_laws.specs.RunHeadlines.{LeavesStore, Prints, StartsNobody, StartsWorkers, TellsStop, WorkersHeadline, WorkersPage}
 
 -- ---- the workers
 
@@ -54,10 +58,16 @@ module _ {T L D : Type 0} (truth : Truth) (link : L → Link) (step : L → Exch
     failed = r.counted ∙ sym (faults_are (start_of o) history);
   }
 
-  headline : FleetHeadline link step count r.workers ended r.files (opening_of store begun mid)
-      r.parts history
-  headline = fleet_headline T truth link step left count r.files history
+  both : (h : FleetHeadline sealed_values link step count r.workers ended r.files
+      (opening_of store begun mid) r.parts history)
+      × IsTied truth link step left count r.files (opening_of store begun mid) r.parts begun.budgets
+      history r.workers ended h
+  both = fleet_headline T truth link step left count r.files history
       (opening_of store begun mid) r.parts begun.budgets r.workers ended r.one
+
+  abbrev headline : FleetHeadline sealed_values link step count r.workers ended r.files
+      (opening_of store begun mid) r.parts history
+  headline = both.0
 
   -- no bench had kept a seed
   none_kept : (worker : ℕ) → (headline.heard worker).kept ≡ []
@@ -98,21 +108,27 @@ module _ {T L D : Type 0} (truth : Truth) (link : L → Link) (step : L → Exch
     (r.opens told).opening,
   )
 
-  pub workers_headline : WorkersHeadline truth link step left count store begun mid new history
+  abbrev page : WorkersPage sealed_values truth link step left count store begun mid new history
       ended
-  workers_headline = record {
+  page = record {
     parts = r.parts;
     parts_are = r.parts_are;
     files = r.files;
     files_are = r.files_are;
     workers = r.workers;
+    cold = r.cold;
     before = r.before;
     after = r.after;
     headline = headline;
     known = known;
     told = told_known;
     stored = left_so;
+    rest = r.rest;
   }
+
+  pub workers_headline : WorkersHeadline truth link step left count store begun mid new history
+      ended
+  workers_headline = record { page = page; tied = both.1 }
 
 -- ---- how the call ended
 
@@ -138,14 +154,16 @@ prints text ending output errors status (Err (Words why)) w t = absurd w
 prints text ending output errors status (Err (Refused why)) w t = absurd w
 
 module _ (T : Type 0) {L D : Type 0} (truth : Truth) (link : L → Link)
-    (step : L → Exchange → L → Type 0)
+    (step : L → Exchange → L → Type 0) (lent took : ℕ → L → Type 0)
     (left : D → Option (List ℕ)) (count : D → ℕ) (words : FleetWords) (old new : Around)
     (output errors : Receipt) (status : ℕ) where
-  started : (result : Result Ending Stop)
-      → Starts T truth link step left count words old new output result
-      → TellsFleet result errors status
-      → StartsWorkers T truth link step left count words old new output errors status
-  started result s tells = record {
+  started : (exchanges : List Exchange) → new.heard ≡ hearing exchanges old.heard
+      → (result : Result Ending Stop)
+      → (s : Starts T truth link step lent took left count words old new output result)
+      → s.exchanges ≡ exchanges → TellsFleet result errors status
+      → StartsWorkers T truth link step lent took left count words old new output errors status
+  unfolding workers_headline
+  started exchanges heard result s same tells = record {
     begun = s.begun;
     mid = s.mid;
     reaches = s.reaches;
@@ -154,24 +172,44 @@ module _ (T : Type 0) {L D : Type 0} (truth : Truth) (link : L → Link)
     ended = s.ended;
     has = workers_headline truth link step left count words.store s.begun
         (settled_behind words.store s.mid) new s.history s.ended s.runs;
+    exchanges = s.exchanges;
+    heard = s.heard;
+    no_more = heard ∙ ap (λ es. hearing es old.heard) (sym same);
+    began = s.began;
+    agreed = λ listens opens agree all. known truth link step left count words.store s.begun
+        (settled_behind words.store s.mid) new s.history s.ended s.runs opens (inr (
+          all,
+          starts_make_seeds T truth link step lent took left count words old new output result
+              listens s opens agree,
+        ));
     prints = prints (text_of s.begun.plan.fleet s.history s.ended)
-        (ending_of (map (λ (w : fleet_worker.Worker T L D). w.told) s.ended)) output errors status
+        (gravest_ending (map (λ (w : fleet_worker.Worker T L D). w.told) s.ended)) output errors
+        status
         result s.writes tells;
   }
 
-  either : (result : Result Ending Stop)
-      → StopsBefore (fleet_steps words) words.store old new output result
-      ⊎ Starts T truth link step left count words old new output result
+  either : (exchanges : List Exchange) → new.heard ≡ hearing exchanges old.heard
+      → (result : Result Ending Stop)
+      → StopsBefore T truth link step left count (fleet_steps words) words.store old new output
+      result
+      ⊎ ((s : Starts T truth link step lent took left count words old new output result)
+      × (s.exchanges ≡ exchanges))
       → TellsFleet result errors status
-      → RunHeadline T truth link step left count words old new output errors status
-  either (Ok ending) (inl stops) tells = absurd stops
-  either (Err stop) (inl stops) tells =
+      → StartsNobody T truth link step left count (fleet_steps words) words.store old new output
+      errors status
+      ⊎ StartsWorkers T truth link step lent took left count words old new output errors status
+  either exchanges heard (Ok ending) (inl stops) tells = absurd stops
+  either exchanges heard (Err stop) (inl stops) tells =
       inl (record { stop = stop; stops = stops; tells = tells })
-  either result (inr began) tells = inr (started result began tells)
+  either exchanges heard result (inr (s, same)) tells =
+      inr (started exchanges heard result s same tells)
 
 pub runs_have_headlines : (T : Type 0) → {L D : Type 0} → (truth : Truth) (link : L → Link)
-    (step : L → Exchange → L → Type 0)
-    (left : D → Option (List ℕ)) (count : D → ℕ) → RunsHaveHeadlines T truth link step left count
-runs_have_headlines T truth link step left count words old new output errors status ran =
-    either T truth link step left count words old new output errors status ran.result ran.did.did
-    ran.tells
+    (step : L → Exchange → L → Type 0) (lent took : ℕ → L → Type 0)
+    (left : D → Option (List ℕ)) (count : D → ℕ)
+    → RunsHaveHeadlines T truth link step lent took left count
+runs_have_headlines T truth link step lent took left count words old new output errors status ran = (
+  ran.did.home,
+  either T truth link step lent took left count words old new output errors status
+      ran.did.exchanges ran.did.heard ran.result ran.did.did ran.tells,
+)

@@ -7,7 +7,7 @@ use Rattle.std.specs.Str.{bytes_eq}
 use Rattle.kr_base.specs.Limits.{data_limit, store_limit}
 use Rattle.kr_base.specs.Told.{Agrees}
 use Rattle.std.specs.Result.{result_map_both}
-use Rattle.kr_config.specs.Kept.{Row}
+use Rattle.kr_config.specs.Kept.{ConfigEntry}
 use Rattle.kr_config.specs.Lists.{list_of}
 use Rattle.kr_config.specs.declared.who.Who.{Who}
 use Rattle.kr_config.specs.declared.who.Who.TheVariants as who
@@ -27,7 +27,7 @@ use Rattle.kr_kms.specs.declared.plugin.Wrapped.{Wrapped}
 use Rattle.kr_kms.specs.declared.seeds.SeedRow.{SeedRow}
 use Rattle.kr_kms.specs.declared.world.WorldCall.TheVariants.{File, RandomSource, Tape}
 use Rattle.kr_provider.specs.Envelopes.{Envelope}
-use Rattle.kr_provider.specs.PluginOrder.{in_order, plugin_order}
+use Rattle.kr_provider.specs.PluginOrder.{names_in_order, plugin_order}
 use Rattle.kr_provider.specs.Publication.{names_plugin, seed_of}
 use Rattle.kr_provider.specs.Reading.{Reading, data_of, refused, unopened, value_reading, is_rotated, is_stale}
 use Rattle.kr_provider.specs.Readers.{is_reader, reader_in, writer_of}
@@ -38,7 +38,10 @@ use Rattle.kr_provider.specs.Sealing.{draw_size, sealed_by}
 use Rattle.kr_provider.specs.declared.refusal.Opened.{Opened}
 use Rattle.kr_provider.specs.declared.refusal.ValueNo.{ValueNo}
 use Rattle.kr_opening.specs.Checks.{store_check}
-use Rattle.kr_cmd_steps.specs.Commands.{by_result, value_steps, draw_some, input_of, linking_programs, opening, reading_given, data_steps, value_with, unsealing, working, working_by, converting, bench_steps, configuration, getting, row_found, row_on, stored_on, tape_for, with_memory, configurations, judging_at, judging_by, telling, adding, new_row, putting, revision_line, sealed_into, silently, stored_into}
+use Rattle.kr_cmd_steps.specs.Phases.{by_result, input_of, linking_programs, configuration, stored_on, tape_for, with_memory, adding, silently}
+use Rattle.kr_cmd_steps.specs.ValueSteps.{value_steps, draw_some, opening, reading_given, data_steps, value_with, unsealing, working, working_by, bench_steps}
+use Rattle.kr_cmd_steps.specs.Commands.{converting, getting, putting}
+use Rattle.kr_cmd_steps.specs.StoreSteps.{row_found, row_on, configurations, judging_at, judging_by, telling, new_row, revision_line, sealed_into, stored_into}
 use Rattle.kr_store.specs.Rows.{live, check_in}
 use Rattle.kr_store.specs.File.{file_bytes}
 use Rattle.kr_store.specs.declared.rows.LogRow.{LogRow}
@@ -49,7 +52,7 @@ use Rattle.kr_kms.specs.declared.plugin.Status.{Status}
 use Rattle.kr_kms.specs.Outside.{makes}
 use Rattle.kr_kms.specs.declared.world.Access.{Access}
 use Rattle.kr_kms.specs.declared.world.Access.TheVariants.{ToRead, ToWrite, ToMake}
-use Rattle.kr_cmd_steps.specs.Plugins.{borrow_links, borrow_links_of, make_seeds, programs_of, seed_row, unless_breach, wrap_seed}
+use Rattle.kr_cmd_steps.specs.Plugins.{borrow_links, borrow_links_of, make_seeds, settings_programs, seed_row, unless_breach, wrap_seed}
 use Rattle.kr_cmd_steps.specs.Steps.{Steps, load, take_input, borrow_dice, borrow_tape, read_tape, write_row, keep_rows, settle, draw, borrow_link, ask_status, wrap, unwrap, note, find, refuse, give, and_then, Left, with_asked, with_dice, with_tape, or_empty, tapes_with}
 use Rattle.kr_cmd_steps.specs.StoreFiles.{Stored, with_row}
 use Rattle.kr_cmd_messages.specs.Texts.{line, word_and_number}
@@ -113,7 +116,7 @@ settled_stored ToWrite there name next left told s = (
   (told, refl, λ bytes a b x y. settled_by _ _ a b next (one_stored bytes a b x y) s),
 )
 
-pub one_configuration : (name : List ℕ) (file : Option (List ℕ)) (a b : Result (List Row) Refusal)
+pub one_configuration : (name : List ℕ) (file : Option (List ℕ)) (a b : Result (List ConfigEntry) Refusal)
     → IsConfiguration name file a → IsConfiguration name file b → a ≡ b
 one_configuration name None a b h k = h ∙ sym k
 one_configuration name (Some bytes) a b (inl h) (inl k) = h.1 ∙ sym k.1
@@ -126,10 +129,10 @@ one_configuration name (Some bytes) a b (inr h) (inr k) = h.3
 -- ---- judge
 
 -- one configuration, and what follows from it in two parts
-settled_parts : (left : Left) (a b : Result (List Row) Refusal)
-    (others : List Row → Steps (List (Option (List Row))))
-    (next : List (Option (List Row)) → Steps Outcome) → a ≡ b
-    → ((rows : List Row) → IsSettled (and_then (others rows) next) (and_then (others rows) next)
+settled_parts : (left : Left) (a b : Result (List ConfigEntry) Refusal)
+    (others : List ConfigEntry → Steps (List (Option (List ConfigEntry))))
+    (next : List (Option (List ConfigEntry)) → Steps Outcome) → a ≡ b
+    → ((rows : List ConfigEntry) → IsSettled (and_then (others rows) next) (and_then (others rows) next)
     left left)
     → IsSettled (and_then (and_then (by_result a) others) next)
     (and_then (and_then (by_result b) others) next) left left
@@ -137,15 +140,15 @@ settled_parts left a b others next e s = subst (λ r. IsSettled
     (and_then (and_then (by_result a) others) next)
     (and_then (and_then (by_result r) others) next) left left) e (alike a)
   where
-    alike : (r : Result (List Row) Refusal) → IsSettled
+    alike : (r : Result (List ConfigEntry) Refusal) → IsSettled
         (and_then (and_then (by_result r) others) next)
         (and_then (and_then (by_result r) others) next) left left
     alike (Ok rows) = s rows
     alike (Err why) = refl
 
-settled_all : (names : List (List ℕ)) (read : List (Option (List Row))) (left : Left)
-    (next : List (Option (List Row)) → Steps Outcome) → AreTold left.file names
-    → ((now : Left) (read : List (Option (List Row))) → now.file ≡ left.file
+settled_all : (names : List (List ℕ)) (read : List (Option (List ConfigEntry))) (left : Left)
+    (next : List (Option (List ConfigEntry)) → Steps Outcome) → AreTold left.file names
+    → ((now : Left) (read : List (Option (List ConfigEntry))) → now.file ≡ left.file
     → IsSettled (next read) (next read) now now)
     → IsSettled (and_then (configurations read names) next)
     (and_then (configurations read names) next) left left
@@ -161,7 +164,7 @@ settled_all (name ∷ names) read left next told s = (
 )
 
 settled_judgement : (options : List (List ℕ × List ℕ)) (stored : List LogRow)
-    (replicas : List (Option (List Row))) (left : Left)
+    (replicas : List (Option (List ConfigEntry))) (left : Left)
     → IsSome (left.file (reload_file (reload_in options)))
     → IsSettled (read_then options stored replicas) (read_then options stored replicas) left left
 settled_judgement options stored replicas left told = (
@@ -388,7 +391,7 @@ module _ (what : Object) (name : List ℕ) where
   settled_closing (write_row one path store row next) (write_row thing other held line more) left
       right s = λ a b. settled_closing next more _ _ (s a b)
   settled_closing (keep_rows path store next) (keep_rows other held more) left right s =
-      λ a b m n. settled_closing next more _ _ (s a b m n)
+      λ a b. settled_closing next more _ _ (s a b)
   settled_closing (settle one path next) (settle thing other more) left right s =
       settled_closing next more _ _ s
   settled_closing (draw seat size next) (draw other count more) left right s =
@@ -396,11 +399,11 @@ module _ (what : Object) (name : List ℕ) where
   settled_closing (borrow_link seat plugin program next) (borrow_link other text file more) left
       right s = settled_closing next more _ _ s
   settled_closing (ask_status seat plugin next) (ask_status other text more) left right s =
-      (s.0, s.1, λ status. settled_closing (next status) (more status) left right (s.2 status))
+      (s.0, s.1, λ status h k. settled_closing (next status) (more status) _ _ (s.2 status h k))
   settled_closing (wrap seat plugin plain next) (wrap other text bytes more) left right s =
-      λ a b x y. settled_closing (next a) (more b) left right (s a b x y)
+      λ a b x y h k. settled_closing (next a) (more b) _ _ (s a b x y h k)
   settled_closing (unwrap seat key next) (unwrap other text more) left right s =
-      λ a b. settled_closing (next a) (more b) left right (s a b)
+      λ a b h k. settled_closing (next a) (more b) _ _ (s a b h k)
   settled_closing (note text next) (note other more) left right s =
       settled_closing next more _ _ s
   settled_closing (find B P next) (find C Q more) left right s =
@@ -467,11 +470,13 @@ settled_seeds [] left right same told next more f = f [] [] left right refl refl
 settled_seeds (name ∷ names) left right same told next more f = (
   told name (0, omega arith, refl),
   ap (λ t. t (0, name)) same,
-  λ status. by_breach (λ x y rx ry u v. settled_seeds names _ _ same
-      (λ plugin c. told plugin (suc c.0, omega (arith, c.1), c.2))
+  λ status h k. by_breach (λ x y u v l r al ar. settled_seeds names l r (ar ∙ sym al)
+      (λ plugin c. subst (λ (t : ℕ × List ℕ → Option Status). IsSome (t (0, plugin))) (sym al)
+      (told plugin (suc c.0, omega (arith, c.1), c.2)))
       (λ rows. next (seed_row name x u ∷ rows)) (λ rows. more (seed_row name y v ∷ rows))
-      (λ a b l r g h. λ s t. f (seed_row name x u ∷ a) (seed_row name y v ∷ b) l r
-      (ap (λ n. name ∷ n) g) (ap (λ n. name ∷ n) h) s t)) (breach_in status),
+      (λ a b l r e g. λ s t. f (seed_row name x u ∷ a) (seed_row name y v ∷ b) l r
+      (ap (λ n. name ∷ n) e) (ap (λ n. name ∷ n) g) (s ∙ al) (t ∙ al))) (breach_in status)
+      (record left { heard = h }) (record right { heard = k }) refl same,
 )
   where
     after : (a b : SeedRow) (l r : Left)
@@ -484,23 +489,24 @@ settled_seeds (name ∷ names) left right same told next more f = (
         (subst (λ steps. IsSettled (and_then (make_seeds names) (λ rows. next (a ∷ rows))) steps
         l r) (sym (regroup (make_seeds names) (λ rows. give (b ∷ rows)) more)) s)
 
-    by_breach : ((x y : List ℕ) (rx ry : Option (List ℕ)) (u v : Wrapped)
+    by_breach : ((x y : List ℕ) (u v : Wrapped) (l r : Left) → l.links ≡ left.links
+        → r.links ≡ left.links
         → IsSettled (and_then (make_seeds names) (λ rows. next (seed_row name x u ∷ rows)))
-        (and_then (make_seeds names) (λ rows. more (seed_row name y v ∷ rows)))
-        (with_dice 0 rx left) (with_dice 0 ry right))
-        → (breach : Option (Field × List ℕ)) → IsSettled
+        (and_then (make_seeds names) (λ rows. more (seed_row name y v ∷ rows))) l r)
+        → (breach : Option (Field × List ℕ)) (l r : Left) → l.links ≡ left.links
+        → r.links ≡ left.links → IsSettled
         (and_then (and_then (unless_breach name breach (wrap_seed name)) (more_seeds names)) next)
         (and_then (and_then (unless_breach name breach (wrap_seed name)) (more_seeds names)) more)
-        left right
-    by_breach others (Some breach) = refl
-    by_breach others None = λ x y rx ry p q. λ u v within short.
-        after (seed_row name x u) (seed_row name y v) (with_dice 0 rx left) (with_dice 0 ry right)
-        (others x y rx ry u v)
+        l r
+    by_breach others (Some breach) l r al ar = refl
+    by_breach others None l r al ar = λ x y rx ry p q. λ u v within short h k.
+        after (seed_row name x u) (seed_row name y v) (record (with_dice 0 rx l) { heard = h })
+        (record (with_dice 0 ry r) { heard = k }) (others x y u v _ _ al ar)
 
 -- ---- together
 
 settled_working : (left right : Left) (old : Around) (direction : Direction)
-    (resource path bytes : List ℕ) (rows : List Row) → left.links ≡ old.world.links.told
+    (resource path bytes : List ℕ) (rows : List ConfigEntry) → left.links ≡ old.world.links.told
     → right.links ≡ old.world.links.told → ArePluginsTold direction old rows
     → IsSettled (working direction resource path rows bytes)
     (working direction resource path rows bytes) left right
@@ -513,7 +519,7 @@ settled_working left right old Encrypt resource path bytes rows x y told = λ u 
     (sealed_by b (writer_of (list_of rows resource)) path bytes)
     (λ p q. one_seal (writer_of (list_of rows resource)) a b path bytes p q (e ∙ sym f)))
 settled_working left right old Decrypt resource path bytes rows x y told = λ u v h k.
-    let none : plugin_order rows ≡ [] = ap in_order (no_names rows told) in
+    let none : plugin_order rows ≡ [] = ap names_in_order (no_names rows told) in
     subst (λ names. IsSettled
     (and_then (make_seeds names) (working_by Decrypt resource path rows bytes))
     (and_then (make_seeds names) (working_by Decrypt resource path rows bytes)) left right)
@@ -522,12 +528,12 @@ settled_working left right old Decrypt resource path bytes rows x y told = λ u 
     (none_listed rows resource told))
 
 -- with the programs of these entries' plugins
-abbrev linked_steps : Conversion → List Row → List Program → Steps Outcome
+abbrev linked_steps : Conversion → List ConfigEntry → List Program → Steps Outcome
 linked_steps words rows programs = and_then (input_of words.direction) (λ bytes.
     borrow_dice 0 (borrow_links programs
     (working words.direction words.resource words.path rows bytes)))
 
-abbrev configured : Conversion → List Row → Steps Outcome
+abbrev configured : Conversion → List ConfigEntry → Steps Outcome
 configured words rows =
     and_then (linking_programs words.options rows) (linked_steps words rows)
 
@@ -535,10 +541,10 @@ module _ (old : Around) (words : Conversion) (input : IsSome old.input) where
   abbrev now : Left
   now = with_asked (File words.config) (left_of old)
 
-  settled_rows : (rows : List Row) → ArePluginsTold words.direction old rows
+  settled_rows : (rows : List ConfigEntry) → ArePluginsTold words.direction old rows
       → IsSettled (configured words rows) (configured words rows) now now
   settled_rows rows told = λ u v h k.
-      settled_result now now (programs_of words.options (plugin_order rows))
+      settled_result now now (settings_programs words.options (plugin_order rows))
       (linked_steps words rows) (λ programs. (
         refl,
         refl,
@@ -549,8 +555,8 @@ module _ (old : Around) (words : Conversion) (input : IsSome old.input) where
             words.direction words.resource words.path bytes rows x y told),
       ))
 
-  by_rows : (a : Result (List Row) Refusal)
-      → ((rows : List Row) → a ≡ Ok rows → ArePluginsTold words.direction old rows)
+  by_rows : (a : Result (List ConfigEntry) Refusal)
+      → ((rows : List ConfigEntry) → a ≡ Ok rows → ArePluginsTold words.direction old rows)
       → IsSettled (and_then (by_result a) (configured words))
       (and_then (by_result a) (configured words)) now now
   by_rows (Ok rows) told = settled_rows rows (told rows refl)
@@ -586,9 +592,9 @@ settled_pair {A} left right a b f g e s =
     by_cases (Err why) = refl
 
 -- the entries of a told configuration are one thing
-pub settled_configuration : (old : Around) (name : List ℕ) (next : List Row → Steps Outcome)
+pub settled_configuration : (old : Around) (name : List ℕ) (next : List ConfigEntry → Steps Outcome)
     → IsSome (old.world.file name)
-    → ((file : Option (List ℕ)) (rows : List Row) → IsConfiguration name file (Ok rows)
+    → ((file : Option (List ℕ)) (rows : List ConfigEntry) → IsConfiguration name file (Ok rows)
     → Agrees (old.world.file name) file
     → IsSettled (next rows) (next rows) (with_asked (File name) (left_of old))
     (with_asked (File name) (left_of old)))
@@ -605,21 +611,21 @@ settled_configuration old name next told each = (
     now : Left
     now = with_asked (File name) (left_of old)
 
-    by_cases : (r : Result (List Row) Refusal)
-        → ((rows : List Row) → r ≡ Ok rows → IsSettled (next rows) (next rows) now now)
+    by_cases : (r : Result (List ConfigEntry) Refusal)
+        → ((rows : List ConfigEntry) → r ≡ Ok rows → IsSettled (next rows) (next rows) now now)
         → IsSettled (and_then (by_result r) next) (and_then (by_result r) next) now now
     by_cases (Ok rows) s = s rows refl
     by_cases (Err why) s = refl
 
-abbrev read_so : Lookup → List Row → List Program → stored.Row → Steps Outcome
+abbrev read_so : Lookup → List ConfigEntry → List Program → stored.Row → Steps Outcome
 read_so words rows programs row =
     bench_steps programs Decrypt row.resource words.path rows row.stored
 
-abbrev looked_up : Lookup → List Row → List Program → Steps Outcome
+abbrev looked_up : Lookup → List ConfigEntry → List Program → Steps Outcome
 looked_up words rows programs = and_then (tape_for words.store ToRead
     (row_on words.store words.path)) (read_so words rows programs)
 
-settled_row : (old : Around) (words : Lookup) (rows : List Row) (programs : List Program)
+settled_row : (old : Around) (words : Lookup) (rows : List ConfigEntry) (programs : List Program)
     (left right : Left) → left.links ≡ old.world.links.told → right.links ≡ left.links
     → names_plugin rows ≡ false → (row : stored.Row)
     → IsSettled (read_so words rows programs row) (read_so words rows programs row) left right
@@ -633,7 +639,7 @@ pub settled_getting : (old : Around) (words : Lookup) → IsTelling (Get words) 
 settled_getting old words (file, tape, plugins) = settled_configuration old words.config
     (λ rows. and_then (linking_programs words.options rows) (looked_up words rows)) file
     (λ file rows is agrees. λ u v h k. settled_result _ _
-    (programs_of words.options (plugin_order rows)) (looked_up words rows) (λ programs. (
+    (settings_programs words.options (plugin_order rows)) (looked_up words rows) (λ programs. (
       tape,
       refl,
       refl,
@@ -652,12 +658,12 @@ settled_getting old words (file, tape, plugins) = settled_configuration old word
 
 -- ---- put, where no plugin is named
 
-abbrev put_then : Conversion → (name : List ℕ) → List Row → Stored → Outcome → Steps Outcome
+abbrev put_then : Conversion → (name : List ℕ) → List ConfigEntry → Stored → Outcome → Steps Outcome
 put_then words name rows read sealed =
     and_then (adding Store name read (new_row read.format words rows sealed.bytes))
     (λ grown. give (silently (revision_line grown)))
 
-module _ (words : Conversion) (name : List ℕ) (rows : List Row) (read : Stored) where
+module _ (words : Conversion) (name : List ℕ) (rows : List ConfigEntry) (read : Stored) where
   abbrev onward : Outcome → Steps Outcome
   onward = put_then words name rows read
 
@@ -713,7 +719,7 @@ module _ (words : Conversion) (name : List ℕ) (rows : List Row) (read : Stored
       (and_then (working Encrypt words.resource words.path rows bytes) onward) left right
   settled_sealing left right bytes none = λ u v h k.
       let writer = writer_of (list_of rows words.resource) in
-      let no_seeds : plugin_order rows ≡ [] = ap in_order (no_names rows none) in
+      let no_seeds : plugin_order rows ≡ [] = ap names_in_order (no_names rows none) in
       subst (λ names. IsSettled
       (and_then (and_then (make_seeds names)
       (working_by Encrypt words.resource words.path rows bytes)) onward)
@@ -754,7 +760,7 @@ pub settled_putting : (old : Around) (words : Conversion) (store : List ℕ)
 settled_putting old words store (file, tape, input, plugins) = settled_configuration old words.config
     (λ rows. and_then (linking_programs words.options rows) (passed rows)) file
     (λ file rows is agrees. λ u v h k. settled_result _ _
-    (programs_of words.options (plugin_order rows)) (passed rows) (λ programs. (
+    (settings_programs words.options (plugin_order rows)) (passed rows) (λ programs. (
       refl,
       refl,
       input,
@@ -774,10 +780,10 @@ settled_putting old words store (file, tape, input, plugins) = settled_configura
       ),
     )))
   where
-    passed : List Row → List Program → Steps Outcome
+    passed : List ConfigEntry → List Program → Steps Outcome
     passed rows programs = and_then (input_of Encrypt) (stored_into words store rows programs)
 
-    put_into : List Row → List Program → (bytes : List ℕ) → Steps Outcome
+    put_into : List ConfigEntry → List Program → (bytes : List ℕ) → Steps Outcome
     put_into rows programs bytes =
         and_then (stored_on Store store) (sealed_into words store rows programs bytes)
 

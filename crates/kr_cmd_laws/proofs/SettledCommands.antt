@@ -2,7 +2,9 @@
 use Rattle.std.proofs.Common.{refl, sym, ◌∙◌}
 use Rattle.kr_kms.specs.declared.world.Access.TheVariants.{ToRead}
 use Rattle.kr_cmd_steps.specs.Around.{Around, left_of}
-use Rattle.kr_cmd_steps.specs.Commands.{judging_by, show, steps}
+use Rattle.kr_cmd_steps.specs.StoreSteps.{judging_by}
+use Rattle.kr_cmd_steps.specs.Phases.{show}
+use Rattle.kr_cmd_steps.specs.Commands.{steps}
 use Rattle.kr_cmd_steps.specs.RowLines.{ShowsRows}
 use Rattle.kr_cmd_steps.specs.Ran.{IsTelling}
 use Rattle.kr_cmd_messages.specs.declared.command.Command.TheVariants.{Verify}

@@ -2,13 +2,15 @@
 use Rattle.std.proofs.Common.{◌≡◌, ℕ, List, [], ◌∷◌, ◌++◌, length, map, Bool, true, false, Result, Ok, Err, refl, sym, ◌∙◌, ap, subst}
 use Rattle.std.specs.Prelude.{IsSome, nat_lt, if◌then◌else◌}
 use Rattle.kr_base.specs.Limits.{store_limit}
-use Rattle.kr_config.specs.Kept.{Row}
+use Rattle.kr_config.specs.Kept.{ConfigEntry}
 use Rattle.kr_kms.specs.declared.world.WorldCall.TheVariants.{File, Tape}
 use Rattle.kr_kms.specs.declared.world.Access.TheVariants.{ToRead, ToMake}
 use Rattle.kr_store.specs.File.{file_bytes}
 use Rattle.kr_store.specs.declared.rows.LogRow.{LogRow}
 use Rattle.kr_cmd_steps.specs.Around.{Around, left_of}
-use Rattle.kr_cmd_steps.specs.Commands.{by_result, copied_into, copying, migrated_line, migrated_row, migrating, migrating_into, silently, source_on, tape_for, target_on, target_read}
+use Rattle.kr_cmd_steps.specs.Phases.{by_result, silently, tape_for}
+use Rattle.kr_cmd_steps.specs.StoreSteps.{copied_into, copying, migrated_line, migrated_row, migrating_into, source_on, target_on, target_read}
+use Rattle.kr_cmd_steps.specs.Commands.{migrating}
 use Rattle.kr_cmd_steps.specs.Ran.{IsTelling}
 use Rattle.kr_cmd_steps.specs.Steps.{Steps, write_row, give, and_then, or_empty, tapes_with, with_asked, with_tape, with_told, Left}
 use Rattle.kr_cmd_steps.specs.StoreFiles.{IsSource, IsTarget, Stored, none_there, unless_new, unless_there, with_row}
@@ -24,12 +26,12 @@ use Rattle.kr_cmd_laws.proofs.OnePoint.{IsSettled}
 use Rattle.kr_cmd_laws.proofs.Settled.{settled_by, settled_closing, settled_configuration, settled_pair, told_or_empty}
 use Rattle.kr_cmd_steps.proofs.Tapes.{own_name}
 
-one_source : (bytes : List ℕ) (a b : Result Stored Refusal) → IsSource bytes a
+pub one_source : (bytes : List ℕ) (a b : Result Stored Refusal) → IsSource bytes a
     → IsSource bytes b → a ≡ b
 one_source bytes a b h k =
     h.2 ∙ ap (unless_new bytes) (one_stored bytes h.0 k.0 h.1 k.1) ∙ sym k.2
 
-one_target : (bytes : List ℕ) (a b : Result Stored Refusal) → IsTarget bytes a
+pub one_target : (bytes : List ℕ) (a b : Result Stored Refusal) → IsTarget bytes a
     → IsTarget bytes b → a ≡ b
 one_target bytes a b h k =
     h.2 ∙ ap (unless_there bytes) (one_stored bytes h.0 k.0 h.1 k.1) ∙ sym k.2
@@ -89,7 +91,7 @@ settled_migrating old words (file, tape, target) = settled_configuration old wor
         else old.world.tapes.told words.to)) (sym (own_name words.to))
         (told_or_empty (old.world.tapes.told words.to) target)
 
-    settled_into : (rows : List Row) (source : Stored)
+    settled_into : (rows : List ConfigEntry) (source : Stored)
         → IsSettled (migrating_into words.to rows source) (migrating_into words.to rows source)
         source_out source_out
     settled_into rows source = let into = and_then (target_on words.to)

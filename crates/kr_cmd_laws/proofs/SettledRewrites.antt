@@ -2,12 +2,12 @@
 use Rattle.std.proofs.Common.{◌≡◌, ℕ, ◌+◌, zero, suc, List, [], ◌∷◌, ◌++◌, length, Bool, true, false, Option, None, Some, Result, Ok, Err, refl, sym, ◌∙◌, ap, subst, length-append}
 use Rattle.std.specs.Prelude.{⊤, nat_lt, if◌then◌else◌}
 use Rattle.kr_base.specs.Limits.{data_limit, store_limit}
-use Rattle.kr_config.specs.Kept.{Row}
+use Rattle.kr_config.specs.Kept.{ConfigEntry}
 use Rattle.kr_config.specs.Lists.{list_of}
 use Rattle.kr_kms.specs.declared.seeds.SeedRow.{SeedRow}
 use Rattle.kr_kms.specs.declared.world.WorldCall.TheVariants.{File, Tape}
 use Rattle.kr_kms.specs.declared.world.Access.TheVariants.{ToWrite}
-use Rattle.kr_provider.specs.PluginOrder.{in_order, plugin_order}
+use Rattle.kr_provider.specs.PluginOrder.{names_in_order, plugin_order}
 use Rattle.kr_provider.specs.Publication.{Publication, names_plugin}
 use Rattle.kr_provider.specs.Reading.{Reading, data_of, refused, unopened}
 use Rattle.kr_provider.specs.Readers.{writer_of}
@@ -26,9 +26,12 @@ use Rattle.kr_store.specs.declared.rows.LogRow.{LogRow}
 use Rattle.kr_store.specs.declared.rows.Row as stored
 use Rattle.kr_store.proofs.Listings.{listing_once}
 use Rattle.kr_cmd_steps.specs.Around.{Around, left_of}
-use Rattle.kr_cmd_steps.specs.Commands.{IsStarted, Progress, nothing_done, by_result, driving, linking_programs, one_rewritten, reading_given, replacing, resealing, rewriting, rewriting_by, rewriting_live, rewriting_on, row_anew, row_by, row_data, row_steps, settled_for, starting, within_journal, draw_some}
+use Rattle.kr_cmd_steps.specs.RewriteSteps.{IsStarted, Progress, nothing_done, driving, one_rewritten, replacing, resealing, rewriting_by, rewriting_live, rewriting_on, row_anew, row_by, row_data, row_steps, starting, within_journal}
+use Rattle.kr_cmd_steps.specs.Phases.{by_result, linking_programs, settled_for}
+use Rattle.kr_cmd_steps.specs.ValueSteps.{reading_given, draw_some}
+use Rattle.kr_cmd_steps.specs.Commands.{rewriting}
 use Rattle.kr_cmd_steps.specs.Judgements.{start_refusal}
-use Rattle.kr_cmd_steps.specs.Plugins.{borrow_links, make_seeds, programs_of}
+use Rattle.kr_cmd_steps.specs.Plugins.{borrow_links, make_seeds, settings_programs}
 use Rattle.kr_cmd_steps.specs.Ran.{IsTelling}
 use Rattle.kr_cmd_steps.specs.Steps.{Steps, borrow_dice, find, give, write_row, and_then, Left, with_asked, with_tape}
 use Rattle.kr_cmd_steps.specs.StoreFiles.{Stored, with_row}
@@ -40,7 +43,7 @@ use Rattle.kr_cmd_messages.specs.declared.refusal.Object.TheVariants.{Store}
 use Rattle.kr_cmd_messages.specs.declared.refusal.Outcome.{Outcome}
 use Rattle.kr_cmd_messages.specs.declared.refusal.Refusal.{Refusal}
 use Rattle.kr_cmd_messages.specs.declared.refusal.Refusal.TheVariants.{Limit}
-use Rattle.kr_cmd_messages.specs.declared.report.Counts.{Counts}
+use Rattle.kr_cmd_messages.specs.declared.report.RewriteCounts.{RewriteCounts}
 use Rattle.kr_cmd_laws.proofs.EquallyLong.{AreAsLong, as_long, no_kms_writer, same_row}
 use Rattle.kr_cmd_steps.proofs.OneVerdict.{told_cause}
 use Rattle.kr_cmd_laws.proofs.OnePoint.{IsSettled}
@@ -85,7 +88,7 @@ long_files format ones others l =
 
 -- ---- the start
 
-one_started : (stored : List LogRow) (rows : List Row) (a b : Result ⊤ Refusal)
+pub one_started : (stored : List LogRow) (rows : List ConfigEntry) (a b : Result ⊤ Refusal)
     → IsStarted stored rows a → IsStarted stored rows b → a ≡ b
 one_started stored rows (Ok u) (Ok v) h k = refl
 one_started stored rows (Ok u) (Err w) h (cause, none, is) =
@@ -99,20 +102,20 @@ one_started stored rows (Err v) (Err w) (c, x, p) (d, y, q) =
 
 -- ---- a row
 
-module _ (name : List ℕ) (rows : List Row) (none : names_plugin rows ≡ false) (format : Format) where
+module _ (name : List ℕ) (rows : List ConfigEntry) (none : names_plugin rows ≡ false) (format : Format) where
   abbrev Bare : Publication
   Bare = record { rows = rows; seeds = [] }
 
-  abbrev At : Counts → List LogRow → Progress
+  abbrev At : RewriteCounts → List LogRow → Progress
   At counts held = record { store = record { format = format; rows = held }; counts = counts }
 
   -- what follows goes one way behind stores that are as long
   abbrev GoesOn : (Progress → Steps Outcome) → Type 0
-  GoesOn next = (counts : Counts) (ones others : List LogRow) (left right : Left) → AsLong ones others
+  GoesOn next = (counts : RewriteCounts) (ones others : List LogRow) (left right : Left) → AsLong ones others
       → IsSettled (next (At counts ones)) (next (At counts others)) left right
 
   module _ (row : stored.Row) (next : Progress → Steps Outcome) (onward : GoesOn next)
-      (counts : Counts) (ones others : List LogRow) (long : AsLong ones others) where
+      (counts : RewriteCounts) (ones others : List LogRow) (long : AsLong ones others) where
     abbrev New : List ℕ → LogRow
     New value = row_anew format Bare row value
 
@@ -211,13 +214,13 @@ module _ (name : List ℕ) (rows : List Row) (none : names_plugin rows ≡ false
         (none_listed rows row.resource none) (settled_given left right)
 
   settled_drive : (live : List stored.Row) → GoesOn (driving name Bare live)
-  settled_drive [] counts ones others left right long = λ a b m n. λ s t p q. refl
-  settled_drive (row ∷ live) counts ones others left right long = λ a b m n.
+  settled_drive [] counts ones others left right long = λ a b. λ s t p q. refl
+  settled_drive (row ∷ live) counts ones others left right long = λ a b.
       settled_row row (driving name Bare live) (settled_drive live) counts ones others long _ _
 
 -- ---- all of it
 
-module _ (name : List ℕ) (rows : List Row) (none : names_plugin rows ≡ false) (store : Stored)
+module _ (name : List ℕ) (rows : List ConfigEntry) (none : names_plugin rows ≡ false) (store : Stored)
     (live : List stored.Row) where
   abbrev behind_seeds : List SeedRow → Steps Outcome
   behind_seeds seeds = and_then (starting store.rows rows) (λ u.
@@ -226,7 +229,7 @@ module _ (name : List ℕ) (rows : List Row) (none : names_plugin rows ≡ false
   settled_seeded : (left right : Left) → IsSettled (rewriting_by name rows store live)
       (rewriting_by name rows store live) left right
   settled_seeded left right = λ s t p q.
-      let no_seeds : plugin_order rows ≡ [] = ap in_order (no_names rows none) in
+      let no_seeds : plugin_order rows ≡ [] = ap names_in_order (no_names rows none) in
       subst (λ names. IsSettled (and_then (make_seeds names) behind_seeds)
       (and_then (make_seeds names) behind_seeds) left right) (sym no_seeds)
       (λ a b x y. settled_by left right a b
@@ -255,7 +258,7 @@ pub settled_rewriting : (old : Around) (words : Rewriting) → IsTelling (Rewrit
 settled_rewriting old words (file, tape, plugins) = settled_configuration old words.config
     (λ rows. and_then (linking_programs words.options rows) (passed rows)) file
     (λ file rows is agrees. λ u v h k. settled_result configured configured
-    (programs_of words.options (plugin_order rows)) (passed rows)
+    (settings_programs words.options (plugin_order rows)) (passed rows)
     (λ programs. let held = settled_stored ToWrite refl words.store (listed rows programs) configured tape
     (λ store. λ live other c d.
     subst (λ o. IsSettled (rewriting_live words.store rows programs store live)
@@ -278,10 +281,10 @@ settled_rewriting old words (file, tape, plugins) = settled_configuration old wo
     lent : Left
     lent = with_tape false words.store (with_asked (Tape words.store ToWrite) configured)
 
-    passed : List Row → List Program → Steps Outcome
+    passed : List ConfigEntry → List Program → Steps Outcome
     passed rows programs =
         settled_for Store words.store ToWrite (rewriting_on words.store rows programs)
 
-    listed : List Row → List Program → Stored → Steps Outcome
+    listed : List ConfigEntry → List Program → Stored → Steps Outcome
     listed rows programs store =
         find (List stored.Row) (IsListing store.rows) (rewriting_live words.store rows programs store)

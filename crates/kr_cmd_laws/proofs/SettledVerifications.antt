@@ -1,11 +1,11 @@
 -- What `verify` finds is one thing, where no plugin is named.
 use Rattle.std.proofs.Common.{◌≡◌, List, [], ◌∷◌, Bool, false, Result, Ok, Err, refl, sym, ap, subst}
-use Rattle.kr_config.specs.Kept.{Row}
+use Rattle.kr_config.specs.Kept.{ConfigEntry}
 use Rattle.kr_config.specs.Lists.{list_of}
 use Rattle.kr_kms.specs.declared.seeds.SeedRow.{SeedRow}
 use Rattle.kr_kms.specs.declared.world.WorldCall.TheVariants.{File, Tape}
 use Rattle.kr_kms.specs.declared.world.Access.TheVariants.{ToRead}
-use Rattle.kr_provider.specs.PluginOrder.{in_order, plugin_order}
+use Rattle.kr_provider.specs.PluginOrder.{names_in_order, plugin_order}
 use Rattle.kr_provider.specs.Publication.{Publication, names_plugin}
 use Rattle.kr_provider.specs.Reading.{Reading, data_of, refused, unopened}
 use Rattle.kr_provider.specs.declared.refusal.Opened.{Opened}
@@ -19,8 +19,11 @@ use Rattle.kr_cmd_messages.specs.declared.command.Command.TheVariants.{Verify}
 use Rattle.kr_cmd_messages.specs.declared.command.Verification.{Verification}
 use Rattle.kr_cmd_messages.specs.declared.refusal.Outcome.{Outcome}
 use Rattle.kr_cmd_steps.specs.Around.{Around, left_of}
-use Rattle.kr_cmd_steps.specs.Commands.{linking_programs, live_on, reading_given, row_findings, tape_for, telling_findings, verifying, verifying_by, verifying_with, with_memory}
-use Rattle.kr_cmd_steps.specs.Plugins.{make_seeds, programs_of}
+use Rattle.kr_cmd_steps.specs.Phases.{linking_programs, tape_for, with_memory}
+use Rattle.kr_cmd_steps.specs.StoreSteps.{live_on, row_findings, telling_findings, verifying_by, verifying_with}
+use Rattle.kr_cmd_steps.specs.ValueSteps.{reading_given}
+use Rattle.kr_cmd_steps.specs.Commands.{verifying}
+use Rattle.kr_cmd_steps.specs.Plugins.{make_seeds, settings_programs}
 use Rattle.kr_cmd_steps.specs.Ran.{IsTelling}
 use Rattle.kr_cmd_steps.specs.RowFindings.{finding_of}
 use Rattle.kr_cmd_steps.specs.Steps.{Left, Steps, and_then, find, give, with_asked, with_tape}
@@ -35,7 +38,7 @@ abbrev GoesOn : (List Finding → Steps Outcome) → Type 0
 GoesOn next = (findings : List Finding) (left right : Left)
     → IsSettled (next findings) (next findings) left right
 
-module _ (rows : List Row) (none : names_plugin rows ≡ false) where
+module _ (rows : List ConfigEntry) (none : names_plugin rows ≡ false) where
   abbrev Bare : Publication
   Bare = record { rows = rows; seeds = [] }
 
@@ -93,7 +96,7 @@ module _ (rows : List Row) (none : names_plugin rows ≡ false) where
   settled_seeded : (live : List stored.Row) (left right : Left)
       → IsSettled (verifying_by rows live) (verifying_by rows live) left right
   settled_seeded live left right = λ s t p q.
-      let no_seeds : plugin_order rows ≡ [] = ap in_order (no_names rows none) in
+      let no_seeds : plugin_order rows ≡ [] = ap names_in_order (no_names rows none) in
       subst (λ names. IsSettled (and_then (make_seeds names) told)
       (and_then (make_seeds names) told) left right) (sym no_seeds)
       (settled_rows live (telling_findings live) (λ findings l r. λ s t p q. refl) left right)
@@ -113,7 +116,7 @@ pub settled_verifying : (old : Around) (words : Verification) → IsTelling (Ver
 settled_verifying old words (file, tape, plugins) = settled_configuration old words.config
     (λ rows. and_then (linking_programs words.options rows) (passed rows)) file
     (λ file rows is agrees. λ u v h k. settled_result read_in read_in
-    (programs_of words.options (plugin_order rows)) (passed rows) (λ programs. (
+    (settings_programs words.options (plugin_order rows)) (passed rows) (λ programs. (
       tape,
       refl,
       refl,
@@ -136,6 +139,6 @@ settled_verifying old words (file, tape, plugins) = settled_configuration old wo
     lent : Left
     lent = with_tape false words.store (with_asked (Tape words.store ToRead) read_in)
 
-    passed : List Row → List Program → Steps Outcome
+    passed : List ConfigEntry → List Program → Steps Outcome
     passed rows programs = and_then (tape_for words.store ToRead (live_on words.store))
         (verifying_with programs rows)

@@ -1,5 +1,5 @@
 -- What a value reads as where the plugins' answers are told: one thing, whatever was published.
-use Rattle.std.proofs.Common.{◌≡◌, ℕ, suc, zero, Bool, true, false, List, [], ◌∷◌, map, Option, None, Some, Result, Ok, Err, Contains, refl, sym, ◌∙◌, ap, subst, inl, inr, arith}
+use Rattle.std.proofs.Common.{◌≡◌, ◌⊎◌, ℕ, suc, zero, Bool, true, false, List, [], ◌∷◌, map, Option, None, Some, Result, Ok, Err, Contains, refl, sym, ◌∙◌, ap, subst, inl, inr, arith}
 use Rattle.std.specs.Prelude.{IsSome, cond, if◌then◌else◌}
 use Rattle.std.specs.Str.{bytes_eq}
 use Rattle.std.proofs.lemmas.Slice.Eq.{bytes_eq-Decides}
@@ -10,6 +10,7 @@ use Rattle.kr_config.specs.declared.who.Who.TheVariants as who
 use Rattle.kr_envelope.specs.declared.object.EncryptedObject.{EncryptedObject}
 use Rattle.kr_envelope.specs.declared.object.ObjectNo.{ObjectNo}
 use Rattle.kr_kms.specs.Cache.{key_eq}
+use Rattle.kr_kms.specs.Exchanges.{UnwrapCall}
 use Rattle.kr_kms.specs.Health.{breach_in}
 use Rattle.kr_kms.specs.Truth.{Opens, OpenAll, Truth, key_of}
 use Rattle.kr_kms.specs.declared.health.Field.{Field}
@@ -22,9 +23,9 @@ use Rattle.kr_provider.specs.Readers.{reader_in}
 use Rattle.kr_provider.specs.declared.refusal.Opened.{Opened}
 use Rattle.kr_provider.specs.declared.refusal.ValueNo.{ValueNo}
 use Rattle.kr_provider.proofs.OneReading.{one_reading}
-use Rattle.kr_cmd_steps.specs.Commands.{opening, published_source, reading_given, source_steps, value_read, value_with}
+use Rattle.kr_cmd_steps.specs.ValueSteps.{opening, published_source, reading_given, source_steps, value_read, value_with}
 use Rattle.kr_cmd_steps.specs.Plugins.{make_seed, make_seeds, seed_row, unless_breach, wrap_seed}
-use Rattle.kr_cmd_steps.specs.Steps.{Goes, Left, Steps, and_then, give, gives}
+use Rattle.kr_cmd_steps.specs.Steps.{Goes, Left, Steps, WasUnwrapped, and_then, give, gives, with_heard}
 use Rattle.kr_cmd_laws.proofs.Joints.{joint, no_value, one_truth, one_value}
 
 -- ---- seeds that were made
@@ -42,7 +43,12 @@ module _ (truth : Truth) (row : SeedRow) (end : Left) where
   made_by plugin (Some breach) left same at = absurd (no_value at refl)
   made_by plugin None left same (inl at) = absurd (no_value at refl)
   made_by plugin None left same (inr (seed, rest, c, fits, inl at)) = absurd (no_value at refl)
-  made_by plugin None left same (inr (seed, rest, c, fits, inr (wrapped, tells, within, at))) =
+  made_by plugin None left same (inr (seed, rest, c, fits, inr (inl (answer, at)))) =
+      absurd (no_value at refl)
+  made_by plugin None left same (inr (seed, rest, c, fits, inr (inr (inl at)))) =
+      absurd (no_value at refl)
+  made_by plugin None left same
+      (inr (seed, rest, c, fits, inr (inr (inr (wrapped, tells, within, at))))) =
       let is : seed_row plugin seed wrapped ≡ row = sym (one_value at) in
       subst (IsMade truth plugin) is (record {
         name = refl;
@@ -54,8 +60,10 @@ module _ (truth : Truth) (row : SeedRow) (end : Left) where
   seed_made : (plugin : List ℕ) (left : Left) → left.truth ≡ truth
       → Goes (gives row) end (make_seed plugin) left → IsMade truth plugin row
   seed_made plugin left same (inl at) = absurd (no_value at refl)
-  seed_made plugin left same (inr (status, agrees, goes)) =
-      made_by plugin (breach_in status) left same goes
+  seed_made plugin left same (inr (inl (answer, at))) = absurd (no_value at refl)
+  seed_made plugin left same (inr (inr (inl at))) = absurd (no_value at refl)
+  seed_made plugin left same (inr (inr (inr (status, agrees, goes)))) =
+      made_by plugin (breach_in status) _ same goes
 
 -- they have the names of the plugins, and each of them opens
 pub record AreMade (truth : Truth) (plugins : List (List ℕ)) (seeds : List SeedRow) : Type 0 where
@@ -158,21 +166,21 @@ module _ (truth : Truth) (told : truth.told ≡ true) (seeds : List SeedRow)
   abbrev Gives : Steps (Result Opened ValueNo) → Type 0
   Gives steps = Goes (gives read) end steps left
 
-  given_as : (reading : Reading) (stale : Bool) → Gives (reading_given reading stale)
-      → IsReadAs reading read
-  given_as (data_of plain) stale at =
+  given_as : (reading : Reading) (stale : Bool) (now : Left)
+      → Goes (gives read) end (reading_given reading stale) now → IsReadAs reading read
+  given_as (data_of plain) stale now at =
       let is : Ok (record { plain = plain; stale = stale }) ≡ read = sym (one_value at) in
       subst (IsReadAs (data_of plain)) is refl
-  given_as (refused why) stale at =
+  given_as (refused why) stale now at =
       let is : Err why ≡ read = sym (one_value at) in subst (IsReadAs (refused why)) is refl
-  given_as unopened stale (inl at) = absurd (no_value at refl)
-  given_as unopened stale (inr (e, is, goes)) = absurd e
+  given_as unopened stale now (inl at) = absurd (no_value at refl)
+  given_as unopened stale now (inr (e, is, goes)) = absurd e
 
   abbrev Each : (bytes : List ℕ) (R : Type 0) → Result EncryptedObject ObjectNo
       → (Option (List ℕ) → Steps (Result Opened ValueNo)) → Option Who → Type 0
-  Each bytes R object next reader = (source : Option (List ℕ))
+  Each bytes R object next reader = (source : Option (List ℕ)) (now : Left)
       → HasEnvelope truth.opens reader bytes (record { object = object; source = source })
-      → Gives (next source) → R
+      → Goes (gives read) end (next source) now → R
 
   module _ (bytes : List ℕ) (R : Type 0) (name : List ℕ) (object : EncryptedObject)
       (has : HasObject (Some (who.Kms name)) bytes (Ok object))
@@ -180,16 +188,29 @@ module _ (truth : Truth) (told : truth.told ≡ true) (seeds : List SeedRow)
       (each : Each bytes R (Ok object) next (Some (who.Kms name))) where
     unwrapped : Gives (source_steps None (seed_key name object) next) → R
     unwrapped (inl at) = absurd (no_value at refl)
-    unwrapped (inr (b, tells, goes)) = each (Some b) (
-      has,
-      sym (subst (λ (t : Truth). t.opens (seed_key name object) ≡ Some b)
-          same (tells (subst (λ (t : Truth). t.told ≡ true) (sym same) told))),
-    ) goes
+    unwrapped (inr (inl (answer, at))) = absurd (no_value at refl)
+    unwrapped (inr (inr (inl at))) = absurd (no_value at refl)
+    unwrapped (inr (inr (inr (b, tells, goes)))) = by_goes goes
+      where
+        opened : HasEnvelope truth.opens (Some (who.Kms name)) bytes
+            (record { object = Ok object; source = Some b })
+        opened = (
+          has,
+          sym (subst (λ (t : Truth). t.opens (seed_key name object) ≡ Some b)
+              same (tells (subst (λ (t : Truth). t.told ≡ true) (sym same) told))),
+        )
+
+        by_goes : (WasUnwrapped (seed_key name object) b left.heard
+            × Goes (gives read) end (next (Some b)) left)
+            ⊎ Goes (gives read) end (next (Some b))
+            (with_heard (UnwrapCall (seed_key name object) (Ok b)) left) → R
+        by_goes (inl (was, goes)) = each (Some b) _ opened goes
+        by_goes (inr goes) = each (Some b) _ opened goes
 
     by_key : (row : SeedRow) (q : Bool) → key_eq (key_of row) (seed_key name object) ≡ q
         → truth.opens (key_of row) ≡ Some row.seed
         → Gives (source_steps (if q then Some row.seed else None) (seed_key name object) next) → R
-    by_key row true e opens goes = each (Some row.seed) (
+    by_key row true e opens goes = each (Some row.seed) _ (
       has,
       sym
           (ap truth.opens (sym ((same_key (key_of row) (seed_key name object)).0 e)) ∙ opens),
@@ -208,12 +229,12 @@ module _ (truth : Truth) (told : truth.told ≡ true) (seeds : List SeedRow)
       (object : Result EncryptedObject ObjectNo) → HasObject reader bytes object
       → (next : Option (List ℕ) → Steps (Result Opened ValueNo))
       → Each bytes R object next reader → Gives (opening seeds reader object next) → R
-  opening_true bytes R None object has next each goes = each None tt goes
-  opening_true bytes R (Some who.Identity) object has next each goes = each None tt goes
-  opening_true bytes R (Some (who.Aescbc name secret)) object has next each goes = each None tt goes
-  opening_true bytes R (Some (who.Aesgcm name secret)) object has next each goes = each None tt goes
+  opening_true bytes R None object has next each goes = each None _ tt goes
+  opening_true bytes R (Some who.Identity) object has next each goes = each None _ tt goes
+  opening_true bytes R (Some (who.Aescbc name secret)) object has next each goes = each None _ tt goes
+  opening_true bytes R (Some (who.Aesgcm name secret)) object has next each goes = each None _ tt goes
   opening_true bytes R (Some (who.Kms name)) (Err why) has next each goes =
-      each None (has, refl) goes
+      each None _ (has, refl) goes
   opening_true bytes R (Some (who.Kms name)) (Ok object) has next each goes =
       by_row bytes R name object has next each (seed_of name seeds)
       (λ row is. seed_opens truth.opens name seeds row open_all is) goes
@@ -224,11 +245,11 @@ module _ (truth : Truth) (told : truth.told ≡ true) (seeds : List SeedRow)
   value_true list path bytes (inr (object, has, goes)) =
       opening_true bytes (IsTrueReading truth.opens list path bytes read) (reader_in list bytes)
       object has
-      (value_with seeds list path bytes object) (λ source envelope goes. (
+      (value_with seeds list path bytes object) (λ source now envelope goes. (
         value_reading (record { object = object; source = source }) list path bytes,
         (record { object = object; source = source }, envelope, refl),
         given_as (value_reading (record { object = object; source = source }) list path bytes)
-            (is_stale (record { object = object; source = source }) seeds list bytes) goes,
+            (is_stale (record { object = object; source = source }) seeds list bytes) now goes,
       )) goes
 
 -- data that are read once are read again

@@ -2,7 +2,7 @@
 use Rattle.std.proofs.Common.{◌≡◌, ℕ, Bool, true, false, List, [], ◌∷◌, Option, None, Some, Result, Ok, Err, refl, sym, ◌∙◌, ap, subst, inl, inr}
 use Rattle.std.specs.Prelude.{All}
 use Rattle.std.proofs.lemmas.List.Elements.{All-head, All-tail}
-use Rattle.kr_config.specs.Kept.{Row}
+use Rattle.kr_config.specs.Kept.{ConfigEntry}
 use Rattle.kr_config.specs.Lists.{list_of}
 use Rattle.kr_config.specs.declared.who.Who.{Who}
 use Rattle.kr_config.specs.declared.who.Who.TheVariants as who
@@ -30,11 +30,14 @@ use Rattle.kr_cmd_messages.specs.declared.refusal.Done.TheVariants as done
 use Rattle.kr_cmd_messages.specs.declared.refusal.Outcome.{Outcome}
 use Rattle.kr_cmd_messages.specs.declared.refusal.Refusal.{Refusal}
 use Rattle.kr_cmd_messages.specs.declared.refusal.Refusal.TheVariants.{Value}
-use Rattle.kr_cmd_steps.specs.Around.{Around, left_of}
-use Rattle.kr_cmd_steps.specs.Commands.{bench_steps, by_result, configuration, data_steps, freshness, getting, linking_programs, live_on, opening, published_source, reading_given, row_finding, row_findings, row_found, row_on, source_steps, steps, tape_for, telling_findings, value_read, value_with, verifying, verifying_by, verifying_with, with_memory, working, working_by}
+use Rattle.kr_cmd_steps.specs.Around.{Around, left_of, unheard}
+use Rattle.kr_cmd_steps.specs.ValueSteps.{bench_steps, data_steps, freshness, opening, published_source, reading_given, source_steps, value_read, value_with, working, working_by}
+use Rattle.kr_cmd_steps.specs.Phases.{by_result, configuration, linking_programs, tape_for, with_memory}
+use Rattle.kr_cmd_steps.specs.Commands.{getting, steps, verifying}
+use Rattle.kr_cmd_steps.specs.StoreSteps.{live_on, row_finding, row_findings, row_found, row_on, telling_findings, verifying_by, verifying_with}
 use Rattle.kr_base.specs.Told.{Agrees}
 use Rattle.kr_cmd_steps.specs.Configuration.{IsConfiguration}
-use Rattle.kr_cmd_steps.specs.Plugins.{borrow_links, make_seeds, programs_of}
+use Rattle.kr_cmd_steps.specs.Plugins.{borrow_links, make_seeds, settings_programs}
 use Rattle.kr_cmd_steps.specs.RowFindings.{finding_of, findings_outcome}
 use Rattle.kr_cmd_steps.specs.Steps.{Goes, Left, Point, Steps, and_then, give, gives, refuses, with_asked, with_tape}
 use Rattle.kr_cmd_steps.specs.StoreFiles.{Stored}
@@ -44,6 +47,7 @@ use Rattle.kr_cmd_steps.proofs.Ends.{value_end}
 use Rattle.kr_cmd_steps.proofs.Goes.{further}
 use Rattle.kr_cmd_laws.specs.VerifyLaws.{AreLive, InPairs, IsGot, IsVerified, VerifiedRuns, lookup_as}
 use Rattle.kr_cmd_laws.proofs.TrueReadings.{IsTrueReading, seeds_made, value_true}
+use Rattle.kr_cmd_laws.proofs.Forgetting.{forget, silent}
 use Rattle.kr_cmd_laws.proofs.Joints.{joint, no_value, one_truth, one_value}
 
 -- ---- a value is read, and all is as it was
@@ -61,17 +65,22 @@ module _ (end : Left) (read : Result Opened ValueNo) where
 
   source_stays : (source : Option (List ℕ)) (key : SeedKey)
       (next : Option (List ℕ) → Steps (Result Opened ValueNo)) (left : Left)
-      → ((s : Option (List ℕ)) → Gives (next s) left → end ≡ left)
-      → Gives (source_steps source key next) left → end ≡ left
+      → ((s : Option (List ℕ)) → Gives (next s) (silent left) → end ≡ silent left)
+      → Gives (source_steps source key next) (silent left) → end ≡ silent left
   source_stays (Some seed) key next left each goes = each (Some seed) goes
   source_stays None key next left each (inl at) = absurd (no_value at refl)
-  source_stays None key next left each (inr (bytes, tells, goes)) = each (Some bytes) goes
+  source_stays None key next left each (inr (inl (answer, at))) = absurd (no_value at refl)
+  source_stays None key next left each (inr (inr (inl at))) = absurd (no_value at refl)
+  source_stays None key next left each (inr (inr (inr (bytes, tells, inl (was, goes))))) =
+      each (Some bytes) goes
+  source_stays None key next left each (inr (inr (inr (bytes, tells, inr goes)))) =
+      each (Some bytes) goes
 
   opening_stays : (seeds : List SeedRow) (reader : Option Who)
       (object : Result EncryptedObject ObjectNo)
       (next : Option (List ℕ) → Steps (Result Opened ValueNo)) (left : Left)
-      → ((s : Option (List ℕ)) → Gives (next s) left → end ≡ left)
-      → Gives (opening seeds reader object next) left → end ≡ left
+      → ((s : Option (List ℕ)) → Gives (next s) (silent left) → end ≡ silent left)
+      → Gives (opening seeds reader object next) (silent left) → end ≡ silent left
   opening_stays seeds None object next left each goes = each None goes
   opening_stays seeds (Some who.Identity) object next left each goes = each None goes
   opening_stays seeds (Some (who.Aescbc name secret)) object next left each goes = each None goes
@@ -82,13 +91,13 @@ module _ (end : Left) (read : Result Opened ValueNo) where
       (seed_key name object) next left each goes
 
   pub value_stays : (seeds : List SeedRow) (list : List Who) (path bytes : List ℕ) (left : Left)
-      → Gives (value_read seeds list path bytes) left → end ≡ left
+      → Gives (value_read seeds list path bytes) (silent left) → end ≡ silent left
   value_stays seeds list path bytes left (inl at) = absurd (no_value at refl)
   value_stays seeds list path bytes left (inr (object, has, goes)) =
       opening_stays seeds (reader_in list bytes) object (value_with seeds list path bytes object)
       left (λ s. given_stays
       (value_reading (record { object = object; source = s }) list path bytes)
-      (is_stale (record { object = object; source = s }) seeds list bytes) left) goes
+      (is_stale (record { object = object; source = s }) seeds list bytes) (silent left)) goes
 
 -- ---- what `get` says of a reading
 
@@ -133,7 +142,7 @@ module _ {A B : Type 0} {P Q : A → B → Type 0} where
 
 -- the row's value reads so, truly where the plugins' answers are told, and these steps would come
 -- to what `get` says of that
-pub record Comes (truth : Truth) (rows : List Row) (steps : stored.Row → Steps Outcome)
+pub record Comes (truth : Truth) (rows : List ConfigEntry) (steps : stored.Row → Steps Outcome)
     (left : Left) (row : stored.Row) (finding : Finding) : Type 0 where
   pub read : Result Opened ValueNo
   pub is : finding ≡ finding_of read
@@ -143,7 +152,7 @@ pub record Comes (truth : Truth) (rows : List Row) (steps : stored.Row → Steps
   pub goes : Goes (said_of read) other (steps row) left
 
 -- by steps that do what these do
-moved : {truth : Truth} {rows : List Row} {steps others : stored.Row → Steps Outcome}
+moved : {truth : Truth} {rows : List ConfigEntry} {steps others : stored.Row → Steps Outcome}
     {left mid : Left} {row : stored.Row} {finding : Finding}
     → ((point : Point Outcome) (end : Left) → Goes point end (steps row) left
     → Goes point end (others row) mid)
@@ -173,16 +182,16 @@ module _ (p : Publication) where
 
   -- the row's reading, and that all is as it was
   row_read : (row : stored.Row) (finding : Finding) (end left : Left)
-      → Goes (gives finding) end (row_finding p row) left
-      → IsRead p left row finding × (end ≡ left)
+      → Goes (gives finding) end (row_finding p row) (silent left)
+      → IsRead p (silent left) row finding × (end ≡ silent left)
   row_read row finding end left goes =
-      let j = joint next finding end (value_of row) left goes in
-      let same : j.1 ≡ left = value_stays j.1 j.0 p.seeds (list_of p.rows row.resource) row.path
-      row.stored left j.2 in (
+      let j = joint next finding end (value_of row) (silent left) goes in
+      let same : j.1 ≡ silent left = value_stays j.1 j.0 p.seeds (list_of p.rows row.resource)
+      row.path row.stored left j.2 in (
         record {
           read = j.0;
           is = one_value j.3;
-          goes = subst (λ l. Goes (gives j.0) l (value_of row) left) same j.2;
+          goes = subst (λ l. Goes (gives j.0) l (value_of row) (silent left)) same j.2;
         },
         j.3.1 ∙ same,
       )
@@ -193,8 +202,8 @@ module _ (p : Publication) where
   -- one row, and the others
   module _ (row : stored.Row) (live : List stored.Row) (findings : List Finding) (end left : Left)
       (onward : (more : List Finding) (mid : Left) → Goes (gives more) mid (row_findings p live)
-      left
-      → InPairs (Read left) live more × (mid ≡ left)) where
+      (silent left)
+      → InPairs (Read (silent left)) live more × (mid ≡ silent left)) where
     abbrev put_before : Finding → List Finding → Steps (List Finding)
     put_before finding more = give (finding ∷ more)
 
@@ -202,49 +211,51 @@ module _ (p : Publication) where
     others finding = with_memory (and_then (row_findings p live) (put_before finding))
 
     abbrev AllRead : Type 0
-    AllRead = InPairs (Read left) (row ∷ live) findings × (end ≡ left)
+    AllRead = InPairs (Read (silent left)) (row ∷ live) findings × (end ≡ silent left)
 
-    two : (finding : Finding) → IsRead p left row finding
-        → (more : List Finding) × (mid : Left) × Goes (gives more) mid (row_findings p live) left
+    two : (finding : Finding) → IsRead p (silent left) row finding
+        → (more : List Finding) × (mid : Left)
+        × Goes (gives more) mid (row_findings p live) (silent left)
         × Goes (gives findings) end (put_before finding more) mid
         → AllRead
     two finding r (more, mid, goes, at) = let rest = onward more mid goes in (
-      subst (λ f. InPairs (Read left) (row ∷ live) f) (sym (one_value at)) (r, rest.0),
+      subst (λ f. InPairs (Read (silent left)) (row ∷ live) f) (sym (one_value at)) (r, rest.0),
       at.1 ∙ rest.1,
     )
 
-    behind : (finding : Finding) → IsRead p left row finding
-        → Goes (gives findings) end (others finding) left → AllRead
+    behind : (finding : Finding) → IsRead p (silent left) row finding
+        → Goes (gives findings) end (others finding) (silent left) → AllRead
     behind finding r (inl at) = absurd (no_value at refl)
     behind finding r (inr (u, v, goes)) = two finding r
-        (joint (put_before finding) findings end (row_findings p live) left goes)
+        (joint (put_before finding) findings end (row_findings p live) (silent left) goes)
 
-    one : (finding : Finding) × (mid : Left) × Goes (gives finding) mid (row_finding p row) left
+    one : (finding : Finding) × (mid : Left)
+        × Goes (gives finding) mid (row_finding p row) (silent left)
         × Goes (gives findings) end (others finding) mid → AllRead
     one (finding, mid, goes, more) =
         let r = row_read row finding mid left goes in
         behind finding r.0 (subst (λ l. Goes (gives findings) end (others finding) l) r.1 more)
 
   pub rows_read : (live : List stored.Row) (findings : List Finding) (end left : Left)
-      → Goes (gives findings) end (row_findings p live) left
-      → InPairs (Read left) live findings × (end ≡ left)
+      → Goes (gives findings) end (row_findings p live) (silent left)
+      → InPairs (Read (silent left)) live findings × (end ≡ silent left)
   rows_read [] findings end left at =
-      (subst (λ f. InPairs (Read left) [] f) (sym (one_value at)) tt, at.1)
+      (subst (λ f. InPairs (Read (silent left)) [] f) (sym (one_value at)) tt, at.1)
   rows_read (row ∷ live) findings end left goes =
       one row live findings end left (λ more mid g. rows_read live more mid left g)
       (joint (others row live findings end left (λ more mid g. rows_read live more mid left g))
-      findings end (row_finding p row) left goes)
+      findings end (row_finding p row) (silent left) goes)
 
 -- ---- with seeds, and with links
 
 -- what was found, told; and `get` of each row would come to that
-pub record Finds (truth : Truth) (rows : List Row) (made : Outcome) (live : List stored.Row)
+pub record Finds (truth : Truth) (rows : List ConfigEntry) (made : Outcome) (live : List stored.Row)
     (steps : stored.Row → Steps Outcome) (left : Left) : Type 0 where
   pub findings : List Finding
   pub made_is : made ≡ findings_outcome live findings
   pub comes : InPairs (Comes truth rows steps left) live findings
 
-module _ (truth : Truth) (made : Outcome) (end : Left) (rows : List Row)
+module _ (truth : Truth) (made : Outcome) (end : Left) (rows : List ConfigEntry)
     (live : List stored.Row) where
   abbrev read_row : stored.Row → Steps Outcome
   read_row row = working Decrypt row.resource row.path rows row.stored
@@ -260,7 +271,7 @@ module _ (truth : Truth) (made : Outcome) (end : Left) (rows : List Row)
 
   pub with_seeds : (left : Left) → left.truth ≡ truth
       → Goes (gives made) end (verifying_by rows live) left
-      → Finds truth rows made live read_row left
+      → Finds truth rows made live read_row (silent left)
   with_seeds left same (inl at) = absurd (no_value at refl)
   with_seeds left same (inr (u, v, goes)) =
       behind (joint (λ seeds. and_then (row_findings (p_of seeds) live) (telling_findings live))
@@ -271,7 +282,7 @@ module _ (truth : Truth) (made : Outcome) (end : Left) (rows : List Row)
           → (findings : List Finding) × (last : Left)
           × Goes (gives findings) last (row_findings (p_of seeds) live) mid
           × Goes (gives made) end (telling_findings live findings) last
-          → Finds truth rows made live read_row left
+          → Finds truth rows made live read_row (silent left)
       so seeds mid first (findings, last, goes, told) = record {
         findings = findings;
         made_is = told_so findings last told;
@@ -279,35 +290,40 @@ module _ (truth : Truth) (made : Outcome) (end : Left) (rows : List Row)
           read = r.read;
           is = r.is;
           truly = λ told. value_true truth told seeds
-              ((seeds_made truth (plugin_order rows) seeds mid left same first).open_all told) mid
-              mid
+              ((seeds_made truth (plugin_order rows) seeds mid left same first).open_all told)
+              (silent mid) (silent mid)
               (one_truth (gives seeds) mid (make_seeds (plugin_order rows)) left first ∙ same)
               r.read
               (list_of rows row.resource) row.path row.stored r.goes;
-          other = mid;
+          other = silent mid;
           goes = inr (
             tt,
             tt,
-            further (said_of r.read) mid
-                (working_by Decrypt row.resource row.path rows row.stored) (gives seeds) mid
-                (further (said_of r.read) mid data_steps (gives r.read) mid (says r.read mid)
-                (value_read seeds (list_of rows row.resource) row.path row.stored) mid r.goes)
-                (make_seeds (plugin_order rows)) left first,
+            further (said_of r.read) (silent mid)
+                (working_by Decrypt row.resource row.path rows row.stored) (gives seeds)
+                (silent mid)
+                (further (said_of r.read) (silent mid) data_steps (gives r.read) (silent mid)
+                (says r.read (silent mid))
+                (value_read seeds (list_of rows row.resource) row.path row.stored) (silent mid)
+                r.goes)
+                (make_seeds (plugin_order rows)) (silent left)
+                (forget (gives seeds) mid (make_seeds (plugin_order rows)) left first),
           );
-        }) live findings (rows_read (p_of seeds) live findings last mid goes).0;
+        }) live findings (rows_read (p_of seeds) live findings (silent last) mid
+            (forget (gives findings) last (row_findings (p_of seeds) live) mid goes)).0;
       }
 
       behind : (seeds : List SeedRow) × (mid : Left)
           × Goes (gives seeds) mid (make_seeds (plugin_order rows)) left
           × Goes (gives made) end (and_then (row_findings (p_of seeds) live)
           (telling_findings live)) mid
-          → Finds truth rows made live read_row left
+          → Finds truth rows made live read_row (silent left)
       behind (seeds, mid, first, goes) = so seeds mid first (joint (telling_findings live) made end
           (row_findings (p_of seeds) live) mid goes)
 
   pub with_links : (programs : List Program) (left : Left) → left.truth ≡ truth
       → Goes (gives made) end (borrow_links programs (verifying_by rows live)) left
-      → Finds truth rows made live (λ row. borrow_links programs (read_row row)) left
+      → Finds truth rows made live (λ row. borrow_links programs (read_row row)) (silent left)
   with_links [] left same goes = with_seeds left same goes
   with_links (program ∷ programs) left same (inl at) = absurd (no_value at refl)
   with_links (program ∷ programs) left same (inr (inl at)) = absurd (no_value at refl)
@@ -322,7 +338,7 @@ module _ (truth : Truth) (made : Outcome) (end : Left) (rows : List Row)
   pub with_dice : (programs : List Program) (left : Left) → left.truth ≡ truth
       → Goes (gives made) end (verifying_with programs rows live) left
       → Finds truth rows made live
-      (λ row. bench_steps programs Decrypt row.resource row.path rows row.stored) left
+      (λ row. bench_steps programs Decrypt row.resource row.path rows row.stored) (silent left)
   with_dice programs left same (inl at) = absurd (no_value at refl)
   with_dice programs left same (inr (inl at)) = absurd (no_value at refl)
   with_dice programs left same (inr (inr goes)) =
@@ -338,7 +354,7 @@ module _ (truth : Truth) (made : Outcome) (end : Left) (rows : List Row)
 -- the configuration and the live rows, what each of them reads as, and what `get` of it comes to
 pub record Found (words : Verification) (old : Around) (made : Outcome) : Type 0 where
   pub file : Option (List ℕ)
-  pub rows : List Row
+  pub rows : List ConfigEntry
   pub live : List stored.Row
   pub findings : List Finding
   pub told : Agrees (old.world.file words.config) file
@@ -346,11 +362,11 @@ pub record Found (words : Verification) (old : Around) (made : Outcome) : Type 0
   pub are_live : AreLive words old live
   pub made_is : made ≡ findings_outcome live findings
   pub comes : InPairs
-      (Comes old.truth rows (λ row. getting (lookup_as words row.path)) (left_of old))
+      (Comes old.truth rows (λ row. getting (lookup_as words row.path)) (left_of (unheard old)))
       live findings
 
 -- the configuration was read
-pub record IsConfigured (words : Verification) (old : Around) (rows : List Row) (first : Left)
+pub record IsConfigured (words : Verification) (old : Around) (rows : List ConfigEntry) (first : Left)
     : Type 0 where
   pub file : Option (List ℕ)
   pub told : Agrees (old.world.file words.config) file
@@ -359,8 +375,8 @@ pub record IsConfigured (words : Verification) (old : Around) (rows : List Row) 
   pub truth : first.truth ≡ old.truth
 
 module _ (words : Verification) (old : Around) where
-  pub configured : (rows : List Row) (first : Left)
-      → Goes (gives rows) first (configuration words.config) (left_of old)
+  pub configured : (rows : List ConfigEntry) (first : Left)
+      → Goes (gives rows) first (configuration words.config) (left_of (unheard old))
       → IsConfigured words old rows first
   configured rows first (inl at) = absurd (no_value at refl)
   configured rows first (inr (inl at)) = absurd (no_value at refl)
@@ -375,12 +391,12 @@ module _ (words : Verification) (old : Around) where
     truth = ap (λ (l : Left). l.truth) at.1;
   }
 
-  pub linked : (rows : List Row) (programs : List Program) (first second : Left)
+  pub linked : (rows : List ConfigEntry) (programs : List Program) (first second : Left)
       → Goes (gives programs) second (linking_programs words.options rows) first
       → second ≡ first
   linked rows programs first second (inl at) = absurd (no_value at refl)
   linked rows programs first second (inr (u, v, goes)) =
-      by_cases (programs_of words.options (plugin_order rows)) goes
+      by_cases (settings_programs words.options (plugin_order rows)) goes
     where
       by_cases : (r : Result (List Program) Refusal)
           → Goes (gives programs) second (by_result r) first → second ≡ first
@@ -388,38 +404,40 @@ module _ (words : Verification) (old : Around) where
       by_cases (Err why) at = absurd (no_value at refl)
 
 module _ (words : Verification) (old : Around) (made : Outcome) (end : Left) where
-  abbrev read_so : List Row → List Program → List ℕ → stored.Row → Steps Outcome
+  abbrev read_so : List ConfigEntry → List Program → List ℕ → stored.Row → Steps Outcome
   read_so rows programs path row =
       bench_steps programs Decrypt row.resource path rows row.stored
 
-  abbrev looked_up : List Row → List Program → List ℕ → Steps Outcome
+  abbrev looked_up : List ConfigEntry → List Program → List ℕ → Steps Outcome
   looked_up rows programs path =
       and_then (tape_for words.store ToRead (row_on words.store path)) (read_so rows programs path)
 
-  abbrev loaded : List Row → List ℕ → Steps Outcome
+  abbrev loaded : List ConfigEntry → List ℕ → Steps Outcome
   loaded rows path =
       and_then (linking_programs words.options rows) (λ programs. looked_up rows programs path)
 
-  abbrev listed : List Row → List Program → Steps Outcome
+  abbrev listed : List ConfigEntry → List Program → Steps Outcome
   listed rows programs = and_then (tape_for words.store ToRead (live_on words.store))
       (verifying_with programs rows)
 
   abbrev IsThere : Stored → stored.Row → Type 0
   IsThere store row = live store.rows row.path ≡ Some row
 
-  module _ (rows : List Row) (programs : List Program) (first second : Left)
+  module _ (rows : List ConfigEntry) (programs : List Program) (first second : Left)
       (read_is : IsConfigured words old rows first) (same : second ≡ first)
-      (is_read : Goes (gives rows) first (configuration words.config) (left_of old))
+      (is_read : Goes (gives rows) first (configuration words.config) (left_of (unheard old)))
       (is_linked : Goes (gives programs) second (linking_programs words.options rows) first) where
     -- `get` of a path comes to what comes of its row
     got_from : (path : List ℕ) (point : Point Outcome) (other : Left)
-        → Goes point other (looked_up rows programs path) second
-        → Goes point other (getting (lookup_as words path)) (left_of old)
+        → Goes point other (looked_up rows programs path) (silent second)
+        → Goes point other (getting (lookup_as words path)) (left_of (unheard old))
     got_from path point other goes = further point other (λ rows. loaded rows path) (gives rows)
-        first
-        (further point other (λ programs. looked_up rows programs path) (gives programs) second
-        goes (linking_programs words.options rows) first is_linked)
-        (configuration words.config) (left_of old) is_read
+        (silent first)
+        (further point other (λ programs. looked_up rows programs path) (gives programs)
+        (silent second) goes (linking_programs words.options rows) (silent first)
+        (forget (gives programs) second (linking_programs words.options rows) first is_linked))
+        (configuration words.config) (left_of (unheard old))
+        (forget (gives rows) first (configuration words.config) (left_of (unheard old)) is_read)
 
     abbrev lent : Left
     lent = with_tape false words.store (with_asked (Tape words.store ToRead) second)
@@ -468,7 +486,7 @@ module _ (words : Verification) (old : Around) (made : Outcome) (end : Left) whe
                       tt,
                       subst (λ found. Goes point other (and_then
                           (by_result (row_found row.path found)) (read_so rows programs row.path))
-                          lent)
+                          (silent lent))
                           (sym there) g,
                     ),
                   ),
@@ -476,8 +494,8 @@ module _ (words : Verification) (old : Around) (made : Outcome) (end : Left) whe
               ))))) c) listing f.findings are.are_live f.comes;
         }
 
-  more : (rows : List Row) (first : Left)
-      → Goes (gives rows) first (configuration words.config) (left_of old)
+  more : (rows : List ConfigEntry) (first : Left)
+      → Goes (gives rows) first (configuration words.config) (left_of (unheard old))
       → (programs : List Program) × (second : Left)
       × Goes (gives programs) second (linking_programs words.options rows) first
       × Goes (gives made) end (listed rows programs) second
@@ -486,8 +504,8 @@ module _ (words : Verification) (old : Around) (made : Outcome) (end : Left) whe
       (configured words old rows first is_read)
       (linked words old rows programs first second is_linked) is_read is_linked goes
 
-  so : (rows : List Row) × (first : Left)
-      × Goes (gives rows) first (configuration words.config) (left_of old)
+  so : (rows : List ConfigEntry) × (first : Left)
+      × Goes (gives rows) first (configuration words.config) (left_of (unheard old))
       × Goes (gives made) end (and_then (linking_programs words.options rows)
       (λ programs. listed rows programs)) first
       → Found words old made
@@ -495,9 +513,9 @@ module _ (words : Verification) (old : Around) (made : Outcome) (end : Left) whe
       (joint (λ programs. listed rows programs) made end (linking_programs words.options rows)
       first goes)
 
-  pub found : Goes (gives made) end (verifying words) (left_of old) → Found words old made
+  pub found : Goes (gives made) end (verifying words) (left_of (unheard old)) → Found words old made
   found goes = so (joint (λ rows. and_then (linking_programs words.options rows)
-      (λ programs. listed rows programs)) made end (configuration words.config) (left_of old) goes)
+      (λ programs. listed rows programs)) made end (configuration words.config) (left_of (unheard old)) goes)
 
 -- what a reader takes of it
 pub verified : (words : Verification) (old : Around) (made : Outcome) → Found words old made
@@ -521,8 +539,9 @@ verified_run words asked old new output errors status asks
     let is : comes.command ≡ Verify asked = one_command comes.asks asks in
     let r = value_end comes.reaches in (
       made,
-      verified asked old made (found asked old made r.end
-          (subst (λ c. Goes (gives made) r.end (steps c) (left_of old)) is r.goes)),
+      verified asked old made (found asked old made (silent r.end)
+          (forget (gives made) r.end (steps (Verify asked)) (left_of old)
+          (subst (λ c. Goes (gives made) r.end (steps c) (left_of old)) is r.goes))),
       status_is,
       appends,
     )

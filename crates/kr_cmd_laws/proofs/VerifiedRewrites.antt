@@ -8,7 +8,7 @@ use Rattle.std.proofs.lemmas.List.Sums.{sum_by-cons}
 use Rattle.std.proofs.lemmas.List.Elements.{All-cons, All-head, All-nil, All-tail}
 use Rattle.kr_base.specs.Limits.{data_limit, store_limit}
 use Rattle.kr_base.specs.Told.{Agrees}
-use Rattle.kr_config.specs.Kept.{Row, plugins_in}
+use Rattle.kr_config.specs.Kept.{ConfigEntry, plugins_in}
 use Rattle.kr_config.specs.Lists.{list_of}
 use Rattle.kr_config.specs.declared.who.Who.{Who}
 use Rattle.kr_config.specs.declared.who.Who.TheVariants as who
@@ -39,9 +39,12 @@ use Rattle.kr_cmd_messages.specs.declared.refusal.Object.TheVariants.{Store}
 use Rattle.kr_cmd_messages.specs.declared.refusal.Outcome.{Outcome}
 use Rattle.kr_cmd_messages.specs.declared.refusal.Refusal.{Refusal}
 use Rattle.kr_cmd_messages.specs.declared.refusal.Refusal.TheVariants.{Limit}
-use Rattle.kr_cmd_messages.specs.declared.report.Counts.{Counts}
-use Rattle.kr_cmd_steps.specs.Around.{Around, left_of}
-use Rattle.kr_cmd_steps.specs.Commands.{Progress, by_result, configuration, draw_some, driving, freshness, getting, linking_programs, nothing_done, one_rewritten, replacing, resealing, rewriting, rewriting_by, rewriting_live, rewriting_on, row_anew, row_by, row_data, row_steps, settled_for, starting, value_read, value_sealed, within_journal}
+use Rattle.kr_cmd_messages.specs.declared.report.RewriteCounts.{RewriteCounts}
+use Rattle.kr_cmd_steps.specs.Around.{Around, left_of, unheard}
+use Rattle.kr_cmd_steps.specs.RewriteSteps.{Progress, driving, nothing_done, one_rewritten, replacing, resealing, rewriting_by, rewriting_live, rewriting_on, row_anew, row_by, row_data, row_steps, starting, within_journal}
+use Rattle.kr_cmd_steps.specs.Phases.{by_result, configuration, linking_programs, settled_for}
+use Rattle.kr_cmd_steps.specs.ValueSteps.{draw_some, freshness, value_read, value_sealed}
+use Rattle.kr_cmd_steps.specs.Commands.{getting, rewriting}
 use Rattle.kr_cmd_steps.specs.Configuration.{IsConfiguration}
 use Rattle.kr_cmd_steps.specs.Plugins.{borrow_links, make_seeds}
 use Rattle.kr_cmd_steps.specs.RowFindings.{finding_of, is_refused}
@@ -187,7 +190,7 @@ module _ (truth : Truth) (told : truth.told ≡ true) (name : List ℕ) (p : Pub
     -- nothing more is left than before
     abbrev pub IsReported : Outcome → ℕ → Type 0
     IsReported made before =
-        (counts : Counts) × (made ≡ report_outcome counts) × (counts.left ≡ before)
+        (counts : RewriteCounts) × (made ≡ report_outcome counts) × (counts.left ≡ before)
 
     row_behind : (row : stored.Row) (live : List stored.Row) (at : Progress) (made : Outcome)
         (end : Left)
@@ -205,11 +208,11 @@ module _ (truth : Truth) (told : truth.told ≡ true) (name : List ℕ) (p : Pub
     pub drive_leaves : (live : List stored.Row) → All (IsKept truth p) live → (at : Progress)
         (made : Outcome) (end left : Left) → left.truth ≡ truth
         → Goes (gives made) end (driving name p live at) left → IsReported made at.counts.left
-    drive_leaves [] all at made end left same (told, count, later, holds, inl e) =
+    drive_leaves [] all at made end left same (told, holds, inl e) =
         absurd (no_value e refl)
-    drive_leaves [] all at made end left same (told, count, later, holds, inr (u, v, e)) =
+    drive_leaves [] all at made end left same (told, holds, inr (u, v, e)) =
         (at.counts, one_value e, refl)
-    drive_leaves (row ∷ live) all at made end left same (told, count, later, holds, goes) =
+    drive_leaves (row ∷ live) all at made end left same (told, holds, goes) =
         row_behind row live at made end
         (λ done next there g. drive_leaves live (All-tail (IsKept truth p) row live all) done made
         end
@@ -218,7 +221,7 @@ module _ (truth : Truth) (told : truth.told ≡ true) (name : List ℕ) (p : Pub
 
 -- ---- what the drive begins with
 
-has_seed : (rows : List Row) (seeds : List SeedRow) (w : Who)
+has_seed : (rows : List ConfigEntry) (seeds : List SeedRow) (w : Who)
     → map (λ row. row.name) seeds ≡ plugin_order rows → IsNamedIn (plugins_in rows) w
     → HasSeed seeds w
 has_seed rows seeds who.Identity names named = tt
@@ -227,7 +230,7 @@ has_seed rows seeds (who.Aesgcm name secret) names named = tt
 has_seed rows seeds (who.Kms name) names named = seed_there seeds name
     (subst (λ l. Contains l name) (sym names) ((order_has (plugins_in rows) name).1 named))
 
-has_seeds : (rows : List Row) (seeds : List SeedRow) (list : List Who)
+has_seeds : (rows : List ConfigEntry) (seeds : List SeedRow) (list : List Who)
     → map (λ row. row.name) seeds ≡ plugin_order rows → AreNamedIn (plugins_in rows) list
     → HasSeed seeds (writer_of list)
 has_seeds rows seeds [] names named = tt
@@ -266,7 +269,7 @@ module _ (words : Verification) (old : Around) (made : Outcome) (f : Found words
 
   abbrev Come : stored.Row → Finding → Type 0
   Come row finding = Comes old.truth f.rows (λ row. getting (lookup_as words row.path))
-      (left_of old)
+      (left_of (unheard old))
       row finding
 
   kept_row : (row : stored.Row) (finding : Finding) → Contains f.live row
@@ -284,7 +287,7 @@ module _ (words : Verification) (old : Around) (made : Outcome) (f : Found words
         there (
           c.other,
           subst (λ r. Goes (said_of r) c.other (getting (lookup_as words row.path))
-              (left_of old)) is c.goes,
+              (left_of (unheard old))) is c.goes,
         );
   }
 
@@ -307,7 +310,7 @@ module _ (words : Verification) (old : Around) (made : Outcome) (f : Found words
     (tape_told : IsSome (old.world.tapes.told words.store)) (sealable : AreSealable words old)
     (silent : made.done ≡ Silent) (done : Outcome) (end : Left) where
   abbrev IsNoneLeft : Type 0
-  IsNoneLeft = (counts : Counts) × (done ≡ report_outcome counts) × (counts.left ≡ 0)
+  IsNoneLeft = (counts : RewriteCounts) × (done ≡ report_outcome counts) × (counts.left ≡ 0)
 
   no_refusal : count_by is_refused f.findings ≡ 0
   no_refusal = none_refused (count_by is_refused f.findings)
@@ -397,7 +400,7 @@ module _ (words : Verification) (old : Around) (made : Outcome) (f : Found words
     (tape_told : IsSome (old.world.tapes.told words.store)) (sealable : AreSealable words old)
     (silent : made.done ≡ Silent) (done : Outcome) (end : Left) where
   abbrev LeftNone : Outcome → Type 0
-  LeftNone x = (counts : Counts) × (x ≡ report_outcome counts) × (counts.left ≡ 0)
+  LeftNone x = (counts : RewriteCounts) × (x ≡ report_outcome counts) × (counts.left ≡ 0)
 
   -- the tape is settled behind it
   settled_so : (programs : List Program) (lent : Left) → lent.truth ≡ old.truth
@@ -425,11 +428,11 @@ module _ (words : Verification) (old : Around) (made : Outcome) (f : Found words
       (joint (λ x. settle Store words.store (give x)) done end
       (rewriting_on words.store f.rows programs) lent goes)
 
-  abbrev behind_files : List Row → List Program → Steps Outcome
+  abbrev behind_files : List ConfigEntry → List Program → Steps Outcome
   behind_files rows programs =
       settled_for Store words.store ToWrite (rewriting_on words.store rows programs)
 
-  with_programs : (rows : List Row) (first : Left) → IsConfigured words old rows first
+  with_programs : (rows : List ConfigEntry) (first : Left) → IsConfigured words old rows first
       → (programs : List Program) × (second : Left)
       × Goes (gives programs) second (linking_programs words.options rows) first
       × Goes (gives done) end (behind_files rows programs) second
@@ -445,8 +448,8 @@ module _ (words : Verification) (old : Around) (made : Outcome) (f : Found words
       (ap (λ (l : Left). l.tapes) same ∙ read.tapes)
       (subst (λ r. Goes (gives done) end (behind_files r programs) second) rows_are goes)
 
-  with_rows : (rows : List Row) × (first : Left)
-      × Goes (gives rows) first (configuration words.config) (left_of old)
+  with_rows : (rows : List ConfigEntry) × (first : Left)
+      × Goes (gives rows) first (configuration words.config) (left_of (unheard old))
       × Goes (gives done) end (and_then (linking_programs words.options rows) (behind_files rows))
       first
       → LeftNone done
@@ -454,10 +457,10 @@ module _ (words : Verification) (old : Around) (made : Outcome) (f : Found words
       (configured words old rows first is_read)
       (joint (behind_files rows) done end (linking_programs words.options rows) first goes)
 
-  pub leaves_none : Goes (gives done) end (rewriting (rewriting_as words)) (left_of old)
+  pub leaves_none : Goes (gives done) end (rewriting (rewriting_as words)) (left_of (unheard old))
       → LeftNone done
   leaves_none goes = with_rows (joint (λ rows. and_then (linking_programs words.options rows)
-      (behind_files rows)) done end (configuration words.config) (left_of old) goes)
+      (behind_files rows)) done end (configuration words.config) (left_of (unheard old)) goes)
 
 pub none_left : RewriteLeavesNone
 none_left words old made (gives done) told file tape sealable (first, verify) silent (end, goes) =

@@ -10,9 +10,9 @@ use Rattle.kr_cmd_fleet.specs.Fleets.{RanFleet}
 use Rattle.kr_cmd_laws.specs.RunHeadlines.{RunHeadline}
 
 abbrev pub RunsHaveHeadlines : (T : Type 0) → {L D : Type 0} → Truth → (L → Link)
-    → (L → Exchange → L → Type 0)
+    → (L → Exchange → L → Type 0) → (lent took : ℕ → L → Type 0)
     → (D → Option (List ℕ)) → (D → ℕ) → Type 0
-RunsHaveHeadlines T truth link step left count = (words : FleetWords) (old new : Around)
+RunsHaveHeadlines T truth link step lent took left count = (words : FleetWords) (old new : Around)
     (output errors : Receipt) (status : ℕ)
-    → RanFleet T truth link step left count words old new output errors status
-    → RunHeadline T truth link step left count words old new output errors status
+    → RanFleet T truth link step lent took left count words old new output errors status
+    → RunHeadline T truth link step lent took left count words old new output errors status

@@ -1,6 +1,10 @@
 -- The definitions that contracts cite.
 pub mod CommandLaws
 pub mod FleetLaws
+pub mod FleetPlugins
 pub mod HeadlineLaws
+pub mod PluginLaws
+pub mod Results
 pub mod RunHeadlines
 pub mod VerifyLaws
+pub mod WrongRuns

@@ -1,7 +1,7 @@
 -- What a call of `run` says of a fleet, for its operator: the headline, over just what was printed.
 -- Begin at `RunHeadline`, the last definition of this page; the sentence itself is `Headline` of
 -- kr_headline.
-use Rattle.std.specs.Prelude.{◌≡◌, ◌⊎◌, ℕ, true, List, [], fold, length, map, All, Option, None, IfSome, Err}
+use Rattle.std.specs.Prelude.{◌≡◌, ◌⊎◌, ℕ, true, List, [], fold, length, map, All, Option, None, Some, IfSome, Err}
 use Rattle.std.specs.Io.KnownBytes.{Appends}
 use Rattle.std.specs.Option.{option_map}
 use Rattle.kr_base.specs.Faults.{Rose}
@@ -17,13 +17,15 @@ use Rattle.kr_script.specs.declared.script.Part.{Part}
 use Rattle.kr_store.specs.Rows.{live}
 use Rattle.kr_store.specs.declared.rows.LogRow.{LogRow}
 use Rattle.kr_store.specs.declared.rows.Row.{Row}
-use Rattle.kr_workers.specs.Endings.{ending_of, status_of as status_of_replies}
+use Rattle.kr_workers.specs.Endings.{gravest_ending, status_of as status_of_replies}
 use Rattle.kr_workers.specs.declared.ending.Ending.{Ending}
 use Rattle.kr_workers.specs.declared.files.SettingsFile.{SettingsFile}
 use Rattle.kr_workers.specs.declared.worker.Worker as fleet_worker
 use Rattle.kr_headline.specs.Consequences.{LinksAgree}
 use Rattle.kr_headline.specs.Fleets.{AreKnown, FleetHeadline}
-use Rattle.kr_headline.specs.Headline.{Object, object_after, revision_after}
+use Rattle.kr_headline.specs.Headline.{Object, object_after, latest_revision}
+use Rattle.kr_headline.specs.Ties.{IsTied}
+use Rattle.kr_headline.specs.Values.{Values, sealed_values}
 use Rattle.kr_cmd_messages.specs.Message.{line_of, status_of}
 use Rattle.kr_cmd_messages.specs.Receipts.{Receipt, Tells}
 use Rattle.kr_cmd_messages.specs.declared.fleet_words.FleetWords.{FleetWords}
@@ -31,10 +33,11 @@ use Rattle.kr_cmd_messages.specs.declared.refusal.Object.TheVariants.{Output}
 use Rattle.kr_cmd_messages.specs.declared.refusal.Stop.{Stop}
 use Rattle.kr_cmd_messages.specs.declared.refusal.Stop.TheVariants.{Fault, NoMemory}
 use Rattle.kr_cmd_steps.specs.Around.{Around, IsHome, Reaches, left_of}
-use Rattle.kr_cmd_steps.specs.Ran.{IsIdle}
-use Rattle.kr_cmd_steps.specs.Steps.{Steps, gives}
+use Rattle.kr_cmd_steps.specs.Ran.{WroteNothing}
+use Rattle.kr_cmd_steps.specs.Steps.{Steps, gives, hearing}
 use Rattle.kr_cmd_fleet.specs.FleetFiles.{named_rows}
-use Rattle.kr_cmd_fleet.specs.Fleets.{AreEquipped, Begun, HasRows, StopsBefore, fleet_steps, opening_of, settled_behind, text_of}
+use Rattle.kr_cmd_fleet.specs.StartExchanges.{BeganWith}
+use Rattle.kr_cmd_fleet.specs.Fleets.{AreEquipped, Begun, HasRows, LeavesRest, StopsBefore, fleet_steps, opening_of, settled_behind, text_of}
 
 -- ---- what is left in the store
 
@@ -57,7 +60,7 @@ pub record LeavesStore (store : List ℕ) (begun : Begun) (mid new : Around) (hi
       (new.world.tapes.faults store)
   pub live_are : (path : List ℕ) → option_map (λ (row : Row). row.revision) (live rows path)
       ≡ revision_behind begun.stored.rows history path
-  pub latest : length rows ≡ fold (λ (now : ℕ) (e : Entry). revision_after e.line.gave now)
+  pub latest : length rows ≡ fold (λ (now : ℕ) (e : Entry). latest_revision e.line.gave now)
       (length begun.stored.rows) history
   pub failed : new.world.tapes.faults store ≡ fold (λ (now : ℕ) (e : Entry). e.line.faults)
       (mid.world.tapes.faults store) history
@@ -66,11 +69,12 @@ pub record LeavesStore (store : List ℕ) (begun : Begun) (mid new : Around) (hi
 
 -- Their run has the headline, from the store's rows and the replicas' configurations on. Each
 -- worker had the random source and the links of its seat, and these are back: so a count that rose
--- while a line was done is the world's. Of plugins nothing is supposed where none has a program.
--- Else it holds by each truth that agrees with all that they answered the workers, and by which the
--- seeds that the replicas published open; by the truth that links tell, where each of their steps
--- is answered as it has it, that is so. And the store is left so
-pub record WorkersHeadline {T L D : Type 0} (truth : Truth) (link : L → Link)
+-- while a line was done is the world's. No bench had kept a seed before. Of plugins nothing is
+-- supposed where none has a program. Else it holds by each truth that agrees with all that they
+-- answered the workers, and by which the seeds that the replicas published open; by the truth that
+-- links tell, where each of their steps is answered as it has it, that is so. The store is left so,
+-- and beside it and what the workers had all is as it was when they started
+pub record WorkersPage {T L D : Type 0} (values : Values) (truth : Truth) (link : L → Link)
     (step : L → Exchange → L → Type 0)
     (left : D → Option (List ℕ)) (count : D → ℕ) (store : List ℕ) (begun : Begun)
     (mid new : Around) (history : List Entry) (ended : List (fleet_worker.Worker T L D))
@@ -80,10 +84,11 @@ pub record WorkersHeadline {T L D : Type 0} (truth : Truth) (link : L → Link)
   pub files : List SettingsFile
   pub files_are : map named_rows files ≡ begun.plan.files
   pub workers : List (fleet_worker.Worker T L D)
+  pub cold : All (λ (worker : fleet_worker.Worker T L D). worker.bench.cache.rows ≡ []) workers
   pub before : AreEquipped link left count begun.plan.programs mid workers
   pub after : AreEquipped link left count begun.plan.programs new ended
-  pub headline : FleetHeadline link step count workers ended files (opening_of store begun mid)
-      parts history
+  pub headline : FleetHeadline values link step count workers ended files
+      (opening_of store begun mid) parts history
   pub known : (opens : Opens) → (begun.plan.programs ≡ [])
       ⊎ (((worker : ℕ) → AgreeAll opens (headline.heard worker).exchanges)
       × All (λ replica. IfSome replica (SeedsOpen opens)) begun.replicas)
@@ -91,6 +96,18 @@ pub record WorkersHeadline {T L D : Type 0} (truth : Truth) (link : L → Link)
   pub told : truth.told ≡ true → LinksAgree step truth.opens
       → AreKnown headline.heard truth.opens (opening_of store begun mid)
   pub stored : LeavesStore store begun mid new history
+  pub rest : LeavesRest store (length begun.plan.fleet.workers) mid new
+
+-- it is that over the values that providers seal, and it is tied to the lines that the workers did
+pub record WorkersHeadline {T L D : Type 0} (truth : Truth) (link : L → Link)
+    (step : L → Exchange → L → Type 0)
+    (left : D → Option (List ℕ)) (count : D → ℕ) (store : List ℕ) (begun : Begun)
+    (mid new : Around) (history : List Entry) (ended : List (fleet_worker.Worker T L D))
+    : Type 0 where
+  pub page : WorkersPage sealed_values truth link step left count store begun mid new history
+      ended
+  pub tied : IsTied truth link step left count page.files (opening_of store begun mid) page.parts
+      begun.budgets history page.workers ended page.headline
 
 -- ---- the call
 
@@ -102,25 +119,32 @@ TellsStop stop errors status = Tells (line_of (Err stop)) (status_of (Err stop))
 -- was, since the output failed, and its count rose; or since memory lacked for a line of it
 abbrev pub Prints : (text : List ℕ) → Ending → (output errors : Receipt) → (status : ℕ) → Type 0
 Prints text ending output errors status =
-    (Appends output.old output.new text × IsIdle errors × (status ≡ status_of_replies ending))
+    (Appends output.old output.new text × WroteNothing errors × (status ≡ status_of_replies ending))
     ⊎ (AppendsFront output.old output.new text × Rose output.old_faults output.new_faults
     × TellsStop (Fault Output output.new_faults) errors status)
     ⊎ (AppendsFront output.old output.new text × TellsStop NoMemory errors status)
 
 -- nothing was printed, and the line on standard error tells why: no worker was started, since the
 -- steps up to them or want of memory ended the call, or what they stored couldn't be settled
-pub record StartsNobody (steps : Steps Begun) (store : List ℕ) (old new : Around)
-    (output errors : Receipt) (status : ℕ) : Type 0 where
+pub record StartsNobody (T : Type 0) {L D : Type 0} (truth : Truth) (link : L → Link)
+    (step : L → Exchange → L → Type 0)
+    (left : D → Option (List ℕ)) (count : D → ℕ) (steps : Steps Begun) (store : List ℕ)
+    (old new : Around) (output errors : Receipt) (status : ℕ) : Type 0 where
   pub stop : Stop
-  pub stops : StopsBefore steps store old new output (Err stop)
+  pub stops : StopsBefore T truth link step left count steps store old new output (Err stop)
   pub tells : TellsStop stop errors status
 
 module _ (T : Type 0) {L D : Type 0} (truth : Truth) (link : L → Link)
-    (step : L → Exchange → L → Type 0)
+    (step : L → Exchange → L → Type 0) (lent took : ℕ → L → Type 0)
     (left : D → Option (List ℕ)) (count : D → ℕ) (words : FleetWords) (old new : Around)
     (output errors : Receipt) (status : ℕ) where
-  -- the workers were started, from what the steps up to them came to, and what they stored is
-  -- settled; the journal and the replies that were printed are theirs
+  -- The workers were started, from what the steps up to them came to, and what they stored is
+  -- settled: that the store is back so is the last that the world was told. The journal and the
+  -- replies that were printed are theirs. What these steps asked of plugins is just what the first
+  -- seat's links answered before the first worker had them, and the list of the call is that one
+  -- (`no_more`). Where that is told (and nothing was asked before), of plugins no more is supposed
+  -- than that a truth agrees with all that they answered in this call, then and to the workers: the
+  -- seeds that the replicas published open by it
   pub record StartsWorkers : Type 0 where
     pub begun : Begun
     pub mid : Around
@@ -130,10 +154,22 @@ module _ (T : Type 0) {L D : Type 0} (truth : Truth) (link : L → Link)
     pub ended : List (fleet_worker.Worker T L D)
     pub has : WorkersHeadline truth link step left count words.store begun
         (settled_behind words.store mid) new history ended
+    pub exchanges : List Exchange
+    pub heard : mid.heard ≡ hearing exchanges old.heard
+    pub no_more : new.heard ≡ hearing exchanges old.heard
+    pub began : BeganWith lent took step exchanges has.page.workers ended
+    pub agreed : old.heard ≡ Some [] → (opens : Opens) → AgreeAll opens exchanges
+        → ((worker : ℕ) → AgreeAll opens (has.page.headline.heard worker).exchanges)
+        → AreKnown has.page.headline.heard opens
+        (opening_of words.store begun (settled_behind words.store mid))
     pub prints : Prints (text_of begun.plan.fleet history ended)
-        (ending_of (map (λ (w : fleet_worker.Worker T L D). w.told) ended)) output errors status
+        (gravest_ending (map (λ (w : fleet_worker.Worker T L D). w.told) ended)) output errors
+        status
 
-  -- nothing was printed, or the run of the workers has the headline
+  -- nothing was printed, or the run of the workers has the headline; either way all that was handed
+  -- out is back, and no count fell
   abbrev pub RunHeadline : Type 0
-  RunHeadline = StartsNobody (fleet_steps words) words.store old new output errors status
-      ⊎ StartsWorkers
+  RunHeadline = IsHome old new
+      × (StartsNobody T truth link step left count (fleet_steps words) words.store old new
+      output errors status
+      ⊎ StartsWorkers)

@@ -3,7 +3,7 @@ use Rattle.std.specs.Prelude.{◌≡◌, ℕ, ◌≤◌, true, false, List, [], 
 use Rattle.std.specs.Io.KnownBytes.{Appends}
 use Rattle.kr_base.specs.Limits.{data_limit}
 use Rattle.kr_base.specs.Told.{Agrees}
-use Rattle.kr_config.specs.Kept.{Row}
+use Rattle.kr_config.specs.Kept.{ConfigEntry}
 use Rattle.kr_config.specs.Lists.{list_of}
 use Rattle.kr_config.specs.declared.who.Who.{Who}
 use Rattle.kr_config.specs.declared.who.Who.TheVariants.{Identity}
@@ -22,7 +22,7 @@ use Rattle.kr_cmd_messages.specs.declared.command.Verification.{Verification}
 use Rattle.kr_cmd_messages.specs.declared.refusal.Done.TheVariants as done
 use Rattle.kr_cmd_messages.specs.declared.refusal.Outcome.{Outcome}
 use Rattle.kr_cmd_messages.specs.declared.refusal.Refusal.TheVariants.{Value}
-use Rattle.kr_cmd_messages.specs.declared.report.Counts.{Counts}
+use Rattle.kr_cmd_messages.specs.declared.report.RewriteCounts.{RewriteCounts}
 use Rattle.kr_cmd_steps.specs.Around.{Around}
 use Rattle.kr_cmd_steps.specs.Configuration.{IsConfiguration}
 use Rattle.kr_cmd_steps.specs.Ran.{GivesWith, WouldCome}
@@ -104,7 +104,7 @@ IsSealable who plain = (length plain ≤ data_limit) × (who ≡ Identity → is
 
 -- what `get` gives of each live row is sealed by the writer of its resource
 abbrev pub AreSealable : Verification → Around → Type 0
-AreSealable words old = (file : Option (List ℕ)) (rows : List Row) (live : List stored.Row)
+AreSealable words old = (file : Option (List ℕ)) (rows : List ConfigEntry) (live : List stored.Row)
     (row : stored.Row) (made : Outcome) → Agrees (old.world.file words.config) file
     → IsConfiguration words.config file (Ok rows) → AreLive words old live → Contains live row
     → WouldCome (Get (lookup_as words row.path)) old (gives made)
@@ -113,7 +113,7 @@ AreSealable words old = (file : Option (List ℕ)) (rows : List Row) (live : Lis
 -- a rewrite that comes to its end leaves no row as it is
 abbrev pub LeavesNone : Point Outcome → Type 0
 LeavesNone (gives made) =
-    (counts : Counts) × (made ≡ report_outcome counts) × (counts.left ≡ 0)
+    (counts : RewriteCounts) × (made ≡ report_outcome counts) × (counts.left ≡ 0)
 LeavesNone point = ⊤
 
 -- where the plugins' answers are told and `verify` would refuse no value, a rewrite from the same

@@ -4,7 +4,7 @@ use Rattle.std.specs.Prelude.{IfOk, IfSome}
 use Rattle.kr_base.specs.declared.errors.NoMemory.{NoMemory}
 use Rattle.kr_base.specs.Limits.{path_limit}
 use Rattle.kr_base.specs.Rules.{IsPath, IsResource}
-use Rattle.kr_words.specs.Grammar.{Means, Reads, HasFewReplicas, IsWithinPage, IsWithinSize}
+use Rattle.kr_words.specs.Grammar.{Means, ReadsWords, HasFewReplicas, IsWithinPage, IsWithinSize}
 use Rattle.kr_words.specs.Options.{value_of}
 use Rattle.kr_words.specs.Rules.{IsCommand, MayHaveEmptyPath}
 use Rattle.kr_words.specs.declared.command.Verb.{Verb}
@@ -14,7 +14,7 @@ use Rattle.kr_words.specs.declared.command.WordsNo.TheVariants.{Usage}
 use Rattle.kr_words.specs.declared.name.OptionName.TheVariants.{Path, Resource}
 use Rattle.kr_words.proofs.Values.{value_rule}
 use Rattle.kr_words.proofs.Meanings.{mean_one}
-use Rattle.kr_cmd_messages.specs.Command.{command_of, Asks, AskNothing}
+use Rattle.kr_cmd_messages.specs.Command.{verb_command, Asks, AskNothing}
 use Rattle.kr_cmd_messages.specs.declared.command.Command.{Command}
 use Rattle.kr_cmd_messages.proofs.OneCommand.{one_size}
 
@@ -58,18 +58,18 @@ put_resource {verb} {options} command resource is = subst (λ o. IfSome o IsReso
 
 -- words that mean nothing ask for nothing
 pub means_nothing : {words : List (List ℕ)} (why : WordsNo) → why ≡ Usage
-    → Reads words (Err why) → AskNothing words
+    → ReadsWords words (Err why) → AskNothing words
 means_nothing {words} why e r verb options means =
-    absurd (subst (λ w. Reads words (Err w)) e r verb options means)
+    absurd (subst (λ w. ReadsWords words (Err w)) e r verb options means)
 
 module _ {words : List (List ℕ)} {verb : Verb} {options : List (List ℕ × List ℕ)}
     (command : Option Command) (means : Means words verb options)
-    (is : command ≡ command_of verb options) where
+    (is : command ≡ verb_command verb options) where
   pub asks_nothing : IsWithinSize options × IsWithinPage options → command ≡ None
       → AskNothing words
   asks_nothing (small, page) none other o m =
       let same = mean_one words verb other options o means m in (
-        ap (λ v. command_of v o) (sym same.0) ∙ ap (λ p. command_of verb p) (sym same.1)
+        ap (λ v. verb_command v o) (sym same.0) ∙ ap (λ p. verb_command verb p) (sym same.1)
             ∙ sym is ∙ none,
         λ large. one_size (value_of o (codes "size")) (subst IsWithinSize same.1 small) large,
         λ large. one_size (value_of o (codes "limit")) (subst IsWithinPage same.1 page) large,

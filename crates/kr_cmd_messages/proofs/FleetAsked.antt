@@ -1,10 +1,10 @@
 -- What words that ask for a fleet are, and which ask for none.
 use Rattle.std.proofs.Common.{◌≡◌, ℕ, ◌≤◌, List, codes, Option, None, Some, Ok, Err, sym, ◌∙◌, ap, subst, inl, inr, arith}
-use Rattle.kr_words.specs.Grammar.{HasFewReplicas, IsWithinPage, IsWithinSize, Means, Reads}
+use Rattle.kr_words.specs.Grammar.{HasFewReplicas, IsWithinPage, IsWithinSize, Means, ReadsWords}
 use Rattle.kr_words.specs.Options.{value_of}
 use Rattle.kr_words.specs.declared.command.Verb.{Verb}
 use Rattle.kr_words.specs.declared.command.Verb.TheVariants as verbs
-use Rattle.kr_words.specs.declared.command.Command.{Command}
+use Rattle.kr_words.specs.declared.command.CommandWords.{CommandWords}
 use Rattle.kr_words.specs.declared.command.WordsNo.{WordsNo}
 use Rattle.kr_words.specs.declared.command.WordsNo.TheVariants as no
 use Rattle.kr_words.proofs.Meanings.{mean_one}
@@ -35,10 +35,10 @@ module _ {words : List (List ℕ)} {verb : Verb} {options : List (List ℕ × Li
       absurd (let e = sym none ∙ ap (λ o. value_of o (codes "store")) same ∙ h.store in cc)
 
 pub usage_asks_none : {words : List (List ℕ)} (why : WordsNo) → why ≡ no.Usage
-    → Reads words (Err why)
+    → ReadsWords words (Err why)
     → AskNothing words × AskNoFleet words × AskNoLoad words × AskNoWatch words
 usage_asks_none {words} why e r =
-    let reads = subst (λ w. Reads words (Err w)) e r in (
+    let reads = subst (λ w. ReadsWords words (Err w)) e r in (
       λ verb options means. absurd (reads verb options means),
       λ asked h. absurd (reads verbs.Fleet asked.options h.means),
       λ asked h. absurd (reads verbs.Gen h.options h.means),
@@ -52,10 +52,10 @@ replicas_no_fleet {words} (verb, options, means, many) asked h =
     absurd (not_few_and_many options few many)
 
 pub replicas_ask_none : {words : List (List ℕ)} (why : WordsNo) → why ≡ no.Replicas
-    → Reads words (Err why)
+    → ReadsWords words (Err why)
     → AskReplicas words × AskNoFleet words × AskNoLoad words × AskNoWatch words
 replicas_ask_none {words} why e r =
-    let asks = subst (λ w. Reads words (Err w)) e r in
+    let asks = subst (λ w. ReadsWords words (Err w)) e r in
     (asks, replicas_no_fleet asks, replicas_no_load asks, replicas_no_watch asks)
 
 size_no_fleet : {words : List (List ℕ)} → AskSize words → AskNoFleet words
@@ -64,10 +64,10 @@ size_no_fleet {words} (verb, options, means, few, large) asked h =
     absurd (one_size (value_of options (codes "size")) (subst IsWithinSize same h.small) large)
 
 pub size_asks_none : {words : List (List ℕ)} (why : WordsNo) → why ≡ no.Size
-    → Reads words (Err why)
+    → ReadsWords words (Err why)
     → AskSize words × AskNoFleet words × AskNoLoad words × AskNoWatch words
 size_asks_none {words} why e r =
-    let asks = subst (λ w. Reads words (Err w)) e r in
+    let asks = subst (λ w. ReadsWords words (Err w)) e r in
     (asks, size_no_fleet asks, size_no_load asks, size_no_watch asks)
 
 page_no_fleet : {words : List (List ℕ)} → AskPage words → AskNoFleet words
@@ -76,14 +76,14 @@ page_no_fleet {words} (verb, options, means, few, small, large) asked h =
     absurd (one_size (value_of options (codes "limit")) (subst IsWithinPage same h.page) large)
 
 pub page_asks_none : {words : List (List ℕ)} (why : WordsNo) → why ≡ no.Page
-    → Reads words (Err why)
+    → ReadsWords words (Err why)
     → AskPage words × AskNoFleet words × AskNoLoad words × AskNoWatch words
 page_asks_none {words} why e r =
-    let asks = subst (λ w. Reads words (Err w)) e r in
+    let asks = subst (λ w. ReadsWords words (Err w)) e r in
     (asks, page_no_fleet asks, page_no_load asks, page_no_watch asks)
 
 -- the fleet that was read is the one that is asked for
-pub asked_so : {words : List (List ℕ)} (command : Command) → Reads words (Ok command)
+pub asked_so : {words : List (List ℕ)} (command : CommandWords) → ReadsWords words (Ok command)
     → (asked : Option FleetWords) → IsFleetOf command.verb command.options.0 asked
     → IsFleetAsked words (Ok asked)
 asked_so command reads None (inl other) = other_verb reads.0 other

@@ -2,12 +2,12 @@
 use Rattle.std.proofs.Common.{◌≡◌, ℕ, ◌≤◌, List, codes, Option, None, Some, Ok, Err, sym, ◌∙◌, ap, subst, inl, inr, arith}
 use Rattle.std.specs.Prelude.{IfSome, IsSomeAnd}
 use Rattle.kr_words.specs.Arguments.{IsNumberAt}
-use Rattle.kr_words.specs.Grammar.{HasFewReplicas, IsWithinPage, IsWithinSize, Means, Reads}
+use Rattle.kr_words.specs.Grammar.{HasFewReplicas, IsWithinPage, IsWithinSize, Means, ReadsWords}
 use Rattle.kr_words.specs.Numerals.{IsDecimal}
 use Rattle.kr_words.specs.Options.{value_of}
 use Rattle.kr_words.specs.declared.command.Verb.{Verb}
 use Rattle.kr_words.specs.declared.command.Verb.TheVariants as verbs
-use Rattle.kr_words.specs.declared.command.Command.{Command}
+use Rattle.kr_words.specs.declared.command.CommandWords.{CommandWords}
 use Rattle.kr_words.specs.declared.command.WordsNo.{WordsNo}
 use Rattle.kr_words.specs.declared.command.WordsNo.TheVariants as no
 use Rattle.kr_words.proofs.Meanings.{mean_one}
@@ -33,9 +33,9 @@ module _ {words : List (List ℕ)} {verb : Verb} {options : List (List ℕ × Li
       absurd (let e = sym none ∙ ap (λ o. value_of o (codes "store")) same ∙ h.store in cc)
 
 pub usage_no_load : {words : List (List ℕ)} (why : WordsNo) → why ≡ no.Usage
-    → Reads words (Err why) → AskNothing words × AskNoLoad words × AskNoWatch words
+    → ReadsWords words (Err why) → AskNothing words × AskNoLoad words × AskNoWatch words
 usage_no_load {words} why e r =
-    let reads = subst (λ w. Reads words (Err w)) e r in (
+    let reads = subst (λ w. ReadsWords words (Err w)) e r in (
       λ verb options means. absurd (reads verb options means),
       λ asked h. absurd (reads verbs.Gen h.options h.means),
       λ asked h. absurd (reads verbs.Watch asked.fleet.options h.means),
@@ -48,9 +48,9 @@ replicas_no_load {words} (verb, options, means, many) asked h =
     absurd (not_few_and_many options few many)
 
 pub replicas_load_none : {words : List (List ℕ)} (why : WordsNo) → why ≡ no.Replicas
-    → Reads words (Err why) → AskReplicas words × AskNoLoad words × AskNoWatch words
+    → ReadsWords words (Err why) → AskReplicas words × AskNoLoad words × AskNoWatch words
 replicas_load_none {words} why e r =
-    let asks = subst (λ w. Reads words (Err w)) e r in
+    let asks = subst (λ w. ReadsWords words (Err w)) e r in
     (asks, replicas_no_load asks, replicas_no_watch asks)
 
 pub size_no_load : {words : List (List ℕ)} → AskSize words → AskNoLoad words
@@ -59,9 +59,9 @@ size_no_load {words} (verb, options, means, few, large) asked h =
     absurd (one_size (value_of options (codes "size")) (subst IsWithinSize same h.small) large)
 
 pub size_load_none : {words : List (List ℕ)} (why : WordsNo) → why ≡ no.Size
-    → Reads words (Err why) → AskSize words × AskNoLoad words × AskNoWatch words
+    → ReadsWords words (Err why) → AskSize words × AskNoLoad words × AskNoWatch words
 size_load_none {words} why e r =
-    let asks = subst (λ w. Reads words (Err w)) e r in
+    let asks = subst (λ w. ReadsWords words (Err w)) e r in
     (asks, size_no_load asks, size_no_watch asks)
 
 pub page_no_load : {words : List (List ℕ)} → AskPage words → AskNoLoad words
@@ -70,13 +70,13 @@ page_no_load {words} (verb, options, means, few, small, large) asked h =
     absurd (one_size (value_of options (codes "limit")) (subst IsWithinPage same h.page) large)
 
 pub page_load_none : {words : List (List ℕ)} (why : WordsNo) → why ≡ no.Page
-    → Reads words (Err why) → AskPage words × AskNoLoad words × AskNoWatch words
+    → ReadsWords words (Err why) → AskPage words × AskNoLoad words × AskNoWatch words
 page_load_none {words} why e r =
-    let asks = subst (λ w. Reads words (Err w)) e r in
+    let asks = subst (λ w. ReadsWords words (Err w)) e r in
     (asks, page_no_load asks, page_no_watch asks)
 
 -- the load that was read is the one that is asked for
-pub load_asked_so : {words : List (List ℕ)} (command : Command) → Reads words (Ok command)
+pub load_asked_so : {words : List (List ℕ)} (command : CommandWords) → ReadsWords words (Ok command)
     → (asked : Option LoadWords) → IsLoadOf command.verb command.options.0 asked
     → IsLoadAsked words (Ok asked)
 load_asked_so command reads None (inl other) = no_load_verb reads.0 other

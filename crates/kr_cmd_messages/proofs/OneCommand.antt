@@ -5,7 +5,7 @@ use Rattle.kr_words.specs.Grammar.{HasFewReplicas, HasManyReplicas, IsWithinPage
 use Rattle.kr_words.specs.Numerals.{IsDecimal}
 use Rattle.kr_words.specs.Options.{value_of}
 use Rattle.kr_words.proofs.Meanings.{mean_one}
-use Rattle.kr_cmd_messages.specs.Command.{command_of, Asks, AskBadly, AskNothing}
+use Rattle.kr_cmd_messages.specs.Command.{verb_command, Asks, AskBadly, AskNothing}
 use Rattle.kr_cmd_messages.specs.declared.command.Command.{Command}
 use Rattle.kr_cmd_messages.specs.declared.refusal.BadWords.{BadWords}
 use Rattle.kr_cmd_messages.specs.declared.refusal.BadWords.TheVariants.{Usage, Replicas, Size, Page}
@@ -19,8 +19,8 @@ asks_something asks none =
 pub one_command : {words : List (List ℕ)} {a b : Command} → Asks words a → Asks words b → a ≡ b
 one_command {words} {a} {b} h k =
     let same = mean_one words k.verb h.verb k.options h.options k.means h.means in
-    let is : Some a ≡ Some b = sym h.is ∙ ap (λ v. command_of v h.options) (sym same.0)
-    ∙ ap (λ o. command_of k.verb o) (sym same.1) ∙ k.is in cc
+    let is : Some a ≡ Some b = sym h.is ∙ ap (λ v. verb_command v h.options) (sym same.0)
+    ∙ ap (λ o. verb_command k.verb o) (sym same.1) ∙ k.is in cc
 
 -- a number isn't both within the limit and above
 pub one_size : (size : Option (List ℕ)) → IfSome size (λ text. (n : ℕ) × IsDecimal text n × (n ≤ 10000))

@@ -126,11 +126,11 @@ broken_code (breach.Torn at) = codes "42"
 broken_code (breach.BadRow at) = codes "43"
 broken_code (breach.Order at) = codes "46"
 
-abbrev pub place_of : Breach → ℕ
-place_of breach.Magic = 0
-place_of (breach.Torn at) = at
-place_of (breach.BadRow at) = at
-place_of (breach.Order at) = at
+abbrev pub breach_place : Breach → ℕ
+breach_place breach.Magic = 0
+breach_place (breach.Torn at) = at
+breach_place (breach.BadRow at) = at
+breach_place (breach.Order at) = at
 
 -- a field of a plugin's status
 abbrev pub field_text : Field → List ℕ
@@ -153,7 +153,8 @@ refusal_line (Value why) = codes "kmsrest: refused " ++ (decimal (number_of why)
 refusal_line (Placed why at) =
     codes "kmsrest: refused " ++ (decimal (number_of why)
     ++ (codes " " ++ (name_of why ++ (codes " " ++ (decimal at ++ codes "\n")))))
-refusal_line (Broken why) = counted_line (codes "kmsrest: text ") (broken_code why) (place_of why)
+refusal_line (Broken why) = counted_line (codes "kmsrest: text ") (broken_code why)
+    (breach_place why)
 refusal_line (NoPath path) = codes "kmsrest: absent " ++ (path ++ codes "\n")
 refusal_line (NotEmpty length) = counted_line (codes "kmsrest: text ") (codes "52") length
 refusal_line NotOld = codes "kmsrest: text 53 2\n"

@@ -6,9 +6,9 @@ ghost use Rattle.kr_words.specs.Grammar.{texts, HasFewReplicas};
 ghost use Rattle.kr_words.specs.declared.command.Verb.{Verb};
 ghost use Rattle.kr_words.specs.Options.{value_of};
 ghost use Rattle.kr_words.specs.Rules.{IsCommand};
-ghost use Rattle.kr_cmd_messages.specs.Command.{command_of, conversion_of, check_of, lookup_of, migration_of, listing_of, judgement_of, planning_of, put_of, rewriting_of, shown_by, shown_in};
+ghost use Rattle.kr_cmd_messages.specs.Command.{verb_command, conversion_command, check_command, lookup_command, migration_command, listing_command, judgement_command, planning_command, put_command, rewriting_command, shown_option, shown_word};
 ghost use Rattle.kr_base.specs.Rules.{IsPath, IsResource};
-ghost use Rattle.kr_cmd_messages.specs.Command.{verification_of};
+ghost use Rattle.kr_cmd_messages.specs.Command.{verification_command};
 ghost use Rattle.kr_cmd_messages.specs.inner.Asking.{IsReadAs, KeepsRules};
 
 use crate::options::Options;
@@ -78,7 +78,7 @@ pub struct Migration {
 
 /// Which reload is to be judged.
 #[derive(Debug, Drop)]
-pub struct Judgement {
+pub struct JudgeWords {
     /// The name of the store's file.
     pub store: Text,
     /// All options of the words, which name the replicas' files and the reload.
@@ -87,7 +87,7 @@ pub struct Judgement {
 
 /// Which settings of a plan are shown in place of its moves.
 #[derive(Clone, Copy, Debug, PartialEq, Eq)]
-pub enum Shown {
+pub enum ShownSettings {
     /// Those that all replicas take up first.
     Wide,
     /// Those that they take up next.
@@ -104,7 +104,7 @@ pub struct Planning {
     /// How many replicas there are.
     pub replicas: u32,
     /// Which settings are shown, in place of the moves.
-    pub shown: Option<Shown>,
+    pub shown: Option<ShownSettings>,
 }
 
 /// Which store is to be rewritten.
@@ -151,7 +151,7 @@ pub enum Command {
         store: Text,
     },
     /// Judges a reload.
-    Judge(Judgement),
+    Judge(JudgeWords),
     /// Plans a rollout.
     Plan(Planning),
     /// Writes the stale rows of a store anew.
@@ -170,7 +170,7 @@ pub fn read_command(alloc: Global, words: &[String]) -> Result<Command, Stop>
         Err(WordsNo::Page) => return Err(Stop::Words(BadWords::Page)),
         Err(WordsNo::NoMemory) => return Err(Stop::NoMemory),
     };
-    let command = match command_of(alloc, words) {
+    let command = match verb_command(alloc, words) {
         Ok(command) => command,
         Err(_) => return Err(Stop::NoMemory),
     };
@@ -181,56 +181,56 @@ pub fn read_command(alloc: Global, words: &[String]) -> Result<Command, Stop>
 }
 
 /// The command of a verb with its options, where it is one that is done alone.
-fn command_of(alloc: Global, words: kr_words::Command) -> Result<Option<Command>, NoMemory>
+fn verb_command(alloc: Global, words: kr_words::CommandWords) -> Result<Option<Command>, NoMemory>
     requires command { IsCommand words.verb words.options.0 }
     requires few { HasFewReplicas words.options.0 }
-    ensures command { IfOk result (λ command. command ≡ command_of words.verb words.options.0) }
+    ensures command { IfOk result (λ command. command ≡ verb_command words.verb words.options.0) }
     ensures path { IfOk result KeepsRules }
 {
     match words.verb {
-        Verb::Encrypt => conversion_of(alloc, Direction::Encrypt, words),
-        Verb::Decrypt => conversion_of(alloc, Direction::Decrypt, words),
-        Verb::Check => check_of(alloc, &words),
+        Verb::Encrypt => conversion_command(alloc, Direction::Encrypt, words),
+        Verb::Decrypt => conversion_command(alloc, Direction::Decrypt, words),
+        Verb::Check => check_command(alloc, &words),
         Verb::Inspect => Ok(Some(Command::Inspect)),
-        Verb::Put => put_of(alloc, words),
-        Verb::Get => lookup_of(alloc, words),
-        Verb::Verify => verification_of(alloc, words),
-        Verb::Migrate => migration_of(alloc, &words),
-        Verb::Rows => listing_of(alloc, &words),
-        Verb::Judge => judgement_of(alloc, words),
-        Verb::Plan => planning_of(alloc, &words),
-        Verb::Rewrite => rewriting_of(alloc, words),
+        Verb::Put => put_command(alloc, words),
+        Verb::Get => lookup_command(alloc, words),
+        Verb::Verify => verification_command(alloc, words),
+        Verb::Migrate => migration_command(alloc, &words),
+        Verb::Rows => listing_command(alloc, &words),
+        Verb::Judge => judgement_command(alloc, words),
+        Verb::Plan => planning_command(alloc, &words),
+        Verb::Rewrite => rewriting_command(alloc, words),
         _ => Ok(None),
     }
 }
 
 /// The words of `encrypt` and `decrypt`.
-fn conversion_of(
+fn conversion_command(
     alloc: Global,
     direction: Direction,
-    words: kr_words::Command,
+    words: kr_words::CommandWords,
 ) -> Result<Option<Command>, NoMemory>
     requires { IsCommand words.verb words.options.0 }
-    ensures command { IfOk result (λ command. command ≡ conversion_of direction words.options.0
+    ensures command { IfOk result (λ command. command ≡ conversion_command direction words.options.0
         (value_of words.options.0 (codes "config"))
         (value_of words.options.0 (codes "resource"))
         (value_of words.options.0 (codes "path"))) }
     ensures path { IfOk result KeepsRules }
 {
-    let config = value_of(alloc, &words, "config")?;
-    let resource = value_of(alloc, &words, "resource")?;
-    let path = path_of(alloc, &words)?;
+    let config = copy_value(alloc, &words, "config")?;
+    let resource = copy_value(alloc, &words, "resource")?;
+    let path = copy_path(alloc, &words)?;
     let Some(config) = config else {
         return Ok(None);
     };
     let Some(resource) = resource else {
         return Ok(None);
     };
-    Ok(conversion_at(direction, config, resource, path, Options::new(words)))
+    Ok(make_conversion(direction, config, resource, path, Options::new(words)))
 }
 
 /// A conversion of an object at a path, where there is one.
-fn conversion_at(
+fn make_conversion(
     direction: Direction,
     config: Text,
     resource: Text,
@@ -239,7 +239,7 @@ fn conversion_at(
 ) -> Option<Command>
     requires { IfSome path (λ path. length path ≤ path_limit) }
     ensures command { result
-        ≡ conversion_of direction options (Some config) (Some resource) path }
+        ≡ conversion_command direction options (Some config) (Some resource) path }
     ensures path { KeepsRules result }
 {
     match path {
@@ -255,24 +255,24 @@ fn conversion_at(
 }
 
 /// A copy of the path, which keeps its rule.
-fn path_of(alloc: Global, words: &kr_words::Command) -> Result<Option<Text>, NoMemory>
+fn copy_path(alloc: Global, words: &kr_words::CommandWords) -> Result<Option<Text>, NoMemory>
     requires { IsCommand words.now.verb words.now.options.0 }
     ensures value { IfOk result
         (λ path. path ≡ value_of words.now.options.0 (codes "path")) }
     ensures short { IfOk result (λ path. IfSome path (λ path. length path ≤ path_limit)) }
 {
-    value_of(alloc, words, "path")
+    copy_value(alloc, words, "path")
 }
 
 /// The words of `check`.
-fn check_of(alloc: Global, words: &kr_words::Command) -> Result<Option<Command>, NoMemory>
-    ensures command { IfOk result (λ command. command ≡ check_of
+fn check_command(alloc: Global, words: &kr_words::CommandWords) -> Result<Option<Command>, NoMemory>
+    ensures command { IfOk result (λ command. command ≡ check_command
         (value_of words.now.options.0 (codes "config"))
         (value_of words.now.options.0 (codes "resource"))) }
     ensures path { IfOk result KeepsRules }
 {
-    let config = value_of(alloc, words, "config")?;
-    let resource = value_of(alloc, words, "resource")?;
+    let config = copy_value(alloc, words, "config")?;
+    let resource = copy_value(alloc, words, "resource")?;
     match config {
         Some(config) => Ok(Some(Command::Check { config, resource })),
         None => Ok(None),
@@ -280,31 +280,31 @@ fn check_of(alloc: Global, words: &kr_words::Command) -> Result<Option<Command>,
 }
 
 /// The words of `put`.
-fn put_of(alloc: Global, words: kr_words::Command) -> Result<Option<Command>, NoMemory>
+fn put_command(alloc: Global, words: kr_words::CommandWords) -> Result<Option<Command>, NoMemory>
     requires command { IsCommand words.verb words.options.0 }
     requires verb { words.verb ≡ Verb.Put }
-    ensures command { IfOk result (λ command. command ≡ put_of words.options.0
+    ensures command { IfOk result (λ command. command ≡ put_command words.options.0
         (value_of words.options.0 (codes "config"))
         (value_of words.options.0 (codes "store"))
         (value_of words.options.0 (codes "resource"))
         (value_of words.options.0 (codes "path"))) }
     ensures path { IfOk result KeepsRules }
 {
-    let config = value_of(alloc, &words, "config")?;
-    let store = value_of(alloc, &words, "store")?;
-    let resource = value_of(alloc, &words, "resource")?;
-    let path = value_of(alloc, &words, "path")?;
+    let config = copy_value(alloc, &words, "config")?;
+    let store = copy_value(alloc, &words, "store")?;
+    let resource = copy_value(alloc, &words, "resource")?;
+    let path = copy_value(alloc, &words, "path")?;
     let Some(config) = config else {
         return Ok(None);
     };
     let Some(store) = store else {
         return Ok(None);
     };
-    Ok(put_at(config, store, resource, path, Options::new(words)))
+    Ok(make_put(config, store, resource, path, Options::new(words)))
 }
 
 /// A put of an object at a path, where there is one.
-fn put_at(
+fn make_put(
     config: Text,
     store: Text,
     resource: Option<Text>,
@@ -313,7 +313,7 @@ fn put_at(
 ) -> Option<Command>
     requires path { IfSome path IsPath }
     requires resource { IfSome resource IsResource }
-    ensures command { result ≡ put_of options (Some config) (Some store) resource path }
+    ensures command { result ≡ put_command options (Some config) (Some store) resource path }
     ensures path { KeepsRules result }
 {
     let Some(resource) = resource else {
@@ -333,30 +333,30 @@ fn put_at(
 }
 
 /// The words of `get`.
-fn lookup_of(alloc: Global, words: kr_words::Command) -> Result<Option<Command>, NoMemory>
+fn lookup_command(alloc: Global, words: kr_words::CommandWords) -> Result<Option<Command>, NoMemory>
     requires { IsCommand words.verb words.options.0 }
-    ensures command { IfOk result (λ command. command ≡ lookup_of words.options.0
+    ensures command { IfOk result (λ command. command ≡ lookup_command words.options.0
         (value_of words.options.0 (codes "config"))
         (value_of words.options.0 (codes "store"))
         (value_of words.options.0 (codes "path"))) }
     ensures path { IfOk result KeepsRules }
 {
-    let config = value_of(alloc, &words, "config")?;
-    let store = value_of(alloc, &words, "store")?;
-    let path = path_of(alloc, &words)?;
+    let config = copy_value(alloc, &words, "config")?;
+    let store = copy_value(alloc, &words, "store")?;
+    let path = copy_path(alloc, &words)?;
     let Some(config) = config else {
         return Ok(None);
     };
     let Some(store) = store else {
         return Ok(None);
     };
-    Ok(lookup_at(config, store, path, Options::new(words)))
+    Ok(make_lookup(config, store, path, Options::new(words)))
 }
 
 /// A look-up of a path, where there is one.
-fn lookup_at(config: Text, store: Text, path: Option<Text>, options: Options) -> Option<Command>
+fn make_lookup(config: Text, store: Text, path: Option<Text>, options: Options) -> Option<Command>
     requires { IfSome path (λ path. length path ≤ path_limit) }
-    ensures command { result ≡ lookup_of options (Some config) (Some store) path }
+    ensures command { result ≡ lookup_command options (Some config) (Some store) path }
     ensures path { KeepsRules result }
 {
     match path {
@@ -371,14 +371,17 @@ fn lookup_at(config: Text, store: Text, path: Option<Text>, options: Options) ->
 }
 
 /// The words of `verify`.
-fn verification_of(alloc: Global, words: kr_words::Command) -> Result<Option<Command>, NoMemory>
-    ensures command { IfOk result (λ command. command ≡ verification_of words.options.0
+fn verification_command(
+    alloc: Global,
+    words: kr_words::CommandWords,
+) -> Result<Option<Command>, NoMemory>
+    ensures command { IfOk result (λ command. command ≡ verification_command words.options.0
         (value_of words.options.0 (codes "config"))
         (value_of words.options.0 (codes "store"))) }
     ensures path { IfOk result KeepsRules }
 {
-    let config = value_of(alloc, &words, "config")?;
-    let store = value_of(alloc, &words, "store")?;
+    let config = copy_value(alloc, &words, "config")?;
+    let store = copy_value(alloc, &words, "store")?;
     let Some(config) = config else {
         return Ok(None);
     };
@@ -393,28 +396,31 @@ fn verification_of(alloc: Global, words: kr_words::Command) -> Result<Option<Com
 }
 
 /// The words of `migrate`.
-fn migration_of(alloc: Global, words: &kr_words::Command) -> Result<Option<Command>, NoMemory>
-    ensures command { IfOk result (λ command. command ≡ migration_of
+fn migration_command(
+    alloc: Global,
+    words: &kr_words::CommandWords,
+) -> Result<Option<Command>, NoMemory>
+    ensures command { IfOk result (λ command. command ≡ migration_command
         (value_of words.now.options.0 (codes "config"))
         (value_of words.now.options.0 (codes "store"))
         (value_of words.now.options.0 (codes "to"))) }
     ensures path { IfOk result KeepsRules }
 {
-    let config = value_of(alloc, words, "config")?;
-    let store = value_of(alloc, words, "store")?;
-    let to = value_of(alloc, words, "to")?;
+    let config = copy_value(alloc, words, "config")?;
+    let store = copy_value(alloc, words, "store")?;
+    let to = copy_value(alloc, words, "to")?;
     let Some(config) = config else {
         return Ok(None);
     };
     let Some(store) = store else {
         return Ok(None);
     };
-    Ok(migration_at(config, store, to))
+    Ok(make_migration(config, store, to))
 }
 
 /// A migration into another store, where there is one.
-fn migration_at(config: Text, store: Text, to: Option<Text>) -> Option<Command>
-    ensures command { result ≡ migration_of (Some config) (Some store) to }
+fn make_migration(config: Text, store: Text, to: Option<Text>) -> Option<Command>
+    ensures command { result ≡ migration_command (Some config) (Some store) to }
     ensures path { KeepsRules result }
 {
     let Some(to) = to else {
@@ -434,31 +440,37 @@ fn is_same(name: &Text, other: &Text) -> bool
 }
 
 /// The words of `list`.
-fn listing_of(alloc: Global, words: &kr_words::Command) -> Result<Option<Command>, NoMemory>
-    ensures command { IfOk result (λ command. command ≡ listing_of
+fn listing_command(
+    alloc: Global,
+    words: &kr_words::CommandWords,
+) -> Result<Option<Command>, NoMemory>
+    ensures command { IfOk result (λ command. command ≡ listing_command
         (value_of words.now.options.0 (codes "store"))) }
     ensures path { IfOk result KeepsRules }
 {
-    match value_of(alloc, words, "store")? {
+    match copy_value(alloc, words, "store")? {
         Some(store) => Ok(Some(Command::Rows { store })),
         None => Ok(None),
     }
 }
 
 /// The words of `judge`.
-fn judgement_of(alloc: Global, words: kr_words::Command) -> Result<Option<Command>, NoMemory>
+fn judgement_command(
+    alloc: Global,
+    words: kr_words::CommandWords,
+) -> Result<Option<Command>, NoMemory>
     requires command { IsCommand words.verb words.options.0 }
     requires few { HasFewReplicas words.options.0 }
     requires verb { words.verb ≡ Verb.Judge }
-    ensures command { IfOk result (λ command. command ≡ judgement_of words.options.0
+    ensures command { IfOk result (λ command. command ≡ judgement_command words.options.0
         (value_of words.options.0 (codes "store"))) }
     ensures path { IfOk result KeepsRules }
 {
     let Some(_reload) = words.reload() else {
         unreachable!();
     };
-    match value_of(alloc, &words, "store")? {
-        Some(store) => Ok(Some(Command::Judge(Judgement {
+    match copy_value(alloc, &words, "store")? {
+        Some(store) => Ok(Some(Command::Judge(JudgeWords {
             store,
             options: Options::new(words),
         }))),
@@ -467,11 +479,14 @@ fn judgement_of(alloc: Global, words: kr_words::Command) -> Result<Option<Comman
 }
 
 /// The words of `plan`.
-fn planning_of(alloc: Global, words: &kr_words::Command) -> Result<Option<Command>, NoMemory>
+fn planning_command(
+    alloc: Global,
+    words: &kr_words::CommandWords,
+) -> Result<Option<Command>, NoMemory>
     requires command { IsCommand words.now.verb words.now.options.0 }
     requires few { HasFewReplicas words.now.options.0 }
     requires verb { words.now.verb ≡ Verb.Plan }
-    ensures command { IfOk result (λ command. command ≡ planning_of
+    ensures command { IfOk result (λ command. command ≡ planning_command
         (value_of words.now.options.0 (codes "from"))
         (value_of words.now.options.0 (codes "to"))
         (value_of words.now.options.0 (codes "replicas"))
@@ -481,8 +496,8 @@ fn planning_of(alloc: Global, words: &kr_words::Command) -> Result<Option<Comman
     let Some(replicas) = words.planned() else {
         unreachable!();
     };
-    let from = value_of(alloc, words, "from")?;
-    let to = value_of(alloc, words, "to")?;
+    let from = copy_value(alloc, words, "from")?;
+    let to = copy_value(alloc, words, "to")?;
     let Some(from) = from else {
         return Ok(None);
     };
@@ -493,40 +508,43 @@ fn planning_of(alloc: Global, words: &kr_words::Command) -> Result<Option<Comman
         from,
         to,
         replicas: replicas as u32,
-        shown: shown_by(words),
+        shown: shown_option(words),
     })))
 }
 
 /// Which settings of the plan are shown.
-fn shown_by(words: &kr_words::Command) -> Option<Shown>
-    ensures { result ≡ shown_by (value_of words.now.options.0 (codes "show")) }
+fn shown_option(words: &kr_words::CommandWords) -> Option<ShownSettings>
+    ensures { result ≡ shown_option (value_of words.now.options.0 (codes "show")) }
 {
     match words.value("show") {
-        Some(text) => Some(shown_in(text)),
+        Some(text) => Some(shown_word(text)),
         None => None,
     }
 }
 
 /// The settings that the text names.
-fn shown_in(text: &str) -> Shown
-    ensures { result ≡ shown_in text.now }
+fn shown_word(text: &str) -> ShownSettings
+    ensures { result ≡ shown_word text.now }
 {
     if text == "wide" {
-        Shown::Wide
+        ShownSettings::Wide
     } else {
-        Shown::Turned
+        ShownSettings::Turned
     }
 }
 
 /// The words of `rewrite`.
-fn rewriting_of(alloc: Global, words: kr_words::Command) -> Result<Option<Command>, NoMemory>
-    ensures command { IfOk result (λ command. command ≡ rewriting_of words.options.0
+fn rewriting_command(
+    alloc: Global,
+    words: kr_words::CommandWords,
+) -> Result<Option<Command>, NoMemory>
+    ensures command { IfOk result (λ command. command ≡ rewriting_command words.options.0
         (value_of words.options.0 (codes "config"))
         (value_of words.options.0 (codes "store"))) }
     ensures path { IfOk result KeepsRules }
 {
-    let config = value_of(alloc, &words, "config")?;
-    let store = value_of(alloc, &words, "store")?;
+    let config = copy_value(alloc, &words, "config")?;
+    let store = copy_value(alloc, &words, "store")?;
     let Some(config) = config else {
         return Ok(None);
     };
@@ -541,7 +559,11 @@ fn rewriting_of(alloc: Global, words: kr_words::Command) -> Result<Option<Comman
 }
 
 /// A copy of the first value at the name.
-fn value_of(alloc: Global, words: &kr_words::Command, name: &str) -> Result<Option<Text>, NoMemory>
+fn copy_value(
+    alloc: Global,
+    words: &kr_words::CommandWords,
+    name: &str,
+) -> Result<Option<Text>, NoMemory>
     ensures { IfOk result (λ value. value ≡ value_of words.now.options.0 name.now) }
 {
     match words.value(name) {

@@ -38,14 +38,17 @@ pub fn read_fleet(alloc: Global, words: &[String]) -> Result<Option<FleetWords>,
         Err(WordsNo::Page) => return Err(Stop::Words(BadWords::Page)),
         Err(WordsNo::NoMemory) => return Err(Stop::NoMemory),
     };
-    match fleet_of(alloc, words) {
+    match fleet_request(alloc, words) {
         Ok(asked) => Ok(asked),
         Err(NoMemory) => Err(Stop::NoMemory),
     }
 }
 
 /// The words of `fleet`, if they are its.
-fn fleet_of(alloc: Global, words: kr_words::Command) -> Result<Option<FleetWords>, NoMemory>
+fn fleet_request(
+    alloc: Global,
+    words: kr_words::CommandWords,
+) -> Result<Option<FleetWords>, NoMemory>
     ensures { IfOk result (λ asked. IsFleetOf words.verb words.options.0 asked) }
 {
     let Verb::Fleet = words.verb else {

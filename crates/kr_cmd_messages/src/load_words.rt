@@ -8,7 +8,7 @@ ghost use Rattle.kr_cmd_messages.specs.inner.LoadAnswers.{IsLoadAsked, IsLoadOf}
 
 use crate::refusal::{BadWords, Stop};
 use kr_base::{NoMemory, Text};
-use kr_words::{Command, Verb, WordsNo, read_words};
+use kr_words::{CommandWords, Verb, WordsNo, read_words};
 use std::alloc::Global;
 
 /// Which load is to be generated.
@@ -47,7 +47,7 @@ pub fn read_load(alloc: Global, words: &[String]) -> Result<Option<LoadWords>, S
 }
 
 /// The words of `gen`, if they are its.
-fn load_asked(alloc: Global, words: &Command) -> Result<Option<LoadWords>, NoMemory>
+fn load_asked(alloc: Global, words: &CommandWords) -> Result<Option<LoadWords>, NoMemory>
     requires command { IsCommand words.now.verb words.now.options.0 }
     requires small { IsWithinSize words.now.options.0 }
     ensures { IfOk result (λ asked. IsLoadOf words.now.verb words.now.options.0 asked) }
@@ -60,13 +60,13 @@ fn load_asked(alloc: Global, words: &Command) -> Result<Option<LoadWords>, NoMem
     };
     let store = Text::copy(alloc, store)?;
     Ok(Some(LoadWords {
-        seed: seed_of(words),
-        size: size_of(words),
+        seed: load_seed(words),
+        size: load_size(words),
         store,
     }))
 }
 
-fn seed_of(words: &Command) -> u64
+fn load_seed(words: &CommandWords) -> u64
     requires command { IsCommand words.now.verb words.now.options.0 }
     requires verb { words.now.verb ≡ Verb.Gen }
     ensures { IsNumberAt words.now.options.0 (codes "seed") result }
@@ -77,7 +77,7 @@ fn seed_of(words: &Command) -> u64
     seed
 }
 
-fn size_of(words: &Command) -> u32
+fn load_size(words: &CommandWords) -> u32
     requires command { IsCommand words.now.verb words.now.options.0 }
     requires verb { words.now.verb ≡ Verb.Gen }
     requires small { IsWithinSize words.now.options.0 }

@@ -2,7 +2,7 @@
 ghost use Rattle.std.specs.Prelude.{◌≡◌, ◌≤◌};
 ghost use Rattle.kr_base.specs.Streams.{whole_text};
 ghost use Rattle.kr_cmd_messages.specs.Message.{status_of, status_of_words, status_of_configuration, status_of_refusal, status_of_done};
-ghost use Rattle.kr_cmd_messages.specs.Message.{words_line, limit_line, limit_text, limit_size, refusal_line, done_line, counted_text, counted_line, broken_code, place_of, breach_line, configuration_line, fault_line, line_of, field_text, unhealthy_line};
+ghost use Rattle.kr_cmd_messages.specs.Message.{words_line, limit_line, limit_text, limit_size, refusal_line, done_line, counted_text, counted_line, broken_code, breach_place, breach_line, configuration_line, fault_line, line_of, field_text, unhealthy_line};
 ghost use Rattle.kr_cmd_messages.specs.Receipts.{receipt, Tells};
 ghost use Rattle.kr_cmd_messages.specs.inner.Sayings.{Says};
 
@@ -73,7 +73,7 @@ fn status_of_refusal(why: &Refusal) -> u8
 }
 
 /// The status of a command by how it ended.
-fn status_of(answer: &Result<Done, Stop>) -> u8
+fn exit_status(answer: &Result<Done, Stop>) -> u8
     ensures { result ≡ status_of answer.now }
 {
     match answer {
@@ -94,7 +94,7 @@ pub fn tell<E: Sink>(errors: &mut E, answer: &Result<Done, Stop>) -> u8
     ensures later { E.count errors.old ≤ E.count errors.new }
 {
     match write_line(errors, answer) {
-        Ok(()) => status_of(answer),
+        Ok(()) => exit_status(answer),
         Err(Failed) => 4,
     }
 }
@@ -275,7 +275,12 @@ fn write_broken<E: Sink>(errors: &mut E, why: Breach) -> Result<(), Failed>
         (E.count errors.old) (E.count errors.new))
         (refusal_line (Refusal.Broken why)) result }
 {
-    write_counted(errors, "kmsrest: text ", broken_code(why), place_of(why))
+    write_counted(
+        errors,
+        "kmsrest: text ",
+        broken_code(why),
+        breach_place(why),
+    )
 }
 
 /// Writes the line of a replica that is refused.
@@ -308,8 +313,8 @@ fn broken_code(why: Breach) -> &'static str
     }
 }
 
-fn place_of(why: Breach) -> u64
-    ensures { result ≡ place_of why }
+fn breach_place(why: Breach) -> u64
+    ensures { result ≡ breach_place why }
 {
     match why {
         Breach::Magic => 0,

@@ -1,18 +1,18 @@
 //! The options of a command, which give programs of plugins, files of replicas and a reload.
 ghost use Rattle.std.specs.Prelude.{◌≡◌, slice_get};
 ghost use Rattle.std.specs.Option.{option_copied};
-ghost use Rattle.kr_words.specs.Arguments.{program_of};
+ghost use Rattle.kr_words.specs.Arguments.{plugin_program};
 ghost use Rattle.kr_words.specs.Grammar.{replicas_of};
 ghost use Rattle.kr_cmd_messages.specs.Command.{replica_names, reload_number, reload_file, reload_in};
 ghost use Rattle.kr_cmd_messages.specs.inner.Asking.{HasReplicas};
 
-use kr_words::Command;
+use kr_words::CommandWords;
 use std::marker::Model;
 
 /// The options of words, in their order. Contracts see the pairs of a name and a value.
 #[derive(Debug, Drop)]
 pub struct Options {
-    words: Command,
+    words: CommandWords,
 }
 
 impl Model for Options {
@@ -25,7 +25,7 @@ impl Model for Options {
 
 impl Options {
     /// Those of these words.
-    pub fn new(words: Command) -> Options
+    pub fn new(words: CommandWords) -> Options
         ensures { result ≡ words.options.0 }
     {
         Options { words }
@@ -33,7 +33,7 @@ impl Options {
 
     /// The program of the plugin of that name.
     pub fn program(&self, plugin: &str) -> Option<&str>
-        ensures { option_copied result ≡ program_of self.now plugin.now }
+        ensures { option_copied result ≡ plugin_program self.now plugin.now }
     {
         self.words.program(plugin)
     }

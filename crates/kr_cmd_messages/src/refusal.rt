@@ -1,6 +1,6 @@
 //! How a command ends: done, refused by what it saw, or cut short.
 
-use crate::report::Counts;
+use crate::report::RewriteCounts;
 use kr_base::{Bytes, Text};
 use kr_config::ConfigNo;
 use kr_judge::Verdict;
@@ -104,8 +104,8 @@ pub enum Refusal {
     OtherSecret(Text),
     /// The configuration of this replica is refused beside those before it.
     Unfit(u32, Verdict),
-    /// At a class two configurations have one prefix with two secrets; the class and the provider of
-    /// the first of them stand here as they are printed.
+    /// At a class two configurations have one prefix with two secrets; the class and the provider
+    /// of the first of them stand here as they are printed.
     Clash(Text),
     /// This line of the fleet file, from 1, can't stand there.
     Script(u64),
@@ -152,5 +152,5 @@ pub struct Ended {
     /// What it makes, or why it stopped.
     pub made: Result<Outcome, Stop>,
     /// What it reports where it stopped.
-    pub said: Option<Counts>,
+    pub said: Option<RewriteCounts>,
 }

@@ -12,7 +12,7 @@ use std::alloc::Global;
 
 /// What became of the rows that a rewrite looked at.
 #[derive(Clone, Copy, Debug, PartialEq, Eq)]
-pub struct Counts {
+pub struct RewriteCounts {
     /// Written anew.
     pub rewritten: u64,
     /// Not stale.
@@ -24,7 +24,7 @@ pub struct Counts {
 }
 
 /// The report as a text.
-pub fn report_text(alloc: Global, counts: Counts) -> Result<Bytes, NoMemory>
+pub fn report_text(alloc: Global, counts: RewriteCounts) -> Result<Bytes, NoMemory>
     ensures { IfOk result (λ text. text ≡ report_text counts) }
 {
     let mut text = Vec::new(alloc);
@@ -47,7 +47,7 @@ pub fn add_count(text: &mut Vec<u8>, word: &str, count: u64) -> Result<(), NoMem
 }
 
 /// Writes the report. It takes no memory.
-pub fn write_report<S: Sink>(sink: &mut S, counts: Counts) -> Result<(), Failed>
+pub fn write_report<S: Sink>(sink: &mut S, counts: RewriteCounts) -> Result<(), Failed>
     ensures { Says (receipt (S.held sink.old) (S.held sink.new) (S.count sink.old)
         (S.count sink.new)) (report_text counts) result }
 {

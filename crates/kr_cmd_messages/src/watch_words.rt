@@ -11,7 +11,7 @@ use crate::fleet_words::FleetWords;
 use crate::options::Options;
 use crate::refusal::{BadWords, Stop};
 use kr_base::{NoMemory, Text};
-use kr_words::{Command, Verb, WordsNo, read_words};
+use kr_words::{CommandWords, Verb, WordsNo, read_words};
 use std::alloc::Global;
 
 /// Which fleet is to be run, and what of it is to be shown.
@@ -45,14 +45,14 @@ pub fn read_watch(alloc: Global, words: &[String]) -> Result<Option<WatchWords>,
         Err(WordsNo::Page) => return Err(Stop::Words(BadWords::Page)),
         Err(WordsNo::NoMemory) => return Err(Stop::NoMemory),
     };
-    match watch_of(alloc, words) {
+    match watch_request(alloc, words) {
         Ok(asked) => Ok(asked),
         Err(NoMemory) => Err(Stop::NoMemory),
     }
 }
 
 /// The words of `watch`, if they are its.
-fn watch_of(alloc: Global, words: Command) -> Result<Option<WatchWords>, NoMemory>
+fn watch_request(alloc: Global, words: CommandWords) -> Result<Option<WatchWords>, NoMemory>
     requires command { IsCommand words.verb words.options.0 }
     requires small { IsWithinPage words.options.0 }
     ensures { IfOk result (λ asked. IsWatchOf words.verb words.options.0 asked) }
@@ -72,8 +72,8 @@ fn watch_of(alloc: Global, words: Command) -> Result<Option<WatchWords>, NoMemor
     let file = Text::copy(alloc, file)?;
     let store = Text::copy(alloc, store)?;
     let resource = Text::copy(alloc, resource)?;
-    let limit = limit_of(&words);
-    let since = since_of(&words);
+    let limit = watch_limit(&words);
+    let since = since_number(&words);
     Ok(Some(WatchWords {
         fleet: FleetWords {
             file,
@@ -86,7 +86,7 @@ fn watch_of(alloc: Global, words: Command) -> Result<Option<WatchWords>, NoMemor
     }))
 }
 
-fn limit_of(words: &Command) -> u32
+fn watch_limit(words: &CommandWords) -> u32
     requires command { IsCommand words.now.verb words.now.options.0 }
     requires verb { words.now.verb ≡ Verb.Watch }
     requires small { IsWithinPage words.now.options.0 }
@@ -98,12 +98,12 @@ fn limit_of(words: &Command) -> u32
     limit as u32
 }
 
-fn since_of(words: &Command) -> Option<u64>
+fn since_number(words: &CommandWords) -> Option<u64>
     requires { IsCommand words.now.verb words.now.options.0 }
     ensures { IsSince words.now.options.0 result }
 {
     match words.value("since") {
-        Some(_) => words.since(),
+        Some(_) => words.since_revision(),
         None => None,
     }
 }

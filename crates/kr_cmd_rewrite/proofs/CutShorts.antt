@@ -1,21 +1,25 @@
 -- Why a drive over a caller that is alone may be cut short.
 use Rattle.std.proofs.Common.{◌≡◌, ℕ, ◌+◌, ◌*◌, ◌≤◌, List, [], ◌∷◌, length, Option, None, refl, sym, ap, subst, inl, inr, arith}
-use Rattle.std.specs.Prelude.{All, ◌⊎◌}
+use Rattle.std.specs.Prelude.{Contains, ◌⊎◌, ⊤}
 use Rattle.kr_base.specs.Limits.{store_limit}
 use Rattle.kr_kms.specs.Calls.{Link}
 use Rattle.kr_kms.specs.Outside.{Objects, Outside}
-use Rattle.kr_kms.specs.Truth.{Truth, TellsOf, key_of}
-use Rattle.kr_provider.specs.Names.{names_of}
+use Rattle.kr_kms.specs.Exchanges.{Exchange}
+use Rattle.kr_kms.specs.Truth.{Truth}
+use Rattle.kr_provider.specs.Names.{AreDistinct}
 use Rattle.kr_provider.specs.Publication.{Publication}
 use Rattle.kr_store.specs.declared.rows.Row.{Row}
 use Rattle.kr_history.specs.declared.call.CallNo.{CallNo}
+use Rattle.kr_history.specs.declared.call.CallNo.TheVariants as no
 use Rattle.kr_rollout.specs.declared.opening.Opening.{Opening}
 use Rattle.kr_history.specs.Acting.{Caller}
-use Rattle.kr_rewrite.specs.Drives.{CopiesNoPath, IsCut, Walks, last_of, path_of}
+use Rattle.kr_rewrite.specs.DriveExchanges.{Ahead, ReadsRow}
+use Rattle.kr_rewrite.specs.Drives.{CopiesNoPath, IsCutOver, WalksOver, last_of, path_of}
+use Rattle.kr_cmd_steps.proofs.Telling.{TellAll, status_in}
 use Rattle.kr_rewrite.specs.declared.outcome.Report.{Report}
 use Rattle.kr_rewrite.specs.declared.outcome.Step.{Step}
 use Rattle.kr_cmd_steps.specs.Around.{Around, around}
-use Rattle.kr_cmd_steps.specs.Commands.{Progress}
+use Rattle.kr_cmd_steps.specs.RewriteSteps.{Progress}
 use Rattle.kr_cmd_rewrite.specs.inner.Rewriting.{MayCutShort}
 use Rattle.kr_cmd_rewrite.proofs.DriveEnds.{cuts, may_cut}
 use Rattle.kr_cmd_rewrite.proofs.DriveSteps.{IsDriven, passes}
@@ -24,7 +28,7 @@ use Rattle.kr_cmd_rewrite.proofs.DriveSteps.{IsDriven, passes}
 none_out : {K V : Type 0} → V → Objects K V
 none_out told = record { told = λ key. told; faults = λ key. 0; out = λ key. 0 }
 
-nowhere : Outside
+pub nowhere : Outside
 nowhere = record {
   file = λ name. None;
   asked = None;
@@ -37,33 +41,34 @@ nowhere = record {
 abbrev anywhere : Truth → Around
 anywhere truth = around truth nowhere None 0
 
-module _ {L D : Type 0} (truth : Truth) (link : L → Link) (left : D → Option (List ℕ))
+module _ {L D : Type 0} (truth : Truth) (link : L → Link) (links : List L)
+    (distinct : AreDistinct link links) (all : List Exchange) (left : D → Option (List ℕ))
     (count : D → ℕ) (o : Opening) (p : Publication) (one : o.reloads ≡ 0 ∷ [])
     (limit_is : o.limit ≡ store_limit)
-    (opens : All (λ row. TellsOf truth (key_of row) row.seed) p.seeds) where
+    (tells : TellAll truth (status_in link links nowhere.links) all) where
   -- where some steps came to
   record Walked (above : List ℕ) (steps : List Step) (rows : List Row) (mid : Caller)
-      (mids : List L) : Type 0 where
+      (mids : Ahead) : Type 0 where
     pub rest : List Row
     pub at : Progress
-    pub driven : IsDriven link o p (last_of above steps) rest at mid mids
+    pub driven : IsDriven truth all o p (last_of above steps) rest at mid mids
     pub many : length rows ≡ length steps + length rest
 
   walked : (steps : List Step) (above : List ℕ) (rows : List Row) (at : Progress)
-      (old mid : Caller) (olds mids : List L) (dice between : D)
-      → IsDriven link o p above rows at old olds
-      → Walks truth link left count 0 above steps old olds dice mid mids between
+      (old mid : Caller) (olds mids : Ahead) (dice between : D)
+      → IsDriven truth all o p above rows at old olds
+      → WalksOver ReadsRow left count 0 above steps old olds dice mid mids between
       → Walked above steps rows mid mids
   walked [] above rows at old mid olds mids dice between driven w = record {
     rest = rows;
     at = at;
-    driven = subst (λ c. IsDriven link o p above rows at c mids) (sym w.0)
-        (subst (λ l. IsDriven link o p above rows at old l) (sym w.1) driven);
+    driven = subst (λ c. IsDriven truth all o p above rows at c mids) (sym w.0)
+        (subst (λ s. IsDriven truth all o p above rows at old s) (sym w.1) driven);
     many = omega arith;
   }
   walked (taken ∷ steps) above rows at old mid olds mids dice between driven w =
-      let s = passes truth link left count o p one limit_is opens [] (anywhere truth) refl 0 0 above
-      rows at old w.middle olds w.mids dice w.between driven taken w.finds w.goes in
+      let s = passes truth link links distinct all left count o p one limit_is [] (anywhere truth)
+      refl tells 0 0 above rows at old w.middle olds w.mids dice w.between driven taken w.finds w.goes in
       let more = ap length s.rows_are in
       let t = walked steps (path_of above taken) s.rest s.next w.middle mid w.mids mids w.between
       between s.onward w.behind in
@@ -74,14 +79,15 @@ module _ {L D : Type 0} (truth : Truth) (link : L → Link) (left : D → Option
         many = omega (arith, more, many);
       }
 
-  module _ (rows : List Row) (at : Progress) (old new : Caller) (olds news : List L)
-      (dice after : D) (report : Report) (why : CallNo)
-      (driven : IsDriven link o p [] rows at old olds)
+  module _ (rows : List Row) (at : Progress) (old new : Caller) (olds news : Ahead)
+      (dice after : D) (report : Report) (why : CallNo) (names : List (List ℕ))
+      (named : (plugin : List ℕ) → why ≡ no.PluginFailed plugin → Contains names plugin)
+      (driven : IsDriven truth all o p [] rows at old olds)
       (room : 4 * length rows + 3 ≤ old.left) where
     pub may_stop :
-        IsCut truth link left count 0 [] old olds dice why report new news after
+        IsCutOver ReadsRow (λ from to. ⊤) left count 0 [] old olds dice why report new news after
         ⊎ CopiesNoPath old olds dice why report new news after
-        → MayCutShort (names_of link news) why
+        → MayCutShort names why
     may_stop (inl d) =
         let e = d.ends in
         let w = walked d.steps [] rows at old e.middle olds e.mids dice e.between driven e.walks in
@@ -90,8 +96,8 @@ module _ {L D : Type 0} (truth : Truth) (link : L → Link) (left : D → Option
         let many = w.many in
         let enough : 4 * length w.rest + 3 ≤ e.middle.left = omega (arith, first, few, many, room)
         in
-        may_cut truth link left count o p one (last_of [] d.steps) w.rest w.at e.middle new e.mids
-        news e.between after w.driven enough why
-        (cuts truth link left count o p one (last_of [] d.steps) w.rest w.at e.middle new e.mids
+        may_cut truth all left count o p one (last_of [] d.steps) w.rest w.at e.middle new e.mids
+        news e.between after w.driven enough names why named
+        (cuts truth all left count o p one (last_of [] d.steps) w.rest w.at e.middle new e.mids
         news e.between after w.driven enough why e.ends)
-    may_stop (inr n) = subst (MayCutShort (names_of link news)) (sym n.why_is) tt
+    may_stop (inr n) = subst (MayCutShort names) (sym n.why_is) tt

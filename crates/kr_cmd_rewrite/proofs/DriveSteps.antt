@@ -1,17 +1,16 @@
 -- One step of a drive over a caller that is alone: the row that it found, and how it ended.
 use Rattle.std.proofs.Common.{◌≡◌, ℕ, ◌+◌, ◌≤◌, List, [], ◌∷◌, Bool, true, false, Option, None, Some, Result, Ok, Err, refl, sym, ◌∙◌, ap, subst, inl, inr, arith}
-use Rattle.std.specs.Prelude.{All, ◌⊎◌}
+use Rattle.std.specs.Prelude.{◌⊎◌}
 use Rattle.kr_base.specs.Limits.{store_limit}
 use Rattle.kr_kms.specs.Calls.{Link}
-use Rattle.kr_kms.specs.Truth.{Truth, TellsOf, key_of}
+use Rattle.kr_kms.specs.Exchanges.{Exchange}
+use Rattle.kr_kms.specs.Truth.{Truth}
+use Rattle.kr_kms.specs.declared.plugin.Status.{Status}
 use Rattle.kr_provider.specs.Names.{AreDistinct}
-use Rattle.kr_provider.specs.Publication.{Publication, list_at}
-use Rattle.kr_provider.specs.Unsealing.{plugin_reading}
-use Rattle.kr_provider.specs.Readers.{reader_in}
+use Rattle.kr_provider.specs.Publication.{Publication}
 use Rattle.kr_provider.specs.declared.refusal.Opened.{Opened}
 use Rattle.kr_provider.specs.declared.refusal.SealNo.{SealNo}
 use Rattle.kr_provider.specs.declared.refusal.UnsealNo.{UnsealNo}
-use Rattle.kr_provider.proofs.AskedLists.{distinct_stay}
 use Rattle.kr_store.specs.Laws.{FollowEachOther}
 use Rattle.kr_store.specs.Stores.{IsNext}
 use Rattle.kr_store.specs.declared.rows.Row.{Row}
@@ -26,21 +25,23 @@ use Rattle.kr_history.specs.Acting.{Caller, AddsEntry}
 use Rattle.kr_rollout.specs.Callers.{did_of, gave_of, holding}
 use Rattle.kr_history.specs.Calls.{LetsGo}
 use Rattle.kr_rollout.specs.Histories.{state_of}
-use Rattle.kr_rollout.specs.Steps.{new_rows}
+use Rattle.kr_rollout.specs.Steps.{HidesNoFault, new_rows}
 use Rattle.kr_history.proofs.Following.{adopted_law}
 use Rattle.kr_history.proofs.KeptByEvents.{holds_still}
 use Rattle.kr_rewrite.specs.Drives.{FindsRow, path_of}
-use Rattle.kr_rewrite.specs.Rewrites.{FindsNext, FindsNone, IsStep, ReplacesBy, ResealsBy, Rewrites, RewritesBy, RewritesData, Steps}
+use Rattle.kr_rewrite.specs.DriveExchanges.{Ahead, ReadsRow}
+use Rattle.kr_rewrite.specs.Rewrites.{FindsNextOver, FindsNone, IsStepOver, ReplacesBy, ResealsBy, RewritesBy, RewritesData, RewritesOver, StepsOver}
 use Rattle.kr_rewrite.specs.declared.outcome.Step.{Step}
 use Rattle.kr_rewrite.specs.declared.outcome.Step.TheVariants as step
-use Rattle.kr_cmd_steps.specs.Around.{Around}
-use Rattle.kr_cmd_steps.specs.Commands.{Progress, row_anew, row_steps}
+use Rattle.kr_cmd_steps.specs.Around.{Around, with_exchanges}
+use Rattle.kr_cmd_steps.specs.RewriteSteps.{Progress, row_anew, row_steps}
 use Rattle.kr_cmd_steps.specs.inner.Phases.{Does}
 use Rattle.kr_cmd_rewrite.proofs.LiveRows.{none_next, one_next, still_follows}
-use Rattle.kr_cmd_rewrite.proofs.LoneCallers.{IsLone, adopts_it, finds_next, finds_none, lone_next, rows_stay}
+use Rattle.kr_cmd_rewrite.proofs.LoneCallers.{IsLone, adopts_it, faults_next, finds_next, finds_none, lone_next, rows_stay}
 use Rattle.kr_cmd_rewrite.proofs.RowDrives.{Becomes, not_err, row_done}
 use Rattle.kr_cmd_rewrite.proofs.Said.{All_lent}
-use Rattle.kr_cmd_steps.proofs.Unsealed.{asks_reader}
+use Rattle.kr_cmd_steps.proofs.Telling.{TellAll, status_in}
+use Rattle.kr_cmd_rewrite.proofs.HeardRows.{Follows, follows_next, past}
 
 -- an event that writes no row leaves the rows of a caller that is alone
 pub rows_same : (o : Opening) (p : Publication) (one : o.reloads ≡ 0 ∷ []) (old new : Caller)
@@ -58,9 +59,8 @@ Acts_so row found done acted = (acted ≡ found) ⊎ ((stored : List ℕ) × (gi
     × AddsEntry found (event.Replace row.path row.revision stored) given acted
     × ReplacesBy row.path given done)
 
-module _ {L D : Type 0} (truth : Truth) (link : L → Link) (left : D → Option (List ℕ))
-    (count : D → ℕ) (p : Publication) (row : Row) (found acted : Caller) (olds news : List L)
-    (dice after : D) (done : Result Step CallNo) where
+module _ {D : Type 0} (left : D → Option (List ℕ)) (count : D → ℕ) (p : Publication) (row : Row)
+    (found acted : Caller) (olds news : Ahead) (dice after : D) (done : Result Step CallNo) where
   resealed_so : (plain : List ℕ) (sealed : Result (List ℕ) SealNo)
       → ResealsBy p row plain sealed found done acted → Acts_so row found done acted
   resealed_so plain (Ok stored) (inl r) = inr (stored, r.given, r.replaces, r.answers)
@@ -80,19 +80,18 @@ module _ {L D : Type 0} (truth : Truth) (link : L → Link) (left : D → Option
   opened_so (Ok opened) r = data_so opened.plain opened.stale r
   opened_so (Err why) r = inl r.1
 
-  pub acts_so : Rewrites truth link left count p row found olds dice done acted news after
+  pub acts_so : RewritesOver ReadsRow left count p row found olds dice done acted news after
       → Acts_so row found done acted
   acts_so (inl r) = opened_so r.opened r.rewrites
   acts_so (inr n) = inl n.0.1
 
-  pub still_distinct : AreDistinct link olds
-      → Rewrites truth link left count p row found olds dice done acted news after
-      → AreDistinct link news
-  still_distinct d (inl r) = distinct_stay link
-      (plugin_reading (reader_in (list_at p row.resource) row.stored)) olds news
-      (asks_reader truth link p.seeds (list_at p row.resource) row.path row.stored olds news
-      r.opened r.unseals) d
-  still_distinct d (inr n) = subst (AreDistinct link) (sym n.1) d
+  pub follows_on : (truth : Truth) (all : List Exchange) (status : List ℕ → Option Status)
+      → TellAll truth status all → Follows truth all olds
+      → RewritesOver ReadsRow left count p row found olds dice done acted news after
+      → Follows truth all news
+  follows_on truth all status told f (inl r) =
+      follows_next truth all status told p row olds r.opened news f r.unseals
+  follows_on truth all status told f (inr n) = subst (Follows truth all) (sym n.1) f
 
 pub acted_left : (row : Row) (found acted : Caller) (done : Result Step CallNo)
     → Acts_so row found done acted
@@ -100,6 +99,22 @@ pub acted_left : (row : Row) (found acted : Caller) (done : Result Step CallNo)
 acted_left row found acted done (inl same) =
     let e = ap (λ (c : Caller). c.left) same in omega (arith, e)
 acted_left row found acted done (inr (stored, given, a, by)) = let e = a.left_is in omega (arith, e)
+
+-- a row that was replaced, or had changed, failed nothing
+replaced_count : (path : List ℕ) (given : Answer) (taken : Step) (before now : ℕ)
+    → ReplacesBy path given (Ok taken) → HidesNoFault (gave_of given) before now → now ≡ before
+replaced_count path answer.StoreFailed taken before now by hides = not_err taken no.StoreFailed by
+replaced_count path given taken before now by hides = hides
+
+acted_count : (o : Opening) (p : Publication) (one : o.reloads ≡ 0 ∷ []) (row : Row)
+    (found acted : Caller) (taken : Step) → IsLone o p found → Acts_so row found (Ok taken) acted
+    → (state_of o acted.seen).count ≡ (state_of o found.seen).count
+acted_count o p one row found acted taken lone (inl same) =
+    ap (λ (c : Caller). (state_of o c.seen).count) same
+acted_count o p one row found acted taken lone (inr (stored, given, a, by)) =
+    replaced_count row.path given taken (state_of o found.seen).count (state_of o acted.seen).count
+    by
+    (faults_next o p one found acted (event.Replace row.path row.revision stored) given lone a)
 
 pub acted_lone : (o : Opening) (p : Publication) (one : o.reloads ≡ 0 ∷ []) (row : Row)
     (found acted : Caller) (done : Result Step CallNo) → IsLone o p found
@@ -110,19 +125,20 @@ acted_lone o p one row found acted done lone (inr (stored, given, a, by)) =
 
 -- ---- where a drive is
 
--- behind the rows up to this path
-pub record IsDriven {L : Type 0} (link : L → Link) (o : Opening) (p : Publication)
-    (above : List ℕ) (rows : List Row) (at : Progress) (c : Caller) (links : List L) : Type 0 where
+-- behind the rows up to this path; no write failed so far
+pub record IsDriven (truth : Truth) (all : List Exchange) (o : Opening) (p : Publication)
+    (above : List ℕ) (rows : List Row) (at : Progress) (c : Caller) (s : Ahead) : Type 0 where
   pub lone : IsLone o p c
   pub rows_are : (state_of o c.seen).rows ≡ at.store.rows
   pub format_is : at.store.format ≡ o.format
   pub follow : FollowEachOther at.store.rows above rows
-  pub distinct : AreDistinct link links
+  pub follows : Follows truth all s
+  pub unfailed : (state_of o c.seen).count ≡ o.count
 
 -- the configuration was adopted there
-module _ {L : Type 0} (link : L → Link) (o : Opening) (p : Publication) (one : o.reloads ≡ 0 ∷ [])
-    (above : List ℕ) (rows : List Row) (at : Progress) (old : Caller) (links : List L)
-    (driven : IsDriven link o p above rows at old links) (number : ℕ) (q : Publication)
+module _ (truth : Truth) (all : List Exchange) (o : Opening) (p : Publication)
+    (one : o.reloads ≡ 0 ∷ []) (above : List ℕ) (rows : List Row) (at : Progress) (old : Caller)
+    (s : Ahead) (driven : IsDriven truth all o p above rows at old s) (number : ℕ) (q : Publication)
     (adopted : Caller)
     (adopts : AddsEntry old (event.Adopt 0) (answer.Adopted number q) adopted) where
   pub is_it : p ≡ q
@@ -135,6 +151,10 @@ module _ {L : Type 0} (link : L → Link) (o : Opening) (p : Publication) (one :
   pub adopted_rows : (state_of o adopted.seen).rows ≡ at.store.rows
   adopted_rows = rows_same o p one old adopted (event.Adopt 0) (answer.Adopted number q)
       driven.lone adopts (λ found. refl) ∙ driven.rows_are
+
+  pub adopted_count : (state_of o adopted.seen).count ≡ o.count
+  adopted_count = faults_next o p one old adopted (event.Adopt 0) (answer.Adopted number q)
+      driven.lone adopts ∙ driven.unfailed
 
   adopted_holds : holding adopted.mine ≡ Some (number, p)
   adopted_holds = adopted_law old adopted 0 number q adopts
@@ -163,6 +183,10 @@ module _ {L : Type 0} (link : L → Link) (o : Opening) (p : Publication) (one :
     pub found_rows : (state_of o found.seen).rows ≡ at.store.rows
     found_rows = rows_same o p one adopted found (event.After above) (answer.Found row)
         adopted_lone finds (λ other. refl) ∙ adopted_rows
+
+    pub found_count : (state_of o found.seen).count ≡ o.count
+    found_count = faults_next o p one adopted found (event.After above) (answer.Found row)
+        adopted_lone finds ∙ adopted_count
 
     pub found_holds : holding found.mine ≡ Some (number, p)
     found_holds = holds_still adopted found (event.After above) (answer.Found row) tt finds
@@ -223,15 +247,16 @@ module _ (p : Publication) (row : Row) (at next : Progress) where
 
 -- ---- a step that found a row
 
-module _ {L D : Type 0} (truth : Truth) (link : L → Link) (left : D → Option (List ℕ))
+module _ {L D : Type 0} (truth : Truth) (link : L → Link) (links : List L)
+    (distinct : AreDistinct link links) (all : List Exchange) (left : D → Option (List ℕ))
     (count : D → ℕ) (o : Opening) (p : Publication) (one : o.reloads ≡ 0 ∷ [])
-    (limit_is : o.limit ≡ store_limit)
-    (opens : All (λ row. TellsOf truth (key_of row) row.seed) p.seeds) (name : List ℕ)
-    (a : Around) (truth_is : a.truth ≡ truth) (drawn m : ℕ) (above : List ℕ) (rows : List Row)
-    (at : Progress) (old new : Caller) (olds news : List L) (dice after : D)
-    (driven : IsDriven link o p above rows at old olds) where
-  abbrev Lent : List L → D → Around
-  Lent links from = All_lent link links (left from) drawn name None m a
+    (limit_is : o.limit ≡ store_limit) (name : List ℕ) (a : Around) (truth_is : a.truth ≡ truth)
+    (tells : TellAll truth (status_in link links a.world.links) all) (drawn m : ℕ)
+    (above : List ℕ) (rows : List Row) (at : Progress) (old new : Caller) (olds news : Ahead)
+    (dice after : D) (driven : IsDriven truth all o p above rows at old olds) where
+  abbrev Lent : Ahead → D → Around
+  Lent s from =
+      All_lent link links (left from) drawn name None m (with_exchanges (past truth all s) a)
 
   pub record Passes (taken : Step) : Type 0 where
     pub row : Row
@@ -240,31 +265,33 @@ module _ {L D : Type 0} (truth : Truth) (link : L → Link) (left : D → Option
     pub rows_are : rows ≡ row ∷ rest
     pub does : Does (row_steps name p row at) (Lent olds dice) (Lent news after) (Ok next)
     pub becomes : Becomes p row at next taken
-    pub onward : IsDriven link o p (path_of above taken) rest next new news
+    pub onward : IsDriven truth all o p (path_of above taken) rest next new news
 
   pub passes_by : (taken : Step) (number : ℕ) (q : Publication) (adopted acted : Caller)
       → AddsEntry old (event.Adopt 0) (answer.Adopted number q) adopted
-      → FindsNext truth link left count p above adopted olds dice (Ok taken) acted news after
+      → FindsNextOver ReadsRow left count p above adopted olds dice (Ok taken) acted news after
       → AddsEntry acted event.LetGo answer.Released new → Passes taken
   passes_by taken number q adopted acted adopts f lets =
       let row = f.row in
       let found = f.found in
-      let lone = found_lone link o p one above rows at old olds driven number q adopted adopts row
+      let lone = found_lone truth all o p one above rows at old olds driven number q adopted adopts row
       found f.finds in
-      let same_rows = found_rows link o p one above rows at old olds driven number q adopted adopts
+      let same_rows = found_rows truth all o p one above rows at old olds driven number q adopted adopts
       row found f.finds in
-      let holds = found_holds link o p one above rows at old olds driven number q adopted adopts
+      let holds = found_holds truth all o p one above rows at old olds driven number q adopted adopts
       row found f.finds in
-      let next_is = is_next link o p one above rows at old olds driven number q adopted adopts row
+      let next_is = is_next truth all o p one above rows at old olds driven number q adopted adopts row
       found f.finds in
-      let first = is_first link o p one above rows at old olds driven number q adopted adopts row
+      let first = is_first truth all o p one above rows at old olds driven number q adopted adopts row
       found f.finds in
-      let done = row_done truth link left count o p one limit_is opens name a truth_is drawn row
-      at found number lone holds same_rows next_is.1 driven.format_is olds news dice after acted
-      driven.distinct m taken f.rewrites in
-      let acted_is = acted_lone o p one row found acted (Ok taken) lone
-      (acts_so truth link left count p row
-      found acted olds news dice after (Ok taken) f.rewrites) in record {
+      let done = row_done truth link links distinct all left count o p one limit_is name a truth_is
+      tells drawn row at found number lone holds same_rows next_is.1 driven.format_is olds news dice
+      after acted driven.follows m taken f.rewrites in
+      let so = acts_so left count p row found acted olds news dice after (Ok taken)
+      f.rewrites in
+      let acted_is = acted_lone o p one row found acted (Ok taken) lone so in
+      let same_count = found_count truth all o p one above rows at old olds driven number q adopted
+      adopts row found f.finds in record {
         row = row;
         rest = first.0;
         next = done.0;
@@ -279,8 +306,10 @@ module _ {L D : Type 0} (truth : Truth) (link : L → Link) (left : D → Option
           follow = subst (λ path. FollowEachOther done.0.store.rows path first.0)
               (sym (path_is p row at done.0 above taken done.1))
               (next_follow p row at done.0 first.0 taken done.1 first.2);
-          distinct = still_distinct truth link left count p row found acted olds news dice after
-              (Ok taken) driven.distinct f.rewrites;
+          follows = follows_on left count p row found acted olds news dice after (Ok taken)
+              truth all (status_in link links a.world.links) tells driven.follows f.rewrites;
+          unfailed = faults_next o p one acted new event.LetGo answer.Released acted_is lets
+              ∙ acted_count o p one row found acted taken lone so ∙ same_count;
         };
       }
 
@@ -295,29 +324,29 @@ module _ {L D : Type 0} (truth : Truth) (link : L → Link) (left : D → Option
 
   goes_by : (taken : Step) (number : ℕ) (q : Publication) (adopted acted : Caller)
       → FindsRow taken → AddsEntry old (event.Adopt 0) (answer.Adopted number q) adopted
-      → Steps truth link left count q above adopted olds dice (Ok taken) acted news after
+      → StepsOver ReadsRow left count q above adopted olds dice (Ok taken) acted news after
       → AddsEntry acted event.LetGo answer.Released new → Passes taken
   goes_by taken number q adopted acted finds adopts (inl n) lets =
       not_end taken adopted acted finds n.0
   goes_by taken number q adopted acted finds adopts (inr f) lets =
       passes_by taken number q adopted acted adopts
-      (subst (λ x. FindsNext truth link left count x above adopted olds dice (Ok taken) acted news
-      after) (sym (is_it link o p one above rows at old olds driven number q adopted adopts)) f)
+      (subst (λ x. FindsNextOver ReadsRow left count x above adopted olds dice (Ok taken) acted news
+      after) (sym (is_it truth all o p one above rows at old olds driven number q adopted adopts)) f)
       lets
 
   let_go : (taken : Step) (done : Result Step CallNo) (number : ℕ) (q : Publication)
       (adopted acted : Caller) → FindsRow taken
       → AddsEntry old (event.Adopt 0) (answer.Adopted number q) adopted
-      → Steps truth link left count q above adopted olds dice done acted news after
+      → StepsOver ReadsRow left count q above adopted olds dice done acted news after
       → LetsGo acted done (Ok taken) new → Passes taken
   let_go taken done number q adopted acted finds adopts d (inl g) =
       goes_by taken number q adopted acted finds adopts
-      (subst (λ r. Steps truth link left count q above adopted olds dice r acted news after)
+      (subst (λ r. StepsOver ReadsRow left count q above adopted olds dice r acted news after)
       (sym g.1) d) g.0
   let_go taken done number q adopted acted finds adopts d (inr n) = not_err taken no.Spent n.1
 
   pub passes : (taken : Step) → FindsRow taken
-      → IsStep truth link left count 0 above old olds dice (Ok taken) new news after
+      → IsStepOver ReadsRow left count 0 above old olds dice (Ok taken) new news after
       → Passes taken
   passes taken finds (inl early) = absurd early
   passes taken finds (inr h) = let_go taken h.done h.number h.p h.adopted h.acted finds h.adopts

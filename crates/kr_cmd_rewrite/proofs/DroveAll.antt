@@ -1,11 +1,12 @@
 -- A core of one replica that was driven by its only caller, and closed.
 use Rattle.std.proofs.Common.{◌≡◌, ℕ, ◌+◌, ◌*◌, ◌^◌, ◌<◌, ◌≤◌, List, [], ◌∷◌, length, Bool, true, false, Option, Some, Result, Err, refl, sym, ◌∙◌, ap, subst, inl, inr, arith}
-use Rattle.std.specs.Prelude.{All, IfSome, ◌⊎◌}
-use Rattle.std.proofs.lemmas.List.Elements.{All-head}
+use Rattle.std.specs.Prelude.{◌⊎◌, ⊤}
 use Rattle.kr_base.specs.Faults.{Rose}
 use Rattle.kr_kms.specs.Calls.{Link}
-use Rattle.kr_kms.specs.Truth.{Truth, TellsOf, key_of}
-use Rattle.kr_provider.specs.Names.{AreDistinct}
+use Rattle.kr_kms.specs.Exchanges.{Exchange}
+use Rattle.kr_kms.specs.Truth.{Truth}
+use Rattle.kr_provider.specs.AskedLinks.{AskedOnly, FaultRose}
+use Rattle.kr_provider.specs.Names.{AreDistinct, names_of}
 use Rattle.kr_provider.specs.Publication.{Publication}
 use Rattle.kr_store.specs.Stores.{Holds, IsListing, Kept}
 use Rattle.kr_store.specs.declared.rows.Row.{Row}
@@ -17,16 +18,21 @@ use Rattle.kr_rollout.specs.Cores.{CoreState}
 use Rattle.kr_rollout.specs.Histories.{IsRun, state_of}
 use Rattle.kr_rollout.specs.Openings.{start_of}
 use Rattle.kr_opening.specs.Replicas.{current_from, generations_from}
-use Rattle.kr_rewrite.specs.Drives.{CopiesNoPath, Drives, IsCut, IsDrive}
+use Rattle.kr_rewrite.specs.DriveExchanges.{Ahead, ReadsRow}
+use Rattle.kr_rewrite.specs.Drives.{CopiesNoPath, DrivesOver, IsCutOver, IsDrive}
 use Rattle.kr_rewrite.specs.declared.outcome.Report.{Report}
-use Rattle.kr_cmd_steps.specs.Around.{Around}
-use Rattle.kr_cmd_steps.specs.Commands.{nothing_done, driving}
+use Rattle.kr_cmd_steps.specs.Around.{Around, with_exchanges}
+use Rattle.kr_cmd_steps.proofs.Telling.{TellAll, status_in}
+use Rattle.kr_cmd_rewrite.proofs.HeardRows.{Follows, past}
+use Rattle.kr_cmd_rewrite.proofs.RowCuts.{links_by}
+use Rattle.kr_history.specs.declared.call.CallNo.TheVariants as no
+use Rattle.kr_cmd_steps.specs.RewriteSteps.{nothing_done, driving}
 use Rattle.kr_cmd_messages.specs.declared.refusal.Ended.{Ended}
 use Rattle.kr_cmd_messages.specs.declared.refusal.Stop.{Stop}
-use Rattle.kr_cmd_messages.specs.declared.report.Counts.{Counts}
+use Rattle.kr_cmd_messages.specs.declared.report.RewriteCounts.{RewriteCounts}
 use Rattle.kr_cmd_steps.specs.inner.Phases.{Does}
 use Rattle.kr_cmd_steps.specs.inner.Reporting.{saying}
-use Rattle.kr_cmd_rewrite.specs.inner.Rewriting.{IsAlone, IsDriveStop, IsReported, counts_of, opened_store}
+use Rattle.kr_cmd_rewrite.specs.inner.Rewriting.{IsAlone, IsDriveStop, IsReported, report_counts, opened_store}
 use Rattle.kr_cmd_steps.proofs.RisingCounts.{counted as counted_on}
 use Rattle.kr_cmd_rewrite.proofs.DriveSteps.{IsDriven}
 use Rattle.kr_cmd_rewrite.proofs.Driven.{copied_none, cut_short, drives_all}
@@ -34,40 +40,41 @@ use Rattle.kr_cmd_rewrite.proofs.LiveRows.{listing_follows}
 use Rattle.kr_cmd_rewrite.proofs.Said.{All_lent}
 
 -- the report says the counts of this drive
-pub cut_with : (ended : Ended) (stop : Stop) (said counts : Counts)
+pub cut_with : (ended : Ended) (stop : Stop) (said counts : RewriteCounts)
     → ended ≡ record { made = Err stop; said = Some said } → said ≡ counts
     → ended ≡ record { made = Err stop; said = Some counts }
 cut_with ended stop said counts is same =
     subst (λ n. ended ≡ record { made = Err stop; said = Some n }) same is
 
 -- a drive over the core, with the links and the random source as they come back
-module _ {L D : Type 0} (truth : Truth) (link : L → Link) (left : D → Option (List ℕ))
+pub over_core : {L D : Type 0} (truth : Truth) (link : L → Link) (left : D → Option (List ℕ))
     (count : D → ℕ) (solo old new : Caller) (olds mids news : List L) (dice between after : D)
-    (same : solo ≡ old) (links_are : news ≡ mids) (dice_is : after ≡ between) where
-  pub over_core : (result ended : Result Report (Report × CallNo)) → result ≡ ended
-      → IsDrive truth link left count 0 [] solo olds dice result new mids between
-      → IsDrive truth link left count 0 [] old olds dice ended new news after
-  over_core result ended is d =
-      subst (λ r. IsDrive truth link left count 0 [] old olds dice r new news after) is
-      (subst (λ c. IsDrive truth link left count 0 [] c olds dice result new news after) same
-      (subst (λ l. IsDrive truth link left count 0 [] solo olds dice result new l after)
-      (sym links_are)
-      (subst (λ x. IsDrive truth link left count 0 [] solo olds dice result new mids x)
-      (sym dice_is) d)))
+    (result ended : Result Report (Report × CallNo)) → solo ≡ old → news ≡ mids → after ≡ between
+    → result ≡ ended → IsDrive truth link left count 0 [] solo olds dice result new mids between
+    → IsDrive truth link left count 0 [] old olds dice ended new news after
+over_core truth link left count solo old new olds mids news dice between after result ended same
+    links_are dice_is is d =
+    subst (λ r. IsDrive truth link left count 0 [] old olds dice r new news after) is
+    (subst (λ c. IsDrive truth link left count 0 [] c olds dice result new news after) same
+    (subst (λ l. IsDrive truth link left count 0 [] solo olds dice result new l after)
+    (sym links_are)
+    (subst (λ x. IsDrive truth link left count 0 [] solo olds dice result new mids x)
+    (sym dice_is) d)))
 
 whole_then : (torn : Bool) {P : Type 0} → torn ≡ false → (torn ≡ true) ⊎ P → P
 whole_then torn whole (inl t) = absurd (let e : true ≡ false = sym t ∙ whole in cc)
 whole_then torn whole (inr p) = p
 
-module _ {L : Type 0} (truth : Truth) (link : L → Link) (core : CoreState) (alone : IsAlone core)
-    (known : IsCaller (only_caller core)) (olds : List L) (distinct : AreDistinct link olds)
+module _ (truth : Truth) (all : List Exchange) (core : CoreState) (alone : IsAlone core)
+    (known : IsCaller (only_caller core)) (s : Ahead) (follows : Follows truth all s)
     (live : List Row) (p : Publication) (is : IsListing core.opening.rows live)
     (replicas_are : core.opening.replicas ≡ Some p ∷ []) where
   abbrev o : Opening
   o = core.opening
 
   -- a drive begins there
-  pub begins : IsDriven link o p [] live (nothing_done (opened_store core)) (only_caller core) olds
+  pub begins : IsDriven truth all o p [] live (nothing_done (opened_store core))
+      (only_caller core) s
   begins = record {
     lone = record {
       opening = refl;
@@ -81,7 +88,8 @@ module _ {L : Type 0} (truth : Truth) (link : L → Link) (core : CoreState) (al
     rows_are = ap (λ h. (state_of o h).rows) alone.history;
     format_is = refl;
     follow = listing_follows o.format o.rows live known.legal.opens.rows is;
-    distinct = distinct;
+    follows = follows;
+    unfailed = ap (λ h. (state_of o h).count) alone.history;
   }
 
   same_live : alone.room.0 ≡ live
@@ -99,24 +107,15 @@ module _ {L : Type 0} (truth : Truth) (link : L → Link) (core : CoreState) (al
       let r = alone.room.2 in
       let most = alone.room.3 in omega (arith, e, r, most)
 
-  pub opens_all : All (λ replica. IfSome replica
-      (λ (p : Publication). All (λ row. TellsOf truth (key_of row) row.seed) p.seeds)) o.replicas
-      → All (λ row. TellsOf truth (key_of row) row.seed) p.seeds
-  opens_all all =
-      let Opens : Option Publication → Type 0 = λ replica. IfSome replica
-      (λ (p : Publication). All (λ row. TellsOf truth (key_of row) row.seed) p.seeds) in
-      All-head Opens (Some p) [] (subst (All Opens) replicas_are all)
-
 -- ---- once it is closed
 
-module _ {L D : Type 0} (truth : Truth) (link : L → Link) (left : D → Option (List ℕ))
-    (count : D → ℕ) (core closed : CoreState) (alone : IsAlone core)
-    (known : IsCaller (only_caller core)) (new : Caller) (known_now : IsCaller new)
-    (back : only_caller closed ≡ new) (olds news : List L) (dice after : D)
-    (distinct : AreDistinct link olds)
-    (opens : All (λ replica. IfSome replica
-    (λ (p : Publication). All (λ row. TellsOf truth (key_of row) row.seed) p.seeds))
-    core.opening.replicas)
+module _ {L D : Type 0} (truth : Truth) (link : L → Link) (first last : List L)
+    (asked : AskedOnly link (names_of link first) first last)
+    (distinct : (why : CallNo) → AreDistinct link (links_by first last why))
+    (all : List Exchange) (left : D → Option (List ℕ)) (count : D → ℕ) (core closed : CoreState)
+    (alone : IsAlone core) (known : IsCaller (only_caller core)) (new : Caller)
+    (known_now : IsCaller new) (back : only_caller closed ≡ new) (olds news : Ahead)
+    (dice after : D) (follows : Follows truth all olds)
     (store : Kept) (rows_are : store.rows ≡ (state_of closed.opening closed.history).rows)
     (count_is : store.count ≡ (state_of closed.opening closed.history).count)
     (format_is : store.format ≡ closed.opening.format)
@@ -124,13 +123,23 @@ module _ {L D : Type 0} (truth : Truth) (link : L → Link) (left : D → Option
     ⊎ Rose closed.opening.count store.count)
     (store_holds : Holds store) (bounded : store.count < 2 ^ 64) (drawn : count dice ≤ count after)
     (name : List ℕ) (a : Around) (live : List Row) (told : Option (List ℕ)) (p : Publication)
-    (truth_is : a.truth ≡ truth) (is : IsListing core.opening.rows live)
+    (truth_is : a.truth ≡ truth)
+    (tells : (why : CallNo)
+    → TellAll truth (status_in link (links_by first last why) a.world.links) all)
+    (is : IsListing core.opening.rows live)
     (replicas_are : core.opening.replicas ≡ Some p ∷ []) (report : Report) (ended : Ended) where
   abbrev Old : Around
-  Old = All_lent link olds (left dice) (count dice) name told core.opening.count a
+  Old = All_lent link first (left dice) (count dice) name told core.opening.count
+      (with_exchanges (past truth all olds) a)
 
   abbrev New : Around
-  New = All_lent link news (left after) (count after) name store.told store.count a
+  New = All_lent link last (left after) (count after) name store.told store.count
+      (with_exchanges (past truth all news) a)
+
+  -- a plugin that failed has a link whose count rose
+  abbrev Fails : CallNo → Type 0
+  Fails why =
+      (plugin : List ℕ) → why ≡ no.PluginFailed plugin → FaultRose link plugin first last
 
   abbrev Whole : Type 0
   Whole = Does (driving name p live (nothing_done (opened_store core))) Old (saying ended.said New)
@@ -159,64 +168,61 @@ module _ {L D : Type 0} (truth : Truth) (link : L → Link) (left : D → Option
     rose t = whole_then core.opening.torn alone.whole
         (subst (λ (x : Opening). (x.torn ≡ true) ⊎ Rose x.count store.count) opening_is (torn t))
 
-    reported_all : Drives truth link left count 0 [] (only_caller core) olds dice report new news
+    reported_all : DrivesOver ReadsRow (λ from to. ⊤) left count 0 [] (only_caller core) olds dice report new news
         after
-        → IsReported (counts_of report) ended → Whole
+        → IsReported (report_counts report) ended → Whole
     reported_all d r = subst (λ said. Does (driving name p live (nothing_done (opened_store core))) Old
         (saying said New) ended.made) (sym r.0)
-        (drives_all truth link left count core.opening p alone.reloads alone.within
-        (opens_all truth link core alone known olds distinct live p is replicas_are opens) name a
-        truth_is store live (nothing_done (opened_store core)) (only_caller core) new olds news dice after
+        (drives_all truth link first last asked distinct all left count core.opening p alone.reloads
+        alone.within name a truth_is tells store live (nothing_done (opened_store core)) (only_caller core) new olds news dice after
         report refl (format_is ∙ ap (λ (x : Opening). x.format) opening_is) rows_now count_now later
-        bounded rose store_holds
-        (begins truth link core alone known olds distinct live p is replicas_are)
-        (are_few truth link core alone known olds distinct live p is replicas_are)
-        (has_room truth link core alone known olds distinct live p is replicas_are) told ended.made
+        bounded rose alone.counts store_holds
+        (begins truth all core alone known olds follows live p is replicas_are)
+        (are_few truth all core alone known olds follows live p is replicas_are)
+        (has_room truth all core alone known olds follows live p is replicas_are) told ended.made
         drawn d r.1)
 
     cut_all : (why : CallNo) (stop : Stop)
-        → IsCut truth link left count 0 [] (only_caller core) olds dice why report new news after
-        → IsDriveStop link store news (count after) why stop
-        → ended ≡ record { made = Err stop; said = Some (counts_of report) } → Whole
-    cut_all why stop d h e = subst (λ (x : Ended). Does
+        → IsCutOver ReadsRow (λ from to. ⊤) left count 0 [] (only_caller core) olds dice why report new news after
+        → IsDriveStop link store last (count after) why stop
+        → Fails why → ended ≡ record { made = Err stop; said = Some (report_counts report) } → Whole
+    cut_all why stop d h fails e = subst (λ (x : Ended). Does
         (driving name p live (nothing_done (opened_store core))) Old (saying x.said New) x.made) (sym e)
-        (cut_short truth link left count core.opening p alone.reloads alone.within
-        (opens_all truth link core alone known olds distinct live p is replicas_are opens) name a
-        truth_is store live (nothing_done (opened_store core)) (only_caller core) new olds news dice after
+        (cut_short truth link first last asked distinct all left count core.opening p alone.reloads
+        alone.within name a truth_is tells store live (nothing_done (opened_store core)) (only_caller core) new olds news dice after
         report refl (format_is ∙ ap (λ (x : Opening). x.format) opening_is) rows_now count_now later
-        bounded rose store_holds
-        (begins truth link core alone known olds distinct live p is replicas_are)
-        (are_few truth link core alone known olds distinct live p is replicas_are)
-        (has_room truth link core alone known olds distinct live p is replicas_are) told why stop h
-        drawn d)
+        bounded rose alone.counts store_holds
+        (begins truth all core alone known olds follows live p is replicas_are)
+        (are_few truth all core alone known olds follows live p is replicas_are)
+        (has_room truth all core alone known olds follows live p is replicas_are) told why stop h
+        fails drawn d)
 
     none_all : (why : CallNo) (stop : Stop)
         → CopiesNoPath (only_caller core) olds dice why report new news after
-        → IsDriveStop link store news (count after) why stop
-        → ended ≡ record { made = Err stop; said = Some (counts_of report) } → Whole
-    none_all why stop d h e = subst (λ (x : Ended). Does
+        → IsDriveStop link store last (count after) why stop
+        → Fails why → ended ≡ record { made = Err stop; said = Some (report_counts report) } → Whole
+    none_all why stop d h fails e = subst (λ (x : Ended). Does
         (driving name p live (nothing_done (opened_store core))) Old (saying x.said New) x.made) (sym e)
-        (copied_none truth link left count core.opening p alone.reloads alone.within
-        (opens_all truth link core alone known olds distinct live p is replicas_are opens) name a
-        truth_is store live (nothing_done (opened_store core)) (only_caller core) new olds news dice after
+        (copied_none truth link first last asked distinct all left count core.opening p alone.reloads
+        alone.within name a truth_is tells store live (nothing_done (opened_store core)) (only_caller core) new olds news dice after
         report refl (format_is ∙ ap (λ (x : Opening). x.format) opening_is) rows_now count_now later
-        bounded rose store_holds
-        (begins truth link core alone known olds distinct live p is replicas_are)
-        (are_few truth link core alone known olds distinct live p is replicas_are)
-        (has_room truth link core alone known olds distinct live p is replicas_are) told why stop h
-        d)
+        bounded rose alone.counts store_holds
+        (begins truth all core alone known olds follows live p is replicas_are)
+        (are_few truth all core alone known olds follows live p is replicas_are)
+        (has_room truth all core alone known olds follows live p is replicas_are) told why stop h
+        fails d)
 
-  pub drove_all : Drives truth link left count 0 [] (only_caller core) olds dice report new news
+  pub drove_all : DrivesOver ReadsRow (λ from to. ⊤) left count 0 [] (only_caller core) olds dice report new news
       after
-      → IsReported (counts_of report) ended → Whole
+      → IsReported (report_counts report) ended → Whole
   drove_all d r = reported_all (ap (λ (c : Caller). c.opening) d.ends.few.1.new_is) d r
 
   pub drove_some : (why : CallNo) (stop : Stop)
-      → IsCut truth link left count 0 [] (only_caller core) olds dice why report new news after
+      → IsCutOver ReadsRow (λ from to. ⊤) left count 0 [] (only_caller core) olds dice why report new news after
       ⊎ CopiesNoPath (only_caller core) olds dice why report new news after
-      → IsDriveStop link store news (count after) why stop
-      → ended ≡ record { made = Err stop; said = Some (counts_of report) } → Whole
-  drove_some why stop (inl d) h e =
-      cut_all (ap (λ (c : Caller). c.opening) d.ends.few.1.new_is) why stop d h e
-  drove_some why stop (inr d) h e =
-      none_all (ap (λ (c : Caller). c.opening) d.same) why stop d h e
+      → IsDriveStop link store last (count after) why stop
+      → Fails why → ended ≡ record { made = Err stop; said = Some (report_counts report) } → Whole
+  drove_some why stop (inl d) h fails e =
+      cut_all (ap (λ (c : Caller). c.opening) d.ends.few.1.new_is) why stop d h fails e
+  drove_some why stop (inr d) h fails e =
+      none_all (ap (λ (c : Caller). c.opening) d.same) why stop d h fails e

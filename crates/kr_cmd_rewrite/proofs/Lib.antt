@@ -2,9 +2,12 @@
 pub mod Closing
 pub mod CutShorts
 pub mod DriveEnds
+pub mod DriveFaults
 pub mod DriveSteps
 pub mod Driven
 pub mod DroveAll
+pub mod DroveHeard
+pub mod HeardRows
 pub mod LiveRows
 pub mod LoneCallers
 pub mod Reported

@@ -1,5 +1,5 @@
 -- The live rows by their paths, and what a row at one path leaves of those above it.
-use Rattle.std.proofs.Common.{◌≡◌, ℕ, ◌+◌, ◌-◌, Bool, true, false, List, [], ◌∷◌, ◌++◌, map, Option, None, Some, is_some, IsSome, refl, sym, ◌∙◌, ap, subst, arith, All, Contains, zero, suc}
+use Rattle.std.proofs.Common.{◌≡◌, ℕ, ◌+◌, Bool, true, false, List, [], ◌∷◌, ◌++◌, map, Option, None, Some, is_some, IsSome, refl, sym, ◌∙◌, ap, subst, arith, All, Contains, zero, suc}
 use Rattle.std.specs.Prelude.{get_or, if◌then◌else◌}
 use Rattle.std.specs.Cmp.Lexicographic.{slice_cmp}
 use Rattle.std.specs.List.Sorted.{IsStrictlySortedBy}

@@ -36,14 +36,14 @@ use Rattle.kr_rollout.specs.Histories.{IsLegal, IsRun, state_from, state_of}
 use Rattle.kr_rollout.specs.Openings.{start_of}
 use Rattle.kr_history.specs.SizeLaws.{TellsSize}
 use Rattle.kr_rollout.specs.States.{State}
-use Rattle.kr_rollout.specs.Steps.{IsStep, after, current_after, new_generation, new_generations, new_rows, put_row, with_current}
+use Rattle.kr_rollout.specs.Steps.{HidesNoFault, IsStep, after, current_after, new_generation, new_generations, new_rows, put_row, with_current}
 use Rattle.kr_rollout.specs.Writes.{IsSealedAnew, WouldWrite, Writes, file_size}
 use Rattle.kr_rollout.proofs.Appending.{state_more}
 use Rattle.kr_history.proofs.FoundRows.{found_is_live}
 use Rattle.kr_history.proofs.FullExact.{full_is_exact}
 use Rattle.kr_history.proofs.HeldFacts.{held_is_named}
 use Rattle.kr_history.proofs.Nexts.{caller_next, legal_now, opening_is, seat_is, seen_is}
-use Rattle.kr_cmd_steps.specs.Commands.{row_anew}
+use Rattle.kr_cmd_steps.specs.RewriteSteps.{row_anew}
 
 -- sees.
 
@@ -219,6 +219,14 @@ module _ (o : Opening) (p : Publication) (one : o.reloads ≡ 0 ∷ []) (old new
 
   pub count_later : (state_of o old.seen).count ≤ (state_of o new.seen).count
   count_later = omega (arith, entered.step.counted, count_next)
+
+  -- the count rises only where the store is said to have failed
+  pub faults_next : HidesNoFault (gave_of given) (state_of o old.seen).count
+      (state_of o new.seen).count
+  faults_next = subst (λ n. HidesNoFault (gave_of given) (state_of o old.seen).count n)
+      (sym count_next)
+      (subst (λ g. HidesNoFault g (state_of o old.seen).count a.entry.line.faults) entered.gave_is
+      entered.step.faults)
 
 -- ---- what is adopted is the one configuration
 

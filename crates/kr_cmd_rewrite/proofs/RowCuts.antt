@@ -1,6 +1,6 @@
 -- How the steps of a row end where a rewrite of it was cut short.
 use Rattle.std.proofs.Common.{◌≡◌, ℕ, ◌^◌, ◌<◌, ◌≤◌, List, [], ◌∷◌, ◌++◌, length, Bool, true, false, Option, None, Some, Result, Ok, Err, refl, sym, ◌∙◌, ap, subst, inl, inr, arith}
-use Rattle.std.specs.Prelude.{All, nat_lt}
+use Rattle.std.specs.Prelude.{nat_lt}
 use Rattle.std.proofs.lemmas.Bool.{le-ltb}
 use Rattle.kr_base.specs.Faults.{Rose}
 use Rattle.kr_base.specs.Limits.{data_limit, store_limit}
@@ -8,12 +8,14 @@ use Rattle.kr_base.proofs.Counting.{Rose-kept, Rose-later}
 use Rattle.kr_config.specs.Lists.{list_of}
 use Rattle.kr_config.specs.declared.who.Who.{Who}
 use Rattle.kr_kms.specs.Calls.{Link}
-use Rattle.kr_kms.specs.Truth.{Truth, TellsOf, key_of}
-use Rattle.kr_provider.specs.Names.{AreDistinct}
+use Rattle.kr_kms.specs.Exchanges.{Exchange}
+use Rattle.kr_kms.specs.Truth.{Truth}
+use Rattle.kr_provider.specs.AskedLinks.{AskedOnly, FaultRose}
+use Rattle.kr_provider.specs.Names.{AreDistinct, names_of}
+use Rattle.kr_provider.proofs.AskedLists.{asked_none}
 use Rattle.kr_provider.specs.Publication.{Publication, list_at, writer_at}
 use Rattle.kr_provider.specs.Reading.{HasSomeReading, data_of}
 use Rattle.kr_provider.specs.Sealing.{IsSealing, Seals, value_by}
-use Rattle.kr_provider.specs.Unsealing.{UnsealsBy}
 use Rattle.kr_provider.specs.declared.refusal.Opened.{Opened}
 use Rattle.kr_provider.specs.declared.refusal.SealNo.{SealNo}
 use Rattle.kr_provider.specs.declared.refusal.SealNo.TheVariants as seal
@@ -33,10 +35,13 @@ use Rattle.kr_history.specs.Acting.{Caller, AddsEntry}
 use Rattle.kr_rollout.specs.Callers.{holding}
 use Rattle.kr_rollout.specs.Histories.{state_of}
 use Rattle.kr_rollout.specs.Writes.{file_size}
-use Rattle.kr_rewrite.specs.Rewrites.{ReplacesBy, ResealsBy, Rewrites, RewritesBy, RewritesData, unread_step, unsealed_step}
+use Rattle.kr_rewrite.specs.DriveExchanges.{Ahead, ReadsRow}
+use Rattle.kr_rewrite.specs.Rewrites.{ReplacesBy, ResealsBy, RewritesBy, RewritesOver, RewritesData, unread_step, unsealed_step}
 use Rattle.kr_rewrite.specs.declared.outcome.Step.{Step}
-use Rattle.kr_cmd_steps.specs.Around.{Around}
-use Rattle.kr_cmd_steps.specs.Commands.{Progress, adding, one_rewritten, replacing, resealing, row_anew, row_by, row_data, row_steps, value_read, value_sealed, with_memory}
+use Rattle.kr_cmd_steps.specs.Around.{Around, with_exchanges}
+use Rattle.kr_cmd_steps.specs.RewriteSteps.{Progress, one_rewritten, replacing, resealing, row_anew, row_by, row_data, row_steps}
+use Rattle.kr_cmd_steps.specs.Phases.{adding, with_memory}
+use Rattle.kr_cmd_steps.specs.ValueSteps.{value_read, value_sealed}
 use Rattle.kr_cmd_steps.specs.Steps.{Steps, give}
 use Rattle.kr_cmd_steps.specs.StoreFiles.{BeginsWith}
 use Rattle.kr_cmd_messages.specs.declared.refusal.Object.TheVariants.{Dice, Store}
@@ -50,7 +55,9 @@ use Rattle.kr_cmd_steps.proofs.Goes.{goes_on, home_refl, reach, stops}
 use Rattle.kr_cmd_rewrite.proofs.LoneCallers.{IsLone, replace_failed, tells}
 use Rattle.kr_cmd_steps.proofs.Made.{remembers}
 use Rattle.kr_cmd_rewrite.proofs.Said.{All_lent}
-use Rattle.kr_cmd_steps.proofs.ValueRead.{sealed_does, value_does}
+use Rattle.kr_cmd_steps.proofs.Telling.{TellAll, status_in}
+use Rattle.kr_cmd_steps.proofs.ValueRead.{IsValueEnd, sealed_does}
+use Rattle.kr_cmd_rewrite.proofs.HeardRows.{Follows, past, some_reading, value_heard}
 use Rattle.kr_cmd_steps.proofs.Works.{lacks}
 use Rattle.kr_store.specs.declared.rows.LogRow.{LogRow}
 use Rattle.kr_provider.specs.declared.refusal.ValueNo.{ValueNo}
@@ -66,6 +73,18 @@ abbrev pub count_by : (before final : ℕ) → CallNo → ℕ
 count_by before final no.StoreFailed = before
 count_by before final why = final
 
+-- the plugin that failed is one
+abbrev plugin_of : List ℕ → Result Opened UnsealNo → List ℕ
+plugin_of other (Ok opened) = other
+plugin_of other (Err (unseal.Refused why)) = other
+plugin_of other (Err (unseal.PluginFailed plugin)) = plugin
+plugin_of other (Err unseal.NoMemory) = other
+
+same_plugin : (n plugin : List ℕ)
+    → ◌≡◌ {A = Result Opened UnsealNo} (Err (unseal.PluginFailed n))
+    (Err (unseal.PluginFailed plugin)) → n ≡ plugin
+same_plugin n plugin e = ap (plugin_of n) e
+
 -- a count that rose is no less
 risen : (before now : ℕ) → Rose before now → before ≤ now
 risen before now (inl r) = omega (arith, r)
@@ -76,19 +95,31 @@ abbrev pub drawn_by : (before final : ℕ) → CallNo → ℕ
 drawn_by before final no.DiceFailed = before
 drawn_by before final why = final
 
-module _ {L D : Type 0} (truth : Truth) (link : L → Link) (left : D → Option (List ℕ))
-    (count : D → ℕ) (o : Opening) (p : Publication) (one : o.reloads ≡ 0 ∷ [])
-    (limit_is : o.limit ≡ store_limit)
-    (opens : All (λ row. TellsOf truth (key_of row) row.seed) p.seeds) (name : List ℕ)
-    (a : Around) (truth_is : a.truth ≡ truth) where
-  abbrev pub Around_at : List L → D → (drawn : ℕ) → Option (List ℕ) → ℕ → Around
-  Around_at links dice drawn told faults = All_lent link links (left dice) drawn name told faults a
+-- so with the links
+abbrev pub links_by : {L : Type 0} → (before final : List L) → CallNo → List L
+links_by before final (no.PluginFailed plugin) = before
+links_by before final why = final
+
+module _ {L D : Type 0} (truth : Truth) (link : L → Link) (first last : List L)
+    (asked : AskedOnly link (names_of link first) first last)
+    (distinct : (why : CallNo) → AreDistinct link (links_by first last why))
+    (all : List Exchange) (left : D → Option (List ℕ)) (count : D → ℕ) (o : Opening)
+    (p : Publication) (one : o.reloads ≡ 0 ∷ []) (limit_is : o.limit ≡ store_limit)
+    (name : List ℕ) (a : Around) (truth_is : a.truth ≡ truth)
+    (told_all : (why : CallNo)
+    → TellAll truth (status_in link (links_by first last why) a.world.links) all) where
+  abbrev Now : Ahead → Around
+  Now s = with_exchanges (past truth all s) a
+
+  abbrev pub Around_at : List L → Ahead → D → (drawn : ℕ) → Option (List ℕ) → ℕ → Around
+  Around_at links s dice drawn told faults =
+      All_lent link links (left dice) drawn name told faults (Now s)
 
   module _ (row : Row) (at : Progress) (found : Caller) (number : ℕ) (lone : IsLone o p found)
       (holds : holding found.mine ≡ Some (number, p))
       (rows_are : (state_of o found.seen).rows ≡ at.store.rows)
       (is_live : live at.store.rows row.path ≡ Some row) (format_is : at.store.format ≡ o.format)
-      (olds news : List L) (dice after : D) (acted : Caller) (distinct : AreDistinct link olds)
+      (olds news : Ahead) (dice after : D) (acted : Caller) (follows : Follows truth all olds)
       (store : Kept) (before : ℕ) (earlier : before ≤ (state_of o found.seen).count)
       (further : (state_of o acted.seen).count ≤ store.count) (bounded : store.count < 2 ^ 64)
       (begins : BeginsWith at.store store.told) (unspent : 0 < found.left) where
@@ -111,24 +142,24 @@ module _ {L D : Type 0} (truth : Truth) (link : L → Link) (left : D → Option
     abbrev drawn : ℕ
     drawn = count after
 
-    abbrev pub Cut : Steps Progress → List L → D → CallNo → Stop → Type 0
-    Cut steps links from why stop = Does steps
-        (Around_at links from (drawn_by least drawn why) (told_by store.told why)
-        (count_by before store.count why))
-        (Around_at news after drawn store.told store.count) (Err stop)
+    abbrev pub Cut : Steps Progress → Ahead → D → CallNo → Stop → Type 0
+    Cut steps s from why stop = Does steps
+        (Around_at (links_by first last why) s from (drawn_by least drawn why)
+        (told_by store.told why) (count_by before store.count why))
+        (Around_at last news after drawn store.told store.count) (Err stop)
 
     abbrev pub Stops : CallNo → Stop → Type 0
-    Stops why stop = IsDriveStop link store news drawn why stop
+    Stops why stop = IsDriveStop link store last drawn why stop
 
     -- memory lacked at the begin
     lacked : (steps : Steps Progress) (stop : Stop) → Stops no.NoMemory stop → after ≡ dice
         → Cut (with_memory steps) news dice no.NoMemory stop
     lacked steps stop s kept =
-        subst (λ d. Does (with_memory steps) (Around_at news dice drawn store.told store.count)
-        (Around_at news d drawn store.told store.count) (Err stop)) (sym kept)
-        (subst (λ x. Does (with_memory steps) (Around_at news dice drawn store.told store.count)
-        (Around_at news dice drawn store.told store.count) (Err x)) (sym s)
-        (lacks steps (Around_at news dice drawn store.told store.count)))
+        subst (λ d. Does (with_memory steps) (Around_at last news dice drawn store.told store.count)
+        (Around_at last news d drawn store.told store.count) (Err stop)) (sym kept)
+        (subst (λ x. Does (with_memory steps) (Around_at last news dice drawn store.told store.count)
+        (Around_at last news dice drawn store.told store.count) (Err x)) (sym s)
+        (lacks steps (Around_at last news dice drawn store.told store.count)))
 
     module _ (plain : List ℕ)
         (reads : HasSomeReading (list_at p row.resource) row.path row.stored (data_of plain)) where
@@ -146,19 +177,19 @@ module _ {L D : Type 0} (truth : Truth) (link : L → Link) (left : D → Option
 
         -- the value was sealed, and the row's steps ended so
         behind : (stop : Stop) (told : Option (List ℕ)) (m : ℕ)
-            → Does (adding Store name at.store New_row) (Around_at news after drawn told m)
-            (Around_at news after drawn store.told store.count) (Err stop)
-            → Does Anew (Around_at news dice drawn told m)
-            (Around_at news after drawn store.told store.count)
+            → Does (adding Store name at.store New_row) (Around_at last news after drawn told m)
+            (Around_at last news after drawn store.told store.count) (Err stop)
+            → Does Anew (Around_at last news dice drawn told m)
+            (Around_at last news after drawn store.told store.count)
             (Err stop)
         behind stop told m d = remembers (subst (λ b. Does (resealing b name p row plain at)
-            (Around_at news dice drawn told m) (Around_at news after drawn store.told store.count)
+            (Around_at last news dice drawn told m) (Around_at last news after drawn store.told store.count)
             (Err stop))
             (sym short)
             (goes_on (value_sealed p.seeds writer row.path plain) (replacing name p row at)
             (Some stored)
-            (sealed_does link left count news dice after drawn drawn
-            (with_lent_tape name told m a) writer p.seeds row.path plain (Ok stored) (omega arith)
+            (sealed_does link left count last dice after drawn drawn
+            (with_lent_tape name told m (Now news)) writer p.seeds row.path plain (Ok stored) (omega arith)
             (short_by (nat_lt data_limit (length plain)) (length plain) refl short) tt s)
             (stops (adding Store name at.store New_row)
             (λ grown. give (one_rewritten New_row at)) stop d)))
@@ -181,12 +212,12 @@ module _ {L D : Type 0} (truth : Truth) (link : L → Link) (left : D → Option
             sealing r) further bounded) in
             subst (λ w. Cut Anew news dice w stop) is
             (behind stop None before (subst (λ x. Does (adding Store name at.store New_row)
-            (Around_at news after drawn None before)
-            (Around_at news after drawn store.told store.count)
+            (Around_at last news after drawn None before)
+            (Around_at last news after drawn store.told store.count)
             (Err x)) (sym at_stop)
             (row_is_torn Store name at.store New_row None store.told before store.count
             (risen before store.count rose)
-            (with_lent_links link 0 news (with_lent_dice 0 (left after) drawn a)) begins
+            (with_lent_links link 0 last (with_lent_dice 0 (left after) drawn (Now news))) begins
             rose fits)))
         cut_by (answer.StoreFull needed) why stop h r d =
             let is = same_why why (no.StoreFull needed) d in
@@ -198,21 +229,21 @@ module _ {L D : Type 0} (truth : Truth) (link : L → Link) (left : D → Option
             (subst (λ n. o.limit < n) (file_is stored) full.1) in
             subst (λ w. Cut Anew news dice w stop) is
             (behind stop store.told store.count (subst (λ x. Does
-            (adding Store name at.store New_row) (Around_at news after drawn store.told store.count)
-            (Around_at news after drawn store.told store.count) (Err x)) (sym at_stop)
+            (adding Store name at.store New_row) (Around_at last news after drawn store.told store.count)
+            (Around_at last news after drawn store.told store.count) (Err x)) (sym at_stop)
             (row_is_above Store name at.store New_row store.told store.told store.count store.count
             (omega arith)
-            (with_lent_links link 0 news (with_lent_dice 0 (left after) drawn a)) long)))
+            (with_lent_links link 0 last (with_lent_dice 0 (left after) drawn (Now news))) long)))
         cut_by answer.NoMemory why stop h r d =
             let is = same_why why no.NoMemory d in
             let at_stop = subst (λ w. Stops w stop) (sym is) h in
             subst (λ w. Cut Anew news dice w stop) is
             (behind stop store.told store.count (subst (λ x. Does
-            (adding Store name at.store New_row) (Around_at news after drawn store.told store.count)
-            (Around_at news after drawn store.told store.count) (Err x)) (sym at_stop)
+            (adding Store name at.store New_row) (Around_at last news after drawn store.told store.count)
+            (Around_at last news after drawn store.told store.count) (Err x)) (sym at_stop)
             (row_is_lacking Store name at.store New_row store.told store.told store.count
             store.count (omega arith)
-            (with_lent_links link 0 news (with_lent_dice 0 (left after) drawn a)))))
+            (with_lent_links link 0 last (with_lent_dice 0 (left after) drawn (Now news))))))
         cut_by (answer.Written n) why stop h r d = absurd (cc)
         cut_by (answer.Changed last) why stop h r d = absurd (cc)
         cut_by (answer.Adopted n q) why stop h r d = absurd d
@@ -240,15 +271,15 @@ module _ {L D : Type 0} (truth : Truth) (link : L → Link) (left : D → Option
           let long = le-ltb data_limit (length plain) s.0 in
           subst (λ w. Cut Anew news dice w stop) is
           (remembers (subst (λ b. Does (resealing b name p row plain at)
-          (Around_at news dice least store.told store.count)
-          (Around_at news after drawn store.told store.count) (Err stop)) (sym long)
+          (Around_at last news dice least store.told store.count)
+          (Around_at last news after drawn store.told store.count) (Err stop)) (sym long)
           (subst (λ x. Does (resealing false name p row plain at)
-          (Around_at news dice least store.told store.count)
-          (Around_at news after drawn store.told store.count) (Err x)) (sym at_stop)
+          (Around_at last news dice least store.told store.count)
+          (Around_at last news after drawn store.told store.count) (Err x)) (sym at_stop)
           (stops (value_sealed p.seeds writer row.path plain) (replacing name p row at)
           (Fault (Dice 0) drawn)
-          (sealed_does link left count news dice after least drawn
-          (with_lent_tape name store.told store.count a) writer p.seeds row.path plain
+          (sealed_does link left count last dice after least drawn
+          (with_lent_tape name store.told store.count (Now news)) writer p.seeds row.path plain
           (Err seal.DiceFailed) (risen least drawn s.2) s.0 s.2 s)))))
       unsealed_cut seal.NoMemory why stop h s e =
           let is = same_why why no.NoMemory e in
@@ -281,67 +312,83 @@ module _ {L D : Type 0} (truth : Truth) (link : L → Link) (left : D → Option
     abbrev Value : Steps (Result Opened ValueNo)
     Value = value_read p.seeds (list_of p.rows row.resource) row.path row.stored
 
+    -- the value's reading, over links that come to be these
+    value_at : (why : CallNo) (now : List L) (told : Option (List ℕ)) (m n : ℕ)
+        (opened : Result Opened UnsealNo) (made : Result (Result Opened ValueNo) Stop)
+        → ReadsRow p row olds opened news
+        → AskedOnly link (names_of link first) (links_by first last why) now
+        → ((plugin : List ℕ) → opened ≡ Err (unseal.PluginFailed plugin)
+        → FaultRose link plugin (links_by first last why) now)
+        → IsValueEnd link now opened made
+        → Does Value (Around_at (links_by first last why) olds dice n told m)
+        (Around_at now news dice n told m) made
+    value_at why now told m n opened made u same fails e = value_heard truth link all
+        (links_by first last why) now (distinct why) (left dice) n (with_lent_tape name told m a)
+        truth_is (told_all why) p row olds opened news follows u made (names_of link first) same fails
+        e
+
     unread_cut : (reason : UnsealNo) (why : CallNo) (stop : Stop) → Stops why stop
-        → UnsealsBy truth link p.seeds (list_at p row.resource) row.path row.stored olds
-        (Err reason) news
+        → ((plugin : List ℕ) → why ≡ no.PluginFailed plugin → FaultRose link plugin first last)
+        → ReadsRow p row olds (Err reason) news
         → after ≡ dice → ◌≡◌ {A = Result Step CallNo} (Err why) (unread_step row.path reason)
         → Cut (row_steps name p row at) olds dice why stop
-    unread_cut (unseal.Refused reason) why stop h u kept e = absurd (cc)
-    unread_cut (unseal.PluginFailed n) why stop h u kept e =
+    unread_cut (unseal.Refused reason) why stop h fails u kept e = absurd (cc)
+    unread_cut (unseal.PluginFailed n) why stop h fails u kept e =
         let is = same_why why (no.PluginFailed n) e in
         let at_stop = subst (λ w. Stops w stop) (sym is) h in
         subst (λ w. Cut (row_steps name p row at) olds dice w stop) is
         (subst (λ d. Does (row_steps name p row at)
-        (Around_at olds dice drawn store.told store.count)
-        (Around_at news d drawn store.told store.count) (Err stop)) (sym kept)
+        (Around_at first olds dice drawn store.told store.count)
+        (Around_at last news d drawn store.told store.count) (Err stop)) (sym kept)
         (stops Value (row_by name p row at) stop
-        (value_does truth link p.seeds opens (list_at p row.resource) row.path row.stored olds news
-        distinct (left dice) drawn (with_lent_tape name store.told store.count a) truth_is
-        (Err (unseal.PluginFailed n)) (Err stop) u (record {
+        (value_at (no.PluginFailed n) last store.told store.count drawn
+        (Err (unseal.PluginFailed n)) (Err stop) u asked
+        (λ plugin f. fails plugin
+        (sym is ∙ ap (λ m. no.PluginFailed m) (same_plugin n plugin f))) (record {
           it = at_stop.it;
           there = at_stop.there;
           named = at_stop.named;
           has = ap (λ x. Err x) at_stop.has;
         }))))
-    unread_cut unseal.NoMemory why stop h u kept e =
+    unread_cut unseal.NoMemory why stop h fails u kept e =
         let is = same_why why no.NoMemory e in
         let at_stop = subst (λ w. Stops w stop) (sym is) h in
         subst (λ w. Cut (row_steps name p row at) olds dice w stop) is
         (subst (λ d. Does (row_steps name p row at)
-        (Around_at olds dice drawn store.told store.count)
-        (Around_at news d drawn store.told store.count) (Err stop)) (sym kept)
+        (Around_at last olds dice drawn store.told store.count)
+        (Around_at last news d drawn store.told store.count) (Err stop)) (sym kept)
         (stops Value (row_by name p row at) stop
-        (value_does truth link p.seeds opens (list_at p row.resource) row.path row.stored olds news
-        distinct (left dice) drawn (with_lent_tape name store.told store.count a) truth_is
-        (Err unseal.NoMemory) (Err stop) u (ap (λ x. Err x) at_stop))))
+        (value_at no.NoMemory last store.told store.count drawn (Err unseal.NoMemory) (Err stop) u
+        (asked_none link (names_of link first) last) (λ plugin f. absurd (cc))
+        (ap (λ x. Err x) at_stop))))
 
     pub row_cut : (why : CallNo) (stop : Stop) → Stops why stop
-        → Rewrites truth link left count p row found olds dice (Err why) acted news after
+        → ((plugin : List ℕ) → why ≡ no.PluginFailed plugin → FaultRose link plugin first last)
+        → RewritesOver ReadsRow left count p row found olds dice (Err why) acted news after
         → Cut (row_steps name p row at) olds dice why stop
-    row_cut why stop h (inl r) = by r.opened r.unseals r.rewrites
+    row_cut why stop h fails (inl r) = by r.opened r.unseals r.rewrites
       where
-        by : (opened : Result Opened UnsealNo)
-            → UnsealsBy truth link p.seeds (list_at p row.resource) row.path row.stored olds opened
-            news
+        by : (opened : Result Opened UnsealNo) → ReadsRow p row olds opened news
             → RewritesBy left count p row opened found dice (Err why) acted after
             → Cut (row_steps name p row at) olds dice why stop
         by (Ok opened) u r = goes_on Value (row_by name p row at) (Ok opened)
-            (value_does truth link p.seeds opens (list_at p row.resource) row.path row.stored olds
-            news distinct (left dice) (drawn_by least drawn why)
-            (with_lent_tape name (told_by store.told why) (count_by before store.count why) a)
-            truth_is (Ok opened) (Ok (Ok opened)) u refl)
-            (data_cut opened.plain (u.envelope, u.object, u.is.0) opened.stale why stop h r)
-        by (Err reason) u r = unread_cut reason why stop h u r.2 r.0
-    row_cut why stop h (inr n) =
+            (value_at why (links_by first last why) (told_by store.told why)
+            (count_by before store.count why) (drawn_by least drawn why) (Ok opened)
+            (Ok (Ok opened)) u (asked_none link (names_of link first) (links_by first last why))
+            (λ plugin f. absurd (cc)) refl)
+            (data_cut opened.plain (some_reading p row olds opened news u) opened.stale why stop h
+            r)
+        by (Err reason) u r = unread_cut reason why stop h fails u r.2 r.0
+    row_cut why stop h fails (inr n) =
         let is = same_why why no.NoMemory n.0.0 in
         let at_stop = subst (λ w. Stops w stop) (sym is) h in
-        let now = Around_at olds dice drawn store.told store.count in
+        let now = Around_at last olds dice drawn store.told store.count in
         subst (λ w. Cut (row_steps name p row at) olds dice w stop) is
-        (subst (λ l. Does (row_steps name p row at) now
-        (Around_at l after drawn store.told store.count)
+        (subst (λ s. Does (row_steps name p row at) now
+        (Around_at last s after drawn store.told store.count)
         (Err stop)) (sym n.1)
         (subst (λ d. Does (row_steps name p row at) now
-        (Around_at olds d drawn store.told store.count)
+        (Around_at last olds d drawn store.told store.count)
         (Err stop)) (sym n.0.2)
         (subst (λ x. Does (row_steps name p row at) now now (Err x)) (sym at_stop)
         (record { home = home_refl now; ends = λ l s. inr (reach l (inl (refl, refl)) s) }))))

@@ -1,17 +1,18 @@
 -- How the steps of a row end, by what a rewrite of it did over a caller that is alone.
 use Rattle.std.proofs.Common.{◌≡◌, ℕ, ◌≤◌, List, [], ◌∷◌, ◌++◌, length, Bool, true, false, Option, None, Some, Result, Ok, Err, refl, sym, ◌∙◌, ap, subst, inl, inr, arith}
-use Rattle.std.specs.Prelude.{All, nat_lt, if◌then◌else◌}
+use Rattle.std.specs.Prelude.{nat_lt, if◌then◌else◌}
 use Rattle.std.proofs.lemmas.Bool.{le-ltb, lt-ltb}
 use Rattle.kr_base.specs.Limits.{data_limit, store_limit}
 use Rattle.kr_config.specs.Lists.{list_of}
 use Rattle.kr_config.specs.declared.who.Who.{Who}
 use Rattle.kr_kms.specs.Calls.{Link}
-use Rattle.kr_kms.specs.Truth.{Truth, TellsOf, key_of}
+use Rattle.kr_kms.specs.Exchanges.{Exchange}
+use Rattle.kr_kms.specs.Truth.{Truth}
+use Rattle.kr_provider.specs.AskedLinks.{FaultRose}
 use Rattle.kr_provider.specs.Names.{AreDistinct}
 use Rattle.kr_provider.specs.Publication.{Publication, list_at, writer_at}
 use Rattle.kr_provider.specs.Reading.{HasSomeReading, data_of}
 use Rattle.kr_provider.specs.Sealing.{IsSealing, Seals, value_by}
-use Rattle.kr_provider.specs.Unsealing.{UnsealsBy}
 use Rattle.kr_provider.specs.declared.refusal.Opened.{Opened}
 use Rattle.kr_provider.specs.declared.refusal.SealNo.{SealNo}
 use Rattle.kr_provider.specs.declared.refusal.SealNo.TheVariants as seal
@@ -30,11 +31,14 @@ use Rattle.kr_history.specs.Acting.{Caller, AddsEntry}
 use Rattle.kr_rollout.specs.Callers.{holding}
 use Rattle.kr_rollout.specs.Histories.{state_of}
 use Rattle.kr_rollout.specs.Writes.{file_size}
-use Rattle.kr_rewrite.specs.Rewrites.{ReplacesBy, ResealsBy, Rewrites, RewritesBy, RewritesData, unread_step, unsealed_step}
+use Rattle.kr_rewrite.specs.DriveExchanges.{Ahead, ReadsRow}
+use Rattle.kr_rewrite.specs.Rewrites.{ReplacesBy, ResealsBy, RewritesBy, RewritesOver, RewritesData, unread_step, unsealed_step}
 use Rattle.kr_rewrite.specs.declared.outcome.Step.{Step}
 use Rattle.kr_rewrite.specs.declared.outcome.Step.TheVariants as step
-use Rattle.kr_cmd_steps.specs.Around.{Around}
-use Rattle.kr_cmd_steps.specs.Commands.{Progress, adding, one_fresh, one_left, one_rewritten, replacing, resealing, row_anew, row_by, row_data, row_steps, value_read, value_sealed, with_memory}
+use Rattle.kr_cmd_steps.specs.Around.{Around, with_exchanges}
+use Rattle.kr_cmd_steps.specs.RewriteSteps.{Progress, one_fresh, one_left, one_rewritten, replacing, resealing, row_anew, row_by, row_data, row_steps}
+use Rattle.kr_cmd_steps.specs.Phases.{adding, with_memory}
+use Rattle.kr_cmd_steps.specs.ValueSteps.{value_read, value_sealed}
 use Rattle.kr_cmd_steps.specs.Steps.{Steps, give}
 use Rattle.kr_cmd_steps.specs.StoreFiles.{Stored, with_row}
 use Rattle.kr_cmd_messages.specs.declared.refusal.Object.TheVariants.{Store}
@@ -45,7 +49,12 @@ use Rattle.kr_cmd_steps.proofs.Goes.{given, goes_on}
 use Rattle.kr_cmd_rewrite.proofs.LoneCallers.{IsLone, not_changed, replaces, tells}
 use Rattle.kr_cmd_steps.proofs.Made.{remembers}
 use Rattle.kr_cmd_rewrite.proofs.Said.{All_lent}
-use Rattle.kr_cmd_steps.proofs.ValueRead.{sealed_does, value_does}
+use Rattle.kr_cmd_steps.proofs.Telling.{TellAll, status_in}
+use Rattle.kr_cmd_steps.proofs.ValueRead.{IsValueEnd, sealed_does}
+use Rattle.kr_cmd_rewrite.proofs.HeardRows.{Follows, past, some_reading, value_heard}
+use Rattle.kr_provider.proofs.AskedLists.{asked_none}
+use Rattle.kr_cmd_messages.specs.declared.refusal.Stop.{Stop}
+use Rattle.kr_provider.specs.declared.refusal.ValueNo.{ValueNo}
 
 -- what a step at the row makes of the store and the counts
 abbrev pub Becomes : Publication → Row → Progress → Progress → Step → Type 0
@@ -87,24 +96,29 @@ pub was_short : (long : Bool) (value : Option (List ℕ)) (stored : List ℕ)
 was_short true value stored e = absurd (cc)
 was_short false value stored e = refl
 
-module _ {L D : Type 0} (truth : Truth) (link : L → Link) (left : D → Option (List ℕ))
+-- the links of a command and all its exchanges, which they told; and what is around
+module _ {L D : Type 0} (truth : Truth) (link : L → Link) (links : List L)
+    (distinct : AreDistinct link links) (all : List Exchange) (left : D → Option (List ℕ))
     (count : D → ℕ) (o : Opening) (p : Publication) (one : o.reloads ≡ 0 ∷ [])
-    (limit_is : o.limit ≡ store_limit)
-    (opens : All (λ row. TellsOf truth (key_of row) row.seed) p.seeds) (name : List ℕ)
-    (a : Around) (truth_is : a.truth ≡ truth) (drawn : ℕ) where
+    (limit_is : o.limit ≡ store_limit) (name : List ℕ) (a : Around) (truth_is : a.truth ≡ truth)
+    (told_all : TellAll truth (status_in link links a.world.links) all) (drawn : ℕ) where
+  -- where these exchanges are still to come
+  abbrev Now : Ahead → Around
+  Now s = with_exchanges (past truth all s) a
+
   -- what is around, with this count of the random source
-  abbrev pub Out : List L → D → Option (List ℕ) → ℕ → Around
-  Out links dice told faults = All_lent link links (left dice) drawn name told faults a
+  abbrev pub Out : Ahead → D → Option (List ℕ) → ℕ → Around
+  Out s dice told faults = All_lent link links (left dice) drawn name told faults (Now s)
 
   -- what is around but for the tape
-  abbrev pub Beside : List L → D → Around
-  Beside links dice = with_lent_links link 0 links (with_lent_dice 0 (left dice) drawn a)
+  abbrev pub Beside : Ahead → D → Around
+  Beside s dice = with_lent_links link 0 links (with_lent_dice 0 (left dice) drawn (Now s))
 
   module _ (row : Row) (at : Progress) (found : Caller) (number : ℕ) (lone : IsLone o p found)
       (holds : holding found.mine ≡ Some (number, p))
       (rows_are : (state_of o found.seen).rows ≡ at.store.rows)
       (is_live : live at.store.rows row.path ≡ Some row) (format_is : at.store.format ≡ o.format)
-      (olds news : List L) (dice after : D) (acted : Caller) (distinct : AreDistinct link olds)
+      (olds news : Ahead) (dice after : D) (acted : Caller) (follows : Follows truth all olds)
     where
       abbrev pub lived : live (state_of o found.seen).rows row.path ≡ Some row
       lived = ap (λ rows. live rows row.path) rows_are ∙ is_live
@@ -123,9 +137,9 @@ module _ {L D : Type 0} (truth : Truth) (link : L → Link) (left : D → Option
       -- ---- the row is passed
 
       module _ (m : ℕ) where
-        abbrev Done : Steps Progress → List L → D → Step → Type 0
-        Done steps links from taken = (next : Progress) × Becomes p row at next taken
-            × Does steps (Out links from None m) (Out news after None m) (Ok next)
+        abbrev Done : Steps Progress → Ahead → D → Step → Type 0
+        Done steps s from taken = (next : Progress) × Becomes p row at next taken
+            × Does steps (Out s from None m) (Out news after None m) (Ok next)
             × ((state_of o acted.seen).rows ≡ next.store.rows)
 
         -- it is as it was
@@ -141,9 +155,9 @@ module _ {L D : Type 0} (truth : Truth) (link : L → Link) (left : D → Option
               ∙ sym (ap (λ (s : Stored). s.rows) store),
         )
 
-        in_memory : (steps : Steps Progress) (links : List L) (from : D) (taken : Step)
-            → Done steps links from taken → Done (with_memory steps) links from taken
-        in_memory steps links from taken (next, becomes, does, rows) =
+        in_memory : (steps : Steps Progress) (s : Ahead) (from : D) (taken : Step)
+            → Done steps s from taken → Done (with_memory steps) s from taken
+        in_memory steps s from taken (next, becomes, does, rows) =
             (next, becomes, remembers does, rows)
 
         module _ (plain : List ℕ)
@@ -176,8 +190,8 @@ module _ {L D : Type 0} (truth : Truth) (link : L → Link) (left : D → Option
                       (Out news after None m) (Ok (one_rewritten new at))) (sym long)
                       (goes_on (value_sealed p.seeds who row.path plain) (replacing name p row at)
                       (Some stored)
-                      (sealed_does link left count news dice after drawn drawn
-                      (with_lent_tape name None m a) who
+                      (sealed_does link left count links dice after drawn drawn
+                      (with_lent_tape name None m (Now news)) who
                       p.seeds row.path plain (Ok stored) (omega arith)
                       (short_by (nat_lt data_limit (length plain)) (length plain) refl long) tt s)
                       (goes_on (adding Store name at.store new)
@@ -238,8 +252,8 @@ module _ {L D : Type 0} (truth : Truth) (link : L → Link) (left : D → Option
                       (Out news after None m) (Ok (one_left at))) (sym long)
                       (goes_on (value_sealed p.seeds who row.path plain) (replacing name p row at)
                       None
-                      (sealed_does link left count news dice after drawn drawn
-                      (with_lent_tape name None m a) who
+                      (sealed_does link left count links dice after drawn drawn
+                      (with_lent_tape name None m (Now news)) who
                       p.seeds row.path plain (Err seal.LooksEncrypted) (omega arith) s.0 tt s)
                       (given (one_left at) (Out news after None m))),
                   rest.3,
@@ -281,11 +295,21 @@ module _ {L D : Type 0} (truth : Truth) (link : L → Link) (left : D → Option
                 (resealed r.sealed taken r.seals r.reseals)
             data_done true taken (inr r) = not_err taken no.NoMemory r.0
 
+        -- the value was read, and no link failed
+        value_passed : (opened : Result Opened UnsealNo)
+            (made : Result (Result Opened ValueNo) Stop) → ReadsRow p row olds opened news
+            → ((n : List ℕ) → opened ≡ Err (unseal.PluginFailed n)
+            → FaultRose link n links links)
+            → IsValueEnd link links opened made
+            → Does (value_read p.seeds (list_of p.rows row.resource) row.path row.stored)
+            (Out olds dice None m) (Out news dice None m) made
+        value_passed opened made u fails e = value_heard truth link all links links distinct
+            (left dice) drawn (with_lent_tape name None m a) truth_is told_all p row olds opened news
+            follows u made [] (asked_none link [] links) fails e
+
         -- a value that isn't read leaves the row
         unread : (why : UnsealNo) (taken : Step)
-            → UnsealsBy truth link p.seeds (list_at p row.resource) row.path row.stored olds
-            (Err why)
-            news
+            → ReadsRow p row olds (Err why) news
             → acted ≡ found → after ≡ dice
             → ◌≡◌ {A = Result Step CallNo} (Ok taken) (unread_step row.path why)
             → Done (row_steps name p row at) olds dice taken
@@ -297,10 +321,7 @@ module _ {L D : Type 0} (truth : Truth) (link : L → Link) (left : D → Option
               rest.1,
               goes_on (value_read p.seeds (list_of p.rows row.resource) row.path row.stored)
                   (row_by name p row at) (Err why)
-                  (value_does truth link p.seeds opens (list_at p row.resource) row.path row.stored
-                  olds
-                  news distinct (left dice) drawn (with_lent_tape name None m a) truth_is
-                  (Err (unseal.Refused why)) (Ok (Err why)) u refl)
+                  (value_passed (Err (unseal.Refused why)) (Ok (Err why)) u (λ n e. absurd (cc)) refl)
                   rest.2,
               rest.3,
             )
@@ -308,28 +329,24 @@ module _ {L D : Type 0} (truth : Truth) (link : L → Link) (left : D → Option
         unread unseal.NoMemory taken u same kept e = not_err taken no.NoMemory e
 
         opened_done : (opened : Result Opened UnsealNo) (taken : Step)
-            → UnsealsBy truth link p.seeds (list_at p row.resource) row.path row.stored olds opened
-            news
+            → ReadsRow p row olds opened news
             → RewritesBy left count p row opened found dice (Ok taken) acted after
             → Done (row_steps name p row at) olds dice taken
         opened_done (Ok opened) taken u r =
-            let rest = data_done opened.plain (u.envelope, u.object, u.is.0) opened.stale taken r
+            let rest = data_done opened.plain (some_reading p row olds opened news u) opened.stale taken r
             in (
               rest.0,
               rest.1,
               goes_on (value_read p.seeds (list_of p.rows row.resource) row.path row.stored)
                   (row_by name p row at) (Ok opened)
-                  (value_does truth link p.seeds opens (list_at p row.resource) row.path row.stored
-                  olds
-                  news distinct (left dice) drawn (with_lent_tape name None m a) truth_is
-                  (Ok opened) (Ok (Ok opened)) u refl)
+                  (value_passed (Ok opened) (Ok (Ok opened)) u (λ n e. absurd (cc)) refl)
                   rest.2,
               rest.3,
             )
         opened_done (Err why) taken u r = unread why taken u r.1 r.2 r.0
 
         pub row_done : (taken : Step)
-            → Rewrites truth link left count p row found olds dice (Ok taken) acted news after
+            → RewritesOver ReadsRow left count p row found olds dice (Ok taken) acted news after
             → Done (row_steps name p row at) olds dice taken
         row_done taken (inl r) = opened_done r.opened taken r.unseals r.rewrites
         row_done taken (inr n) = not_err taken no.NoMemory n.0.0

@@ -3,14 +3,16 @@ use Rattle.std.proofs.Common.{◌≡◌, ℕ, ◌+◌, ◌*◌, ◌<◌, ◌≤�
 use Rattle.std.specs.Prelude.{Bool, if◌then◌else◌}
 use Rattle.std.specs.Option.{option_map}
 use Rattle.std.proofs.lemmas.Bool.{le-ltb, lt-ltb}
-use Rattle.kr_config.specs.Kept.{Row}
+use Rattle.kr_config.specs.Kept.{ConfigEntry}
 use Rattle.kr_kms.specs.Calls.{Link}
 use Rattle.kr_kms.specs.Outside.{Outside, same_name}
 use Rattle.kr_store.specs.Stores.{IsListing}
 use Rattle.kr_store.specs.declared.rows.Row as stored
 use Rattle.kr_base.specs.Limits.{journal_limit}
 use Rattle.kr_cmd_steps.specs.Around.{Around, with_world, with_lent}
-use Rattle.kr_cmd_steps.specs.Commands.{by_result, rewriting_by, rewriting_live, steps, within_journal}
+use Rattle.kr_cmd_steps.specs.Phases.{by_result}
+use Rattle.kr_cmd_steps.specs.RewriteSteps.{rewriting_by, rewriting_live, within_journal}
+use Rattle.kr_cmd_steps.specs.Commands.{steps}
 use Rattle.kr_cmd_steps.specs.Plugins.{borrow_links}
 use Rattle.kr_cmd_steps.specs.Steps.{Steps, borrow_dice, find, give, and_then, refuses, Goes}
 use Rattle.kr_cmd_steps.specs.StoreFiles.{Stored}
@@ -22,7 +24,7 @@ use Rattle.kr_cmd_messages.specs.declared.refusal.Outcome.{Outcome}
 use Rattle.kr_cmd_messages.specs.declared.refusal.Refusal.TheVariants.{Limit}
 use Rattle.kr_cmd_messages.specs.declared.refusal.Stop.{Stop}
 use Rattle.kr_cmd_messages.specs.declared.refusal.Stop.TheVariants.{Refused, NoMemory}
-use Rattle.kr_cmd_messages.specs.declared.report.Counts.{Counts}
+use Rattle.kr_cmd_messages.specs.declared.report.RewriteCounts.{RewriteCounts}
 use Rattle.kr_cmd_steps.specs.inner.Lent.{Tapes, with_tapes, with_lent_dice, with_lent_links, with_lent_tape}
 use Rattle.kr_cmd_steps.specs.inner.Phases.{Does}
 use Rattle.kr_cmd_steps.specs.inner.Reporting.{DoesAll, saying}
@@ -33,12 +35,12 @@ use Rattle.kr_cmd_steps.proofs.Goes.{goes_on, home_refl, reach}
 
 -- ---- what is said stands beside what is lent
 
-pub saying_world : (said : Option Counts) (world : Outside) (a : Around)
+pub saying_world : (said : Option RewriteCounts) (world : Outside) (a : Around)
     → saying said (with_world world a) ≡ with_world world (saying said a)
 saying_world None world a = refl
 saying_world (Some counts) world a = refl
 
-pub saying_tape : (said : Option Counts) (name : List ℕ) (told : Option (List ℕ)) (count : ℕ)
+pub saying_tape : (said : Option RewriteCounts) (name : List ℕ) (told : Option (List ℕ)) (count : ℕ)
     (world : Outside) (a : Around)
     → saying said (with_lent_tape name told count (with_world world a))
     ≡ with_lent_tape name told count (with_world world (saying said a))
@@ -56,7 +58,7 @@ module _ {L : Type 0} (link : L → Link) where
   All_lent links left faults name told count a =
       with_lent_links link 0 links (with_lent_dice 0 left faults (with_lent_tape name told count a))
 
-  pub saying_seen : (said : Option Counts) (links : List L) (left : Option (List ℕ)) (faults : ℕ)
+  pub saying_seen : (said : Option RewriteCounts) (links : List L) (left : Option (List ℕ)) (faults : ℕ)
       (name : List ℕ) (told : Option (List ℕ)) (count : ℕ) (tapes : Tapes) (world : Outside)
       (a : Around)
       → saying said (All_lent links left faults name told count
@@ -94,7 +96,7 @@ within_not : (live : List stored.Row) → journal_limit < 4 * length live + 3
 within_not live long = ap (λ (q : Bool). if q then Err (Limit limit.Journal) else Ok tt)
     (lt-ltb journal_limit (4 * length live + 3) (omega (arith, long)))
 
-module _ (name : List ℕ) (rows : List Row) (programs : List Program) (store : Stored) where
+module _ (name : List ℕ) (rows : List ConfigEntry) (programs : List Program) (store : Stored) where
   abbrev pub Finding : Steps Outcome
   Finding = find (List stored.Row) (IsListing store.rows) (rewriting_live name rows programs store)
 

@@ -1,9 +1,9 @@
 -- The seeds are made, the core starts, and the drive goes on.
-use Rattle.std.proofs.Common.{◌≡◌, ℕ, List, [], ◌∷◌, Option, Some, Result, Ok, Err, refl, sym, subst, inl, inr, arith}
+use Rattle.std.proofs.Common.{◌≡◌, ℕ, ◌-◌, ◌^◌, ◌<◌, List, [], ◌∷◌, Option, Some, Result, Ok, Err, refl, sym, subst, inl, inr, arith}
 use Rattle.std.specs.Prelude.{All, false}
 use Rattle.std.proofs.lemmas.List.Elements.{All-push}
 use Rattle.kr_base.specs.Limits.{store_limit}
-use Rattle.kr_config.specs.Kept.{Row}
+use Rattle.kr_config.specs.Kept.{ConfigEntry}
 use Rattle.kr_kms.specs.Calls.{Link}
 use Rattle.kr_kms.specs.declared.seeds.SeedRow.{SeedRow}
 use Rattle.kr_provider.specs.PluginOrder.{plugin_order}
@@ -16,7 +16,7 @@ use Rattle.kr_opening.specs.declared.opening_board.StartNo.TheVariants as start
 use Rattle.kr_store.specs.Stores.{Kept}
 use Rattle.kr_store.specs.declared.rows.Row as stored
 use Rattle.kr_cmd_steps.specs.Around.{Around}
-use Rattle.kr_cmd_steps.specs.Commands.{nothing_done, driving, rewriting_by, starting}
+use Rattle.kr_cmd_steps.specs.RewriteSteps.{nothing_done, driving, rewriting_by, starting}
 use Rattle.kr_cmd_steps.specs.Judgements.{start_refusal}
 use Rattle.kr_cmd_steps.specs.Plugins.{make_seeds}
 use Rattle.kr_cmd_steps.specs.Steps.{Steps, and_then}
@@ -35,7 +35,7 @@ use Rattle.kr_cmd_steps.proofs.Made.{seeded, unseeded}
 use Rattle.kr_cmd_rewrite.proofs.Said.{All_lent}
 use Rattle.kr_cmd_steps.proofs.Works.{lacks}
 
-module _ (name : List ℕ) (rows : List Row) (store : Stored) (live : List stored.Row) where
+module _ (name : List ℕ) (rows : List ConfigEntry) (store : Stored) (live : List stored.Row) where
   abbrev pub By : Steps Outcome
   By = rewriting_by name rows store live
 
@@ -46,7 +46,7 @@ module _ (name : List ℕ) (rows : List Row) (store : Stored) (live : List store
   pub by_lacks : (a : Around) → Does By a a (Err NoMemory)
   by_lacks a = lacks (and_then (make_seeds (plugin_order rows)) from_seeds) a
 
-  module _ {others : List Row} (same : others ≡ rows) {old mid : Around} where
+  module _ {others : List ConfigEntry} (same : others ≡ rows) {old mid : Around} where
     pub by_unpublished : (stop : Stop) → Does (make_seeds (plugin_order others)) old mid (Err stop)
         → Does By old mid (Err stop)
     by_unpublished stop d = unseeded from_seeds same stop d
@@ -102,8 +102,8 @@ Alone store p names room = record {
 
 pub alone_by : (core : CoreState) (store : Kept) (p : Publication) (names : List (List ℕ)) (room : ℕ)
     → core ≡ Alone store p names room → HasRoom store.rows room → store.limit ≡ store_limit
-    → store.torn ≡ false → IsAlone core
-alone_by core store p names room is has within whole = subst IsAlone (sym is) (record {
+    → store.torn ≡ false → store.count < 2 ^ 64 - 1 → IsAlone core
+alone_by core store p names room is has within whole counts = subst IsAlone (sym is) (record {
   p = p;
   replicas = refl;
   reloads = refl;
@@ -111,6 +111,7 @@ alone_by core store p names room is has within whole = subst IsAlone (sym is) (r
   room = has;
   within = within;
   whole = whole;
+  counts = counts;
 })
 
 pub all_of_one : {A : Type 0} (P : A → Type 0) (x : A) → P x → All P (x ∷ [])
@@ -132,7 +133,7 @@ module _ {L D : Type 0} (link : L → Link) (left : D → Option (List ℕ)) (co
       (subst (λ x. Does next old (Out mids x store) result) (sym dice_is)
       (subst (λ (k : Kept). Does next old (Out mids mid k) result) (sym store_is) d))
 
-  pub driven_on : (rows : List Row) (live : List stored.Row) (store : Kept) (p : Publication)
+  pub driven_on : (rows : List ConfigEntry) (live : List stored.Row) (store : Kept) (p : Publication)
       (core : CoreState) (benched mids : List L) (held mid : D) (names : List (List ℕ)) (room : ℕ)
       {new : Around} {made : Result Outcome Stop} → core ≡ Alone store p names room
       → benched ≡ mids → held ≡ mid → p.rows ≡ rows

@@ -1,33 +1,38 @@
 //! `rewrite`: configuration, programs of its plugins, store, random source, links, publish, start,
 //! drive, the report.
-ghost use Rattle.std.specs.Prelude.{◌≡◌, ◌++◌, ◌≤◌, ◌∷◌, ℕ, [], false, None, Some, Ok, Err, All, IfOk, IfErr, IfSome, MatchOption, map};
+ghost use Rattle.std.specs.Prelude.{◌≡◌, ◌++◌, ◌-◌, ◌^◌, ◌<◌, ◌≤◌, ◌∷◌, ℕ, [], false, None, Some, Ok, Err, IfOk, IfErr, MatchOption, map};
 ghost use Rattle.kr_base.specs.Limits.{store_limit};
 ghost use Rattle.kr_config.specs.Kept.{plugins_in, rows_of};
-ghost use Rattle.kr_kms.specs.Truth.{TellsOf, key_of};
+ghost use Rattle.kr_base.specs.Walks.{Talk};
+ghost use Rattle.kr_provider.specs.AskedLinks.{Among};
 ghost use Rattle.kr_provider.specs.KeyPages.{size_of};
 ghost use Rattle.kr_provider.specs.Names.{AreDistinct, names_of};
 ghost use Rattle.kr_provider.specs.PluginOrder.{plugin_order};
 ghost use Rattle.kr_provider.specs.Publication.{Publication};
 ghost use Rattle.kr_history.specs.Calls.{AreServed};
 ghost use Rattle.kr_store.specs.Stores.{IsListing};
-ghost use Rattle.kr_cmd_steps.specs.Around.{Around, with_world};
-ghost use Rattle.kr_cmd_steps.specs.Commands.{nothing_done, driving, rewriting_on, rewriting_by};
+ghost use Rattle.kr_cmd_steps.specs.Around.{Around, with_exchanges, with_world};
+ghost use Rattle.kr_cmd_steps.specs.Heard.{Heard};
+ghost use Rattle.kr_cmd_steps.specs.RewriteSteps.{nothing_done, driving, rewriting_on, rewriting_by};
+ghost use Rattle.kr_cmd_steps.specs.Phases.{stored_on};
 ghost use Rattle.kr_cmd_steps.specs.Plugins.{borrow_links};
 ghost use Rattle.kr_cmd_messages.specs.Reports.{report_done};
 ghost use Rattle.kr_cmd_messages.specs.declared.command.Command.TheVariants.{Rewrite};
+ghost use Rattle.kr_cmd_messages.specs.declared.refusal.Object.TheVariants as object;
 ghost use Rattle.kr_cmd_steps.specs.inner.Lent.{Name, Tapes, with_tapes, with_lent_dice, with_lent_links, with_lent_tape};
 ghost use Rattle.kr_cmd_steps.specs.inner.Phases.{Does};
 ghost use Rattle.kr_cmd_steps.specs.inner.Reporting.{DoesAll, saying};
-ghost use Rattle.kr_cmd_rewrite.specs.inner.Rewriting.{HasRoom, LacksRoom, LiveRows, Told, IsAlone, IsDriveStop, IsReported, MayCutShort, StartsAlone, counts_of, opened_store, to_settle};
+ghost use Rattle.kr_cmd_rewrite.specs.inner.Rewriting.{HasRoom, LacksRoom, LiveRows, Told, IsAlone, IsDriveStop, IsReported, MayCutShort, StartsAlone, report_counts, opened_store, to_settle};
 ghost use Rattle.kr_cmd_steps.specs.inner.Tapes.{stored_of};
 
 use kr_base::{Dice, JOURNAL_LIMIT, List, NoMemory, Shared, Tape, Text};
 use kr_cmd_messages::{
-    Counts, Done, Ended, Limit, Object, Outcome, Refusal, Rewriting, Stop, report_text,
+    Done, Ended, Limit, Object, Outcome, Refusal, RewriteCounts, Rewriting, Stop, report_text,
 };
 use kr_cmd_steps::{
-    Program, close_dice, close_link, configure, first_of, load_store, names_of, open_dice,
-    open_link, open_tape, programs_of, publish_by, settle_tape, start_stop, take_last,
+    Program, close_dice, close_link, configure, load_store, open_dice, open_link, open_tape,
+    program_plugins, publish_settings, settings_programs, settle_tape, split_first_program,
+    start_stop, take_last,
 };
 use kr_config::Settings;
 use kr_history::{Acts, CallNo, Solo};
@@ -45,15 +50,17 @@ const CACHE: u32 = 64;
 
 /// Writes the stale rows of a store anew.
 pub fn rewrite<W: World>(alloc: Global, words: &Rewriting, world: &mut W) -> Ended
-    ensures { (a : Around) → a.truth ≡ W.Link.truth → a.said ≡ [] → DoesAll (Rewrite words.now)
+    ensures { Heard W.lent W.took W.Link.step 0 [] [] (λ es. (a : Around)
+        → a.truth ≡ W.Link.truth → a.said ≡ [] → DoesAll (Rewrite words.now)
         (with_world (W.told world.old) a)
-        (saying result.said (with_world (W.told world.new) a)) result.made }
+        (saying result.said (with_world (W.told world.new) (with_exchanges es a)))
+        result.made) }
 {
     let settings = match configure(alloc, world, words.config.as_str()) {
         Ok(settings) => settings,
         Err(stop) => return stopped(stop),
     };
-    let programs = match programs_of(alloc, &words.options, &settings) {
+    let programs = match settings_programs(alloc, &words.options, &settings) {
         Ok(programs) => programs,
         Err(stop) => return stopped(stop),
     };
@@ -62,7 +69,7 @@ pub fn rewrite<W: World>(alloc: Global, words: &Rewriting, world: &mut W) -> End
         Ok(tape) => tape,
         Err(stop) => return stopped(stop),
     };
-    let (ended, tape) = rewrite_on(alloc, settings, programs.as_slice(), world, tape);
+    let (ended, tape) = rewrite_on_tape(alloc, settings, programs.as_slice(), world, tape);
     match settle_tape(world, name, Object::Store, tape, to_settle(ended)) {
         Ok(ended) => ended,
         Err(stop) => stopped(stop),
@@ -88,7 +95,7 @@ fn to_settle(ended: Ended) -> Result<Ended, Stop>
 }
 
 /// Rewrites the store on a tape, which comes back.
-fn rewrite_on<W: World>(
+fn rewrite_on_tape<W: World>(
     alloc: Global,
     settings: Settings,
     programs: &[Program],
@@ -97,22 +104,23 @@ fn rewrite_on<W: World>(
 ) -> (Ended, W::Tap)
     requires programs { map (λ program. program.plugin) programs.now
         ≡ plugin_order (rows_of settings.entries.0) }
-    ensures ended { (name : Name) (a : Around) → a.truth ≡ W.Link.truth → Does
+    ensures ended { Heard W.lent W.took W.Link.step 0 [] [] (λ es. (name : Name) (a : Around)
+        → a.truth ≡ W.Link.truth → Does
         (rewriting_on name (rows_of settings.entries.0) programs.now)
         (with_lent_tape name (W.Tap.told tape) (W.Tap.count tape) (with_world (W.told world.old) a))
         (saying result.0.said (with_lent_tape name (W.Tap.told result.1) (W.Tap.count result.1)
-        (with_world (W.told world.new) a))) result.0.made }
+        (with_world (W.told world.new) (with_exchanges es a)))) result.0.made) }
     ensures tapes { (W.told world.new).tapes ≡ (W.told world.old).tapes }
 {
-    let store = match load_store(alloc, tape, Object::Store) {
+    let store = match load_counted(alloc, tape) {
         Ok(store) => store,
         Err((stop, tape)) => return (stopped(stop), tape),
     };
-    let Some(room) = room_of(&store) else {
+    let Some(room) = rewrite_room(&store) else {
         let limit = Stop::Refused(Refusal::Limit(Limit::Journal));
         return (stopped(limit), store.close());
     };
-    let names = match names_of(alloc, programs) {
+    let names = match program_plugins(alloc, programs) {
         Ok(names) => names,
         Err(NoMemory) => return (stopped(Stop::NoMemory), store.close()),
     };
@@ -121,7 +129,7 @@ fn rewrite_on<W: World>(
         Err(stop) => return (stopped(stop), store.close()),
     };
     let links = Links::<W::Link>::new(alloc);
-    let rollout = Rollout { store, names, room };
+    let rollout = LoneStart { store, names, room };
     let (ended, store, links, dice) = rewrite_linked(
         alloc, settings, programs, world, rollout, links, dice,
     );
@@ -130,8 +138,31 @@ fn rewrite_on<W: World>(
     (ended, store.close())
 }
 
+/// Loads the store of a tape. Where the tape's count of faults can't rise any more, a write that
+/// failed couldn't be told, so the tape counts as failed.
+fn load_counted<T: Tape>(alloc: Global, tape: T) -> Result<Store<T>, (Stop, T)>
+    ensures ok { IfOk result (λ store. (name : Name) (a : Around) → Does (stored_on object.Store name)
+        (with_lent_tape name (T.told tape) (T.count tape) a)
+        (with_lent_tape name store.told store.count a) (Ok (stored_of store))) }
+    ensures err { IfErr result (λ refused. (name : Name) (a : Around) → Does (stored_on object.Store name)
+        (with_lent_tape name (T.told tape) (T.count tape) a)
+        (with_lent_tape name (T.told refused.1) (T.count refused.1) a) (Err refused.0)) }
+    ensures limit { IfOk result (λ store. (store.limit ≡ store_limit) × (store.torn ≡ false)) }
+    ensures counts { IfOk result (λ store. store.count < 2 ^ 64 - 1) }
+{
+    let store = match load_store(alloc, tape, Object::Store) {
+        Ok(store) => store,
+        Err(refused) => return Err(refused),
+    };
+    let faults = store.faults();
+    if faults == u64::MAX {
+        return Err((Stop::Fault(Object::Store, faults), store.close()));
+    }
+    Ok(store)
+}
+
 /// How many entries the rewrite may make, where the journal has room for them.
-fn room_of<T: Tape>(store: &Store<T>) -> Option<u64>
+fn rewrite_room<T: Tape>(store: &Store<T>) -> Option<u64>
     ensures { MatchOption result (LacksRoom store.now.rows) (HasRoom store.now.rows) }
 {
     let live = store.live_count();
@@ -142,7 +173,7 @@ fn room_of<T: Tape>(store: &Store<T>) -> Option<u64>
 }
 
 /// What a core of one replica is started with.
-struct Rollout<T: Tape> {
+struct LoneStart<T: Tape> {
     store: Store<T>,
     /// The plugins that its configuration may name.
     names: List<Text>,
@@ -150,12 +181,12 @@ struct Rollout<T: Tape> {
     room: u64,
 }
 
-impl<T: Tape> Rollout<T> {
+impl<T: Tape> LoneStart<T> {
     /// Gives the store up.
     fn into_store(self) -> Store<T>
         ensures { result ≡ self.store }
     {
-        let Rollout {
+        let LoneStart {
             store,
             names: _,
             room: _,
@@ -170,7 +201,7 @@ fn rewrite_linked<W: World, T: Tape>(
     settings: Settings,
     programs: &[Program],
     world: &mut W,
-    rollout: Rollout<T>,
+    rollout: LoneStart<T>,
     mut links: Links<W::Link>,
     dice: W::Rand,
 ) -> (Ended, Store<T>, Links<W::Link>, W::Rand)
@@ -181,7 +212,9 @@ fn rewrite_linked<W: World, T: Tape>(
     requires room { HasRoom rollout.store.rows rollout.room }
     requires within { rollout.store.limit ≡ store_limit }
     requires whole { rollout.store.torn ≡ false }
-    ensures ended { (name : Name) (tapes : Tapes) (a : Around) (live : LiveRows)
+    requires counts { rollout.store.count < 2 ^ 64 - 1 }
+    ensures ended { Heard W.lent W.took W.Link.step 0 links result.2 (λ es. (name : Name)
+        (tapes : Tapes) (a : Around) (live : LiveRows)
         → a.truth ≡ W.Link.truth → IsListing rollout.store.rows live → Does
         (borrow_links programs.now (rewriting_by name (rows_of settings.entries.0)
         (stored_of rollout.store) live))
@@ -193,16 +226,16 @@ fn rewrite_linked<W: World, T: Tape>(
         (with_lent_links W.Link.link 0 result.2
         (with_lent_dice 0 (W.Rand.left result.3) (W.Rand.count result.3)
         (with_lent_tape name result.1.told result.1.count
-        (with_world (with_tapes tapes (W.told world.new)) a)))))
-        result.0.made }
+        (with_world (with_tapes tapes (W.told world.new)) (with_exchanges es a))))))
+        result.0.made) }
     ensures tapes { (W.told world.new).tapes ≡ (W.told world.old).tapes }
     ensures names { names_of W.Link.link result.2 ≡ names_of W.Link.link links }
     ensures dice { (W.told world.new).dice ≡ (W.told world.old).dice }
     ensures out { (key : ℕ × Name)
         → (W.told world.new).links.out key ≡ (W.told world.old).links.out key }
 {
-    let Some((program, more)) = first_of(programs) else {
-        return rewrite_by(alloc, settings, rollout, links, dice);
+    let Some((program, more)) = split_first_program(programs) else {
+        return rewrite_by_settings(alloc, settings, rollout, links, dice);
     };
     let link = match open_link(
         alloc,
@@ -230,10 +263,10 @@ fn rewrite_linked<W: World, T: Tape>(
 }
 
 /// Publishes the settings, starts a core of one replica with them, and drives.
-fn rewrite_by<T: Tape, L: Kms, D: Dice>(
+fn rewrite_by_settings<T: Tape, L: Kms, D: Dice>(
     alloc: Global,
     settings: Settings,
-    rollout: Rollout<T>,
+    rollout: LoneStart<T>,
     mut links: Links<L>,
     mut dice: D,
 ) -> (Ended, Store<T>, Links<L>, D)
@@ -242,22 +275,23 @@ fn rewrite_by<T: Tape, L: Kms, D: Dice>(
     requires room { HasRoom rollout.store.rows rollout.room }
     requires within { rollout.store.limit ≡ store_limit }
     requires whole { rollout.store.torn ≡ false }
-    ensures ended { (name : Name) (a : Around) (live : LiveRows)
-        → a.truth ≡ L.truth → IsListing rollout.store.rows live → Does
+    requires counts { rollout.store.count < 2 ^ 64 - 1 }
+    ensures ended { Talk (Among L.step) links result.2 (λ es. (name : Name) (a : Around)
+        (live : LiveRows) → a.truth ≡ L.truth → IsListing rollout.store.rows live → Does
         (rewriting_by name (rows_of settings.entries.0) (stored_of rollout.store) live)
         (with_lent_links L.link 0 links (with_lent_dice 0 (D.left dice) (D.count dice)
         (with_lent_tape name rollout.store.told rollout.store.count a)))
         (saying result.0.said
         (with_lent_links L.link 0 result.2 (with_lent_dice 0 (D.left result.3) (D.count result.3)
-        (with_lent_tape name result.1.told result.1.count a))))
-        result.0.made }
+        (with_lent_tape name result.1.told result.1.count (with_exchanges es a)))))
+        result.0.made) }
     ensures names { names_of L.link result.2 ≡ names_of L.link links }
 {
     let settings = match Shared::new(alloc, settings) {
         Ok(settings) => settings,
         Err(_) => return (stopped(Stop::NoMemory), rollout.into_store(), links, dice),
     };
-    let published = match publish_by(alloc, settings, &mut links, &mut dice) {
+    let published = match publish_settings(alloc, settings, &mut links, &mut dice) {
         Ok(published) => published,
         Err(stop) => return (stopped(stop), rollout.into_store(), links, dice),
     };
@@ -284,7 +318,7 @@ fn rewrite_by<T: Tape, L: Kms, D: Dice>(
 /// The core at its opening. A refusal gives the store back.
 fn start<T: Tape>(
     alloc: Global,
-    rollout: Rollout<T>,
+    rollout: LoneStart<T>,
     published: Published,
 ) -> Result<Core<T>, (Stop, Store<T>)>
     requires names { AreServed (plugins_in published.rows) rollout.names.0 }
@@ -292,7 +326,7 @@ fn start<T: Tape>(
     ensures starts { StartsAlone rollout.store published rollout.names.0 rollout.room result }
     ensures back { IfErr result (λ refused. refused.1 ≡ rollout.store) }
 {
-    let Rollout { store, names, room } = rollout;
+    let LoneStart { store, names, room } = rollout;
     let replicas = match alone(alloc, published) {
         Ok(replicas) => replicas,
         Err(NoMemory) => return Err((Stop::NoMemory, store)),
@@ -326,21 +360,20 @@ fn drive_all<T: Tape, L: Kms, D: Dice>(
     requires alone { IsAlone core }
     requires names { core.opening.names ≡ names_of L.link bench.links }
     requires distinct { AreDistinct L.link bench.links }
-    requires opens { All (λ replica. IfSome replica
-        (λ p. All (λ row. TellsOf L.truth (key_of row) row.seed) p.seeds)) core.opening.replicas }
+    requires cold { bench.cache.rows ≡ [] }
     requires pages { 64 ≤ size_of bench.pages }
     requires unadopted { bench.published ≡ None }
-    ensures ended { (name : Name) (a : Around) (live : LiveRows) (told : Told)
-        (p : Publication) → a.truth ≡ L.truth → IsListing core.opening.rows live
-        → core.opening.replicas ≡ Some p ∷ [] → Does
+    ensures ended { Talk (Among L.step) bench.links result.2 (λ es. (name : Name) (a : Around)
+        (live : LiveRows) (told : Told) (p : Publication) → a.truth ≡ L.truth
+        → IsListing core.opening.rows live → core.opening.replicas ≡ Some p ∷ [] → Does
         (driving name p live (nothing_done (opened_store core)))
         (with_lent_links L.link 0 bench.links
         (with_lent_dice 0 (D.left bench.dice) (D.count bench.dice)
         (with_lent_tape name told core.opening.count a)))
         (saying result.0.said
         (with_lent_links L.link 0 result.2 (with_lent_dice 0 (D.left result.3) (D.count result.3)
-        (with_lent_tape name result.1.told result.1.count a))))
-        result.0.made }
+        (with_lent_tape name result.1.told result.1.count (with_exchanges es a)))))
+        result.0.made) }
     ensures names { names_of L.link result.2 ≡ names_of L.link bench.links }
 {
     let mut solo = Solo::new(core);
@@ -352,18 +385,18 @@ fn drive_all<T: Tape, L: Kms, D: Dice>(
     let _faults = store.faults();
     let (links, dice) = bench.close();
     match driven {
-        Ok(report) => (reported(alloc, counts_of(&report)), store, links, dice),
+        Ok(report) => (reported(alloc, report_counts(&report)), store, links, dice),
         Err((report, why)) => {
             let stop = drive_stop(why, &store, &links, &dice);
-            (cut_short(counts_of(&report), stop), store, links, dice)
+            (cut_short(report_counts(&report), stop), store, links, dice)
         }
     }
 }
 
-fn counts_of(report: &Report) -> Counts
-    ensures { result ≡ counts_of report.now }
+fn report_counts(report: &Report) -> RewriteCounts
+    ensures { result ≡ report_counts report.now }
 {
-    Counts {
+    RewriteCounts {
         rewritten: report.rewritten,
         fresh: report.fresh,
         changed: report.changed,
@@ -395,7 +428,7 @@ fn drive_stop<T: Tape, L: Kms, D: Dice>(
 }
 
 /// The report of a drive that came to the end.
-fn reported(alloc: Global, counts: Counts) -> Ended
+fn reported(alloc: Global, counts: RewriteCounts) -> Ended
     ensures { IsReported counts result }
 {
     match report_text(alloc, counts) {
@@ -410,7 +443,7 @@ fn reported(alloc: Global, counts: Counts) -> Ended
     }
 }
 
-fn report_done(counts: Counts) -> Done
+fn report_done(counts: RewriteCounts) -> Done
     ensures { result ≡ report_done counts }
 {
     if counts.left == 0 {
@@ -421,7 +454,7 @@ fn report_done(counts: Counts) -> Done
 }
 
 /// A command that was stopped, with what it reports before.
-fn cut_short(counts: Counts, stop: Stop) -> Ended
+fn cut_short(counts: RewriteCounts, stop: Stop) -> Ended
     ensures { result ≡ record { made = Err stop; said = Some counts } }
 {
     Ended {

@@ -7,7 +7,7 @@ use Rattle.kr_base.specs.Limits.{store_limit}
 use Rattle.kr_store.specs.File.{file_bytes}
 use Rattle.kr_store.specs.declared.rows.LogRow.{LogRow}
 use Rattle.kr_cmd_steps.specs.Around.{Around}
-use Rattle.kr_cmd_steps.specs.Commands.{adding, by_result, within_limit}
+use Rattle.kr_cmd_steps.specs.Phases.{adding, by_result, within_limit}
 use Rattle.kr_cmd_steps.specs.Steps.{Steps, write_row, give, and_then, writing, refuses, Left, Goes, Point, with_told}
 use Rattle.kr_cmd_steps.specs.StoreFiles.{Stored, with_row, HoldsRows, BeginsWith}
 use Rattle.kr_cmd_messages.specs.declared.refusal.Limit.TheVariants as limit

@@ -11,7 +11,8 @@ use Rattle.kr_store.specs.declared.answers.PutNo.TheVariants as refused
 use Rattle.kr_store.specs.declared.format.Format.{Format}
 use Rattle.kr_store.specs.declared.rows.LogRow.{LogRow}
 use Rattle.kr_cmd_steps.specs.Around.{Around}
-use Rattle.kr_cmd_steps.specs.Commands.{adding, revision_line, silently}
+use Rattle.kr_cmd_steps.specs.Phases.{adding, silently}
+use Rattle.kr_cmd_steps.specs.StoreSteps.{revision_line}
 use Rattle.kr_cmd_steps.specs.Steps.{Steps, give, and_then}
 use Rattle.kr_cmd_steps.specs.StoreFiles.{Stored, with_row, HoldsRows, BeginsWith}
 use Rattle.kr_cmd_steps.specs.inner.Lent.{with_lent_tape}

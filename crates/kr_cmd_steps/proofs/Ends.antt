@@ -19,7 +19,7 @@ use Rattle.kr_cmd_messages.specs.declared.refusal.Object.TheVariants.{Store}
 use Rattle.kr_cmd_messages.specs.declared.refusal.Outcome.{Outcome}
 use Rattle.kr_cmd_messages.specs.declared.refusal.Stop.{Stop}
 use Rattle.kr_cmd_messages.specs.declared.refusal.Stop.TheVariants.{Words, Refused, Fault, NoMemory}
-use Rattle.kr_cmd_messages.specs.declared.report.Counts.{Counts}
+use Rattle.kr_cmd_messages.specs.declared.report.RewriteCounts.{RewriteCounts}
 use Rattle.kr_cmd_steps.proofs.Goes.{stays_refl}
 use Rattle.kr_cmd_steps.proofs.Lending.{no_less, no_more}
 use Rattle.kr_cmd_steps.proofs.Loading.{count_here}
@@ -164,8 +164,8 @@ module _ (command : Command) (name : List ℕ) (is : ReportsOf command name)
       input = s.input;
       dice = s.dice;
       asked = ap (with_call (Settled name)) s.asked;
+      heard = s.heard;
       said = s.said;
-      counts = s.counts;
     }
 
     same_fault : (old : Around) (call : Call) (object : Object) (n : ℕ) → IsFault call object n old Unsettled
@@ -219,7 +219,7 @@ module _ (command : Command) (name : List ℕ) (is : ReportsOf command name)
     abbrev Lost : Around
     Lost = with_lent_tape name told later (with_world mid a)
 
-    stays_lost : (said : Option Counts) {l : Left}
+    stays_lost : (said : Option RewriteCounts) {l : Left}
         → Stays l (with_lent_tape name told count (with_world mid (saying said a)))
         → Stays (with_said [] l) Lost
     stays_lost None {l} s = record {
@@ -230,14 +230,8 @@ module _ (command : Command) (name : List ℕ) (is : ReportsOf command name)
       input = s.input;
       dice = s.dice;
       asked = s.asked;
+      heard = s.heard;
       said = silent;
-      counts = λ key. omega (
-        arith,
-        s.counts key,
-        no_less (same_name name key)
-            (mid.tapes.faults key) (mid.tapes.faults key) count later
-            (no_more (mid.tapes.faults key)) more,
-      );
     }
     stays_lost (Some counts) {l} s = record {
       truth = s.truth;
@@ -247,17 +241,11 @@ module _ (command : Command) (name : List ℕ) (is : ReportsOf command name)
       input = s.input;
       dice = s.dice;
       asked = s.asked;
+      heard = s.heard;
       said = silent;
-      counts = λ key. omega (
-        arith,
-        s.counts key,
-        no_less (same_name name key)
-            (mid.tapes.faults key) (mid.tapes.faults key) count later
-            (no_more (mid.tapes.faults key)) more,
-      );
     }
 
-    home_lost : (old : Around) (said : Option Counts)
+    home_lost : (old : Around) (said : Option RewriteCounts)
         → IsHome old (with_lent_tape name told count (with_world mid (saying said a)))
         → IsHome old Lost
     home_lost old None h = record {
@@ -293,7 +281,7 @@ module _ (command : Command) (name : List ℕ) (is : ReportsOf command name)
       input = h.input;
     }
 
-    pub report_lost : {old : Around} (said : Option Counts) (stop : Stop)
+    pub report_lost : {old : Around} (said : Option RewriteCounts) (stop : Stop)
         → Rose (old.world.tapes.faults name) later
         → Does (steps command) old
         (with_lent_tape name told count (with_world mid (saying said a))) (Err stop)

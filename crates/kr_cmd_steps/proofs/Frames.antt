@@ -64,8 +64,8 @@ module _ {L : Type 0} (link : L → Link) (a : Around) (names : List (List ℕ))
     input = s.input;
     dice = λ seat. still (0 == seat) old new (l.dice seat) (a.world.dice.told seat) k (s.dice seat);
     asked = s.asked;
+    heard = s.heard;
     said = s.said;
-    counts = s.counts;
   }
 
   pub drawn : (l : Left) → Stays l Before → Stays (with_dice 0 new l) After
@@ -77,8 +77,8 @@ module _ {L : Type 0} (link : L → Link) (a : Around) (names : List (List ℕ))
     input = s.input;
     dice = λ seat. taken (0 == seat) old new (l.dice seat) (a.world.dice.told seat) (s.dice seat);
     asked = s.asked;
+    heard = s.heard;
     said = s.said;
-    counts = s.counts;
   }
 
   -- a plugin failed, and its link has this count

@@ -13,7 +13,7 @@ use Rattle.kr_kms.specs.declared.world.WorldCall.TheVariants.{File, Link, Random
 use Rattle.kr_kms.proofs.Lent.{seats_decide}
 use Rattle.kr_config.specs.declared.settings.Settings.{Settings}
 use Rattle.kr_cmd_steps.specs.Around.{Around, with_world, with_lent, left_of, faults_at, Stays, Reaches, AreHome, IsHome, Ends, MayLack, count_at}
-use Rattle.kr_cmd_steps.specs.Commands.{by_result, configuration, show, input_of, limit_of, long_input}
+use Rattle.kr_cmd_steps.specs.Phases.{by_result, configuration, show, input_of, input_limit, long_input}
 use Rattle.kr_cmd_steps.specs.Configuration.{Entries}
 use Rattle.kr_cmd_steps.specs.Steps.{Steps, load, take_input, borrow_dice, borrow_tape, read_tape, write_row, keep_rows, settle, draw, note, find, refuse, give, and_then, Call, loading, reading, opening, lending, scanning, writing, settling, drawing, Point, awaits, amid, refuses, gives, Left, with_input, with_asked, IsAt, Goes, borrow_link, ask_status, wrap, unwrap, linking, asking, object_of}
 use Rattle.kr_cmd_steps.specs.inner.Lent.{with_told_input, with_lent_dice}
@@ -38,8 +38,8 @@ stays_refl a = record {
   input = Keeps-refl a.input;
   dice = λ seat. Keeps-refl (a.world.dice.told seat);
   asked = refl;
+  heard = refl;
   said = refl;
-  counts = λ name. omega arith;
 }
 
 -- steps that give nothing
@@ -94,8 +94,8 @@ module _ {A B : Type 0} (point : Point B) (last : Left) (others : A → Steps B)
       inl (told, begins, land (awaits (writing object name)) at f)
   further p end f (write_row object name store row next) left (inr (told, holds, goes)) =
       inr (told, holds, further p end f next _ goes)
-  further p end f (keep_rows name store next) left (told, count, later, holds, goes) =
-      (told, count, later, holds, further p end f next _ goes)
+  further p end f (keep_rows name store next) left (told, holds, goes) =
+      (told, holds, further p end f next _ goes)
   further p end f (settle object name next) left (inl at) =
       inl (land (awaits (settling object name)) at f)
   further p end f (settle object name next) left (inr goes) = inr (further p end f next _ goes)
@@ -107,18 +107,30 @@ module _ {A B : Type 0} (point : Point B) (last : Left) (others : A → Steps B)
       inr (inl (land (awaits (linking seat plugin)) at f))
   further p end f (borrow_link seat plugin program next) left (inr (inr goes)) =
       inr (inr (further p end f next _ goes))
-  further p end f (ask_status seat plugin next) left (inl at) =
-      inl (land (awaits (asking seat plugin)) at f)
-  further p end f (ask_status seat plugin next) left (inr (status, agrees, goes)) =
-      inr (status, agrees, further p end f (next status) left goes)
-  further p end f (wrap seat plugin plain next) left (inl at) =
-      inl (land (awaits (asking seat plugin)) at f)
-  further p end f (wrap seat plugin plain next) left (inr (wrapped, tells, within, goes)) =
-      inr (wrapped, tells, within, further p end f (next wrapped) left goes)
-  further p end f (unwrap seat key next) left (inl at) =
-      inl (land (awaits (asking seat key.name)) at f)
-  further p end f (unwrap seat key next) left (inr (bytes, tells, goes)) =
-      inr (bytes, tells, further p end f (next bytes) left goes)
+  further p end f (ask_status seat plugin next) left (inl at) = inl (land amid at f)
+  further p end f (ask_status seat plugin next) left (inr (inl (answer, at))) =
+      inr (inl (answer, land amid at f))
+  further p end f (ask_status seat plugin next) left (inr (inr (inl at))) =
+      inr (inr (inl (land (awaits (asking seat plugin)) at f)))
+  further p end f (ask_status seat plugin next) left (inr (inr (inr (status, agrees, goes)))) =
+      inr (inr (inr (status, agrees, further p end f (next status) _ goes)))
+  further p end f (wrap seat plugin plain next) left (inl at) = inl (land amid at f)
+  further p end f (wrap seat plugin plain next) left (inr (inl (answer, at))) =
+      inr (inl (answer, land amid at f))
+  further p end f (wrap seat plugin plain next) left (inr (inr (inl at))) =
+      inr (inr (inl (land (awaits (asking seat plugin)) at f)))
+  further p end f (wrap seat plugin plain next) left
+      (inr (inr (inr (wrapped, tells, within, goes)))) =
+      inr (inr (inr (wrapped, tells, within, further p end f (next wrapped) _ goes)))
+  further p end f (unwrap seat key next) left (inl at) = inl (land amid at f)
+  further p end f (unwrap seat key next) left (inr (inl (answer, at))) =
+      inr (inl (answer, land amid at f))
+  further p end f (unwrap seat key next) left (inr (inr (inl at))) =
+      inr (inr (inl (land (awaits (asking seat key.name)) at f)))
+  further p end f (unwrap seat key next) left (inr (inr (inr (bytes, tells, inl (was, goes))))) =
+      inr (inr (inr (bytes, tells, inl (was, further p end f (next bytes) left goes))))
+  further p end f (unwrap seat key next) left (inr (inr (inr (bytes, tells, inr goes)))) =
+      inr (inr (inr (bytes, tells, inr (further p end f (next bytes) _ goes))))
   further p end f (note text next) left goes = further p end f next _ goes
   further p end f (find D P next) left (inl at) = inl (land amid at f)
   further p end f (find D P next) left (inr (d, is, goes)) =
@@ -168,13 +180,13 @@ earlier new (linking seat plugin) h r = Rose-later _ _ _ h.files.later.links r
 earlier new (asking seat plugin) h r = Rose-later _ _ _ (h.links.later (seat, plugin)) r
 
 module _ {A B : Type 0} (first : Steps A) (others : A → Steps B) where
-  onward : {left : Left} {mid new : Around} {p : Point A} {point : Point B}
+  pub onward : {left : Left} {mid new : Around} {p : Point A} {point : Point B}
       (r : Reaches first left mid p) (last : Left) → Further point last others p r.end
       → Stays last new → Reaches (and_then first others) left new point
   onward {left} {p = p} {point} r last f s =
       reach last (further point last others p r.end f first left r.goes) s
 
-  joins : {left : Left} {mid new : Around} {x : A} {point : Point B}
+  pub joins : {left : Left} {mid new : Around} {x : A} {point : Point B}
       (r : Reaches first left mid (gives x)) → Reaches (others x) r.end new point
       → Reaches (and_then first others) left new point
   joins r q = onward r q.end q.goes q.stays
@@ -294,8 +306,8 @@ module _ (limit : ℕ) (long : Refusal) (old new : Option (List ℕ)) (before co
     input = Keeps-refl new;
     dice = s.dice;
     asked = s.asked;
+    heard = s.heard;
     said = s.said;
-    counts = s.counts;
   }
 
   takes_some : {left : Left} → Stays left (with_told_input old before a)
@@ -337,13 +349,13 @@ module _ (limit : ℕ) (long : Refusal) (old new : Option (List ℕ)) (before co
 
 pub takes_in : {old new : Option (List ℕ)} {before count : ℕ} {direction : Direction}
     (wanted : Direction) (result : Result (List ℕ) Stop) (a : Around) → direction ≡ wanted
-    → TakesInput (limit_of wanted) (long_input wanted) old new before count result
+    → TakesInput (input_limit wanted) (long_input wanted) old new before count result
     → before ≤ count
     → Does (input_of direction) (with_told_input old before a) (with_told_input new count a) result
 takes_in {old} {new} {before} {count} wanted result a is t later =
     subst (λ d. Does (input_of d) (with_told_input old before a) (with_told_input new count a)
     result) (sym is)
-    (takes (limit_of wanted) (long_input wanted) old new before count a result t later)
+    (takes (input_limit wanted) (long_input wanted) old new before count a result t later)
 
 -- ---- the world
 
@@ -378,9 +390,8 @@ module _ {old new : Outside} (files : KeepsFiles old new) (objects : KeepsObject
     dice = λ seat. subst (λ d. Keeps (left.dice seat) (d.told seat)) (sym objects.dice)
         (s.dice seat);
     asked = made;
+    heard = s.heard;
     said = s.said;
-    counts = λ name. subst (λ o. left.counts name ≤ o.faults name) (sym objects.tapes)
-        (s.counts name);
   }
 
   pub stays_noted : {left : Left} (call : WorldCall) → Stays left (with_world old a)
@@ -510,8 +521,8 @@ seen_stays {call} seen a l s = record {
   dice = λ seat. subst (λ told. Keeps (l.dice seat) (told seat)) (sym seen.dice.told)
       (s.dice seat);
   asked = seen.asked ∙ ap (with_call call) s.asked;
+  heard = s.heard;
   said = s.said;
-  counts = λ name. omega (arith, s.counts name, seen.tapes.home.later name);
 }
 
 module _ {call : WorldCall} {old new : Outside} (seen : IsSeen call old new) (a : Around)

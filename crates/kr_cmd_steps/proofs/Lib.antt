@@ -2,11 +2,16 @@
 pub mod AddedRows
 pub mod Adding
 pub mod Apart
+pub mod BenchTalks
 pub mod EmptyFiles
 pub mod Ends
 pub mod Frames
 pub mod GivesOnly
 pub mod Goes
+pub mod Halts
+pub mod HeardLinks
+pub mod Hearing
+pub mod KeptSeeds
 pub mod Lending
 pub mod Linked
 pub mod Links
@@ -21,6 +26,8 @@ pub mod Rooms
 pub mod SeedSteps
 pub mod Settling
 pub mod Tapes
+pub mod Telling
+pub mod UnheardReads
 pub mod Unsealed
 pub mod ValueRead
 pub mod Works

@@ -2,7 +2,7 @@
 use Rattle.std.proofs.Common.{◌≡◌, ℕ, ◌<◌, List, [], ◌∷◌, ◌++◌, Option, Result, Err, Contains, refl, sym, ◌∙◌, ap, subst, inl, inr, arith}
 use Rattle.std.specs.Prelude.{Bool, if◌then◌else◌}
 use Rattle.std.specs.List.Sorted.{IsStrictlySortedBy}
-use Rattle.kr_config.specs.Kept.{Row, plugins_in}
+use Rattle.kr_config.specs.Kept.{ConfigEntry, plugins_in}
 use Rattle.kr_config.specs.Nexts.{name_cmp}
 use Rattle.kr_kms.specs.Calls.{Link}
 use Rattle.kr_kms.specs.Outside.{Outside, Objects, HandsOut, KeepsFiles, KeepsObjects, TakesBack, at_key, file_faults, same_link, same_seat}
@@ -13,7 +13,7 @@ use Rattle.kr_provider.specs.Names.{HasLinks, names_of}
 use Rattle.kr_provider.specs.PluginOrder.{plugin_order}
 use Rattle.kr_provider.proofs.PluginOrder.{order_ascends, order_has, order_once}
 use Rattle.kr_cmd_steps.specs.Around.{Around, with_lent, with_world}
-use Rattle.kr_cmd_steps.specs.Commands.{with_memory}
+use Rattle.kr_cmd_steps.specs.Phases.{with_memory}
 use Rattle.kr_cmd_steps.specs.Plugins.{borrow_links, borrow_links_of}
 use Rattle.kr_cmd_steps.specs.Steps.{Steps, borrow_link, and_then}
 use Rattle.kr_cmd_steps.specs.declared.programs.Program.{Program}
@@ -63,7 +63,7 @@ module _ {L : Type 0} (link : L → Link) where
   moved [] name behind = refl
   moved (first ∷ names) name behind = ap (λ l. first ∷ l) (moved names name behind)
 
-  module _ (rows : List Row) (links : List L) (program : Program) (more : List Program)
+  module _ (rows : List ConfigEntry) (links : List L) (program : Program) (more : List Program)
       (order : names_of link links ++ names_in (program ∷ more) ≡ plugin_order rows)
       (opened : L) (named : (link opened).name ≡ program.plugin) where
     -- it is the link of a new name
@@ -80,7 +80,7 @@ module _ {L : Type 0} (link : L → Link) where
         ∙ moved (names_of link links) program.plugin (names_in more) ∙ order
 
   -- there is a link to each plugin
-  pub all_linked : (rows : List Row) (links : List L) → names_of link links ≡ plugin_order rows
+  pub all_linked : (rows : List ConfigEntry) (links : List L) → names_of link links ≡ plugin_order rows
       → HasLinks (names_of link links) rows
   all_linked rows links is = λ name c. subst (λ l. Contains l name) (sym is)
       ((order_has (plugins_in rows) name).1 c)

@@ -20,7 +20,7 @@ use Rattle.kr_cmd_messages.specs.declared.refusal.Stop.{Stop}
 use Rattle.kr_cmd_steps.proofs.Goes.{IsSeen, borrowed, goes_on, nothing, one_world}
 use Rattle.kr_cmd_steps.proofs.Lending.{AreSeen, back_is, by_key, lent_seen, no_more, seen_behind, seen_same}
 
-abbrev LinksOf : Type 0
+abbrev pub LinksOf : Type 0
 LinksOf = Objects (ℕ × List ℕ) (Option Status)
 
 -- ---- several that are out

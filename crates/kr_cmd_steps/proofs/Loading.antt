@@ -11,9 +11,9 @@ use Rattle.kr_store.specs.Stores.{Kept, Loads, HasBreach}
 use Rattle.kr_store.specs.declared.answers.StoreNo.{StoreNo}
 use Rattle.kr_store.specs.declared.answers.StoreNo.TheVariants as no
 use Rattle.kr_cmd_steps.specs.Around.{Around, Stays, Reaches, IsHome, Ends}
-use Rattle.kr_cmd_steps.specs.Commands.{stored_on}
+use Rattle.kr_cmd_steps.specs.Phases.{stored_on}
 use Rattle.kr_cmd_steps.specs.Steps.{Steps, scanning, Point, awaits, Left, with_told}
-use Rattle.kr_cmd_steps.specs.StoreFiles.{Stored, IsStored, StillHolds, store_no}
+use Rattle.kr_cmd_steps.specs.StoreFiles.{Stored, IsStored, store_no}
 use Rattle.kr_cmd_steps.specs.inner.Lent.{with_lent_tape}
 use Rattle.kr_cmd_steps.specs.inner.Phases.{Does}
 use Rattle.kr_cmd_steps.specs.inner.Tapes.{load_stop, stored_of}
@@ -45,16 +45,6 @@ rose_on before one count (inr (x, y)) h = elim (eq-or-lt_of_le h) [
   | inl e ↦ inr (x, sym e ∙ y)
   | inr l ↦ inl (omega (arith, x, y, l))
 ]
-
--- a tape still holds a store over other counts, if these rose where those did
-pub still_holds : (store : Stored) (told : Option (List ℕ)) (before count other now : ℕ)
-    → (Rose before count → Rose other now) → StillHolds store told before count
-    → StillHolds store told other now
-still_holds store None before count other now rises h = tt
-still_holds store (Some bytes) before count other now rises (file, rest, is, e, inl none) =
-    (file, rest, is, e, inl none)
-still_holds store (Some bytes) before count other now rises (file, rest, is, e, inr rose) =
-    (file, rest, is, e, inr (rises rose))
 
 -- what tapes tell, where one of them tells this
 abbrev telling : (name : List ℕ) → Option (List ℕ) → (List ℕ → Option (Option (List ℕ)))
@@ -89,12 +79,8 @@ module _ (name : List ℕ) (told : Option (List ℕ)) (before : ℕ) (a : Around
     input = s.input;
     dice = s.dice;
     asked = s.asked;
+    heard = s.heard;
     said = s.said;
-    counts = λ key. omega (
-      arith,
-      s.counts key,
-      no_less (same_name name key) before count (a.world.tapes.faults key) later,
-    );
   }
 
   -- it tells something else
@@ -109,12 +95,8 @@ module _ (name : List ℕ) (told : Option (List ℕ)) (before : ℕ) (a : Around
     input = s.input;
     dice = s.dice;
     asked = s.asked;
+    heard = s.heard;
     said = s.said;
-    counts = λ key. omega (
-      arith,
-      s.counts key,
-      no_less (same_name name key) before count (a.world.tapes.faults key) later,
-    );
   }
 
   pub home_retold : (now : Option (List ℕ)) (count : ℕ) → before ≤ count

@@ -1,13 +1,14 @@
 -- Seeds are made, a bench adopts them, and does its part.
 use Rattle.std.proofs.Common.{◌≡◌, ℕ, List, Option, None, Some, Result, Ok, Err, refl, sym, ◌∙◌, subst, inl, inr}
 use Rattle.std.specs.Prelude.{IfSome}
-use Rattle.kr_config.specs.Kept.{Row}
+use Rattle.kr_config.specs.Kept.{ConfigEntry}
 use Rattle.kr_kms.specs.Calls.{Link}
 use Rattle.kr_kms.specs.declared.seeds.SeedRow.{SeedRow}
 use Rattle.kr_provider.specs.PluginOrder.{plugin_order}
 use Rattle.kr_provider.specs.Publication.{Publication}
 use Rattle.kr_cmd_steps.specs.Around.{Around}
-use Rattle.kr_cmd_steps.specs.Commands.{with_memory, working, working_by}
+use Rattle.kr_cmd_steps.specs.Phases.{with_memory}
+use Rattle.kr_cmd_steps.specs.ValueSteps.{working, working_by}
 use Rattle.kr_cmd_steps.specs.Plugins.{make_seeds}
 use Rattle.kr_cmd_steps.specs.Steps.{Steps, and_then}
 use Rattle.kr_cmd_messages.specs.declared.command.Direction.{Direction}
@@ -27,7 +28,7 @@ remembers {next = next} {old} d = goes_on (with_memory nothing) (λ u. next) tt
     (record { home = home_refl old; ends = λ l s. reach l (inr (tt, tt, (refl, refl))) s }) d
 
 -- seeds are made for rows that are known to be these, and then what follows
-module _ {A : Type 0} (next : List SeedRow → Steps A) {others rows : List Row}
+module _ {A : Type 0} (next : List SeedRow → Steps A) {others rows : List ConfigEntry}
     (same : others ≡ rows) {old mid : Around} where
   seeds_by : {result : Result (List SeedRow) Stop}
       → Does (make_seeds (plugin_order others)) old mid result
@@ -45,7 +46,7 @@ module _ {A : Type 0} (next : List SeedRow → Steps A) {others rows : List Row}
   seeded seeds d e =
       remembers (goes_on (make_seeds (plugin_order rows)) next seeds (seeds_by d) e)
 
-module _ (direction : Direction) (resource path : List ℕ) (rows : List Row) (bytes : List ℕ) where
+module _ (direction : Direction) (resource path : List ℕ) (rows : List ConfigEntry) (bytes : List ℕ) where
   abbrev Working : Around → Around → Result Outcome Stop → Type 0
   Working old new result = Does (working direction resource path rows bytes) old new result
 
@@ -55,7 +56,7 @@ module _ (direction : Direction) (resource path : List ℕ) (rows : List Row) (b
   pub unmade : (a : Around) → Working a a (Err NoMemory)
   unmade a = lacks (and_then (make_seeds (plugin_order rows)) next) a
 
-  module _ {others : List Row} (same : others ≡ rows) {old mid : Around} where
+  module _ {others : List ConfigEntry} (same : others ≡ rows) {old mid : Around} where
     pub unpublished : (stop : Stop) → Does (make_seeds (plugin_order others)) old mid (Err stop)
         → Working old mid (Err stop)
     unpublished stop d = unseeded next same stop d
@@ -66,7 +67,7 @@ module _ (direction : Direction) (resource path : List ℕ) (rows : List Row) (b
     passed_on seeds d e = seeded next same seeds d e
 
 -- memory lacked before the bench did anything
-lacks_work : (direction : Direction) (resource path : List ℕ) (rows : List Row) (bytes : List ℕ)
+lacks_work : (direction : Direction) (resource path : List ℕ) (rows : List ConfigEntry) (bytes : List ℕ)
     (seeds : List SeedRow) (a : Around)
     → Does (working_by direction resource path rows bytes seeds) a a (Err NoMemory)
 lacks_work Encrypt resource path rows bytes seeds a =
@@ -75,44 +76,44 @@ lacks_work Decrypt resource path rows bytes seeds a =
     record { home = home_refl a; ends = λ l s. inr (reach l (inl (refl, refl)) s) }
 
 module _ {L D : Type 0} (link : L → Link) (left : D → Option (List ℕ)) (count : D → ℕ)
-    (direction : Direction) (resource path : List ℕ) (rows others : List Row) (bytes : List ℕ)
-    (same : others ≡ rows) (olds mids : List L) (old mid : D) (a : Around) where
-  abbrev With : List L → D → Around
-  With links dice = Seen link a links (left dice) (count dice)
+    (direction : Direction) (resource path : List ℕ) (rows others : List ConfigEntry) (bytes : List ℕ)
+    (same : others ≡ rows) (olds mids : List L) (old mid : D) (a b : Around) where
+  abbrev With : Around → List L → D → Around
+  With around links dice = Seen link around links (left dice) (count dice)
 
   -- what wasn't adopted is back
   pub unadopted : (seeds : List SeedRow) (back : List L) (dice : D) → back ≡ mids → dice ≡ mid
-      → Does (make_seeds (plugin_order others)) (With olds old) (With mids mid) (Ok seeds)
-      → Does (working direction resource path rows bytes) (With olds old) (With back dice)
+      → Does (make_seeds (plugin_order others)) (With a olds old) (With b mids mid) (Ok seeds)
+      → Does (working direction resource path rows bytes) (With a olds old) (With b back dice)
       (Err NoMemory)
   unadopted seeds back dice is at d =
       let Result_at : List L → D → Type 0 = λ links dice. Does
-      (working direction resource path rows bytes) (With olds old) (With links dice)
+      (working direction resource path rows bytes) (With a olds old) (With b links dice)
       (Err NoMemory) in
       subst (λ l. Result_at l dice) (sym is)
       (subst (λ n. Result_at mids n) (sym at)
       (passed_on direction resource path rows bytes same seeds d
-      (lacks_work direction resource path rows bytes seeds (With mids mid))))
+      (lacks_work direction resource path rows bytes seeds (With b mids mid))))
 
   -- a bench adopted the publication, and made that
-  pub made_by : (p : Publication) (published : Option Publication) (benched back : List L)
-      (held dice : D) (made : Result Outcome Stop)
+  pub made_by : (c : Around) (p : Publication) (published : Option Publication)
+      (benched back : List L) (held dice : D) (made : Result Outcome Stop)
       → published ≡ Some p → p.rows ≡ others → benched ≡ mids → held ≡ mid
-      → Does (make_seeds (plugin_order others)) (With olds old) (With mids mid) (Ok p.seeds)
+      → Does (make_seeds (plugin_order others)) (With a olds old) (With b mids mid) (Ok p.seeds)
       → IfSome published (λ q. Does (working_by direction resource path q.rows bytes q.seeds)
-      (With benched held) (With back dice) made)
-      → Does (working direction resource path rows bytes) (With olds old) (With back dice) made
-  made_by p None benched back held dice made e r is at d w = absurd cc
-  made_by p (Some q) benched back held dice made e r is at d w =
+      (With b benched held) (With c back dice) made)
+      → Does (working direction resource path rows bytes) (With a olds old) (With c back dice) made
+  made_by c p None benched back held dice made e r is at d w = absurd cc
+  made_by c p (Some q) benched back held dice made e r is at d w =
       let q_is : q ≡ p = cc in
-      let done : Does (working_by direction resource path rows bytes p.seeds) (With mids mid)
-      (With back dice) made =
-      subst (λ n. Does (working_by direction resource path rows bytes p.seeds) (With mids n)
-      (With back dice) made) at
-      (subst (λ l. Does (working_by direction resource path rows bytes p.seeds) (With l held)
-      (With back dice) made) is
-      (subst (λ t. Does (working_by direction resource path t bytes p.seeds) (With benched held)
-      (With back dice) made) (r ∙ same)
+      let done : Does (working_by direction resource path rows bytes p.seeds) (With b mids mid)
+      (With c back dice) made =
+      subst (λ n. Does (working_by direction resource path rows bytes p.seeds) (With b mids n)
+      (With c back dice) made) at
+      (subst (λ l. Does (working_by direction resource path rows bytes p.seeds) (With b l held)
+      (With c back dice) made) is
+      (subst (λ t. Does (working_by direction resource path t bytes p.seeds) (With b benched held)
+      (With c back dice) made) (r ∙ same)
       (subst (λ (x : Publication). Does (working_by direction resource path x.rows bytes x.seeds)
-      (With benched held) (With back dice) made) q_is w))) in
+      (With b benched held) (With c back dice) made) q_is w))) in
       passed_on direction resource path rows bytes same p.seeds d done

@@ -4,16 +4,16 @@ use Rattle.std.specs.Prelude.{◌↔◌}
 use Rattle.std.specs.List.Sorted.{IsStrictlySortedBy}
 use Rattle.std.specs.declared.cmp.Ordering.TheVariants.{Less}
 use Rattle.std.proofs.lemmas.List.Elements.{All-contains, Contains-append_cases, Contains-append_left, Contains-append_right}
-use Rattle.kr_config.specs.Kept.{Row, keeps, plugins_in}
+use Rattle.kr_config.specs.Kept.{ConfigEntry, keeps, plugins_in}
 use Rattle.kr_config.specs.Nexts.{IsNextName, name_cmp}
-use Rattle.kr_words.specs.Arguments.{program_of}
+use Rattle.kr_words.specs.Arguments.{plugin_program}
 use Rattle.kr_provider.specs.PluginOrder.{plugin_order}
-use Rattle.kr_provider.proofs.NameOrder.{IsStrictlySortedBy-none, ascend_more, before_next, is_before, is_less, neither, none_between, not_itself, then_before, to_false}
+use Rattle.kr_provider.proofs.NameOrder.{IsStrictlySortedBy-none, ascend_more, before_next, comes_earlier, is_less, neither, none_between, not_itself, then_before, to_false}
 use Rattle.kr_provider.proofs.PluginNames.{names_some}
 use Rattle.kr_provider.proofs.PluginOrder.{one_order, order_ascends, order_before, order_has}
 use Rattle.kr_cmd_steps.specs.Around.{Around, Reaches, Stays}
-use Rattle.kr_cmd_steps.specs.Commands.{by_result, linking_programs}
-use Rattle.kr_cmd_steps.specs.Plugins.{join_program, programs_of}
+use Rattle.kr_cmd_steps.specs.Phases.{by_result, linking_programs}
+use Rattle.kr_cmd_steps.specs.Plugins.{join_program, settings_programs}
 use Rattle.kr_cmd_steps.specs.Steps.{Goes, Left, Point, gives, refuses}
 use Rattle.kr_cmd_steps.specs.declared.programs.Program.{Program}
 use Rattle.kr_cmd_messages.specs.declared.refusal.Refusal.{Refusal}
@@ -27,12 +27,12 @@ use Rattle.kr_cmd_steps.proofs.Works.{lacks}
 -- ---- the names that were passed
 
 -- they are the plugins' that don't come after this name, in order
-pub record ArePassed (rows : List Row) (after : List ℕ) (names : List (List ℕ)) : Type 0 where
+pub record ArePassed (rows : List ConfigEntry) (after : List ℕ) (names : List (List ℕ)) : Type 0 where
   pub ascend : IsStrictlySortedBy name_cmp names
   pub has : (name : List ℕ) → Contains names name
-      ↔ (Contains (plugins_in rows) name × (is_before after name ≡ false))
+      ↔ (Contains (plugins_in rows) name × (comes_earlier after name ≡ false))
 
-pub none_passed : (rows : List Row) → IsTrue (keeps rows) → ArePassed rows [] []
+pub none_passed : (rows : List ConfigEntry) → IsTrue (keeps rows) → ArePassed rows [] []
 none_passed rows k = record {
   ascend = IsStrictlySortedBy-none;
   has = λ name. (
@@ -41,19 +41,19 @@ none_passed rows k = record {
   );
 }
 
-module _ {rows : List Row} {after next : List ℕ} {names : List (List ℕ)}
+module _ {rows : List ConfigEntry} {after next : List ℕ} {names : List (List ℕ)}
     (passed : ArePassed rows after names) (is : IsNextName (plugins_in rows) after (Some next)) where
-  passed_before : (name : List ℕ) → Contains names name → is_before name next ≡ true
+  passed_before : (name : List ℕ) → Contains names name → comes_earlier name next ≡ true
   passed_before name c = before_next after next name is.1 ((passed.has name).0 c).1
 
-  no_later : (name : List ℕ) → Contains (plugins_in rows) name → is_before after name ≡ true
-      → is_before name next ≡ false
-  no_later name c later = to_false (is_before name next) (λ t.
-      All-contains (λ x. is_before after x ≡ true → name_cmp x next ≢ Less) (plugins_in rows) name
+  no_later : (name : List ℕ) → Contains (plugins_in rows) name → comes_earlier after name ≡ true
+      → comes_earlier name next ≡ false
+  no_later name c later = to_false (comes_earlier name next) (λ t.
+      All-contains (λ x. comes_earlier after x ≡ true → name_cmp x next ≢ Less) (plugins_in rows) name
       is.2 c later (is_less name next t))
 
-  is_passed : (name : List ℕ) (q : Bool) → is_before after name ≡ q
-      → Contains (plugins_in rows) name → is_before next name ≡ false
+  is_passed : (name : List ℕ) (q : Bool) → comes_earlier after name ≡ q
+      → Contains (plugins_in rows) name → comes_earlier next name ≡ false
       → Contains (names ++ next ∷ []) name
   is_passed name true e c late = Contains-append_right names (next ∷ []) name
       (0, omega arith, neither next name late (no_later name c e))
@@ -61,17 +61,17 @@ module _ {rows : List Row} {after next : List ℕ} {names : List (List ℕ)}
       Contains-append_left names (next ∷ []) name ((passed.has name).1 (c, e))
 
   was_passed : (name : List ℕ) → Contains (names ++ next ∷ []) name
-      → Contains (plugins_in rows) name × (is_before next name ≡ false)
+      → Contains (plugins_in rows) name × (comes_earlier next name ≡ false)
   was_passed name c = elim (Contains-append_cases names (next ∷ []) name c) [
     | inl d ↦ (
       ((passed.has name).0 d).0,
-      to_false (is_before next name) (λ t. not_itself name
+      to_false (comes_earlier next name) (λ t. not_itself name
           (then_before name next name (passed_before name d) t)),
     )
     | inr d ↦ let same : next ≡ name = only d in (
       subst (Contains (plugins_in rows)) same is.0,
-      subst (λ n. is_before next n ≡ false) same
-          (to_false (is_before next next) (not_itself next)),
+      subst (λ n. comes_earlier next n ≡ false) same
+          (to_false (comes_earlier next next) (not_itself next)),
     )
   ]
     where
@@ -86,7 +86,7 @@ module _ {rows : List Row} {after next : List ℕ} {names : List (List ℕ)}
         (λ name c. is_less name next (passed_before name c));
     has = λ name. (
       was_passed name,
-      λ h. is_passed name (is_before after name) refl h.0 h.1,
+      λ h. is_passed name (comes_earlier after name) refl h.0 h.1,
     );
   }
 
@@ -103,7 +103,7 @@ module _ {rows : List Row} {after next : List ℕ} {names : List (List ℕ)}
       ))
 
 -- all were passed
-pub all_passed : {rows : List Row} {after : List ℕ} {names : List (List ℕ)}
+pub all_passed : {rows : List ConfigEntry} {after : List ℕ} {names : List (List ℕ)}
     → ArePassed rows after names → IsNextName (plugins_in rows) after None
     → plugin_order rows ≡ names
 all_passed {rows} {after} {names} passed none =
@@ -111,7 +111,7 @@ all_passed {rows} {after} {names} passed none =
     one_order (plugin_order rows) names (order_ascends plugins) passed.ascend
     (λ name c. (order_has plugins name).1 ((passed.has name).0 c).0)
     (λ name c. let there = (order_has plugins name).0 c in (passed.has name).1
-    (there, All-contains (λ x. is_before after x ≡ false) plugins name none there))
+    (there, All-contains (λ x. comes_earlier after x ≡ false) plugins name none there))
 
 -- ---- their programs
 
@@ -119,14 +119,14 @@ abbrev pub names_in : List Program → List (List ℕ)
 names_in programs = map (λ program. program.plugin) programs
 
 no_names : (options : List (List ℕ × List ℕ)) (programs : List Program)
-    → programs_of options [] ≡ Ok programs → programs ≡ []
+    → settings_programs options [] ≡ Ok programs → programs ≡ []
 no_names options [] e = refl
 no_names options (program ∷ more) e = absurd cc
 
 module _ (options : List (List ℕ × List ℕ)) where
   -- what stands behind the first, where all of them have programs
   joins : (name : List ℕ) (o : Option (List ℕ)) (r : Result (List Program) Refusal)
-      (programs : List Program) → program_of options name ≡ o → join_program name o r ≡ Ok programs
+      (programs : List Program) → plugin_program options name ≡ o → join_program name o r ≡ Ok programs
       → (more : List Program) × (file : List ℕ) × (o ≡ Some file) × (r ≡ Ok more)
       × (programs ≡ record { plugin = name; file = file } ∷ more)
   joins name None r programs is e = absurd cc
@@ -135,29 +135,29 @@ module _ (options : List (List ℕ × List ℕ)) where
 
   -- one more has a program
   pub one_program : (names : List (List ℕ)) (programs : List Program) (plugin file : List ℕ)
-      → programs_of options names ≡ Ok programs → program_of options plugin ≡ Some file
-      → programs_of options (names ++ plugin ∷ [])
+      → settings_programs options names ≡ Ok programs → plugin_program options plugin ≡ Some file
+      → settings_programs options (names ++ plugin ∷ [])
       ≡ Ok (programs ++ record { plugin = plugin; file = file } ∷ [])
   one_program [] programs plugin file e f =
       ap (λ o. join_program plugin o (Ok [])) f
       ∙ ap (λ l. Ok (l ++ record { plugin = plugin; file = file } ∷ []))
       (sym (no_names options programs e))
   one_program (name ∷ names) programs plugin file e f =
-      let j = joins name (program_of options name) (programs_of options names) programs refl e in
-      ap (λ o. join_program name o (programs_of options (names ++ plugin ∷ []))) j.2
+      let j = joins name (plugin_program options name) (settings_programs options names) programs refl e in
+      ap (λ o. join_program name o (settings_programs options (names ++ plugin ∷ []))) j.2
       ∙ ap (join_program name (Some j.1)) (one_program names j.0 plugin file j.3 f)
       ∙ ap (λ l. Ok (l ++ record { plugin = plugin; file = file } ∷ [])) (sym j.4)
 
   -- the first without one is refused
   pub no_program : (names : List (List ℕ)) (programs : List Program) (plugin : List ℕ)
-      (behind : List (List ℕ)) → programs_of options names ≡ Ok programs
-      → program_of options plugin ≡ None
-      → programs_of options (names ++ plugin ∷ behind) ≡ Err (NoPlugin plugin)
+      (behind : List (List ℕ)) → settings_programs options names ≡ Ok programs
+      → plugin_program options plugin ≡ None
+      → settings_programs options (names ++ plugin ∷ behind) ≡ Err (NoPlugin plugin)
   no_program [] programs plugin behind e f =
-      ap (λ o. join_program plugin o (programs_of options behind)) f
+      ap (λ o. join_program plugin o (settings_programs options behind)) f
   no_program (name ∷ names) programs plugin behind e f =
-      let j = joins name (program_of options name) (programs_of options names) programs refl e in
-      ap (λ o. join_program name o (programs_of options (names ++ plugin ∷ behind))) j.2
+      let j = joins name (plugin_program options name) (settings_programs options names) programs refl e in
+      ap (λ o. join_program name o (settings_programs options (names ++ plugin ∷ behind))) j.2
       ∙ ap (join_program name (Some j.1)) (no_program names j.0 plugin behind j.3 f)
 
 names_more : (programs : List Program) (last : Program)
@@ -165,20 +165,20 @@ names_more : (programs : List Program) (last : Program)
 names_more [] last = refl
 names_more (program ∷ programs) last = ap (λ l. program.plugin ∷ l) (names_more programs last)
 
-module _ (options : List (List ℕ × List ℕ)) (rows : List Row) where
+module _ (options : List (List ℕ × List ℕ)) (rows : List ConfigEntry) where
   -- the next has one
   pub one_linked : {after next : List ℕ} (programs now : List Program) (file : List ℕ)
       → ArePassed rows after (names_in programs)
       → IsNextName (plugins_in rows) after (Some next)
-      → programs_of options (names_in programs) ≡ Ok programs
-      → program_of options next ≡ Some file
+      → settings_programs options (names_in programs) ≡ Ok programs
+      → plugin_program options next ≡ Some file
       → now ≡ programs ++ record { plugin = next; file = file } ∷ []
-      → ArePassed rows next (names_in now) × (programs_of options (names_in now) ≡ Ok now)
+      → ArePassed rows next (names_in now) × (settings_programs options (names_in now) ≡ Ok now)
   one_linked {next = next} programs now file passed is found own now_is =
       let names = ap names_in now_is
       ∙ names_more programs (record { plugin = next; file = file }) in (
         subst (ArePassed rows next) (sym names) (one_passed passed is),
-        ap (programs_of options) names
+        ap (settings_programs options) names
             ∙ one_program options (names_in programs) programs next file found own
             ∙ ap (λ l. Ok l) (sym now_is),
       )
@@ -193,13 +193,13 @@ abbrev end_point : Result (List Program) Refusal → Point (List Program)
 end_point (Ok programs) = gives programs
 end_point (Err why) = refuses why
 
-module _ (options : List (List ℕ × List ℕ)) (rows : List Row) (a : Around) where
+module _ (options : List (List ℕ × List ℕ)) (rows : List ConfigEntry) (a : Around) where
   by_goes : (r : Result (List Program) Refusal) (l : Left)
       → Goes (end_point r) l (by_result r) l
   by_goes (Ok programs) l = (refl, refl)
   by_goes (Err why) l = (refl, refl)
 
-  comes : (r : Result (List Program) Refusal) → programs_of options (plugin_order rows) ≡ r
+  comes : (r : Result (List Program) Refusal) → settings_programs options (plugin_order rows) ≡ r
       → (l : Left) → Stays l a → Reaches (linking_programs options rows) l a (end_point r)
   comes r is l s = reach l (inr (
     tt,
@@ -208,7 +208,7 @@ module _ (options : List (List ℕ × List ℕ)) (rows : List Row) (a : Around) 
         (by_goes r l),
   )) s
 
-  at_result : (r : Result (List Program) Refusal) → programs_of options (plugin_order rows) ≡ r
+  at_result : (r : Result (List Program) Refusal) → settings_programs options (plugin_order rows) ≡ r
       → Does (linking_programs options rows) a a (by_refusal r)
   at_result (Ok programs) is =
       record { home = home_refl a; ends = λ l s. comes (Ok programs) is l s }
@@ -217,24 +217,24 @@ module _ (options : List (List ℕ × List ℕ)) (rows : List Row) (a : Around) 
   -- all have one
   pub linked : {after : List ℕ} (programs : List Program) → ArePassed rows after (names_in programs)
       → IsNextName (plugins_in rows) after None
-      → programs_of options (names_in programs) ≡ Ok programs
+      → settings_programs options (names_in programs) ≡ Ok programs
       → Does (linking_programs options rows) a a (Ok programs)
   linked programs passed none is =
-      at_result (Ok programs) (ap (programs_of options) (all_passed passed none) ∙ is)
+      at_result (Ok programs) (ap (settings_programs options) (all_passed passed none) ∙ is)
 
   -- the next has none
   pub unlinked : {after next : List ℕ} (programs : List Program) (stop : Stop)
       → ArePassed rows after (names_in programs)
       → IsNextName (plugins_in rows) after (Some next)
-      → programs_of options (names_in programs) ≡ Ok programs
-      → program_of options next ≡ None
+      → settings_programs options (names_in programs) ≡ Ok programs
+      → plugin_program options next ≡ None
       → (stop ≡ Refused (NoPlugin next)) ⊎ (stop ≡ NoMemory)
       → Does (linking_programs options rows) a a (Err stop)
   unlinked {next = next} programs stop passed is found none (inl e) =
       let there = stands_next passed is in
       subst (λ w. Does (linking_programs options rows) a a (Err w)) (sym e)
-      (at_result (Err (NoPlugin next)) (ap (programs_of options) there.1
+      (at_result (Err (NoPlugin next)) (ap (settings_programs options) there.1
       ∙ no_program options (names_in programs) programs next there.0 found none))
   unlinked programs stop passed is found none (inr e) =
       subst (λ w. Does (linking_programs options rows) a a (Err w)) (sym e)
-      (lacks (by_result (programs_of options (plugin_order rows))) a)
+      (lacks (by_result (settings_programs options (plugin_order rows))) a)

@@ -2,8 +2,10 @@
 use Rattle.std.proofs.Common.{◌≡◌, List, ℕ}
 use Rattle.kr_cmd_steps.specs.Steps.{Point, awaits, amid, refuses, gives, settling, writing}
 use Rattle.kr_cmd_messages.specs.declared.refusal.Done.TheVariants.{Silent}
+use Rattle.kr_cmd_messages.specs.declared.refusal.Limit as limits
 use Rattle.kr_cmd_messages.specs.declared.refusal.Object.{Object}
 use Rattle.kr_cmd_messages.specs.declared.refusal.Outcome.{Outcome}
+use Rattle.kr_cmd_messages.specs.declared.refusal.Refusal.TheVariants.{Limit}
 
 -- no value
 abbrev pub IsShort : {A : Type 0} → Point A → Type 0
@@ -11,6 +13,13 @@ IsShort (awaits call) = Unit {0}
 IsShort amid = Unit {0}
 IsShort (refuses why) = Unit {0}
 IsShort (gives x) = ⊥
+
+-- memory lacks between two calls, or a limit would be passed
+abbrev pub IsAmidRows : {A : Type 0} → Point A → Type 0
+IsAmidRows (awaits call) = ⊥
+IsAmidRows amid = Unit {0}
+IsAmidRows (refuses why) = (which : limits.Limit) × (why ≡ Limit which)
+IsAmidRows (gives x) = ⊥
 
 -- a write to the store
 abbrev pub IsTorn : {A : Type 0} → Object → (store : List ℕ) → Point A → Type 0

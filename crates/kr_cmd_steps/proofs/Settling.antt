@@ -5,7 +5,7 @@ use Rattle.kr_kms.specs.Outside.{Outside, at_key, same_name, with_call}
 use Rattle.kr_kms.specs.declared.world.WorldCall.TheVariants.{Settled}
 use Rattle.kr_kms.specs.declared.world.Access.{Access}
 use Rattle.kr_cmd_steps.specs.Around.{Around, with_world}
-use Rattle.kr_cmd_steps.specs.Commands.{settled_for}
+use Rattle.kr_cmd_steps.specs.Phases.{settled_for}
 use Rattle.kr_cmd_steps.specs.Steps.{Steps, and_then, give, settle, settling, with_asked}
 use Rattle.kr_cmd_steps.specs.inner.Lent.{with_lent_tape}
 use Rattle.kr_cmd_steps.specs.inner.Phases.{Does}
@@ -43,8 +43,8 @@ module _ (object : Object) (name : List ℕ) (told : Option (List ℕ)) (count :
           input = s.input;
           dice = s.dice;
           asked = ap (with_call (Settled name)) s.asked;
+          heard = s.heard;
           said = s.said;
-          counts = s.counts;
         });
       }
 

@@ -10,7 +10,7 @@ use Rattle.kr_kms.specs.declared.world.WorldCall.TheVariants.{Tape}
 use Rattle.kr_kms.proofs.Lent.{names_decide}
 use Rattle.kr_kms.specs.declared.world.Access.{Access}
 use Rattle.kr_cmd_steps.specs.Around.{Around, with_world, with_lent, Stays, Reaches}
-use Rattle.kr_cmd_steps.specs.Commands.{tape_for}
+use Rattle.kr_cmd_steps.specs.Phases.{tape_for}
 use Rattle.kr_cmd_steps.specs.Steps.{Steps, borrow_tape, give, lending, Point, awaits, Left, MayBorrow, or_empty, tapes_with, with_asked, with_tape}
 use Rattle.kr_cmd_steps.specs.inner.Lent.{with_lent_tape, with_tapes}
 use Rattle.kr_cmd_steps.specs.inner.Phases.{Does, AskedUnless}
@@ -148,12 +148,8 @@ lent name access absent {old} {out} {held} {count} h a = record {
         input = s.input;
         dice = λ seat. subst (λ d. Keeps (l.dice seat) (d.told seat)) (sym h.dice) (s.dice seat);
         asked = h.asked ∙ ap (with_call (Tape name access)) s.asked;
+        heard = s.heard;
         said = s.said;
-        counts = λ key. omega (
-          arith,
-          s.counts key,
-          (lent_home same_name names_decide (option_map Some held) h.out).later key,
-        );
       });
 }
 
@@ -192,6 +188,19 @@ module _ (name : List ℕ) (access : Access) {old out mid new : Outside}
   lends_tape a h returned works = lends_tape_to a a h returned works
 
 -- what leaves the tapes, done while this one is out
+pub behind_tape_to : (name : List ℕ) (told : Option (List ℕ)) (count : ℕ) {old new : Outside}
+    (a c : Around) {B : Type 0} {next : Steps B} {result : Result B Stop} → new.tapes ≡ old.tapes
+    → Does next
+    (with_world (with_tapes (with_lent same_name name (option_map Some told) count old.tapes) old) a)
+    (with_world (with_tapes (with_lent same_name name (option_map Some told) count old.tapes) new) c)
+    result
+    → Does next (with_lent_tape name told count (with_world old a))
+    (with_lent_tape name told count (with_world new c)) result
+behind_tape_to name told count {old} {new} a c {next = next} {result} same d =
+    subst (λ t. Does next (with_lent_tape name told count (with_world old a))
+    (with_world (with_tapes (with_lent same_name name (option_map Some told) count t) new) c)
+    result) (sym same) d
+
 pub behind_tape : (name : List ℕ) (told : Option (List ℕ)) (count : ℕ) {old new : Outside}
     (a : Around) {B : Type 0} {next : Steps B} {result : Result B Stop} → new.tapes ≡ old.tapes
     → Does next
@@ -200,7 +209,4 @@ pub behind_tape : (name : List ℕ) (told : Option (List ℕ)) (count : ℕ) {ol
     result
     → Does next (with_lent_tape name told count (with_world old a))
     (with_lent_tape name told count (with_world new a)) result
-behind_tape name told count {old} {new} a {next = next} {result} same d =
-    subst (λ t. Does next (with_lent_tape name told count (with_world old a))
-    (with_world (with_tapes (with_lent same_name name (option_map Some told) count t) new) a)
-    result) (sym same) d
+behind_tape name told count a same d = behind_tape_to name told count a a same d

@@ -1,35 +1,34 @@
 -- How the steps of unsealing end, by what a bench read.
-use Rattle.std.proofs.Common.{◌≡◌, ◌≢◌, ℕ, List, [], ◌∷◌, Bool, true, false, Option, None, Some, Result, Ok, Err, refl, sym, ◌∙◌, ap, subst, inl, inr}
-use Rattle.std.specs.Prelude.{All, ◌||◌, not, if◌then◌else◌}
-use Rattle.std.proofs.lemmas.List.Elements.{All-cons, All-head, All-nil, All-tail}
+use Rattle.std.proofs.Common.{◌≡◌, ℕ, List, [], ◌∷◌, Bool, true, false, Option, None, Some, Result, Ok, Err, refl, sym, ◌∙◌, ap, subst}
+use Rattle.std.specs.Prelude.{◌||◌, not, if◌then◌else◌}
 use Rattle.kr_config.specs.declared.who.Who.{Who}
 use Rattle.kr_config.specs.declared.who.Who.TheVariants.{Identity, Aescbc, Aesgcm, Kms}
 use Rattle.kr_envelope.specs.declared.object.EncryptedObject.{EncryptedObject}
 use Rattle.kr_envelope.specs.declared.object.ObjectNo.{ObjectNo}
 use Rattle.kr_kms.specs.Cache.{key_eq}
 use Rattle.kr_kms.specs.Calls.{Link}
-use Rattle.kr_kms.specs.Truth.{OpenAll, Truth, TellsOf, key_of}
+use Rattle.kr_kms.specs.Truth.{Truth, key_of}
 use Rattle.kr_kms.specs.declared.seeds.SeedKey.{SeedKey}
 use Rattle.kr_kms.specs.declared.seeds.SeedRow.{SeedRow}
 use Rattle.kr_kms.proofs.Keys.{same_key}
 use Rattle.kr_provider.specs.AskedLinks.{AskedOnly}
-use Rattle.kr_provider.specs.Envelopes.{Envelope, HasEnvelope, seed_key}
+use Rattle.kr_provider.specs.Envelopes.{Envelope, seed_key}
 use Rattle.kr_provider.specs.Publication.{seed_of}
 use Rattle.kr_provider.specs.Readers.{is_reader, reader_in, writer_of}
-use Rattle.kr_provider.specs.Reading.{Reading, unopened, is_rotated, is_stale, reader_reading}
-use Rattle.kr_provider.specs.Unsealing.{IsSeedOf, MayAskFor, TakesSeed, UnsealsBy, plugin_reading}
+use Rattle.kr_provider.specs.Reading.{Reading, is_rotated, is_stale, reader_reading}
+use Rattle.kr_provider.specs.Unsealing.{IsSeedOf, MayAskPlugin, MayAskFor, TakesSeed, UnsealsBy, plugin_reading}
 use Rattle.kr_provider.specs.declared.refusal.Opened.{Opened}
 use Rattle.kr_provider.specs.declared.refusal.UnsealNo.{UnsealNo}
 use Rattle.kr_provider.specs.declared.refusal.UnsealNo.TheVariants as unseal
-use Rattle.kr_cmd_steps.specs.Commands.{opening, published_source, source_steps}
-use Rattle.kr_cmd_steps.specs.Steps.{Goes, Left, Point, Steps, asking, awaits, unwrap}
+use Rattle.kr_cmd_steps.specs.ValueSteps.{opening, published_source, source_steps}
+use Rattle.kr_cmd_steps.specs.Steps.{Goes, Left, Point, Steps, unwrap}
 
-one_key : (a b : SeedKey) → key_eq a b ≡ true → a ≡ b
+pub one_key : (a b : SeedKey) → key_eq a b ≡ true → a ≡ b
 one_key a b t = (same_key a b).0 t
 
 -- ---- a source
 
-abbrev envelope_of : Result EncryptedObject ObjectNo → Option (List ℕ) → Envelope
+abbrev pub envelope_of : Result EncryptedObject ObjectNo → Option (List ℕ) → Envelope
 envelope_of object source = record { object = object; source = source }
 
 module _ {A : Type 0} (read_so : Reading → Bool → Steps A) (seeds : List SeedRow)
@@ -50,10 +49,6 @@ module _ {A : Type 0} (read_so : Reading → Bool → Steps A) (seeds : List See
       (subst (λ r. Goes point l (read_so r (stale source)) l) reads goes)
 
   module _ (name : List ℕ) (object : EncryptedObject) (source : Option (List ℕ))
-      (told : l.truth.told ≡ true → source ≡ l.truth.opens (seed_key name object))
-      (fresh : (s : Option (List ℕ)) → stale s ≡ stale source)
-      (opened : reader_reading (envelope_of (Ok object) source) (Some (Kms name)) path bytes
-      ≢ unopened)
       (goes : Goes point l (With (Some (Kms name)) (Ok object) source) l) where
     abbrev key : SeedKey
     key = seed_key name object
@@ -62,49 +57,50 @@ module _ {A : Type 0} (read_so : Reading → Bool → Steps A) (seeds : List See
         → Goes point l (With (Some (Kms name)) (Ok object) s) l
     at_source s e = subst (λ t. Goes point l (With (Some (Kms name)) (Ok object) t) l) e goes
 
-    unwraps : (s : Option (List ℕ)) → source ≡ s
-        → Goes point l (unwrap 0 key (λ b. With (Some (Kms name)) (Ok object) (Some b))) l
-    unwraps None e = absurd (opened
-        (ap (λ s. reader_reading (envelope_of (Ok object) s) (Some (Kms name)) path bytes) e))
-    unwraps (Some b) e = inr (b, λ t. sym (told t) ∙ e, at_source (Some b) e)
-
     by_seed : (row : SeedRow) (q : Bool) → key_eq (key_of row) key ≡ q
         → (IsSeedOf row name object → source ≡ Some row.seed)
+        → ((IsSeedOf row name object → ⊥) → ⊥)
         → Goes point l (source_steps (if q then Some row.seed else None) key
         (With (Some (Kms name)) (Ok object))) l
-    by_seed row true e takes = at_source (Some row.seed) (takes (one_key (key_of row) key e))
-    by_seed row false e takes = unwraps source refl
+    by_seed row true e takes own =
+        at_source (Some row.seed) (takes (one_key (key_of row) key e))
+    by_seed row false e takes own = absurd (own (λ same.
+        let yes = (same_key (key_of row) key).1 same in
+        let both : true ≡ false = sym yes ∙ e in cc))
 
     by_row : (row : Option SeedRow)
         → ((seed : SeedRow) → row ≡ Some seed → IsSeedOf seed name object
         → source ≡ Some seed.seed)
+        → (((seed : SeedRow) → row ≡ Some seed → IsSeedOf seed name object → ⊥) → ⊥)
         → Goes point l (source_steps (published_source row key) key
         (With (Some (Kms name)) (Ok object))) l
-    by_row None takes = unwraps source refl
-    by_row (Some row) takes =
-        by_seed row (key_eq (key_of row) key) refl (λ same. takes row refl same)
+    by_row None takes own =
+        absurd (own (λ seed is same. let none : None ≡ Some seed = is in cc))
+    by_row (Some row) takes own = by_seed row (key_eq (key_of row) key) refl
+        (λ same. takes row refl same)
+        (λ other. own (λ seed is same. other (subst (λ r. IsSeedOf r name object)
+        (let one : seed ≡ row = cc in one) same)))
 
-  -- the published seed, or the plugin's answer
-  pub opens_to : (reader : Option Who) (object : Result EncryptedObject ObjectNo)
+  -- no plugin may be asked: the source is the published seed, or there is none
+  pub opens_unasked : (reader : Option Who) (object : Result EncryptedObject ObjectNo)
       (source : Option (List ℕ)) → TakesSeed seeds reader (envelope_of object source)
-      → (l.truth.told ≡ true → HasEnvelope l.truth.opens reader bytes (envelope_of object source))
+      → (MayAskPlugin seeds reader object → ⊥)
       → ((s : Option (List ℕ)) → stale s ≡ stale source)
-      → reader_reading (envelope_of object source) reader path bytes ≢ unopened
       → Goes point l (With reader object source) l
       → Goes point l (opening seeds reader object (With reader object)) l
-  opens_to None object source takes told fresh opened goes =
+  opens_unasked None object source takes own fresh goes =
       passes None object source (fresh None) refl goes
-  opens_to (Some Identity) object source takes told fresh opened goes =
+  opens_unasked (Some Identity) object source takes own fresh goes =
       passes (Some Identity) object source (fresh None) refl goes
-  opens_to (Some (Aescbc name secret)) object source takes told fresh opened goes =
+  opens_unasked (Some (Aescbc name secret)) object source takes own fresh goes =
       passes (Some (Aescbc name secret)) object source (fresh None) refl goes
-  opens_to (Some (Aesgcm name secret)) object source takes told fresh opened goes =
+  opens_unasked (Some (Aesgcm name secret)) object source takes own fresh goes =
       passes (Some (Aesgcm name secret)) object source (fresh None) refl goes
-  opens_to (Some (Kms name)) (Err why) source takes told fresh opened goes =
+  opens_unasked (Some (Kms name)) (Err why) source takes own fresh goes =
       passes (Some (Kms name)) (Err why) source (fresh None) refl goes
-  opens_to (Some (Kms name)) (Ok object) source takes told fresh opened goes =
-      by_row name object source (λ t. (told t).1) fresh opened goes (seed_of name seeds)
-      (λ seed is same. takes object seed refl is same)
+  opens_unasked (Some (Kms name)) (Ok object) source takes own fresh goes =
+      by_row name object source goes (seed_of name seeds)
+      (λ seed is same. takes object seed refl is same) own
 
 -- a value is as stale with any source
 one_staleness : (seeds : List SeedRow) (who : Who) (object : Result EncryptedObject ObjectNo)
@@ -125,36 +121,28 @@ as_stale seeds list bytes object s t =
 
 -- ---- a value
 
--- a plugin is asked only where the published seed is another
+-- a plugin is asked where the published seed is another
 pub asks_plugin : {A : Type 0} (seeds : List SeedRow) (name : List ℕ) (object : EncryptedObject)
-    (next : Option (List ℕ) → Steps A) (l : Left) → MayAskFor seeds name object
-    → Goes (awaits (asking 0 name)) l (opening seeds (Some (Kms name)) (Ok object) next) l
-asks_plugin {A} seeds name object next l asked = at (seed_of name seeds) asked
+    (next : Option (List ℕ) → Steps A) (point : Point A) (end l : Left)
+    → MayAskFor seeds name object
+    → Goes point end (unwrap 0 (seed_key name object) (λ source. next (Some source))) l
+    → Goes point end (opening seeds (Some (Kms name)) (Ok object) next) l
+asks_plugin {A} seeds name object next point end l asked goes = at (seed_of name seeds) asked
   where
     key : SeedKey
     key = seed_key name object
 
     by_test : (row : SeedRow) (q : Bool) → key_eq (key_of row) key ≡ q
         → (IsSeedOf row name object → ⊥)
-        → Goes (awaits (asking 0 name)) l
-        (source_steps (if q then Some row.seed else None) key next) l
+        → Goes point end (source_steps (if q then Some row.seed else None) key next) l
     by_test row true e other = absurd (other (one_key (key_of row) key e))
-    by_test row false e other = inl (refl, refl)
+    by_test row false e other = goes
 
     at : (row : Option SeedRow)
         → ((seed : SeedRow) → row ≡ Some seed → IsSeedOf seed name object → ⊥)
-        → Goes (awaits (asking 0 name)) l (source_steps (published_source row key) key next) l
-    at None other = inl (refl, refl)
+        → Goes point end (source_steps (published_source row key) key next) l
+    at None other = goes
     at (Some row) other = by_test row (key_eq (key_of row) key) refl (λ same. other row refl same)
-
-pub open_all : (truth : Truth) (seeds : List SeedRow)
-    → All (λ row. TellsOf truth (key_of row) row.seed) seeds → truth.told ≡ true
-    → OpenAll truth.opens seeds
-open_all truth [] tells told = All-nil (λ row. truth.opens (key_of row) ≡ Some row.seed)
-open_all truth (row ∷ seeds) tells told =
-    All-cons (λ r. truth.opens (key_of r) ≡ Some r.seed) row seeds
-    (All-head (λ r. TellsOf truth (key_of r) r.seed) row seeds tells told)
-    (open_all truth seeds (All-tail (λ r. TellsOf truth (key_of r) r.seed) row seeds tells) told)
 
 -- links that a value's reading asks
 pub asks_reader : {L : Type 0} (truth : Truth) (link : L → Link) (seeds : List SeedRow)

@@ -1,7 +1,7 @@
 -- How the steps of one row's value end: what it reads as, and what sealing its data gives.
 use Rattle.kr_base.specs.Faults.{Rose}
-use Rattle.std.proofs.Common.{◌≡◌, ◌≢◌, ℕ, zero, suc, ◌≤◌, List, [], ◌∷◌, length, true, Option, None, Some, Result, Ok, Err, refl, sym, ◌∙◌, ap, subst, inl, inr, arith, Bool, false}
-use Rattle.std.specs.Prelude.{All, nat_lt, ⊤, if◌then◌else◌}
+use Rattle.std.proofs.Common.{◌≡◌, ◌≢◌, ◌⊎◌, ℕ, zero, suc, ◌≤◌, List, [], ◌∷◌, length, true, Contains, Option, None, Some, Result, Ok, Err, refl, sym, ◌∙◌, ap, subst, inl, inr, arith, Bool, false}
+use Rattle.std.specs.Prelude.{nat_lt, ⊤, if◌then◌else◌}
 use Rattle.std.specs.Io.KnownBytes.{Consumes, Keeps}
 use Rattle.std.proofs.KnownBytes.{Keeps-refl}
 use Rattle.kr_base.specs.Limits.{data_limit}
@@ -9,32 +9,45 @@ use Rattle.kr_config.specs.declared.who.Who.{Who}
 use Rattle.kr_config.specs.declared.who.Who.TheVariants.{Identity, Aescbc, Aesgcm, Kms}
 use Rattle.kr_envelope.specs.Prefixes.{is_marked}
 use Rattle.kr_kms.specs.Calls.{Link}
-use Rattle.kr_kms.specs.Truth.{Truth, TellsOf, key_of}
+use Rattle.kr_kms.specs.Cache.{AreOpen, CacheState, FetchesBy, GivesSeed}
+use Rattle.kr_kms.specs.Cache as fetch
+use Rattle.kr_kms.specs.Exchanges.{Exchange, UnwrapCall}
+use Rattle.kr_kms.specs.Truth.{Truth, TellsOf}
+use Rattle.kr_kms.specs.declared.plugin.KmsNo.{KmsNo}
+use Rattle.kr_kms.specs.declared.plugin.KmsNo.TheVariants as kms
+use Rattle.kr_kms.specs.declared.seeds.SeedKey.{SeedKey}
 use Rattle.kr_kms.specs.declared.seeds.SeedRow.{SeedRow}
-use Rattle.kr_provider.specs.AskedLinks.{HasLinkWith}
-use Rattle.kr_provider.specs.Envelopes.{HasEnvelope, HasObject}
+use Rattle.kr_envelope.specs.declared.object.EncryptedObject.{EncryptedObject}
+use Rattle.kr_provider.specs.AskedLinks.{AskedOnly, FaultRose, HasLinkWith}
+use Rattle.kr_provider.specs.Envelopes.{Envelope, HasObject, IsObjectOf, seed_key}
+use Rattle.kr_provider.specs.Exchanges.{AnswersByFetch, LacksSource, ReadsBy, fetched, no_memory, unasked}
 use Rattle.kr_provider.specs.Names.{AreDistinct}
 use Rattle.kr_provider.specs.Readers.{reader_in}
-use Rattle.kr_provider.specs.Reading.{data_of, refused, unopened, is_stale, value_reading}
+use Rattle.kr_provider.specs.Reading.{Unseals, data_of, is_stale}
 use Rattle.kr_provider.specs.Sealing.{draw_size, sealed_by, Seals}
-use Rattle.kr_provider.specs.Unsealing.{IsReading, UnsealsBy, plugin_reading}
+use Rattle.kr_provider.specs.Unsealing.{MayAskPlugin, MayAskFor, TakesSeed, UnsealsBy, plugin_reading}
 use Rattle.kr_provider.specs.declared.refusal.Opened.{Opened}
 use Rattle.kr_provider.specs.declared.refusal.SealNo.{SealNo}
 use Rattle.kr_provider.specs.declared.refusal.SealNo.TheVariants as seal
 use Rattle.kr_provider.specs.declared.refusal.UnsealNo.{UnsealNo}
 use Rattle.kr_provider.specs.declared.refusal.UnsealNo.TheVariants as unseal
 use Rattle.kr_provider.specs.declared.refusal.ValueNo.{ValueNo}
-use Rattle.kr_cmd_steps.specs.Around.{Around, Ends, Reaches, Stays}
-use Rattle.kr_cmd_steps.specs.Commands.{draw_some, opening, reading_given, value_read, value_sealed, value_with, with_memory}
-use Rattle.kr_cmd_steps.specs.Steps.{Goes, Left, Point, Steps, asking, awaits, drawing, give, gives, with_dice}
+use Rattle.kr_cmd_steps.specs.Around.{Around, Ends, Reaches, Stays, with_exchanges}
+use Rattle.kr_cmd_steps.specs.ValueSteps.{draw_some, opening, reading_given, value_read, value_sealed, value_with}
+use Rattle.kr_cmd_steps.specs.Phases.{with_memory}
+use Rattle.kr_cmd_steps.specs.Steps.{Goes, Left, Point, Steps, WasUnwrapped, amid, asking, awaits, drawing, give, gives, hearing, unwrap, with_dice, with_heard}
+use Rattle.kr_cmd_steps.specs.inner.KeptSeeds.{AreHeard}
 use Rattle.kr_cmd_steps.specs.inner.Phases.{Does}
 use Rattle.kr_cmd_messages.specs.declared.refusal.Object.TheVariants.{Dice, Plugin}
 use Rattle.kr_cmd_messages.specs.declared.refusal.Stop.{Stop}
 use Rattle.kr_cmd_messages.specs.declared.refusal.Stop.TheVariants.{Fault, NoMemory}
+use Rattle.kr_kms.proofs.Fetching.{found_there}
 use Rattle.kr_provider.proofs.AskedLists.{asked_none}
 use Rattle.kr_cmd_steps.proofs.Frames.{Seen, drawn, home, keeps_none, kept, plugin_fault}
 use Rattle.kr_cmd_steps.proofs.Goes.{consumes_by, reach}
-use Rattle.kr_cmd_steps.proofs.Unsealed.{as_stale, asks_plugin, asks_reader, open_all, opens_to}
+use Rattle.kr_cmd_steps.proofs.Hearing.{heard_none, home_heard, stays_heard}
+use Rattle.kr_cmd_steps.proofs.Telling.{TellAll, status_in}
+use Rattle.kr_cmd_steps.proofs.Unsealed.{as_stale, asks_plugin, asks_reader, opens_unasked}
 
 -- ---- what is simple
 
@@ -63,94 +76,239 @@ IsValueEnd link links (Err (unseal.PluginFailed name)) made =
     HasLinkWith link name (λ l. made ≡ Err (Fault (Plugin name) l.count)) links
 IsValueEnd link links (Err unseal.NoMemory) made = made ≡ Err NoMemory
 
-module _ {L : Type 0} (truth : Truth) (link : L → Link) (seeds : List SeedRow)
-    (opens : All (λ row. TellsOf truth (key_of row) row.seed) seeds) (list : List Who)
+module _ {L : Type 0} (truth : Truth) (link : L → Link) (seeds : List SeedRow) (list : List Who)
     (path bytes : List ℕ) (olds news : List L) (distinct : AreDistinct link olds)
-    (dice : Option (List ℕ)) (count : ℕ) (a : Around) (truth_is : a.truth ≡ truth) where
+    (dice : Option (List ℕ)) (count : ℕ) (a : Around) (truth_is : a.truth ≡ truth)
+    (cache : CacheState) (open_kept : AreOpen truth cache.rows)
+    (heard_kept : AreHeard cache.rows a.heard) where
   abbrev Before : Around
   Before = Seen link a olds dice count
 
-  abbrev After : Around
-  After = Seen link a news dice count
+  abbrev After : List Exchange → Around
+  After es = with_exchanges es (Seen link a news dice count)
 
   abbrev Value : Steps (Result Opened ValueNo)
   Value = value_read seeds list path bytes
 
-  stay : (result : Result Opened UnsealNo)
-      → UnsealsBy truth link seeds list path bytes olds result news → (l : Left)
-      → Stays l Before → Stays l After
-  stay result u l s = kept link a (plugin_reading (reader_in list bytes)) olds news
-      (asks_reader truth link seeds list path bytes olds news result u) dice dice count count
-      (Keeps-refl dice) l s
+  abbrev Told : List Exchange → Type 0
+  Told es = TellAll truth (status_in link olds a.world.links) es
 
-  -- the steps come to what the reading of an envelope comes to
-  reads : (result : Result Opened UnsealNo) (point : Point (Result Opened ValueNo))
-      → (u : IsReading truth link seeds list path bytes olds result news) → (l : Left)
-      → Stays l Before → Stays l After
-      → value_reading u.envelope list path bytes ≢ unopened
-      → Goes point l (value_with seeds list path bytes u.envelope.object u.envelope.source) l
-      → Reaches Value l After point
-  reads result point u l s t opened goes =
-      let object = u.envelope.object in
-      let source = u.envelope.source in
-      let same : l.truth ≡ truth = sym s.truth ∙ truth_is in
-      reach l (inr (
-        object,
-        u.object,
-        opens_to reading_given seeds path bytes
-            (λ q. is_stale (record { object = object; source = q }) seeds list bytes) point l
-            (reader_in list bytes) object source u.published
-            (subst (λ (t : Truth). t.told ≡ true
-            → HasEnvelope t.opens (reader_in list bytes) bytes u.envelope) (sym same)
-            (λ told. u.told told (open_all truth seeds opens told)))
-            (λ q. as_stale seeds list bytes object q source) opened goes,
-      )) t
+  -- what the steps come to by an envelope, once its source is there
+  abbrev Settles : Envelope → Result (Result Opened ValueNo) Stop → Type 0
+  Settles envelope made = ((x : Result Opened ValueNo) × (made ≡ Ok x)
+      × ((l : Left) → Goes (gives x) l (value_with seeds list path bytes envelope.object
+      envelope.source) l))
+      ⊎ (made ≡ Err NoMemory)
 
-  value_ends : (result : Result Opened UnsealNo) (made : Result (Result Opened ValueNo) Stop)
-      (l : Left) → UnsealsBy truth link seeds list path bytes olds result news
-      → IsValueEnd link news result made → Stays l Before → Ends Value l Before After made
-  value_ends (Ok opened) made l u e s =
-      let point : Point (Result Opened ValueNo) = gives (Ok opened) in
-      subst (λ m. Ends Value l Before After m) (sym e)
-      (reads (Ok opened) point u l s (stay (Ok opened) u l s)
-      (λ n. absurd (let x : data_of opened.plain ≡ unopened = sym u.is.0 ∙ n in cc))
-      (subst (λ r. Goes point l (reading_given r (is_stale u.envelope seeds list bytes)) l)
-      (sym u.is.0)
-      (subst (λ b. Goes point l (reading_given (data_of opened.plain) b) l) u.is.1 (refl, refl))))
-  value_ends (Err (unseal.Refused why)) made l u e s =
-      let point : Point (Result Opened ValueNo) = gives (Err why) in
-      subst (λ m. Ends Value l Before After m) (sym e)
-      (reads (Err (unseal.Refused why)) point u l s (stay (Err (unseal.Refused why)) u l s)
-      (λ n. absurd (let x : refused why ≡ unopened = sym u.is ∙ n in cc))
-      (subst (λ r. Goes point l (reading_given r (is_stale u.envelope seeds list bytes)) l)
-      (sym u.is) (refl, refl)))
-  value_ends (Err (unseal.PluginFailed name)) made l u e s =
-      subst (λ m. Ends Value l Before After m) (sym e.has) (
-        asking 0 name,
-        reach l (inr (
-          Ok u.object,
-          subst (λ r. HasObject r bytes (Ok u.object)) (sym u.reader) u.reads,
-          subst (λ r. Goes (awaits (asking 0 name)) l (opening seeds r (Ok u.object)
-              (value_with seeds list path bytes (Ok u.object))) l) (sym u.reader)
-              (asks_plugin seeds name u.object (value_with seeds list path bytes (Ok u.object)) l
-              u.asked),
-        )) (stay (Err (unseal.PluginFailed name)) u l s),
-        plugin_fault link a (name ∷ []) olds news u.others dice dice count count name distinct
-            u.rose e.it e.there e.named,
-      )
-  value_ends (Err unseal.NoMemory) made l u e s =
-      subst (λ m. Ends Value l Before After m) (sym e)
-      (inr (reach l (inl (refl, refl)) (stay (Err unseal.NoMemory) u l s)))
+  settles : (envelope : Envelope) (result : Result Opened UnsealNo)
+      (made : Result (Result Opened ValueNo) Stop)
+      → Unseals envelope seeds list path bytes result → IsValueEnd link news result made
+      → Settles envelope made
+  settles envelope (Ok opened) made u e = inl (
+    Ok opened,
+    e,
+    λ l. subst (λ r. Goes (gives (Ok opened)) l
+        (reading_given r (is_stale envelope seeds list bytes)) l) (sym u.0)
+        (subst (λ b. Goes (gives (Ok opened)) l (reading_given (data_of opened.plain) b) l) u.1
+        (refl, refl)),
+  )
+  settles envelope (Err (unseal.Refused why)) made u e = inl (
+    Err why,
+    e,
+    λ l. subst (λ r. Goes (gives (Err why)) l
+        (reading_given r (is_stale envelope seeds list bytes)) l) (sym u) (refl, refl),
+  )
+  settles envelope (Err (unseal.PluginFailed name)) made u e = absurd u
+  settles envelope (Err unseal.NoMemory) made u e = inr e
 
+  -- the links are the same plugins', and the one that failed has a higher count
+  module _ (result : Result Opened UnsealNo) (made : Result (Result Opened ValueNo) Stop)
+      (names : List (List ℕ)) (asked : AskedOnly link names olds news)
+      (fails : (name : List ℕ) → result ≡ Err (unseal.PluginFailed name)
+      → FaultRose link name olds news)
+      (e : IsValueEnd link news result made) (l : Left) (s : Stays l Before) where
+    stay : Stays l (Seen link a news dice count)
+    stay = kept link a names olds news asked dice dice count count (Keeps-refl dice) l s
+
+    unheard : Stays l (After [])
+    unheard = stays_heard {left = l} [] l.heard (heard_none l.heard) stay
+
+    heard : (exchange : Exchange) → Stays (with_heard exchange l) (After (exchange ∷ []))
+    heard exchange =
+        stays_heard {left = l} (exchange ∷ []) (hearing (exchange ∷ []) l.heard) refl stay
+
+    abbrev Ended : List Exchange → Type 0
+    Ended es = Ends Value l Before (After es) made
+
+    forgot : (es : List Exchange) → result ≡ Err unseal.NoMemory
+        → Reaches Value l (After es) amid → Ended es
+    forgot es is r = subst (λ m. Ends Value l Before (After es) m)
+        (sym (subst (λ q. IsValueEnd link news q made) is e)) (inr r)
+
+    -- the value was read without a plugin
+    unasked_ends : (envelope : Envelope)
+        → HasObject (reader_in list bytes) bytes envelope.object
+        → TakesSeed seeds (reader_in list bytes) envelope
+        → (MayAskPlugin seeds (reader_in list bytes) envelope.object → ⊥) → Settles envelope made
+        → Ended []
+    unasked_ends envelope has takes own (inl (x, is, goes)) =
+        let stale : Option (List ℕ) → Bool = λ source.
+        is_stale (record { object = envelope.object; source = source }) seeds list bytes in
+        subst (λ m. Ends Value l Before (After []) m) (sym is)
+        (reach l (inr (
+          envelope.object,
+          has,
+          opens_unasked reading_given seeds path bytes stale (gives x) l (reader_in list bytes)
+              envelope.object envelope.source takes own
+              (λ q. as_stale seeds list bytes envelope.object q envelope.source) (goes l),
+        )) unheard)
+    unasked_ends envelope has takes own (inr is) = subst (λ m. Ends Value l Before (After []) m)
+        (sym is) (inr (reach l (inl (refl, refl)) unheard))
+
+    -- ---- a plugin reads it, and may be asked for its source
+
+    module _ (name : List ℕ) (object : EncryptedObject) (reader : reader_in list bytes ≡ Some (Kms name))
+        (has : IsObjectOf name bytes (Ok object)) (may : MayAskFor seeds name object) where
+      abbrev key : SeedKey
+      key = seed_key name object
+
+      abbrev With : List ℕ → Steps (Result Opened ValueNo)
+      With source = value_with seeds list path bytes (Ok object) (Some source)
+
+      -- the steps come to where the source's own do
+      by_source : (es : List Exchange) (point : Point (Result Opened ValueNo)) (end : Left)
+          → Goes point end (unwrap 0 key With) l → Stays end (After es)
+          → Reaches Value l (After es) point
+      by_source es point end goes stays = reach end (inr (
+        Ok object,
+        subst (λ r. HasObject r bytes (Ok object)) (sym reader) has,
+        subst (λ r. Goes point end (opening seeds r (Ok object)
+            (value_with seeds list path bytes (Ok object))) l) (sym reader)
+            (asks_plugin seeds name object (value_with seeds list path bytes (Ok object)) point
+            end l may goes),
+      )) stays
+
+      tells : (source : List ℕ) → TellsOf truth key source → TellsOf l.truth key source
+      tells source h =
+          subst (λ (t : Truth). TellsOf t key source) (sym truth_is ∙ s.truth) h
+
+      abbrev Sourced : List ℕ → Envelope
+      Sourced source = record { object = Ok object; source = Some source }
+
+      -- it is kept
+      kept_ends : (source : List ℕ) → Contains cache.rows (key, source)
+          → Settles (Sourced source) made → Ended []
+      kept_ends source there (inl (x, is, goes)) =
+          subst (λ m. Ends Value l Before (After []) m) (sym is)
+          (by_source [] (gives x) l (inr (inr (inr (
+            source,
+            tells source (open_kept key source there),
+            inl (
+              subst (WasUnwrapped key source) s.heard (heard_kept key source there),
+              goes l,
+            ),
+          )))) unheard)
+      kept_ends source there (inr is) = subst (λ m. Ends Value l Before (After []) m) (sym is)
+          (inr (by_source [] amid l (inl (refl, refl)) unheard))
+
+      -- it was unwrapped
+      asked_ends : (source : List ℕ) → TellsOf truth key source → Settles (Sourced source) made
+          → Ended (UnwrapCall key (Ok source) ∷ [])
+      asked_ends source told (inl (x, is, goes)) =
+          let exchange : Exchange = UnwrapCall key (Ok source) in
+          subst (λ m. Ends Value l Before (After (exchange ∷ [])) m) (sym is)
+          (by_source (exchange ∷ []) (gives x) (with_heard exchange l)
+          (inr (inr (inr (source, tells source told, inr (goes (with_heard exchange l))))))
+          (heard exchange))
+      asked_ends source told (inr is) =
+          let exchange : Exchange = UnwrapCall key (Ok source) in
+          subst (λ m. Ends Value l Before (After (exchange ∷ [])) m) (sym is)
+          (inr (by_source (exchange ∷ []) amid (with_heard exchange l)
+          (inr (inl (Ok source, (refl, refl)))) (heard exchange)))
+
+      -- or wasn't
+      lacking_ends : (why : KmsNo) → LacksSource name why result
+          → Ended (UnwrapCall key (Err why) ∷ [])
+      lacking_ends kms.Failed is =
+          let exchange : Exchange = UnwrapCall key (Err kms.Failed) in
+          let h = subst (λ q. IsValueEnd link news q made) is e in
+          subst (λ m. Ends Value l Before (After (exchange ∷ [])) m) (sym h.has) (
+            asking 0 name,
+            by_source (exchange ∷ []) (awaits (asking 0 name)) (with_heard exchange l)
+                (inr (inr (inl (refl, refl)))) (heard exchange),
+            plugin_fault link a names olds news asked dice dice count count name distinct
+                (fails name is) h.it h.there h.named,
+          )
+      lacking_ends kms.NoMemory is =
+          let exchange : Exchange = UnwrapCall key (Err kms.NoMemory) in
+          forgot (exchange ∷ []) is (by_source (exchange ∷ []) amid (with_heard exchange l)
+          (inr (inl (Err kms.NoMemory, (refl, refl)))) (heard exchange))
+
+      answered_ends : (source : Result (List ℕ) KmsNo)
+          → AnswersByFetch seeds list path bytes name object source result
+          → Told (UnwrapCall key source ∷ []) → Ended (UnwrapCall key source ∷ [])
+      answered_ends (Ok source) answers told =
+          asked_ends source told.0 (settles (Sourced source) result made answers e)
+      answered_ends (Err why) answers told = lacking_ends why answers
+
+      given_ends : (seed : List ℕ) (source : Result (List ℕ) KmsNo)
+          → Contains cache.rows (key, seed) → GivesSeed seed source
+          → AnswersByFetch seeds list path bytes name object source result → Ended []
+      given_ends seed (Ok source) there gives_it answers =
+          kept_ends source (subst (λ b. Contains cache.rows (key, b)) (sym gives_it) there)
+          (settles (Sourced source) result made answers e)
+      given_ends seed (Err kms.Failed) there gives_it answers = absurd gives_it
+      given_ends seed (Err kms.NoMemory) there gives_it answers =
+          forgot [] answers (by_source [] amid l (inl (refl, refl)) unheard)
+
+      no_room_ends : (source : Result (List ℕ) KmsNo) → source ≡ Err kms.NoMemory
+          → AnswersByFetch seeds list path bytes name object source result → Ended []
+      no_room_ends source is answers = forgot []
+          (subst (λ q. AnswersByFetch seeds list path bytes name object q result) is answers)
+          (by_source [] amid l (inl (refl, refl)) unheard)
+
+      fetched_ends : (source : Result (List ℕ) KmsNo) (after : CacheState) (es : List Exchange)
+          → FetchesBy key cache source after es
+          → AnswersByFetch seeds list path bytes name object source result → Told es → Ended es
+      fetched_ends source after _ (fetch.kept seed found gives_it same) answers told =
+          given_ends seed source (found_there cache.rows key seed found) gives_it answers
+      fetched_ends source after _ (fetch.no_memory is same) answers told =
+          no_room_ends source is answers
+      fetched_ends source after _ (fetch.unwrapped none keeps) answers told =
+          answered_ends source answers told
+
+    value_ends : (after : CacheState) (es : List Exchange)
+        → ReadsBy seeds list path bytes cache result after es → Told es → Ended es
+    value_ends after _ (no_memory is same) told =
+        forgot [] is (reach l (inl (refl, refl)) unheard)
+    value_ends after _ (unasked envelope has takes none own reads same) told =
+        unasked_ends envelope has takes own (settles envelope result made reads e)
+    value_ends after es (fetched name object source reader has may fetches answers) told =
+        fetched_ends name object reader has may source after es fetches answers told
+
+  pub value_goes : (result : Result Opened UnsealNo) (made : Result (Result Opened ValueNo) Stop)
+      (names : List (List ℕ)) → AskedOnly link names olds news
+      → ((name : List ℕ) → result ≡ Err (unseal.PluginFailed name)
+      → FaultRose link name olds news)
+      → IsValueEnd link news result made → (after : CacheState) (es : List Exchange)
+      → ReadsBy seeds list path bytes cache result after es → Told es
+      → Does Value Before (After es) made
+  value_goes result made names asked fails e after es reads told = record {
+    home = home_heard es (home link a names olds news asked dice dice count count (omega arith));
+    ends = λ l s. value_ends result made names asked fails e l s after es reads told;
+  }
+
+  -- by what is said of the links
   pub value_does : (result : Result Opened UnsealNo) (made : Result (Result Opened ValueNo) Stop)
       → UnsealsBy truth link seeds list path bytes olds result news
-      → IsValueEnd link news result made → Does Value Before After made
-  value_does result made u e = record {
-    home = home link a (plugin_reading (reader_in list bytes)) olds news
-        (asks_reader truth link seeds list path bytes olds news result u) dice dice count count
-        (omega arith);
-    ends = λ l s. value_ends result made l u e s;
-  }
+      → IsValueEnd link news result made → (after : CacheState) (es : List Exchange)
+      → ReadsBy seeds list path bytes cache result after es → Told es
+      → Does Value Before (After es) made
+  value_does result made u e after es reads told =
+      value_goes result made (plugin_reading (reader_in list bytes))
+      (asks_reader truth link seeds list path bytes olds news result u)
+      (λ name is. (subst (λ q. UnsealsBy truth link seeds list path bytes olds q news) is u).rose)
+      e after es reads told
 
 -- ---- data that a bench sealed, within their limit
 

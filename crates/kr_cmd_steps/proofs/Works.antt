@@ -1,6 +1,6 @@
 -- How the steps of a bench end, by what it made of the bytes.
 use Rattle.std.proofs.Common.{◌≡◌, ℕ, ◌≤◌, List, length, Option, None, Some, Result, Ok, Err, refl, sym, ◌∙◌, ap, subst, inl, inr, arith, Contains}
-use Rattle.std.specs.Prelude.{IfOk, IfSome, All, IsSome}
+use Rattle.std.specs.Prelude.{IfOk, IfSome, IsSome, []}
 use Rattle.kr_base.specs.Limits.{data_limit, value_limit}
 use Rattle.kr_config.specs.declared.who.Who.{Who}
 use Rattle.kr_kms.specs.Calls.{Link}
@@ -12,12 +12,15 @@ use Rattle.kr_provider.specs.declared.refusal.SealNo.{SealNo}
 use Rattle.kr_provider.specs.declared.refusal.SealNo.TheVariants as seal
 use Rattle.kr_provider.specs.declared.refusal.ValueNo.TheVariants.{LooksEncrypted}
 use Rattle.kr_provider.proofs.AskedLists.{names_stay}
-use Rattle.kr_cmd_steps.specs.Around.{Around}
-use Rattle.kr_cmd_steps.specs.Commands.{silently, with_memory, value_steps, sealing, working_by, limit_of, freshness, unsealing, value_read, value_sealed, data_steps}
+use Rattle.kr_cmd_steps.specs.Around.{Around, with_exchanges}
+use Rattle.kr_cmd_steps.specs.Phases.{silently, with_memory, input_limit}
+use Rattle.kr_cmd_steps.specs.ValueSteps.{value_steps, sealing, working_by, freshness, unsealing, value_read, value_sealed, data_steps}
 use Rattle.kr_cmd_messages.specs.declared.command.Direction.{Direction}
 use Rattle.kr_cmd_messages.specs.declared.command.Direction.TheVariants.{Encrypt, Decrypt}
 use Rattle.kr_cmd_steps.specs.Steps.{Steps, refuse}
+use Rattle.kr_cmd_steps.specs.inner.KeptSeeds.{AreHeard}
 use Rattle.kr_cmd_steps.specs.inner.Phases.{Does}
+use Rattle.kr_cmd_steps.proofs.Telling.{TellAll, status_in}
 use Rattle.kr_cmd_steps.specs.inner.Plugins.{seal_outcome, IsUnsealEnd, NamesAnUnread}
 use Rattle.kr_cmd_messages.specs.declared.refusal.Outcome.{Outcome}
 use Rattle.kr_cmd_messages.specs.declared.refusal.Refusal.TheVariants.{Value}
@@ -25,7 +28,11 @@ use Rattle.kr_cmd_messages.specs.declared.refusal.Stop.{Stop}
 use Rattle.kr_cmd_messages.specs.declared.refusal.Stop.TheVariants.{NoMemory, Fault, Refused}
 use Rattle.kr_cmd_steps.proofs.Frames.{Seen}
 use Rattle.kr_cmd_steps.proofs.Goes.{home_refl, reach, goes_on, given, stops}
-use Rattle.kr_kms.specs.Truth.{Truth, TellsOf, key_of}
+use Rattle.kr_kms.specs.Cache.{AreOpen, CacheState}
+use Rattle.kr_kms.specs.Exchanges.{Exchange}
+use Rattle.kr_kms.specs.Truth.{Truth}
+use Rattle.kr_kms.specs.declared.seeds.SeedKey.{SeedKey}
+use Rattle.kr_provider.specs.Exchanges.{ReadsBy}
 use Rattle.kr_provider.specs.Names.{AreDistinct, names_of}
 use Rattle.kr_provider.specs.Unsealing.{UnsealsBy, plugin_reading}
 use Rattle.kr_provider.specs.declared.refusal.Opened.{Opened}
@@ -88,7 +95,7 @@ pub seal_made : {L D : Type 0} (link : L → Link) (left : D → Option (List �
     (resource path bytes : List ℕ) (a : Around) (published : Option Publication)
     (direction : Direction) (links back : List L) (old mid new : D) (faults : ℕ)
     (result : Result (List ℕ) SealNo) (made : Result Outcome Stop)
-    → direction ≡ Encrypt → length bytes ≤ limit_of direction → count old ≤ count mid
+    → direction ≡ Encrypt → length bytes ≤ input_limit direction → count old ≤ count mid
     → back ≡ links → new ≡ mid → faults ≡ count new → made ≡ seal_outcome faults result
     → IfSome published (λ p. Seals left count p.seeds (writer_of (list_at p resource)) path bytes
     old mid result)
@@ -108,7 +115,7 @@ seal_made link left count resource path bytes a (Some p) direction links back ol
     (ap (λ n. seal_outcome n result) (ap count (sym at) ∙ sym f) ∙ sym m)
     (subst (λ n. Made Encrypt links n (seal_outcome (count mid) result)) (sym at)
     (seals link left count links old mid a (writer_of (list_at p resource)) p.seeds path bytes
-    result later (subst (λ d. length bytes ≤ limit_of d) e fits) s))))
+    result later (subst (λ d. length bytes ≤ input_limit d) e fits) s))))
 
 -- a value that was sealed isn't too long
 pub sealed_size : (faults : ℕ) (sealed : Result (List ℕ) SealNo)
@@ -122,10 +129,12 @@ sealed_size faults (Err seal.NoMemory) s = tt
 
 -- ---- what a bench read
 
-module _ {L : Type 0} (truth : Truth) (link : L → Link) (seeds : List SeedRow)
-    (opens : All (λ row. TellsOf truth (key_of row) row.seed) seeds) (list : List Who)
+module _ {L : Type 0} (truth : Truth) (link : L → Link) (seeds : List SeedRow) (list : List Who)
     (path bytes : List ℕ) (olds news : List L) (distinct : AreDistinct link olds)
-    (dice : Option (List ℕ)) (count : ℕ) (a : Around) (truth_is : a.truth ≡ truth) where
+    (dice : Option (List ℕ)) (count : ℕ) (a : Around) (truth_is : a.truth ≡ truth)
+    (cache after : CacheState) (open_kept : AreOpen truth cache.rows)
+    (heard_kept : AreHeard cache.rows a.heard) (es : List Exchange)
+    (told : TellAll truth (status_in link olds a.world.links) es) where
   abbrev ValueSteps : Steps (Result Opened ValueNo)
   ValueSteps = value_read seeds list path bytes
 
@@ -133,16 +142,18 @@ module _ {L : Type 0} (truth : Truth) (link : L → Link) (seeds : List SeedRow)
   Before = Seen link a olds dice count
 
   abbrev After : Around
-  After = Seen link a news dice count
+  After = with_exchanges es (Seen link a news dice count)
+
+  abbrev ReadsMessage : Result Opened UnsealNo → Type 0
+  ReadsMessage result = UnsealsBy truth link seeds list path bytes olds result news
+      × ReadsBy seeds list path bytes cache result after es
 
   reads : (result : Result Opened UnsealNo) (made : Result (Result Opened ValueNo) Stop)
-      → UnsealsBy truth link seeds list path bytes olds result news
-      → IsValueEnd link news result made → Does ValueSteps Before After made
-  reads result made u e = value_does truth link seeds opens list path bytes olds news distinct
-      dice count a truth_is result made u e
+      → ReadsMessage result → IsValueEnd link news result made → Does ValueSteps Before After made
+  reads result made u e = value_does truth link seeds list path bytes olds news distinct dice count
+      a truth_is cache open_kept heard_kept result made u.0 e after es u.1 told
 
-  unseals : (result : Result Opened UnsealNo) (made : Result Outcome Stop)
-      → UnsealsBy truth link seeds list path bytes olds result news
+  unseals : (result : Result Opened UnsealNo) (made : Result Outcome Stop) → ReadsMessage result
       → IsUnsealEnd link news result made
       → Does (unsealing seeds list path bytes) Before After made
   unseals (Ok opened) made u e =
@@ -162,43 +173,47 @@ module _ {L : Type 0} (truth : Truth) (link : L → Link) (seeds : List SeedRow)
       subst (λ m. Does (unsealing seeds list path bytes) Before After m) (sym e)
       (stops ValueSteps data_steps NoMemory (reads (Err unseal.NoMemory) (Err NoMemory) u refl))
 
--- what a bench that adopted a publication read, once its links and its random source are back
+-- what a bench that adopted a publication, and keeps no seed, read, once its links and its random
+-- source are back
 module _ {L D : Type 0} (truth : Truth) (link : L → Link) (left : D → Option (List ℕ))
     (count : D → ℕ) (resource path bytes : List ℕ) (published : Option Publication)
-    (olds news : List L) (result : Result Opened UnsealNo) where
-  abbrev Read : Type 0
-  Read = IfSome published (λ p. UnsealsBy truth link p.seeds (list_at p resource) path bytes olds
-      result news)
+    (olds news : List L) (cache after : CacheState) (cold : cache.rows ≡ [])
+    (result : Result Opened UnsealNo) (es : List Exchange) where
+  abbrev Read : Publication → Type 0
+  Read p = UnsealsBy truth link p.seeds (list_at p resource) path bytes olds result news
+      × ReadsBy p.seeds (list_at p resource) path bytes cache result after es
+
+  none_kept : {A : Type 0} (key : SeedKey) (seed : List ℕ) → Contains cache.rows (key, seed) → A
+  none_kept key seed there = let c : Contains [] (key, seed) =
+      subst (λ rows. Contains rows (key, seed)) cold there in absurd (omega (arith, c.1))
 
   pub unseal_made : (a : Around) (direction : Direction) (back : List L) (old new : D)
       (made : Result Outcome Stop) → a.truth ≡ truth → AreDistinct link olds
       → direction ≡ Decrypt → back ≡ news → new ≡ old → IsUnsealEnd link back result made
-      → IfSome published (λ p. All (λ row. TellsOf truth (key_of row) row.seed) p.seeds) → Read
+      → TellAll truth (status_in link olds a.world.links) es → IfSome published Read
       → IfSome published (λ p. Does (working_by direction resource path p.rows bytes p.seeds)
-      (Seen link a olds (left old) (count old)) (Seen link a back (left new) (count new)) made)
-  unseal_made a direction back old new made t d e same at m opens u =
+      (Seen link a olds (left old) (count old))
+      (with_exchanges es (Seen link a back (left new) (count new))) made)
+  unseal_made a direction back old new made t d e same at m told u =
       subst (λ (d : Direction). IfSome published (λ p. Does (working_by d resource path p.rows
-      bytes p.seeds) (Seen link a olds (left old) (count old)) (Seen link a back (left new)
-      (count new)) made)) (sym e)
+      bytes p.seeds) (Seen link a olds (left old) (count old))
+      (with_exchanges es (Seen link a back (left new) (count new))) made)) (sym e)
       (subst (λ l. IfSome published (λ p. Does (working_by Decrypt resource path p.rows bytes
-      p.seeds) (Seen link a olds (left old) (count old)) (Seen link a l (left new) (count new))
-      made)) (sym same)
+      p.seeds) (Seen link a olds (left old) (count old))
+      (with_exchanges es (Seen link a l (left new) (count new))) made)) (sym same)
       (subst (λ n. IfSome published (λ p. Does (working_by Decrypt resource path p.rows bytes
-      p.seeds) (Seen link a olds (left old) (count old)) (Seen link a news (left n) (count n))
-      made)) (sym at)
-      (by published opens u (subst (λ l. IsUnsealEnd link l result made) same m))))
+      p.seeds) (Seen link a olds (left old) (count old))
+      (with_exchanges es (Seen link a news (left n) (count n))) made)) (sym at)
+      (by published u (subst (λ l. IsUnsealEnd link l result made) same m))))
     where
-      by : (p : Option Publication)
-          → IfSome p (λ p. All (λ row. TellsOf truth (key_of row) row.seed) p.seeds)
-          → IfSome p (λ p. UnsealsBy truth link p.seeds (list_at p resource) path bytes olds
-          result news)
-          → IsUnsealEnd link news result made
+      by : (p : Option Publication) → IfSome p Read → IsUnsealEnd link news result made
           → IfSome p (λ p. Does (working_by Decrypt resource path p.rows bytes p.seeds)
-          (Seen link a olds (left old) (count old)) (Seen link a news (left old) (count old))
-          made)
-      by None opens u m = tt
-      by (Some p) opens u m = unseals truth link p.seeds opens (list_at p resource) path bytes
-          olds news d (left old) (count old) a t result made u m
+          (Seen link a olds (left old) (count old))
+          (with_exchanges es (Seen link a news (left old) (count old))) made)
+      by None u m = tt
+      by (Some p) u m = unseals truth link p.seeds (list_at p resource) path bytes olds news d
+          (left old) (count old) a t cache after (λ key seed there. none_kept key seed there)
+          (λ key seed there. none_kept key seed there) es told result made u m
 
 -- there is a link to the plugin that failed
 pub names_unread : {L : Type 0} (truth : Truth) (link : L → Link) (resource path bytes : List ℕ)

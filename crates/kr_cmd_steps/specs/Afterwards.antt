@@ -3,7 +3,7 @@ use Rattle.std.specs.Prelude.{◌≡◌, ◌≢◌, ℕ, ◌⊎◌, ⊤, false, 
 use Rattle.std.specs.Option.{option_map}
 use Rattle.kr_base.specs.Faults.{Rose}
 use Rattle.kr_base.specs.Told.{Agrees}
-use Rattle.kr_config.specs.Kept.{Row}
+use Rattle.kr_config.specs.Kept.{ConfigEntry}
 use Rattle.kr_kms.specs.Outside.{Outside, same_name, with_call}
 use Rattle.kr_kms.specs.declared.world.WorldCall.{WorldCall}
 use Rattle.kr_kms.specs.declared.world.WorldCall.TheVariants.{Settled}
@@ -16,11 +16,11 @@ use Rattle.kr_store.specs.Stores.{IsListing}
 use Rattle.kr_cmd_steps.specs.Around.{Around}
 use Rattle.kr_cmd_messages.specs.Command.{Asks}
 use Rattle.kr_cmd_messages.specs.Receipts.{Receipt}
-use Rattle.kr_cmd_steps.specs.Commands.{migrated_row}
+use Rattle.kr_cmd_steps.specs.StoreSteps.{migrated_row}
 use Rattle.kr_cmd_steps.specs.Configuration.{IsConfiguration}
-use Rattle.kr_cmd_steps.specs.Ran.{IsIdle}
+use Rattle.kr_cmd_steps.specs.Ran.{WroteNothing}
 use Rattle.kr_cmd_steps.specs.Steps.{or_empty}
-use Rattle.kr_cmd_steps.specs.StoreFiles.{Stored, IsStored, with_row, HoldsRows, BeginsWith, StillHolds}
+use Rattle.kr_cmd_steps.specs.StoreFiles.{Stored, IsStored, with_row, HoldsRows, BeginsWith}
 use Rattle.kr_cmd_messages.specs.declared.command.Command.{Command}
 use Rattle.kr_cmd_messages.specs.declared.command.Command.TheVariants.{Put, Migrate, Rewrite}
 use Rattle.kr_cmd_messages.specs.declared.command.Conversion.{Conversion}
@@ -58,8 +58,8 @@ pub record StillBegins (was is : ToldTape) : Type 0 where
 
 -- the tape of a store that `put` was asked to change: no row was added, and the status isn't 0; the
 -- write failed, so that the tape's count rose and the status is 4; or the row was added, and the
--- status is 0, or 4 where then the tape couldn't be settled or the output failed. Want of memory, 5,
--- leaves nothing of a row
+-- status is 0, or 4 where then the tape couldn't be settled or the output failed. Want of memory,
+-- 5, leaves nothing of a row
 abbrev pub MayGrow : Conversion → (status : ℕ) → (was is : ToldTape) → (before count : ℕ) → Type 0
 MayGrow words status was is before count =
     ((status ≢ 0) × IsUngrown was is)
@@ -87,25 +87,10 @@ ArePutsOf (put ∷ puts) [] = ⊥
 ArePutsOf (put ∷ puts) (row ∷ live) =
     ArePutsOf (put ∷ puts) live ⊎ (IsPutOf put row × ArePutsOf puts live)
 
--- no row of a store is lost, and nothing but puts at its live paths was added: the tape has the
--- rows that it had and these behind them, and more than that only where its count of faults rose
-pub record KeepsRows (was is : ToldTape) (before count : ℕ) : Type 0 where
-  pub bytes : List ℕ
-  pub store : Stored
-  pub live : List stored.Row
-  pub added : List LogRow
-  pub told : Option (List ℕ)
-  pub held : Agrees was (Some bytes)
-  pub read : IsStored bytes (Ok store)
-  pub listing : IsListing store.rows live
-  pub added_are : ArePutsOf added live
-  pub holds : StillHolds (with_rows added store) told before count
-  pub is_told : is ≡ option_map Some told
-
 -- what was copied of the rows of a store, by its configuration, and the rows still to come
 pub record Copies (words : Migration) (old : Outside) (copied rest : List LogRow) : Type 0 where
   pub file : Option (List ℕ)
-  pub rows : List Row
+  pub rows : List ConfigEntry
   pub bytes : List ℕ
   pub source : Stored
   pub configured : Agrees (old.file words.config) file
@@ -118,10 +103,37 @@ pub record Copies (words : Migration) (old : Outside) (copied rest : List LogRow
 abbrev pub new_store : List LogRow → Stored
 new_store rows = record { format = Two; rows = rows }
 
+-- a command may end so amid the rows that it writes: by a fault, for want of memory, or at a limit
+abbrev pub MayEndAmidRows : (status : ℕ) → Type 0
+MayEndAmidRows status = (status ≡ 4) ⊎ (status ≡ 5) ⊎ (status ≡ 6)
+
+-- no row of a store is lost, and nothing but puts at its live paths was added: the tape has the
+-- rows that it had, puts of some of the live rows up to one behind them, and no more. At status 0
+-- and 1 all live rows were met; else the status is 4, 5 or 6. The write of a further row failed only
+-- where the tape's count rose and the status is 4, and the tape then begins with those rows
+pub record KeepsRows (status : ℕ) (was is : ToldTape) (before count : ℕ) : Type 0 where
+  pub bytes : List ℕ
+  pub store : Stored
+  pub met : List stored.Row
+  pub rest : List stored.Row
+  pub added : List LogRow
+  pub told : Option (List ℕ)
+  pub held : Agrees was (Some bytes)
+  pub read : IsStored bytes (Ok store)
+  pub listing : IsListing store.rows (met ++ rest)
+  pub added_are : ArePutsOf added met
+  pub is_told : is ≡ option_map Some told
+  pub holds : (((status ≡ 0) ⊎ (status ≡ 1)) × (rest ≡ [])
+      × HoldsRows (with_rows added store) told)
+      ⊎ (MayEndAmidRows status × HoldsRows (with_rows added store) told)
+      ⊎ ((status ≡ 4) × Rose before count × (rest ≢ [])
+      × BeginsWith (with_rows added store) told)
+
 -- the tape that a migration writes was empty, or was made: the write of a row failed, so that the
 -- tape's count rose and the status is 4, and it begins with the file of the rows before; or it has
 -- the file of the rows that were copied, all of them, and then the status is 0, or 4 where then the
--- tape couldn't be settled or the output failed; or not all, and then the status isn't 0
+-- tape couldn't be settled or the output failed; or not all, and then the status is 4, 5 or 6. So a
+-- migration that is refused by its configuration or its stores, 3, has copied no row
 pub record IsCopied (words : Migration) (status : ℕ) (old new : Outside) : Type 0 where
   pub copied : List LogRow
   pub rest : List LogRow
@@ -132,7 +144,7 @@ pub record IsCopied (words : Migration) (status : ℕ) (old new : Outside) : Typ
   pub holds : ((status ≡ 4) × Rose (old.tapes.faults words.to) (new.tapes.faults words.to)
       × (rest ≢ []) × BeginsWith (new_store copied) told)
       ⊎ (((status ≡ 0) ⊎ (status ≡ 4)) × (rest ≡ []) × HoldsRows (new_store copied) told)
-      ⊎ ((status ≢ 0) × (rest ≢ []) × HoldsRows (new_store copied) told)
+      ⊎ (MayEndAmidRows status × (rest ≢ []) × HoldsRows (new_store copied) told)
 
 -- the tapes before and after a command; but for `put`, `migrate` and `rewrite` they are the same
 abbrev pub LeavesTapes : Command → (status : ℕ) → (old new : Outside) → Type 0
@@ -146,7 +158,7 @@ LeavesTapes (Migrate words) status old new =
 LeavesTapes (Rewrite words) status old new =
     OthersStay words.store old.tapes.told new.tapes.told
     × (((status ≢ 0) × (new.tapes.told words.store ≡ old.tapes.told words.store))
-    ⊎ KeepsRows (old.tapes.told words.store) (new.tapes.told words.store)
+    ⊎ KeepsRows status (old.tapes.told words.store) (new.tapes.told words.store)
     (old.tapes.faults words.store) (new.tapes.faults words.store))
 LeavesTapes command status old new = new.tapes.told ≡ old.tapes.told
 
@@ -167,8 +179,8 @@ Settles command new = ⊤
 -- tapes so, and settled what it wrote at status 0, and wherever anything of it was printed
 abbrev pub AreLeft : List (List ℕ) → Around → Around → Receipt → (status : ℕ) → Type 0
 AreLeft words old new output status =
-    ((status ≢ 0) × (new.world.tapes.told ≡ old.world.tapes.told) × IsIdle output)
+    ((status ≢ 0) × (new.world.tapes.told ≡ old.world.tapes.told) × WroteNothing output)
     ⊎ ((command : Command) × Asks words command
     × LeavesTapes command status old.world new.world
     × (status ≡ 0 → Settles command new.world)
-    × (IsIdle output ⊎ Settles command new.world))
+    × (WroteNothing output ⊎ Settles command new.world))

@@ -1,27 +1,36 @@
 -- What is around a command, and how its steps end there.
-use Rattle.std.specs.Prelude.{◌≡◌, ℕ, ◌-◌, ◌≤◌, ◌⊎◌, Bool, List, [], Option, Result, Ok, Err, if◌then◌else◌, ⊤}
+use Rattle.std.specs.Prelude.{◌≡◌, ℕ, ◌-◌, ◌≤◌, ◌⊎◌, Bool, List, [], Option, None, Result, Ok, Err, if◌then◌else◌, ⊤}
 use Rattle.std.specs.Io.KnownBytes.{Keeps}
 use Rattle.kr_base.specs.Faults.{Rose}
 use Rattle.kr_kms.specs.Outside.{Outside, Objects, KeepsFiles, file_faults, at_key}
-use Rattle.kr_cmd_steps.specs.Steps.{Steps, Call, loading, reading, opening, lending, scanning, writing, settling, drawing, object_of, Point, awaits, amid, refuses, gives, Left, Goes, linking, asking}
+use Rattle.kr_cmd_steps.specs.Steps.{Steps, Call, loading, reading, opening, lending, scanning, writing, settling, drawing, object_of, Point, awaits, amid, refuses, gives, Left, Goes, hearing, linking, asking}
+use Rattle.kr_kms.specs.Exchanges.{Exchange}
 use Rattle.kr_kms.specs.Truth.{Truth}
 use Rattle.kr_cmd_messages.specs.declared.refusal.Object.{Object}
 use Rattle.kr_cmd_messages.specs.declared.refusal.Stop.{Stop}
 use Rattle.kr_cmd_messages.specs.declared.refusal.Stop.TheVariants.{Words, Refused, Fault, NoMemory}
 
 -- what is around a command: the truth of the plugins that the world links to; the world and the
--- input, with what they tell and their counts of faults; and what is to be written in place of a
--- value
+-- input, with what they tell and their counts of faults; what is to be written in place of a value;
+-- and what plugins were asked so far and answered, where that is told
 pub record Around : Type 0 where
   pub truth : Truth
   pub world : Outside
   pub input : Option (List ℕ)
   pub faults : ℕ
   pub said : List ℕ
+  pub heard : Option (List Exchange)
 
+-- what is asked of plugins isn't told
 abbrev pub around : Truth → Outside → Option (List ℕ) → ℕ → Around
-around truth world input faults =
-    record { truth = truth; world = world; input = input; faults = faults; said = [] }
+around truth world input faults = record {
+  truth = truth;
+  world = world;
+  input = input;
+  faults = faults;
+  said = [];
+  heard = None;
+}
 
 -- ---- its parts
 
@@ -30,6 +39,18 @@ with_what_is_said said a = record a { said = said }
 
 abbrev pub with_world : Outside → Around → Around
 with_world world a = record a { world = world }
+
+-- these exchanges behind those that are told
+abbrev pub with_exchanges : List Exchange → Around → Around
+with_exchanges exchanges a = record a { heard = hearing exchanges a.heard }
+
+-- what plugins are asked isn't told
+abbrev pub unheard : Around → Around
+unheard a = record a { heard = None }
+
+-- the plugins' truth is this, and what they are asked isn't told
+abbrev pub IsUnheard : Truth → Around → Type 0
+IsUnheard truth a = (a.truth ≡ truth) × (a.heard ≡ None)
 
 -- an object that is out, of which this is told, stands as if it were at home
 abbrev pub with_lent : {K V : Type 0} → (same : K → K → Bool) → K → V → ℕ → Objects K V
@@ -90,7 +111,7 @@ MayLack (asking seat plugin) = ⊤
 
 -- ---- what steps did
 
--- nothing was consumed, said, or asked of the world but what is left of, and no tape's count fell
+-- nothing was consumed, said, or asked of the world or of plugins but what is left of
 pub record Stays (left : Left) (new : Around) : Type 0 where
   pub truth : new.truth ≡ left.truth
   pub file : new.world.file ≡ left.file
@@ -99,8 +120,8 @@ pub record Stays (left : Left) (new : Around) : Type 0 where
   pub input : Keeps left.input new.input
   pub dice : (seat : ℕ) → Keeps (left.dice seat) (new.world.dice.told seat)
   pub asked : new.world.asked ≡ left.asked
+  pub heard : new.heard ≡ left.heard
   pub said : new.said ≡ left.said
-  pub counts : (name : List ℕ) → left.counts name ≤ new.world.tapes.faults name
 
 abbrev pub left_of : Around → Left
 left_of around = record {
@@ -111,8 +132,8 @@ left_of around = record {
   input = around.input;
   dice = around.world.dice.told;
   asked = around.world.asked;
+  heard = around.heard;
   said = around.said;
-  counts = around.world.tapes.faults;
 }
 
 -- from what is left the steps come to this point, and nothing was done but by them

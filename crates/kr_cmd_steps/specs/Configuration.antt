@@ -2,8 +2,8 @@
 use Rattle.std.specs.Prelude.{◌≡◌, ℕ, ◌<◌, ◌≤◌, ◌⊎◌, List, length, Option, None, Some, Result, Err}
 use Rattle.std.specs.Result.{result_map_both}
 use Rattle.kr_base.specs.Limits.{config_limit}
-use Rattle.kr_config.specs.Kept.{Row}
-use Rattle.kr_config.specs.Meanings.{Means}
+use Rattle.kr_config.specs.Kept.{ConfigEntry}
+use Rattle.kr_config.specs.Meanings.{MeansConfig}
 use Rattle.kr_config.specs.declared.refusal.ConfigNo.{ConfigNo}
 use Rattle.kr_base.specs.Visible.{visible}
 use Rattle.kr_cmd_messages.specs.declared.refusal.Refusal.{Refusal}
@@ -12,7 +12,7 @@ use Rattle.kr_cmd_messages.specs.declared.refusal.Limit.TheVariants.{Config}
 
 -- the entries of a configuration, or why there are none
 abbrev pub Entries : Type 0
-Entries = Result (List Row) Refusal
+Entries = Result (List ConfigEntry) Refusal
 
 -- what the file of a name is read as: it is within the limit, and they mean these entries or this
 -- breach
@@ -20,5 +20,6 @@ abbrev pub IsConfiguration : List ℕ → Option (List ℕ) → Entries → Type
 IsConfiguration name None read = read ≡ Err (Absent (visible name))
 IsConfiguration name (Some bytes) read =
     ((config_limit < length bytes) × (read ≡ Err (Limit Config)))
-    ⊎ ((length bytes ≤ config_limit) × (rows : Result (List Row) ConfigNo) × Means bytes rows
+    ⊎ ((length bytes ≤ config_limit) × (rows : Result (List ConfigEntry) ConfigNo)
+    × MeansConfig bytes rows
     × (read ≡ result_map_both (λ r. r) Configuration rows))

@@ -2,7 +2,7 @@
 use Rattle.std.specs.Prelude.{◌≡◌, ℕ, List, ◌++◌, length, codes, map, Option, None, Some, Result, Ok, Err}
 use Rattle.std.specs.List.{concat}
 use Rattle.kr_envelope.specs.Prefixes.{IsSplit}
-use Rattle.kr_envelope.specs.Limits.{Reads, number_of}
+use Rattle.kr_envelope.specs.Limits.{ReadsMessage, number_of}
 use Rattle.kr_envelope.specs.declared.prefix.Kind.{Kind}
 use Rattle.kr_envelope.specs.declared.prefix.Kind.TheVariants.{Aescbc, Aesgcm, Kms}
 use Rattle.kr_envelope.specs.declared.prefix.Tagged.{Tagged}
@@ -38,29 +38,30 @@ object_lines object =
     ++ line (word_and_number (codes "data") (length object.encrypted)))))
 
 -- why bytes are no object; a breach of the wire format and of UTF-8 has its place
-abbrev pub object_refusal : ObjectNo → Option Refusal
-object_refusal (Wire at) = Some (Placed value.Wire at)
-object_refusal KeyId = Some (Value value.KeyId)
-object_refusal Source = Some (Value value.Source)
-object_refusal Annotations = Some (Value value.Annotations)
-object_refusal SourceType = Some (Value value.SourceType)
-object_refusal NoData = Some (Value value.NoData)
-object_refusal (NotUtf8 at) = Some (Placed value.NotUtf8 at)
-object_refusal NoMemory = None
+abbrev pub inspect_refusal : ObjectNo → Option Refusal
+inspect_refusal (Wire at) = Some (Placed value.Wire at)
+inspect_refusal KeyId = Some (Value value.KeyId)
+inspect_refusal Source = Some (Value value.Source)
+inspect_refusal Annotations = Some (Value value.Annotations)
+inspect_refusal SourceType = Some (Value value.SourceType)
+inspect_refusal NoData = Some (Value value.NoData)
+inspect_refusal (NotUtf8 at) = Some (Placed value.NotUtf8 at)
+inspect_refusal NoMemory = None
 
 abbrev pub ShowsObject : (name body : List ℕ) → Result EncryptedObject ObjectNo
     → Result (List ℕ) Refusal → Type 0
 ShowsObject name body (Ok object) shown =
     shown ≡ Ok (tag_line Kms name body ++ object_lines object)
 ShowsObject name body (Err breach) shown =
-    (why : Refusal) × (object_refusal breach ≡ Some why) × (shown ≡ Err why)
+    (why : Refusal) × (inspect_refusal breach ≡ Some why) × (shown ≡ Err why)
 
 -- the line of a value with a prefix; a plugin's has those of its object behind it
 abbrev pub ShowsBody : Kind → (name body : List ℕ) → Result (List ℕ) Refusal → Type 0
 ShowsBody Aescbc name body shown = shown ≡ Ok (tag_line Aescbc name body)
 ShowsBody Aesgcm name body shown = shown ≡ Ok (tag_line Aesgcm name body)
 ShowsBody Kms name body shown =
-    (read : Result EncryptedObject ObjectNo) × Reads body read × ShowsObject name body read shown
+    (read : Result EncryptedObject ObjectNo) × ReadsMessage body read
+    × ShowsObject name body read shown
 
 -- a value by its prefix; one that begins as a prefix does and has none is refusal 12
 abbrev pub ShowsSplit : Tagged → Result (List ℕ) Refusal → Type 0

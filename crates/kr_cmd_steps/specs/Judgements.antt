@@ -1,6 +1,6 @@
 -- What `judge` finds out of a reload, and what it writes.
 use Rattle.std.specs.Prelude.{◌≡◌, ℕ, List, Option, None, Some, Result, Ok, Err}
-use Rattle.kr_config.specs.Kept.{Row}
+use Rattle.kr_config.specs.Kept.{ConfigEntry}
 use Rattle.kr_judge.specs.Texts.{verdict_text}
 use Rattle.kr_judge.specs.Verdicts.{verdict_of}
 use Rattle.kr_judge.specs.declared.verdict.Verdict.{Verdict}
@@ -27,7 +27,8 @@ start_refusal no.NoMemory = None
 
 -- the verdict on a replica's new settings, where the replicas' configurations go with what is
 -- stored and with each other; or why they don't
-abbrev pub IsJudged : List LogRow → (replicas : List (Option (List Row))) → (replica : ℕ) → List Row
+abbrev pub IsJudged : List LogRow → (replicas : List (Option (List ConfigEntry))) → (replica : ℕ)
+    → List ConfigEntry
     → Result Verdict Refusal → Type 0
 IsJudged stored replicas replica rows (Ok verdict) =
     MayStart stored replicas

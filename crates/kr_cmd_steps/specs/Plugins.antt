@@ -1,6 +1,6 @@
 -- The steps over plugins: their programs, their links, and the seeds that they wrap.
 use Rattle.std.specs.Prelude.{ℕ, List, [], ◌∷◌, Option, None, Some, Result, Ok, Err}
-use Rattle.kr_words.specs.Arguments.{program_of}
+use Rattle.kr_words.specs.Arguments.{plugin_program}
 use Rattle.kr_kms.specs.Health.{breach_in}
 use Rattle.kr_kms.specs.declared.health.Field.{Field}
 use Rattle.kr_kms.specs.declared.plugin.Wrapped.{Wrapped}
@@ -20,11 +20,11 @@ join_program plugin (Some file) (Ok more) = Ok (record { plugin = plugin; file =
 join_program plugin (Some file) (Err why) = Err why
 
 -- those that the options give for the plugins; the first plugin without one is refused
-abbrev pub programs_of : (options : List (List ℕ × List ℕ)) → (plugins : List (List ℕ))
+abbrev pub settings_programs : (options : List (List ℕ × List ℕ)) → (plugins : List (List ℕ))
     → Result (List Program) Refusal
-programs_of options [] = Ok []
-programs_of options (plugin ∷ plugins) =
-    join_program plugin (program_of options plugin) (programs_of options plugins)
+settings_programs options [] = Ok []
+settings_programs options (plugin ∷ plugins) =
+    join_program plugin (plugin_program options plugin) (settings_programs options plugins)
 
 -- ---- links
 

@@ -4,11 +4,11 @@ use Rattle.std.specs.Io.KnownBytes.{Appends}
 use Rattle.kr_base.specs.Faults.{Rose}
 use Rattle.kr_base.specs.Streams.{AppendsFront}
 use Rattle.kr_base.specs.Told.{Agrees}
-use Rattle.kr_config.specs.Kept.{Row}
+use Rattle.kr_config.specs.Kept.{ConfigEntry}
 use Rattle.kr_kms.specs.declared.world.WorldCall.TheVariants.{Settled}
 use Rattle.kr_provider.specs.PluginOrder.{plugin_order}
 use Rattle.kr_provider.specs.Publication.{names_plugin}
-use Rattle.kr_cmd_steps.specs.Around.{Around, with_what_is_said, left_of, faults_at, count_at, IsHome, IsFault, MayLack, Stays}
+use Rattle.kr_cmd_steps.specs.Around.{Around, unheard, with_what_is_said, left_of, faults_at, count_at, IsHome, IsFault, MayLack, Stays}
 use Rattle.kr_cmd_messages.specs.Command.{replica_names, reload_in, reload_file, Asks, AskNothing, AskPage, AskReplicas, AskSize, AskBadly}
 use Rattle.kr_cmd_steps.specs.Commands.{steps}
 use Rattle.kr_cmd_steps.specs.Configuration.{IsConfiguration}
@@ -28,19 +28,19 @@ use Rattle.kr_cmd_messages.specs.declared.refusal.Outcome.{Outcome}
 use Rattle.kr_cmd_messages.specs.Receipts.{Receipt, Tells}
 
 -- nothing was written
-abbrev pub IsIdle : Receipt → Type 0
-IsIdle sink = (sink.new ≡ sink.old) × (sink.new_faults ≡ sink.old_faults)
+abbrev pub WroteNothing : Receipt → Type 0
+WroteNothing sink = (sink.new ≡ sink.old) × (sink.new_faults ≡ sink.old_faults)
 
 -- just what was said was written, or a prefix of it before the output failed
 abbrev pub Reports : List ℕ → Receipt → Type 0
-Reports [] output = IsIdle output
+Reports [] output = WroteNothing output
 Reports (byte ∷ bytes) output = Appends output.old output.new (byte ∷ bytes)
     ⊎ (AppendsFront output.old output.new (byte ∷ bytes)
     × Rose output.old_faults output.new_faults)
 
 -- nothing around was touched
 abbrev pub IsUntouched : Around → Around → Receipt → Type 0
-IsUntouched old new output = (new ≡ old) × IsIdle output
+IsUntouched old new output = (new ≡ old) × WroteNothing output
 
 -- ---- how a command ends
 
@@ -212,7 +212,7 @@ IsRefused words old new output errors status =
 
 -- what a conversion touches of the plugins that these entries name is told: their statuses; as the
 -- key id is told nowhere that a seed is wrapped with, `decrypt` touches none
-abbrev pub ArePluginsTold : Direction → Around → List Row → Type 0
+abbrev pub ArePluginsTold : Direction → Around → List ConfigEntry → Type 0
 ArePluginsTold Encrypt old rows = (plugin : List ℕ) → Contains (plugin_order rows) plugin
     → IsSome (old.world.links.told (0, plugin))
 ArePluginsTold Decrypt old rows = names_plugin rows ≡ false
@@ -225,21 +225,25 @@ AreTold file (name ∷ names) = IsSome (file name) × AreTold file names
 -- what the command touches of the files, the tapes, the input and the plugins is told
 abbrev pub IsTelling : Command → Around → Type 0
 IsTelling (Convert words) old = IsSome (old.world.file words.config) × IsSome old.input
-    × ((file : Option (List ℕ)) (rows : List Row) → IsConfiguration words.config file (Ok rows)
+    × ((file : Option (List ℕ)) (rows : List ConfigEntry)
+    → IsConfiguration words.config file (Ok rows)
     → Agrees (old.world.file words.config) file → ArePluginsTold words.direction old rows)
 IsTelling (Check config resource) old = IsSome (old.world.file config)
 IsTelling Inspect old = IsSome old.input
 IsTelling (Put words store) old = IsSome (old.world.file words.config)
     × IsSome (old.world.tapes.told store) × IsSome old.input
-    × ((file : Option (List ℕ)) (rows : List Row) → IsConfiguration words.config file (Ok rows)
+    × ((file : Option (List ℕ)) (rows : List ConfigEntry)
+    → IsConfiguration words.config file (Ok rows)
     → Agrees (old.world.file words.config) file → names_plugin rows ≡ false)
 IsTelling (Get words) old = IsSome (old.world.file words.config)
     × IsSome (old.world.tapes.told words.store)
-    × ((file : Option (List ℕ)) (rows : List Row) → IsConfiguration words.config file (Ok rows)
+    × ((file : Option (List ℕ)) (rows : List ConfigEntry)
+    → IsConfiguration words.config file (Ok rows)
     → Agrees (old.world.file words.config) file → ArePluginsTold Decrypt old rows)
 IsTelling (Verify words) old = IsSome (old.world.file words.config)
     × IsSome (old.world.tapes.told words.store)
-    × ((file : Option (List ℕ)) (rows : List Row) → IsConfiguration words.config file (Ok rows)
+    × ((file : Option (List ℕ)) (rows : List ConfigEntry)
+    → IsConfiguration words.config file (Ok rows)
     → Agrees (old.world.file words.config) file → ArePluginsTold Decrypt old rows)
 IsTelling (Migrate words) old = IsSome (old.world.file words.config)
     × IsSome (old.world.tapes.told words.store) × IsSome (old.world.tapes.told words.to)
@@ -252,13 +256,15 @@ IsTelling (Plan words) old =
     IsSome (old.world.file words.from) × IsSome (old.world.file words.to)
 IsTelling (Rewrite words) old = IsSome (old.world.file words.config)
     × IsSome (old.world.tapes.told words.store)
-    × ((file : Option (List ℕ)) (rows : List Row) → IsConfiguration words.config file (Ok rows)
+    × ((file : Option (List ℕ)) (rows : List ConfigEntry)
+    → IsConfiguration words.config file (Ok rows)
     → Agrees (old.world.file words.config) file → names_plugin rows ≡ false)
 
--- the steps of a command over the told files, tapes and input, and some drawn bytes, come to this
--- point
+-- the steps of a command over the told files, tapes and input, some drawn bytes, and whatever
+-- plugins are asked, come to this point
 abbrev pub WouldCome : Command → Around → Point Outcome → Type 0
-WouldCome command old point = (end : Left) × Goes point end (steps command) (left_of old)
+WouldCome command old point =
+    (end : Left) × Goes point end (steps command) (left_of (unheard old))
 
 -- how the last step of a command ends it, whatever its value is
 abbrev pub end_at : Point Outcome → Option (Result Done Stop)
@@ -278,9 +284,9 @@ IsDecided words old errors status =
 
 -- whatever the status is, the output has what it had, and behind it just what was said, or at most
 -- a prefix of the value that the steps give; at status 2 nothing was touched
-pub record IsWritten (words : List (List ℕ)) (old new : Around) (output : Receipt)
+pub record IsOutputWritten (words : List (List ℕ)) (old new : Around) (output : Receipt)
     (status : ℕ) : Type 0 where
-  pub front : IsIdle output
+  pub front : WroteNothing output
       ⊎ ((point : Point Outcome) × ComesReporting words old new output point)
       ⊎ ((made : Outcome) × Comes words old new (gives made)
       × AppendsFront output.old output.new made.bytes)
@@ -294,4 +300,4 @@ pub record Readings (words : List (List ℕ)) (old new : Around) (output errors 
   pub decided : IsDecided words old errors status
   -- status 0 comes only where the steps give a value, and then just that was written, and its line
   pub done : status ≡ 0 → GivesWith words old new output errors 0
-  pub written : IsWritten words old new output status
+  pub written : IsOutputWritten words old new output status

@@ -31,9 +31,9 @@ finding_lines (row ∷ rows) (finding ∷ findings) =
     row_line row (finding_text finding) ++ finding_lines rows findings
 finding_lines rows findings = []
 
-abbrev pub is_fresh : Finding → Bool
-is_fresh Fresh = true
-is_fresh finding = false
+abbrev pub found_fresh : Finding → Bool
+found_fresh Fresh = true
+found_fresh finding = false
 
 abbrev pub is_stale : Finding → Bool
 is_stale Stale = true
@@ -45,7 +45,7 @@ is_refused finding = false
 
 -- how many values are of each kind
 abbrev pub count_lines : List Finding → List ℕ
-count_lines findings = count_line (codes "fresh") (count_by is_fresh findings)
+count_lines findings = count_line (codes "fresh") (count_by found_fresh findings)
     ++ (count_line (codes "stale") (count_by is_stale findings)
     ++ count_line (codes "refused") (count_by is_refused findings))
 

@@ -20,13 +20,13 @@ abbrev pub IsTag : (stored tag : List ℕ) → Type 0
 IsTag stored tag = (tagged : Tagged) × IsSplit stored tagged × (tag ≡ tag_text tagged)
 
 -- a word of a line behind others
-abbrev pub next_word : List ℕ → List ℕ
-next_word word = codes " " ++ word
+abbrev pub spaced_word : List ℕ → List ℕ
+spaced_word word = codes " " ++ word
 
 -- `REVISION RESOURCE PATH TAG`
 abbrev pub row_line : Row → (tag : List ℕ) → List ℕ
-row_line row tag = decimal row.revision ++ (next_word row.resource ++ (next_word row.path
-    ++ (next_word tag ++ codes "\n")))
+row_line row tag = decimal row.revision ++ (spaced_word row.resource ++ (spaced_word row.path
+    ++ (spaced_word tag ++ codes "\n")))
 
 -- a line for each row
 abbrev pub AreLines : List Row → List ℕ → Type 0

@@ -1,12 +1,15 @@
 -- What a command asks of the outside, step by step, and how it goes on by what it saw.
-use Rattle.std.specs.Prelude.{◌≡◌, ℕ, ◌+◌, ◌≤◌, ◌==◌, ◌⊎◌, Bool, true, false, List, [], length, Option, None, Some, if◌then◌else◌}
+use Rattle.std.specs.Prelude.{◌≡◌, ℕ, ◌+◌, ◌≤◌, ◌==◌, ◌⊎◌, ⊤, Bool, true, false, List, [], ◌∷◌, ◌++◌, length, Contains, Option, None, Some, Result, Ok, Err, if◌then◌else◌}
 use Rattle.std.specs.Io.KnownBytes.{Consumes, IsAtEnd}
 use Rattle.std.specs.Option.{option_map}
 use Rattle.kr_base.specs.Told.{Agrees}
 use Rattle.kr_kms.specs.Outside.{with_call, same_name, makes}
 use Rattle.kr_kms.specs.Calls.{key_in}
+use Rattle.kr_kms.specs.Exchanges.{Exchange, StatusCall, WrapCall, UnwrapCall}
 use Rattle.kr_kms.specs.Limits.{IsWithinLimits}
 use Rattle.kr_kms.specs.Truth.{Truth, TellsOf}
+use Rattle.kr_kms.specs.declared.plugin.KmsNo.{KmsNo}
+use Rattle.kr_kms.specs.declared.plugin.KmsNo.TheVariants.{Failed}
 use Rattle.kr_kms.specs.declared.plugin.Status.{Status}
 use Rattle.kr_kms.specs.declared.plugin.Wrapped.{Wrapped}
 use Rattle.kr_kms.specs.declared.seeds.SeedKey.{SeedKey}
@@ -14,7 +17,7 @@ use Rattle.kr_kms.specs.declared.world.WorldCall.{WorldCall}
 use Rattle.kr_kms.specs.declared.world.WorldCall.TheVariants.{File, Tape, RandomSource, Link, Settled}
 use Rattle.kr_kms.specs.declared.world.Access.{Access}
 use Rattle.kr_store.specs.declared.rows.LogRow.{LogRow}
-use Rattle.kr_cmd_steps.specs.StoreFiles.{Stored, with_row, HoldsRows, BeginsWith, StillHolds}
+use Rattle.kr_cmd_steps.specs.StoreFiles.{Stored, with_row, HoldsRows, BeginsWith}
 use Rattle.kr_cmd_messages.specs.declared.refusal.Object.{Object}
 use Rattle.kr_cmd_messages.specs.declared.refusal.Object.TheVariants.{Input, Files, Dice, Plugin}
 use Rattle.kr_cmd_messages.specs.declared.refusal.Refusal.{Refusal}
@@ -33,8 +36,7 @@ pub data Steps (A : Type 0) : Type 1 where
   read_tape : Object → (name : List ℕ) → (List ℕ → Steps A) → Steps A
   -- a row behind the rows of a store, on a tape that is lent; a fault's line names the object
   write_row : Object → (name : List ℕ) → Stored → LogRow → Steps A → Steps A
-  -- nothing is asked: the tape that is lent begins with the file of these rows, and is no more than
-  -- that where its count of faults didn't rise
+  -- nothing is asked: where the tape that is lent tells its bytes, they are the file of these rows
   keep_rows : (name : List ℕ) → Stored → Steps A → Steps A
   -- all that the tape holds, which is lent, is on the device, and the world is told so where it
   -- comes back; a fault's line names the object
@@ -43,11 +45,11 @@ pub data Steps (A : Type 0) : Type 1 where
   draw : (seat size : ℕ) → (List ℕ → Steps A) → Steps A
   -- the link of a seat to a plugin, which a program is
   borrow_link : (seat : ℕ) → (plugin program : List ℕ) → Steps A → Steps A
-  -- the status of the plugin
+  -- the status of the plugin; this and the next two ask it once, and go on only with its answer
   ask_status : (seat : ℕ) → (plugin : List ℕ) → (Status → Steps A) → Steps A
   -- what the plugin makes of these bytes
   wrap : (seat : ℕ) → (plugin plain : List ℕ) → (Wrapped → Steps A) → Steps A
-  -- what the plugin unwraps a source to
+  -- what the plugin unwraps a source to; one that was unwrapped before may be kept
   unwrap : (seat : ℕ) → SeedKey → (List ℕ → Steps A) → Steps A
   -- nothing is asked: where a later step ends the command, this is written in place of a value
   note : List ℕ → Steps A → Steps A
@@ -139,9 +141,9 @@ abbrev pub MayBorrow : Option (Option (List ℕ)) → (make : Bool) → Type 0
 MayBorrow tape make = tape ≡ Some None → make ≡ true
 
 -- the truth of plugins, the files by their names and the statuses of links, which stay; what the
--- steps so far left of the tapes, of the input and of the random source of each seat, and the calls
--- that they made on the world, all this where it is told; what they said last; and the tapes'
--- counts of faults, which are no less in the end
+-- steps so far left of the tapes, of the input and of the random source of each seat, the calls
+-- that they made on the world, and what they asked plugins and were answered, one exchange behind
+-- another, all this where it is told; and what they said last
 pub record Left : Type 0 where
   pub truth : Truth
   pub file : List ℕ → Option (Option (List ℕ))
@@ -150,8 +152,8 @@ pub record Left : Type 0 where
   pub input : Option (List ℕ)
   pub dice : ℕ → Option (List ℕ)
   pub asked : Option (List WorldCall)
+  pub heard : Option (List Exchange)
   pub said : List ℕ
-  pub counts : List ℕ → ℕ
 
 abbrev pub with_input : Option (List ℕ) → Left → Left
 with_input rest left = record left { input = rest }
@@ -168,14 +170,20 @@ with_told name told left = record left {
   tapes = λ other. if same_name name other then option_map Some told else left.tapes other;
 }
 
--- a tape that is lent has this count of faults
-abbrev pub with_count : (name : List ℕ) → ℕ → Left → Left
-with_count name count left = record left {
-  counts = λ other. if same_name name other then count else left.counts other;
-}
-
 abbrev pub with_asked : WorldCall → Left → Left
 with_asked call left = record left { asked = with_call call left.asked }
+
+-- these exchanges behind those that are told
+abbrev pub hearing : List Exchange → Option (List Exchange) → Option (List Exchange)
+hearing exchanges heard = option_map (λ before. before ++ exchanges) heard
+
+abbrev pub with_heard : Exchange → Left → Left
+with_heard exchange left = record left { heard = hearing (exchange ∷ []) left.heard }
+
+-- the source was unwrapped to these bytes before, where that is told
+abbrev pub WasUnwrapped : SeedKey → List ℕ → Option (List Exchange) → Type 0
+WasUnwrapped key bytes None = ⊤
+WasUnwrapped key bytes (Some heard) = Contains heard (UnwrapCall key (Ok bytes))
 
 abbrev pub with_said : List ℕ → Left → Left
 with_said text left = record left { said = text }
@@ -217,9 +225,7 @@ module _ {A : Type 0} (point : Point A) (end : Left) where
       ⊎ ((told : Option (List ℕ)) × HoldsRows (with_row row store) told
       × Goes next (with_told name told left))
   Goes (keep_rows name store next) left =
-      (told : Option (List ℕ)) × (count : ℕ) × (left.counts name ≤ count)
-      × StillHolds store told (left.counts name) count
-      × Goes next (with_count name count (with_told name told left))
+      (told : Option (List ℕ)) × HoldsRows store told × Goes next (with_told name told left)
   Goes (settle object name next) left =
       IsAt (awaits (settling object name)) left ⊎ Goes next (with_asked (Settled name) left)
   Goes (draw seat size next) left =
@@ -231,15 +237,26 @@ module _ {A : Type 0} (point : Point A) (end : Left) where
       ⊎ IsAt (awaits (linking seat plugin)) (with_asked (Link seat plugin program) left)
       ⊎ Goes next (with_asked (Link seat plugin program) left)
   Goes (ask_status seat plugin next) left =
-      IsAt (awaits (asking seat plugin)) left
-      ⊎ ((status : Status) × Agrees (left.links (seat, plugin)) status × Goes (next status) left)
+      IsAt amid left
+      ⊎ ((answer : Result Status KmsNo) × IsAt amid (with_heard (StatusCall plugin answer) left))
+      ⊎ IsAt (awaits (asking seat plugin)) (with_heard (StatusCall plugin (Err Failed)) left)
+      ⊎ ((status : Status) × Agrees (left.links (seat, plugin)) status
+      × Goes (next status) (with_heard (StatusCall plugin (Ok status)) left))
   Goes (wrap seat plugin plain next) left =
-      IsAt (awaits (asking seat plugin)) left
+      IsAt amid left
+      ⊎ ((answer : Result Wrapped KmsNo)
+      × IsAt amid (with_heard (WrapCall plugin plain answer) left))
+      ⊎ IsAt (awaits (asking seat plugin)) (with_heard (WrapCall plugin plain (Err Failed)) left)
       ⊎ ((wrapped : Wrapped) × TellsOf left.truth (key_in plugin wrapped) plain
-      × IsWithinLimits wrapped × Goes (next wrapped) left)
+      × IsWithinLimits wrapped
+      × Goes (next wrapped) (with_heard (WrapCall plugin plain (Ok wrapped)) left))
   Goes (unwrap seat key next) left =
-      IsAt (awaits (asking seat key.name)) left
-      ⊎ ((bytes : List ℕ) × TellsOf left.truth key bytes × Goes (next bytes) left)
+      IsAt amid left
+      ⊎ ((answer : Result (List ℕ) KmsNo) × IsAt amid (with_heard (UnwrapCall key answer) left))
+      ⊎ IsAt (awaits (asking seat key.name)) (with_heard (UnwrapCall key (Err Failed)) left)
+      ⊎ ((bytes : List ℕ) × TellsOf left.truth key bytes
+      × ((WasUnwrapped key bytes left.heard × Goes (next bytes) left)
+      ⊎ Goes (next bytes) (with_heard (UnwrapCall key (Ok bytes)) left)))
   Goes (note text next) left = Goes next (with_said text left)
   Goes (find B P next) left = IsAt amid left ⊎ ((b : B) × P b × Goes (next b) left)
   Goes (refuse why) left = IsAt (refuses why) left

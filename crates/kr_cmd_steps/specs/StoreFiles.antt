@@ -1,7 +1,6 @@
 -- The store in a file, as a command reads it.
 use Rattle.std.specs.Prelude.{◌≡◌, ℕ, ◌<◌, ◌≤◌, ◌⊎◌, Bool, List, [], ◌∷◌, ◌++◌, length, take, Option, IfSome, Result, Ok, Err, if◌then◌else◌}
 use Rattle.std.specs.Str.{bytes_eq}
-use Rattle.kr_base.specs.Faults.{Rose}
 use Rattle.kr_base.specs.Limits.{store_limit}
 use Rattle.kr_store.specs.Breaches.{IsBreach}
 use Rattle.kr_store.specs.File.{IsFile, magic}
@@ -33,13 +32,6 @@ HoldsRows store told = IfSome told (IsFile store.format store.rows)
 abbrev pub BeginsWith : Stored → Option (List ℕ) → Type 0
 BeginsWith store told = IfSome told (λ bytes. (file : List ℕ) × (rest : List ℕ)
     × IsFile store.format store.rows file × (bytes ≡ file ++ rest))
-
--- it tells nothing, or it begins with the file, and is no more than that where the tape's count of
--- faults didn't rise
-abbrev pub StillHolds : Stored → Option (List ℕ) → (before now : ℕ) → Type 0
-StillHolds store told before now = IfSome told (λ bytes. (file : List ℕ) × (rest : List ℕ)
-    × IsFile store.format store.rows file × (bytes ≡ file ++ rest)
-    × ((rest ≡ []) ⊎ Rose before now))
 
 -- a breach, as kr_store answers it
 abbrev pub store_no : Breach → StoreNo

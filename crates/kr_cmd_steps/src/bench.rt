@@ -1,10 +1,12 @@
 //! Seals or unseals by a bench of one configuration.
-ghost use Rattle.std.specs.Prelude.{◌≡◌, ◌≤◌, All, length, Some, IfOk, IfSome, IsSome, MatchResult};
+ghost use Rattle.std.specs.Prelude.{◌≡◌, ◌≤◌, [], length, Some, IfOk, IfSome, IsSome, MatchResult};
 ghost use Rattle.kr_base.specs.Limits.{path_limit, value_limit};
-ghost use Rattle.kr_kms.specs.Truth.{TellsOf, key_of};
+ghost use Rattle.kr_base.specs.Walks.{Talk};
+ghost use Rattle.kr_provider.specs.AskedLinks.{Among};
 ghost use Rattle.kr_provider.specs.Names.{AreDistinct, HasLinks, names_of};
-ghost use Rattle.kr_cmd_steps.specs.Around.{Around};
-ghost use Rattle.kr_cmd_steps.specs.Commands.{freshness, working_by, limit_of};
+ghost use Rattle.kr_cmd_steps.specs.Around.{Around, with_exchanges};
+ghost use Rattle.kr_cmd_steps.specs.ValueSteps.{freshness, working_by};
+ghost use Rattle.kr_cmd_steps.specs.Phases.{input_limit};
 ghost use Rattle.kr_cmd_messages.specs.declared.command.Direction.{Direction};
 ghost use Rattle.kr_cmd_steps.specs.inner.Lent.{with_lent_dice, with_lent_links};
 ghost use Rattle.kr_cmd_steps.specs.inner.Phases.{Does};
@@ -33,6 +35,7 @@ pub fn adopted<L: Kms, D: Dice>(
     ensures published { IfOk result (λ bench. bench.published ≡ Some published) }
     ensures links { MatchResult result (λ bench. bench.links ≡ links) (λ back. back.0 ≡ links) }
     ensures dice { MatchResult result (λ bench. bench.dice ≡ dice) (λ back. back.1 ≡ dice) }
+    ensures cold { IfOk result (λ bench. bench.cache.rows ≡ []) }
 {
     published.known();
     let published = match Shared::new(alloc, published) {
@@ -49,8 +52,8 @@ pub fn adopted<L: Kms, D: Dice>(
     Ok(bench)
 }
 
-/// What a bench that adopted a configuration makes of the bytes, in their own buffer. Its links and
-/// its random source come back.
+/// What a bench that adopted a configuration, and unsealed nothing so far, makes of the bytes, in
+/// their own buffer. Its links and its random source come back.
 pub fn work<L: Kms, D: Dice>(
     alloc: Global,
     direction: Direction,
@@ -61,17 +64,17 @@ pub fn work<L: Kms, D: Dice>(
 ) -> (Result<Outcome, Stop>, Links<L>, D)
     requires adopted { IsSome bench.published }
     requires distinct { AreDistinct L.link bench.links }
-    requires opens { IfSome bench.published
-        (λ p. All (λ row. TellsOf L.truth (key_of row) row.seed) p.seeds) }
+    requires cold { bench.cache.rows ≡ [] }
     requires path { length path.now ≤ path_limit }
-    requires fits { length bytes ≤ limit_of direction }
-    ensures made { (a : Around) → a.truth ≡ L.truth → IfSome bench.published (λ p. Does
+    requires fits { length bytes ≤ input_limit direction }
+    ensures made { Talk (Among L.step) bench.links result.1
+        (λ es. (a : Around) → a.truth ≡ L.truth → IfSome bench.published (λ p. Does
         (working_by direction resource.now path.now p.rows bytes p.seeds)
         (with_lent_links L.link 0 bench.links
         (with_lent_dice 0 (D.left bench.dice) (D.count bench.dice) a))
         (with_lent_links L.link 0 result.1
-        (with_lent_dice 0 (D.left result.2) (D.count result.2) a))
-        result.0) }
+        (with_lent_dice 0 (D.left result.2) (D.count result.2) (with_exchanges es a)))
+        result.0)) }
     ensures names { names_of L.link result.1 ≡ names_of L.link bench.links }
     ensures size { direction ≡ Direction.Encrypt
         → IfOk result.0 (λ made. length made.bytes ≤ value_limit) }

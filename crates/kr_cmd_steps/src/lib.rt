@@ -16,8 +16,8 @@ pub use phases::{
     close_dice, close_link, configure, load_settings, open_dice, open_link, show, take_input,
     write_output,
 };
-pub use programs::{Program, Programs, names_of, programs_of, without_program};
-pub use publication::publish_by;
+pub use programs::{Program, Programs, program_plugins, settings_programs, without_program};
+pub use publication::publish_settings;
 pub use starts::start_stop;
 pub use stores::{add_delete, add_put, close_tape, load_store, open_tape, settle_tape};
-pub use work::{Task, first_of, make, take_last};
+pub use work::{Task, make, split_first_program, take_last};

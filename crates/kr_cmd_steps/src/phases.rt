@@ -3,7 +3,7 @@ ghost use Rattle.std.specs.Prelude.{◌≡◌, ◌<◌, ◌≤◌, ℕ, List, Ok
 ghost use Rattle.kr_kms.specs.Outside.{KeepsFiles, KeepsObjects, file_faults};
 ghost use Rattle.kr_kms.specs.declared.world.WorldCall.{WorldCall};
 ghost use Rattle.kr_cmd_steps.specs.Around.{Around, with_world};
-ghost use Rattle.kr_cmd_steps.specs.Commands.{configuration, input_of, limit_of};
+ghost use Rattle.kr_cmd_steps.specs.Phases.{configuration, input_of, input_limit};
 ghost use Rattle.kr_cmd_steps.specs.Ran.{Reports, Writes};
 ghost use Rattle.kr_cmd_messages.specs.Receipts.{receipt};
 ghost use Rattle.kr_cmd_messages.specs.declared.refusal.Refusal.{Refusal};
@@ -15,7 +15,8 @@ use kr_base::{
     Bytes, CONFIG_LIMIT, DATA_LIMIT, Failed, ReadNo, Sink, Source, VALUE_LIMIT, read_all, write_all,
 };
 use kr_cmd_messages::{
-    Counts, Direction, Done, Ended, Limit, Object, Outcome, Refusal, Stop, visible, write_report,
+    Direction, Done, Ended, Limit, Object, Outcome, Refusal, RewriteCounts, Stop, visible,
+    write_report,
 };
 use kr_config::{ConfigErr, Settings, read};
 use kr_kms::{FileNo, World};
@@ -72,7 +73,7 @@ pub fn take_input<I: Source>(
     ensures does { (a : Around) → Does (input_of direction)
         (with_told_input (I.left input.old) (I.count input.old) a)
         (with_told_input (I.left input.new) (I.count input.new) a) result }
-    ensures fits { IfOk result (λ bytes. length bytes ≤ limit_of direction) }
+    ensures fits { IfOk result (λ bytes. length bytes ≤ input_limit direction) }
 {
     match direction {
         Direction::Encrypt => take(alloc, input, DATA_LIMIT, Limit::Data),
@@ -134,6 +135,7 @@ pub fn open_link<W: World>(
 ) -> Result<W::Link, Stop>
     ensures lent { IfOk result (λ link. LinkLoan seat plugin.now program.now (W.told world.old)
         (W.told world.new) (W.Link.link link)) }
+    ensures given { IfOk result (W.lent seat) }
     ensures objects { OnErr result (KeepsObjects (W.told world.old) (W.told world.new)) }
     ensures why { IfErr result (LendsNothing (W.told world.old).faults.links
         (W.told world.new).faults.links (file_faults (W.told world.new))) }
@@ -153,7 +155,8 @@ pub fn open_link<W: World>(
 /// Gives a link of the seat back.
 pub fn close_link<W: World>(world: &mut W, seat: u32, link: W::Link)
     requires out { 0 < (W.told world.old).links.out (seat, (W.Link.link link).name) }
-    ensures { LinkReturn seat (W.told world.old) (W.told world.new) (W.Link.link link) }
+    ensures back { LinkReturn seat (W.told world.old) (W.told world.new) (W.Link.link link) }
+    ensures taken { W.took seat link }
 {
     world.back_link(seat, link);
 }
@@ -202,7 +205,7 @@ fn write_value<O: Sink>(output: &mut O, made: Outcome) -> Result<Done, Stop>
 
 /// Writes the report of a command that stopped, where there is one. Where it can't be written the
 /// stop is told all the same.
-fn write_said<O: Sink>(output: &mut O, said: Option<Counts>)
+fn write_said<O: Sink>(output: &mut O, said: Option<RewriteCounts>)
     ensures said { Reports (said_text said) (receipt (O.held output.old) (O.held output.new)
         (O.count output.old) (O.count output.new)) }
     ensures later { O.count output.old ≤ O.count output.new }

@@ -3,7 +3,7 @@ ghost use Rattle.std.specs.Prelude.{◌≡◌, ◌⊎◌, [], ◌∷◌, ◌++�
 ghost use Rattle.kr_config.specs.Kept.{rows_of};
 ghost use Rattle.kr_provider.specs.PluginOrder.{plugin_order};
 ghost use Rattle.kr_cmd_steps.specs.Around.{Around};
-ghost use Rattle.kr_cmd_steps.specs.Commands.{linking_programs};
+ghost use Rattle.kr_cmd_steps.specs.Phases.{linking_programs};
 ghost use Rattle.kr_cmd_messages.specs.declared.refusal.Refusal.{Refusal};
 ghost use Rattle.kr_cmd_messages.specs.declared.refusal.Stop.{Stop};
 ghost use Rattle.kr_cmd_steps.specs.inner.ProgramNames.{names_in};
@@ -77,7 +77,11 @@ impl Programs {
 
 /// The program of each plugin that the settings name, in the order of the names' bytes. The first
 /// name for which the options give no program is refused.
-pub fn programs_of(alloc: Global, options: &Options, settings: &Settings) -> Result<Programs, Stop>
+pub fn settings_programs(
+    alloc: Global,
+    options: &Options,
+    settings: &Settings,
+) -> Result<Programs, Stop>
     ensures does { (a : Around) → Does
         (linking_programs options.now (rows_of settings.now.entries.0)) a a result }
     ensures names { IfOk result (λ programs. map (λ program. program.plugin) programs
@@ -110,7 +114,7 @@ pub fn without_program(alloc: Global, plugin: &str) -> Stop
 }
 
 /// The names of the programs' plugins.
-pub fn names_of(alloc: Global, programs: &[Program]) -> Result<List<Text>, NoMemory>
+pub fn program_plugins(alloc: Global, programs: &[Program]) -> Result<List<Text>, NoMemory>
     ensures { IfOk result (λ names. names.0 ≡ names_in programs.now) }
 {
     let mut names = List::new(alloc);

@@ -2,10 +2,11 @@
 ghost use Rattle.std.specs.Prelude.{◌≡◌, ◌≤◌, All, IfOk};
 ghost use Rattle.kr_config.specs.Kept.{plugins_in, rows_of};
 ghost use Rattle.kr_kms.specs.Truth.{TellsOf, key_of};
-ghost use Rattle.kr_provider.specs.AskedLinks.{AskedOnly};
+ghost use Rattle.kr_base.specs.Walks.{Talk};
+ghost use Rattle.kr_provider.specs.AskedLinks.{Among, AskedOnly};
 ghost use Rattle.kr_provider.specs.Names.{HasLinks, names_of};
 ghost use Rattle.kr_provider.specs.PluginOrder.{plugin_order};
-ghost use Rattle.kr_cmd_steps.specs.Around.{Around};
+ghost use Rattle.kr_cmd_steps.specs.Around.{Around, IsUnheard, with_exchanges};
 ghost use Rattle.kr_cmd_steps.specs.Plugins.{make_seeds};
 ghost use Rattle.kr_cmd_steps.specs.inner.Lent.{with_lent_dice, with_lent_links};
 ghost use Rattle.kr_cmd_steps.specs.inner.Phases.{Does};
@@ -19,14 +20,22 @@ use kr_provider::{Links, PublishNo, Published, publish};
 use std::alloc::Global;
 
 /// Publishes settings: a seed of each plugin is made.
-pub fn publish_by<L: Kms, D: Dice>(
+pub fn publish_settings<L: Kms, D: Dice>(
     alloc: Global,
     settings: Shared<Settings>,
     links: &mut Links<L>,
     dice: &mut D,
 ) -> Result<Published, Stop>
     requires links { HasLinks (names_of L.link links.old) (rows_of settings.entries.0) }
-    ensures does { (a : Around) → a.truth ≡ L.truth → Does
+    ensures heard { Talk (Among L.step) links.old links.new
+        (λ es. (a : Around) → a.truth ≡ L.truth → Does
+        (make_seeds (plugin_order (rows_of settings.entries.0)))
+        (with_lent_links L.link 0 links.old
+        (with_lent_dice 0 (D.left dice.old) (D.count dice.old) a))
+        (with_lent_links L.link 0 links.new
+        (with_lent_dice 0 (D.left dice.new) (D.count dice.new) (with_exchanges es a)))
+        (seeds_in result)) }
+    ensures does { (a : Around) → IsUnheard L.truth a → Does
         (make_seeds (plugin_order (rows_of settings.entries.0)))
         (with_lent_links L.link 0 links.old
         (with_lent_dice 0 (D.left dice.old) (D.count dice.old) a))

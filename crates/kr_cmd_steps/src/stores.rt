@@ -6,7 +6,7 @@ ghost use Rattle.kr_store.specs.Rows.{check_in, delete_of, live, put_of};
 ghost use Rattle.kr_kms.specs.Outside.{KeepsFiles, KeepsObjects};
 ghost use Rattle.kr_kms.specs.declared.world.WorldCall.{WorldCall};
 ghost use Rattle.kr_cmd_steps.specs.Around.{Around};
-ghost use Rattle.kr_cmd_steps.specs.Commands.{adding, stored_on};
+ghost use Rattle.kr_cmd_steps.specs.Phases.{adding, stored_on};
 ghost use Rattle.kr_cmd_steps.specs.inner.Lent.{with_lent_tape};
 ghost use Rattle.kr_cmd_steps.specs.inner.Phases.{Does, AskedFor};
 ghost use Rattle.kr_cmd_steps.specs.inner.Tapes.{HasOneMore, IsLoaded, LentTape, ReturnedTape, ReturnsSettled, NoTape, grown_by, load_stop, stored_of};

@@ -1,11 +1,15 @@
 //! Borrows a random source, and a link to each plugin, for what is made of the input.
 ghost use Rattle.std.specs.Prelude.{◌≡◌, ◌≢◌, ◌≤◌, ℕ, List, ◌∷◌, ◌++◌, length, map, [], IfOk, MatchOption};
 ghost use Rattle.kr_base.specs.Limits.{path_limit, value_limit};
+ghost use Rattle.kr_base.specs.Walks.{Talk};
 ghost use Rattle.kr_config.specs.Kept.{rows_of};
+ghost use Rattle.kr_provider.specs.AskedLinks.{Among};
 ghost use Rattle.kr_provider.specs.Names.{names_of};
 ghost use Rattle.kr_provider.specs.PluginOrder.{plugin_order};
-ghost use Rattle.kr_cmd_steps.specs.Around.{Around, with_world};
-ghost use Rattle.kr_cmd_steps.specs.Commands.{bench_steps, working, limit_of};
+ghost use Rattle.kr_cmd_steps.specs.Around.{Around, with_exchanges, with_world};
+ghost use Rattle.kr_cmd_steps.specs.ValueSteps.{bench_steps, working};
+ghost use Rattle.kr_cmd_steps.specs.Phases.{input_limit};
+ghost use Rattle.kr_cmd_steps.specs.Heard.{Heard};
 ghost use Rattle.kr_cmd_steps.specs.Plugins.{borrow_links};
 ghost use Rattle.kr_cmd_messages.specs.declared.command.Direction.{Direction};
 ghost use Rattle.kr_cmd_steps.specs.inner.Lent.{Tapes, with_tapes, with_lent_dice, with_lent_links};
@@ -14,7 +18,7 @@ ghost use Rattle.kr_cmd_steps.specs.inner.Phases.{Does};
 use crate::bench::{adopted, work};
 use crate::phases::{close_dice, close_link, open_dice, open_link};
 use crate::programs::Program;
-use crate::publication::publish_by;
+use crate::publication::publish_settings;
 use kr_base::{Bytes, Dice, Shared};
 use kr_cmd_messages::{Direction, Outcome, Stop};
 use kr_config::Settings;
@@ -46,12 +50,13 @@ pub fn make<W: World>(
     requires programs { map (λ program. program.plugin) programs.now
         ≡ plugin_order (rows_of settings.entries.0) }
     requires path { length task.now.path.now ≤ path_limit }
-    requires fits { length bytes ≤ limit_of task.now.direction }
-    ensures made { (tapes : Tapes) (a : Around) → a.truth ≡ W.Link.truth → Does
+    requires fits { length bytes ≤ input_limit task.now.direction }
+    ensures made { Heard W.lent W.took W.Link.step 0 [] [] (λ es. (tapes : Tapes) (a : Around)
+        → a.truth ≡ W.Link.truth → Does
         (bench_steps programs.now task.now.direction task.now.resource.now task.now.path.now
         (rows_of settings.entries.0) bytes)
         (with_world (with_tapes tapes (W.told world.old)) a)
-        (with_world (with_tapes tapes (W.told world.new)) a) result }
+        (with_world (with_tapes tapes (W.told world.new)) (with_exchanges es a)) result) }
     ensures size { task.now.direction ≡ Direction.Encrypt
         → IfOk result (λ made. length made.bytes ≤ value_limit) }
     ensures tapes { (W.told world.new).tapes ≡ (W.told world.old).tapes }
@@ -84,8 +89,9 @@ fn make_linked<W: World>(
         ++ map (λ program. program.plugin) programs.now
         ≡ plugin_order (rows_of settings.entries.0) }
     requires path { length task.now.path.now ≤ path_limit }
-    requires fits { length bytes ≤ limit_of task.now.direction }
-    ensures made { (tapes : Tapes) (a : Around) → a.truth ≡ W.Link.truth → Does
+    requires fits { length bytes ≤ input_limit task.now.direction }
+    ensures made { Heard W.lent W.took W.Link.step 0 links result.1
+        (λ es. (tapes : Tapes) (a : Around) → a.truth ≡ W.Link.truth → Does
         (borrow_links programs.now (working task.now.direction task.now.resource.now
         task.now.path.now (rows_of settings.entries.0) bytes))
         (with_lent_links W.Link.link 0 links
@@ -93,8 +99,8 @@ fn make_linked<W: World>(
         (with_world (with_tapes tapes (W.told world.old)) a)))
         (with_lent_links W.Link.link 0 result.1
         (with_lent_dice 0 (W.Rand.left result.2) (W.Rand.count result.2)
-        (with_world (with_tapes tapes (W.told world.new)) a)))
-        result.0 }
+        (with_world (with_tapes tapes (W.told world.new)) (with_exchanges es a))))
+        result.0) }
     ensures tapes { (W.told world.new).tapes ≡ (W.told world.old).tapes }
     ensures names { names_of W.Link.link result.1 ≡ names_of W.Link.link links }
     ensures size { task.now.direction ≡ Direction.Encrypt
@@ -103,8 +109,8 @@ fn make_linked<W: World>(
     ensures out { (key : ℕ × List ℕ)
         → (W.told world.new).links.out key ≡ (W.told world.old).links.out key }
 {
-    let Some((program, more)) = first_of(programs) else {
-        return make_by(alloc, task, bytes, settings, links, dice);
+    let Some((program, more)) = split_first_program(programs) else {
+        return make_on_bench(alloc, task, bytes, settings, links, dice);
     };
     let link = match open_link(
         alloc,
@@ -142,7 +148,7 @@ pub fn take_last<L: Kms>(links: &mut Links<L>) -> L
 }
 
 /// The first of programs, and the others.
-pub fn first_of(programs: &[Program]) -> Option<(&Program, &[Program])>
+pub fn split_first_program(programs: &[Program]) -> Option<(&Program, &[Program])>
     ensures { MatchOption result (programs.now ≡ [])
         (λ parts. programs.now ≡ parts.0.now ∷ parts.1.now) }
 {
@@ -153,7 +159,7 @@ pub fn first_of(programs: &[Program]) -> Option<(&Program, &[Program])>
 }
 
 /// What a bench of these settings makes of the bytes. The links and the random source come back.
-fn make_by<L: Kms, D: Dice>(
+fn make_on_bench<L: Kms, D: Dice>(
     alloc: Global,
     task: &Task<'_>,
     bytes: Bytes,
@@ -163,14 +169,15 @@ fn make_by<L: Kms, D: Dice>(
 ) -> (Result<Outcome, Stop>, Links<L>, D)
     requires links { names_of L.link links ≡ plugin_order (rows_of settings.entries.0) }
     requires path { length task.now.path.now ≤ path_limit }
-    requires fits { length bytes ≤ limit_of task.now.direction }
-    ensures made { (a : Around) → a.truth ≡ L.truth → Does
+    requires fits { length bytes ≤ input_limit task.now.direction }
+    ensures made { Talk (Among L.step) links result.1
+        (λ es. (a : Around) → a.truth ≡ L.truth → Does
         (working task.now.direction task.now.resource.now task.now.path.now
         (rows_of settings.entries.0) bytes)
         (with_lent_links L.link 0 links (with_lent_dice 0 (D.left dice) (D.count dice) a))
         (with_lent_links L.link 0 result.1
-        (with_lent_dice 0 (D.left result.2) (D.count result.2) a))
-        result.0 }
+        (with_lent_dice 0 (D.left result.2) (D.count result.2) (with_exchanges es a)))
+        result.0) }
     ensures names { names_of L.link result.1 ≡ names_of L.link links }
     ensures size { task.now.direction ≡ Direction.Encrypt
         → IfOk result.0 (λ made. length made.bytes ≤ value_limit) }
@@ -179,7 +186,7 @@ fn make_by<L: Kms, D: Dice>(
         Ok(settings) => settings,
         Err(_) => return (Err(Stop::NoMemory), links, dice),
     };
-    let published = match publish_by(alloc, settings, &mut links, &mut dice) {
+    let published = match publish_settings(alloc, settings, &mut links, &mut dice) {
         Ok(published) => published,
         Err(stop) => return (Err(stop), links, dice),
     };

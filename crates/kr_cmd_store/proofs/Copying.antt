@@ -2,7 +2,7 @@
 use Rattle.std.proofs.Common.{◌≡◌, ℕ, suc, ◌+◌, ◌<◌, ◌≤◌, ◌-◌, List, [], ◌∷◌, ◌++◌, length, map, take, drop, None, Some, Result, Ok, Err, sym, ◌∙◌, ap, subst, add-one, arith}
 use Rattle.std.specs.Prelude.{IfOk, IsSome, slice_get}
 use Rattle.std.proofs.lemmas.List.{drop_all, length-map, take_all}
-use Rattle.kr_config.specs.Kept.{Row}
+use Rattle.kr_config.specs.Kept.{ConfigEntry}
 use Rattle.kr_config.specs.Lists.{list_of}
 use Rattle.kr_config.specs.declared.who.Who.{Who}
 use Rattle.kr_provider.specs.Readers.{reader_in}
@@ -14,7 +14,8 @@ use Rattle.kr_store.specs.declared.format.Format.TheVariants.{Two}
 use Rattle.kr_store.specs.declared.rows.LogRow.{LogRow}
 use Rattle.kr_store.specs.declared.rows.Row as stored
 use Rattle.kr_cmd_steps.specs.Around.{Around}
-use Rattle.kr_cmd_steps.specs.Commands.{adding, copying, migrated_row, reader_check}
+use Rattle.kr_cmd_steps.specs.Phases.{adding}
+use Rattle.kr_cmd_steps.specs.StoreSteps.{copying, migrated_row, reader_check}
 use Rattle.kr_cmd_steps.specs.StoreFiles.{Stored, with_row}
 use Rattle.kr_cmd_steps.specs.inner.Lent.{with_lent_tape}
 use Rattle.kr_cmd_store.specs.inner.Migrating.{HasCopied, IsNew, all_grown, migrated_put}
@@ -22,10 +23,8 @@ use Rattle.kr_cmd_steps.specs.inner.Phases.{Does}
 use Rattle.kr_cmd_steps.specs.inner.Tapes.{HasOneMore, grown_by, stored_of}
 use Rattle.kr_cmd_messages.specs.declared.refusal.Object.TheVariants.{Target}
 use Rattle.kr_cmd_messages.specs.declared.refusal.Stop.{Stop}
-use Rattle.kr_cmd_messages.specs.declared.refusal.Stop.TheVariants.{NoMemory}
 use Rattle.kr_cmd_steps.proofs.Goes.{given, goes_on, stops}
 use Rattle.kr_cmd_store.proofs.MigratedRows.{follows_at, live_of, next_of, one_more_of, row_there}
-use Rattle.kr_cmd_steps.proofs.Works.{lacks}
 
 -- as another line that is the same
 pub as_line : (name : List ℕ) (store : Stored) {line other : LogRow} {old new : Around}
@@ -36,7 +35,7 @@ as_line name store {old = old} {new} result same d =
     subst (λ l. Does (adding Target name store l) old new (grown_by l store result)) (sym same) d
 
 -- what is put of a row is its line
-pub line_is : (config : List Row) (row : stored.Row) {path resource value name bytes : List ℕ}
+pub line_is : (config : List ConfigEntry) (row : stored.Row) {path resource value name bytes : List ℕ}
     {list : List Who} {check : kept.Check} (format : Format) → format ≡ Two → path ≡ row.path
     → resource ≡ row.resource → value ≡ row.stored → name ≡ row.resource
     → list ≡ list_of config name → bytes ≡ row.stored
@@ -51,11 +50,6 @@ line_is config row {list = list} {check} format two path resource value name fou
     ∙ ap (λ f. check_in f check) (sym two) in
     λ i. put_of (sym path i) (sym resource i) (sym value i) (check_is i)
 
--- there is no memory for a row
-pub lacks_row : (store : Stored) (line : LogRow) (name : List ℕ) (a : Around)
-    → Does (adding Target name store line) a a (Err NoMemory)
-lacks_row store line name a = lacks _ a
-
 -- each revision up to the number of rows has one
 pub no_row : (rows : List LogRow) (revision : ℕ) → 1 ≤ revision → revision ≤ length rows
     → log_row_at rows revision ≡ None → ⊥
@@ -64,7 +58,7 @@ no_row rows revision first last none =
     let e : revision ≡ suc (revision - 1) = omega (arith, first) in
     let both : None ≡ Some found.0 = sym none ∙ ap (log_row_at rows) e ∙ found.1 in absurd cc
 
-module _ (config : List Row) (source : List LogRow) where
+module _ (config : List ConfigEntry) (source : List LogRow) where
   -- ---- one row
 
   -- the row before this revision

@@ -4,7 +4,8 @@ use Rattle.kr_store.specs.Rows.{live}
 use Rattle.kr_store.specs.declared.rows.LogRow.{LogRow}
 use Rattle.kr_store.specs.declared.rows.Row.{Row}
 use Rattle.kr_cmd_steps.specs.Around.{Around}
-use Rattle.kr_cmd_steps.specs.Commands.{by_result, row_found, with_memory}
+use Rattle.kr_cmd_steps.specs.Phases.{by_result, with_memory}
+use Rattle.kr_cmd_steps.specs.StoreSteps.{row_found}
 use Rattle.kr_cmd_steps.specs.Steps.{refuse}
 use Rattle.kr_cmd_steps.specs.inner.Phases.{Does}
 use Rattle.kr_cmd_steps.specs.inner.Tapes.{IsLookedUp}

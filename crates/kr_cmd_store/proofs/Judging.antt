@@ -1,10 +1,10 @@
 -- How a verdict ends the steps of `judge`, and that there is one alone.
 use Rattle.std.proofs.Common.{ℕ, List, Option, Result, Ok, Err, refl, sym, subst, inl, inr}
-use Rattle.kr_config.specs.Kept.{Row}
+use Rattle.kr_config.specs.Kept.{ConfigEntry}
 use Rattle.kr_judge.specs.declared.verdict.Verdict.{Verdict}
 use Rattle.kr_store.specs.declared.rows.LogRow.{LogRow}
 use Rattle.kr_cmd_steps.specs.Around.{Around, Stays, Ends}
-use Rattle.kr_cmd_steps.specs.Commands.{judgement_on, telling}
+use Rattle.kr_cmd_steps.specs.StoreSteps.{judgement_on, telling}
 use Rattle.kr_cmd_steps.specs.Steps.{Left}
 use Rattle.kr_cmd_store.specs.inner.Judging.{Judges, IsOutcome}
 use Rattle.kr_cmd_steps.specs.inner.Phases.{Does}
@@ -15,8 +15,8 @@ use Rattle.kr_cmd_steps.proofs.Goes.{reach, home_refl}
 
 -- ---- verdicts
 
-module _ (stored : List LogRow) (replicas : List (Option (List Row))) (replica : ℕ)
-    (rows : List Row) (a : Around) where
+module _ (stored : List LogRow) (replicas : List (Option (List ConfigEntry))) (replica : ℕ)
+    (rows : List ConfigEntry) (a : Around) where
   judges_at : {left : Left} (result : Result Verdict Stop)
       → Judges stored replicas replica rows result → Stays left a
       → Ends (judgement_on stored replicas replica rows) left a a result

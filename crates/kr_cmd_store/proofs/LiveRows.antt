@@ -12,7 +12,7 @@ use Rattle.kr_store.proofs.Listings.{nexts_are_listing}
 use Rattle.kr_cmd_steps.specs.Around.{Around}
 use Rattle.kr_cmd_steps.specs.Steps.{find, give}
 use Rattle.kr_cmd_steps.specs.inner.Phases.{Does}
-use Rattle.kr_cmd_steps.specs.inner.Tapes.{path_of}
+use Rattle.kr_cmd_steps.specs.inner.Tapes.{walk_path}
 use Rattle.kr_cmd_messages.specs.declared.refusal.Stop.{Stop}
 use Rattle.kr_cmd_steps.proofs.Goes.{home_refl, reach}
 use Rattle.kr_cmd_store.specs.inner.Verifying.{IsWithin, ListsRows}
@@ -34,7 +34,7 @@ last_is o (x ∷ (y ∷ more)) d l =
 
 -- so many rows were passed, which are kept
 pub record AreKept (rows : List LogRow) (kept : List Row) : Type 0 where
-  pub passes : Passes rows [] kept (path_of (last_or None kept))
+  pub passes : Passes rows [] kept (walk_path (last_or None kept))
   pub within : All IsWithin kept
 
 pub kept_none : (rows : List LogRow) → AreKept rows []
@@ -44,20 +44,20 @@ pub row_within : (format : Format) (row : Row) → IsRow format row → IsWithin
 row_within format row is = (is.0.1, is.1.1)
 
 pub kept_more : (format : Format) (rows : List LogRow) (kept : List Row) (row : Row)
-    → AreKept rows kept → IsNext rows (path_of (last_or None kept)) (Some row) → IsRow format row
+    → AreKept rows kept → IsNext rows (walk_path (last_or None kept)) (Some row) → IsRow format row
     → AreKept rows (kept ++ row ∷ [])
 kept_more format rows kept row so_far next is = record {
-  passes = subst (λ o. Passes rows [] (kept ++ row ∷ []) (path_of o))
+  passes = subst (λ o. Passes rows [] (kept ++ row ∷ []) (walk_path o))
       (sym (last_behind None kept row))
-      (passes_more rows [] (path_of (last_or None kept)) kept row so_far.passes next);
+      (passes_more rows [] (walk_path (last_or None kept)) kept row so_far.passes next);
   within = All-append IsWithin kept (row ∷ []) so_far.within
       (All-cons IsWithin row [] (row_within format row is) (All-nil IsWithin));
 }
 
 pub kept_all : (format : Format) (rows : List LogRow) (kept : List Row) → AreRows format rows
-    → AreKept rows kept → IsNext rows (path_of (last_or None kept)) None → IsListing rows kept
+    → AreKept rows kept → IsNext rows (walk_path (last_or None kept)) None → IsListing rows kept
 kept_all format rows kept are so_far end = nexts_are_listing format rows kept are
-    (follow rows [] (path_of (last_or None kept)) kept so_far.passes end)
+    (follow rows [] (walk_path (last_or None kept)) kept so_far.passes end)
 
 -- ---- steps
 

@@ -2,12 +2,13 @@
 use Rattle.std.proofs.Common.{◌≡◌, ℕ, suc, ◌+◌, ◌≤◌, List, [], ◌∷◌, ◌++◌, length, drop, slice_get, Option, Some, Result, Ok, Err, refl, sym, ◌∙◌, ap, subst, inl, inr, drop-cons, add-one}
 use Rattle.std.proofs.lemmas.List.{drop_all}
 use Rattle.std.proofs.lemmas.Option.{slice_get_within, get_or_from_slice_get}
-use Rattle.kr_config.specs.Kept.{Row, rows_of}
+use Rattle.kr_config.specs.Kept.{ConfigEntry, rows_of}
 use Rattle.kr_config.specs.declared.settings.Settings.{Settings}
 use Rattle.kr_kms.specs.Outside.{Outside, KeepsFiles, KeepsObjects}
 use Rattle.kr_kms.specs.declared.world.WorldCall.TheVariants.{File}
 use Rattle.kr_cmd_steps.specs.Around.{Around, with_world}
-use Rattle.kr_cmd_steps.specs.Commands.{configuration, configurations}
+use Rattle.kr_cmd_steps.specs.Phases.{configuration}
+use Rattle.kr_cmd_steps.specs.StoreSteps.{configurations}
 use Rattle.kr_cmd_steps.specs.inner.Lent.{Tapes, with_tapes}
 use Rattle.kr_cmd_steps.specs.inner.Phases.{Does, AskedFor, Configures, rows_in}
 use Rattle.kr_cmd_messages.specs.declared.refusal.Stop.{Stop}
@@ -38,7 +39,7 @@ module _ {old new : Outside} (files : KeepsFiles old new) (objects : KeepsObject
 
 -- ---- all of them
 
-pub no_room : (rows : List (Option (List Row))) (names : List (List ℕ)) (a : Around)
+pub no_room : (rows : List (Option (List ConfigEntry))) (names : List (List ℕ)) (a : Around)
     → Does (configurations rows names) a a (Err NoMemory)
 no_room rows [] a =
     record { home = home_refl a; ends = λ left s. inr (reach left (inl (refl, refl)) s) }
@@ -46,10 +47,10 @@ no_room rows (name ∷ names) a =
     record { home = home_refl a; ends = λ left s. inr (reach left (inl (refl, refl)) s) }
 
 -- so many are loaded, and what the rest does completes it
-pub record IsLoading (names : List (List ℕ)) (number : ℕ) (rows : List (Option (List Row)))
+pub record IsLoading (names : List (List ℕ)) (number : ℕ) (rows : List (Option (List ConfigEntry)))
     (old mid : Outside) : Type 0 where
   pub objects : KeepsObjects old mid
-  pub onward : (tapes : Tapes) (a new : Around) (result : Result (List (Option (List Row))) Stop)
+  pub onward : (tapes : Tapes) (a new : Around) (result : Result (List (Option (List ConfigEntry))) Stop)
       → Does (configurations rows (drop number names)) (with_world (with_tapes tapes mid) a) new
       result
       → Does (configurations [] names) (with_world (with_tapes tapes old) a) new result
@@ -67,7 +68,7 @@ same_objects p q = record {
   links = q.links ∙ p.links;
 }
 
-module _ {names : List (List ℕ)} {number : ℕ} {rows : List (Option (List Row))}
+module _ {names : List (List ℕ)} {number : ℕ} {rows : List (Option (List ConfigEntry))}
     {old mid : Outside} (so_far : IsLoading names number rows old mid) where
   module _ {new : Outside} (name : List ℕ) (there : Some name ≡ slice_get names number)
       (files : KeepsFiles mid new) (objects : KeepsObjects mid new) where

@@ -5,7 +5,7 @@ use Rattle.std.specs.Option.{option_map}
 use Rattle.std.specs.Str.{bytes_eq}
 use Rattle.std.proofs.lemmas.List.{append_assoc}
 use Rattle.std.proofs.lemmas.List.Quantifiers.{position-Some}
-use Rattle.kr_config.specs.Kept.{Row}
+use Rattle.kr_config.specs.Kept.{ConfigEntry}
 use Rattle.kr_config.specs.declared.who.Who.{Who}
 use Rattle.kr_kms.proofs.Lent.{found_at, no_place}
 use Rattle.kr_provider.specs.Readers.{is_reader, reader_in, reader_place}
@@ -15,7 +15,7 @@ use Rattle.kr_store.specs.declared.rows.Change.{Change}
 use Rattle.kr_store.specs.declared.rows.Change.TheVariants.{Put, Delete}
 use Rattle.kr_store.specs.declared.rows.LogRow.{LogRow}
 use Rattle.kr_store.specs.declared.rows.Row as stored
-use Rattle.kr_cmd_steps.specs.Commands.{migrated_row}
+use Rattle.kr_cmd_steps.specs.StoreSteps.{migrated_row}
 use Rattle.kr_cmd_store.specs.inner.Migrating.{migrated_put}
 
 -- ---- the reader of a value
@@ -56,7 +56,7 @@ follows_at format before (first ∷ rows) (suc n) row all is =
     (follows_at format (before ++ first ∷ []) rows n row all.1 is)
 
 -- a put is lent as it is handed out
-module _ (config : List Row) where
+module _ (config : List ConfigEntry) where
   put_by : (k : ℕ) (path : List ℕ) (change : Change) (row : stored.Row)
       → row_of k path change ≡ Some row
       → migrated_row config (record { path = path; change = change }) ≡ migrated_put config row

@@ -4,14 +4,15 @@ use Rattle.std.specs.Prelude.{IfErr, IfOk, IfSome, codes, decimal, map, nat_lt, 
 use Rattle.std.proofs.lemmas.Bool.{lt-ltb}
 use Rattle.kr_base.specs.Faults.{Rose}
 use Rattle.kr_base.specs.Told.{Agrees}
-use Rattle.kr_config.specs.Kept.{Row}
+use Rattle.kr_config.specs.Kept.{ConfigEntry}
 use Rattle.kr_store.specs.File.{IsFile, magic, rows_bytes}
 use Rattle.kr_store.specs.Stores.{Kept}
 use Rattle.kr_store.specs.declared.format.Format.{Format}
 use Rattle.kr_store.specs.declared.format.Format.TheVariants.{One, Two}
 use Rattle.kr_store.specs.declared.rows.LogRow.{LogRow}
 use Rattle.kr_cmd_steps.specs.Around.{Around, Stays, Reaches, Ends}
-use Rattle.kr_cmd_steps.specs.Commands.{by_result, copied_into, copying, migrated_line, migrated_row, silently, source_on, stored_on, target_on, target_read, with_memory}
+use Rattle.kr_cmd_steps.specs.Phases.{by_result, silently, stored_on, with_memory}
+use Rattle.kr_cmd_steps.specs.StoreSteps.{copied_into, copying, migrated_line, migrated_row, source_on, target_on, target_read}
 use Rattle.kr_cmd_steps.specs.Steps.{Steps, read_tape, find, give, and_then, scanning, Point, Left, Goes}
 use Rattle.kr_cmd_steps.specs.StoreFiles.{Stored, IsSource, IsStored, IsTarget, begins_new, none_there, unless_there}
 use Rattle.kr_cmd_steps.specs.inner.Lent.{with_lent_tape}
@@ -354,7 +355,7 @@ remembered : {A : Type 0} (next : Steps A) {old new : Around} {result : Result A
 remembered next {old} d = goes_on (with_memory (give tt)) (λ (u : Unit {0}). next) tt
     (record { home = home_refl old; ends = λ left s. reach left (inr (tt, tt, (refl, refl))) s }) d
 
-pub migrated_all : (name : List ℕ) (config : List Row) (source target : Stored)
+pub migrated_all : (name : List ℕ) (config : List ConfigEntry) (source target : Stored)
     {old new : Around} (copied : Result (Unit {0}) Stop) (line : List ℕ) (count : ℕ)
     → count ≡ length source.rows → line ≡ codes "migrated " ++ (decimal count ++ codes "\n")
     → Does (copying name target (map (migrated_row config) source.rows)) old new

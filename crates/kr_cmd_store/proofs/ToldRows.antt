@@ -1,7 +1,7 @@
 -- What the phases of `verify` do, one behind another.
 use Rattle.std.proofs.Common.{◌≡◌, List, [], ◌∷◌, Option, None, Some, Result, Ok, Err, refl, sym, ◌∙◌, subst, inl, inr}
 use Rattle.std.specs.Prelude.{IfSome, ℕ}
-use Rattle.kr_config.specs.Kept.{Row}
+use Rattle.kr_config.specs.Kept.{ConfigEntry}
 use Rattle.kr_kms.specs.Calls.{Link}
 use Rattle.kr_kms.specs.declared.seeds.SeedRow.{SeedRow}
 use Rattle.kr_provider.specs.PluginOrder.{plugin_order}
@@ -11,7 +11,7 @@ use Rattle.kr_cmd_messages.specs.declared.refusal.Outcome.{Outcome}
 use Rattle.kr_cmd_messages.specs.declared.refusal.Stop.{Stop}
 use Rattle.kr_cmd_messages.specs.declared.refusal.Stop.TheVariants.{NoMemory}
 use Rattle.kr_cmd_steps.specs.Around.{Around}
-use Rattle.kr_cmd_steps.specs.Commands.{row_findings, telling_findings, verifying_by, verifying_with}
+use Rattle.kr_cmd_steps.specs.StoreSteps.{row_findings, telling_findings, verifying_by, verifying_with}
 use Rattle.kr_cmd_steps.specs.Plugins.{make_seeds}
 use Rattle.kr_cmd_steps.specs.RowFindings.{findings_outcome}
 use Rattle.kr_cmd_steps.specs.Steps.{Steps, and_then, give}
@@ -25,7 +25,7 @@ use Rattle.kr_cmd_steps.proofs.Works.{lacks}
 use Rattle.kr_cmd_store.specs.inner.Verifying.{IsToldOf}
 
 -- of equal parts the same is done
-pub verified_by : {programs others : List Program} {live kept : List stored.Row} (rows : List Row)
+pub verified_by : {programs others : List Program} {live kept : List stored.Row} (rows : List ConfigEntry)
     {old new : Around} {result : Result Outcome Stop} → others ≡ programs → kept ≡ live
     → Does (verifying_with others rows kept) old new result
     → Does (verifying_with programs rows live) old new result
@@ -63,7 +63,7 @@ untold p (row ∷ live) all a =
 
 -- ---- the seeds are made before
 
-module _ (rows : List Row) (live : List stored.Row) where
+module _ (rows : List ConfigEntry) (live : List stored.Row) where
   abbrev next : List SeedRow → Steps Outcome
   next seeds = Told (record { rows = rows; seeds = seeds }) live
 
@@ -73,47 +73,47 @@ module _ (rows : List Row) (live : List stored.Row) where
   pub unmade : (a : Around) → Verifying a a (Err NoMemory)
   unmade a = lacks (and_then (make_seeds (plugin_order rows)) next) a
 
-  module _ {others : List Row} (same : others ≡ rows) {old mid : Around} where
+  module _ {others : List ConfigEntry} (same : others ≡ rows) {old mid : Around} where
     pub unpublished : (stop : Stop) → Does (make_seeds (plugin_order others)) old mid (Err stop)
         → Verifying old mid (Err stop)
     unpublished stop d = unseeded next same stop d
 
 module _ {L D : Type 0} (link : L → Link) (left : D → Option (List ℕ)) (count : D → ℕ)
-    (rows others : List Row) (live : List stored.Row) (same : others ≡ rows) (olds mids : List L)
-    (old mid : D) (a : Around) where
-  abbrev With : List L → D → Around
-  With links dice = Seen link a links (left dice) (count dice)
+    (rows others : List ConfigEntry) (live : List stored.Row) (same : others ≡ rows) (olds mids : List L)
+    (old mid : D) (a b : Around) where
+  abbrev With : Around → List L → D → Around
+  With around links dice = Seen link around links (left dice) (count dice)
 
   -- what wasn't adopted is back
   pub unadopted : (seeds : List SeedRow) (back : List L) (dice : D) → back ≡ mids → dice ≡ mid
-      → Does (make_seeds (plugin_order others)) (With olds old) (With mids mid) (Ok seeds)
-      → Does (verifying_by rows live) (With olds old) (With back dice) (Err NoMemory)
+      → Does (make_seeds (plugin_order others)) (With a olds old) (With b mids mid) (Ok seeds)
+      → Does (verifying_by rows live) (With a olds old) (With b back dice) (Err NoMemory)
   unadopted seeds back dice is at d =
-      subst (λ l. Does (verifying_by rows live) (With olds old) (With l dice) (Err NoMemory))
+      subst (λ l. Does (verifying_by rows live) (With a olds old) (With b l dice) (Err NoMemory))
       (sym is)
-      (subst (λ n. Does (verifying_by rows live) (With olds old) (With mids n) (Err NoMemory))
+      (subst (λ n. Does (verifying_by rows live) (With a olds old) (With b mids n) (Err NoMemory))
       (sym at)
       (seeded (next rows live) same seeds d
-      (untold (record { rows = rows; seeds = seeds }) live live (With mids mid))))
+      (untold (record { rows = rows; seeds = seeds }) live live (With b mids mid))))
 
   -- a bench adopted the publication, and read the rows
-  pub read_by : (p : Publication) (published : Option Publication) (benched back : List L)
+  pub read_stored_rows : (c : Around) (p : Publication) (published : Option Publication) (benched back : List L)
       (held dice : D) (found : Result (List Finding) Stop) (told : Result Outcome Stop)
       → published ≡ Some p → p.rows ≡ others → benched ≡ mids → held ≡ mid
-      → Does (make_seeds (plugin_order others)) (With olds old) (With mids mid) (Ok p.seeds)
+      → Does (make_seeds (plugin_order others)) (With a olds old) (With b mids mid) (Ok p.seeds)
       → IfSome published
-      (λ q. Does (row_findings q live) (With benched held) (With back dice) found)
+      (λ q. Does (row_findings q live) (With b benched held) (With c back dice) found)
       → IsToldOf live found told
-      → Does (verifying_by rows live) (With olds old) (With back dice) told
-  read_by p None benched back held dice found told e r is at d w t = absurd cc
-  read_by p (Some q) benched back held dice found told e r is at d w t =
+      → Does (verifying_by rows live) (With a olds old) (With c back dice) told
+  read_stored_rows c p None benched back held dice found told e r is at d w t = absurd cc
+  read_stored_rows c p (Some q) benched back held dice found told e r is at d w t =
       let q_is : q ≡ p = cc in
       let own : Publication = record { rows = rows; seeds = p.seeds } in
-      let done : Does (row_findings own live) (With mids mid) (With back dice) found =
-      subst (λ n. Does (row_findings own live) (With mids n) (With back dice) found) at
-      (subst (λ l. Does (row_findings own live) (With l held) (With back dice) found) is
+      let done : Does (row_findings own live) (With b mids mid) (With c back dice) found =
+      subst (λ n. Does (row_findings own live) (With b mids n) (With c back dice) found) at
+      (subst (λ l. Does (row_findings own live) (With b l held) (With c back dice) found) is
       (subst (λ x. Does (row_findings (record { rows = x; seeds = p.seeds }) live)
-      (With benched held) (With back dice) found) (r ∙ same)
-      (subst (λ (x : Publication). Does (row_findings x live) (With benched held) (With back dice)
+      (With b benched held) (With c back dice) found) (r ∙ same)
+      (subst (λ (x : Publication). Does (row_findings x live) (With b benched held) (With c back dice)
       found) q_is w))) in
       seeded (next rows live) same p.seeds d (told_by own live found told done t)

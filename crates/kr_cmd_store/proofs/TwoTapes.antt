@@ -8,7 +8,7 @@ use Rattle.kr_kms.proofs.Lent.{names_decide}
 use Rattle.kr_kms.specs.declared.world.WorldCall.TheVariants.{Tape}
 use Rattle.kr_kms.specs.declared.world.Access.{Access}
 use Rattle.kr_cmd_steps.specs.Around.{Around, with_lent, with_world}
-use Rattle.kr_cmd_steps.specs.Commands.{settled_for, tape_for}
+use Rattle.kr_cmd_steps.specs.Phases.{settled_for, tape_for}
 use Rattle.kr_cmd_steps.specs.Steps.{Steps}
 use Rattle.kr_cmd_steps.specs.inner.Lent.{Tapes, with_lent_tape, with_tapes}
 use Rattle.kr_cmd_steps.specs.inner.Phases.{AskedUnless, Does}

@@ -8,7 +8,7 @@ use Rattle.kr_store.specs.Laws.{FollowEachOther}
 use Rattle.kr_store.specs.Rows.{AreRows}
 use Rattle.kr_store.specs.Stores.{IsNext}
 use Rattle.kr_store.proofs.Listings.{nexts_are_listing}
-use Rattle.kr_cmd_steps.specs.RowLines.{IsTag, next_word, row_line, AreLines, ShowsRows}
+use Rattle.kr_cmd_steps.specs.RowLines.{IsTag, spaced_word, row_line, AreLines, ShowsRows}
 
 -- ---- what was passed
 
@@ -84,19 +84,19 @@ hands_over before piece rest e = ap (λ l. l ++ rest) e ∙ append_assoc before 
 pub row_added : {T E : Type 0} (row : Row) (old a b d e new : List ℕ)
     {resource path stored : List ℕ} (result : Result T E)
     → resource ≡ row.resource → path ≡ row.path → stored ≡ row.stored
-    → a ≡ old ++ decimal row.revision → b ≡ a ++ next_word resource → d ≡ b ++ next_word path
-    → (tag : List ℕ) × IsTag stored tag × (e ≡ d ++ next_word tag)
+    → a ≡ old ++ decimal row.revision → b ≡ a ++ spaced_word resource → d ≡ b ++ spaced_word path
+    → (tag : List ℕ) × IsTag stored tag × (e ≡ d ++ spaced_word tag)
     → IfOk result (λ done. new ≡ e ++ codes "\n")
     → IfOk result
     (λ done. (tag : List ℕ) × IsTag row.stored tag × (new ≡ old ++ row_line row tag))
 row_added row old a b d e new (Err why) r p s h i j t l = tt
 row_added row old a b d e new (Ok done) r p s h i j (tag, is, k) l =
-    let end : List ℕ = next_word tag ++ codes "\n" in
-    let from_path : List ℕ = next_word row.path ++ end in (
+    let end : List ℕ = spaced_word tag ++ codes "\n" in
+    let from_path : List ℕ = spaced_word row.path ++ end in (
       tag,
       subst (λ x. IsTag x tag) s is,
-      l ∙ hands_over d (next_word tag) (codes "\n") k
-          ∙ hands_over b (next_word row.path) end (j ∙ ap (λ x. b ++ next_word x) p)
-          ∙ hands_over a (next_word row.resource) from_path (i ∙ ap (λ x. a ++ next_word x) r)
-          ∙ hands_over old (decimal row.revision) (next_word row.resource ++ from_path) h,
+      l ∙ hands_over d (spaced_word tag) (codes "\n") k
+          ∙ hands_over b (spaced_word row.path) end (j ∙ ap (λ x. b ++ spaced_word x) p)
+          ∙ hands_over a (spaced_word row.resource) from_path (i ∙ ap (λ x. a ++ spaced_word x) r)
+          ∙ hands_over old (decimal row.revision) (spaced_word row.resource ++ from_path) h,
     )

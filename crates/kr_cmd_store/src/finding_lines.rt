@@ -1,8 +1,8 @@
 //! The lines of what the values of a store are found to be.
 ghost use Rattle.std.specs.Prelude.{◌≡◌, ◌++◌, IfOk, length};
 ghost use Rattle.std.specs.List.{count_by};
-ghost use Rattle.kr_cmd_steps.specs.RowFindings.{finding_lines, finding_text, findings_outcome, is_fresh, is_refused, is_stale};
-ghost use Rattle.kr_cmd_steps.specs.RowLines.{next_word, row_line};
+ghost use Rattle.kr_cmd_steps.specs.RowFindings.{finding_lines, finding_text, findings_outcome, found_fresh, is_refused, is_stale};
+ghost use Rattle.kr_cmd_steps.specs.RowLines.{spaced_word, row_line};
 
 use crate::row_lines::{add_revision, add_word};
 use kr_base::{Bytes, NoMemory, Shared};
@@ -21,11 +21,11 @@ pub fn tell_findings(
     requires { length findings.now ≡ length rows.now }
     ensures { IfOk result (λ made. made ≡ findings_outcome rows.now findings.now) }
 {
-    let refused = refused_among(findings);
+    let refused = count_refused(findings);
     let mut text = Vec::new(alloc);
     add_lines(&mut text, rows, findings)?;
-    add_count(&mut text, "fresh", fresh_among(findings) as u64)?;
-    add_count(&mut text, "stale", stale_among(findings) as u64)?;
+    add_count(&mut text, "fresh", count_fresh(findings) as u64)?;
+    add_count(&mut text, "stale", count_stale(findings) as u64)?;
     add_count(&mut text, "refused", refused as u64)?;
     Ok(Outcome {
         bytes: Bytes::from_vec(text),
@@ -64,7 +64,7 @@ fn add_line(text: &mut Vec<u8>, row: &Row, finding: Finding) -> Result<(), NoMem
 
 fn add_finding(text: &mut Vec<u8>, finding: Finding) -> Result<(), NoMemory>
     ensures { IfOk result (λ done. text.new.items
-        ≡ text.old.items ++ next_word (finding_text finding)) }
+        ≡ text.old.items ++ spaced_word (finding_text finding)) }
 {
     match finding {
         Finding::Fresh => add(text, " fresh"),
@@ -75,15 +75,15 @@ fn add_finding(text: &mut Vec<u8>, finding: Finding) -> Result<(), NoMemory>
 
 fn add_refusal(text: &mut Vec<u8>, why: ValueNo) -> Result<(), NoMemory>
     ensures { IfOk result (λ done. text.new.items ≡ text.old.items
-        ++ next_word (finding_text (Finding.Refused why))) }
+        ++ spaced_word (finding_text (Finding.Refused why))) }
 {
     add(text, " refused ")?;
     add_number(text, why.number() as usize)?;
     add_word(text, why.name())
 }
 
-fn fresh_among(findings: &[Finding]) -> usize
-    ensures { result ≡ count_by is_fresh findings.now }
+fn count_fresh(findings: &[Finding]) -> usize
+    ensures { result ≡ count_by found_fresh findings.now }
 {
     let mut fresh = 0;
     for finding in findings {
@@ -94,7 +94,7 @@ fn fresh_among(findings: &[Finding]) -> usize
     fresh
 }
 
-fn stale_among(findings: &[Finding]) -> usize
+fn count_stale(findings: &[Finding]) -> usize
     ensures { result ≡ count_by is_stale findings.now }
 {
     let mut stale = 0;
@@ -106,7 +106,7 @@ fn stale_among(findings: &[Finding]) -> usize
     stale
 }
 
-fn refused_among(findings: &[Finding]) -> usize
+fn count_refused(findings: &[Finding]) -> usize
     ensures { result ≡ count_by is_refused findings.now }
 {
     let mut refused = 0;

@@ -3,7 +3,8 @@ ghost use Rattle.std.specs.Prelude.{◌≡◌, ◌≤◌, length};
 ghost use Rattle.kr_config.specs.Kept.{rows_of};
 ghost use Rattle.kr_opening.specs.Replicas.{IsFirstIn, rows_in};
 ghost use Rattle.kr_cmd_steps.specs.Around.{Around, with_world};
-ghost use Rattle.kr_cmd_steps.specs.Commands.{judging, judging_on, judging_by, judging_at};
+ghost use Rattle.kr_cmd_steps.specs.Commands.{judging};
+ghost use Rattle.kr_cmd_steps.specs.StoreSteps.{judging_on, judging_by, judging_at};
 ghost use Rattle.kr_cmd_steps.specs.Judgements.{verdict_done};
 ghost use Rattle.kr_cmd_steps.specs.inner.Lent.{Name, Tapes, with_tapes, with_lent_tape};
 ghost use Rattle.kr_cmd_steps.specs.inner.Phases.{Does};
@@ -13,17 +14,17 @@ ghost use Rattle.kr_cmd_messages.specs.inner.Asking.{HasReplicas};
 use crate::replicas::load_replicas;
 use crate::verdict_line::verdict_line;
 use kr_base::{List, NoMemory, Shared, Tape};
-use kr_cmd_messages::{Done, Judgement, Object, Outcome, Refusal, Stop};
+use kr_cmd_messages::{Done, JudgeWords, Object, Outcome, Refusal, Stop};
 use kr_cmd_steps::{close_tape, load_settings, load_store, open_tape};
 use kr_config::Settings;
 use kr_judge::Verdict;
 use kr_kms::{Access, World};
-use kr_opening::{StartNo, board_of};
+use kr_opening::{StartNo, make_opening_board};
 use kr_store::Store;
 use std::alloc::Global;
 
 /// Judges the reload.
-pub fn judge<W: World>(alloc: Global, words: &Judgement, world: &mut W) -> Result<Outcome, Stop>
+pub fn judge<W: World>(alloc: Global, words: &JudgeWords, world: &mut W) -> Result<Outcome, Stop>
     requires replicas { HasReplicas words.now.options }
     ensures { (a : Around) → Does (judging words.now)
         (with_world (W.told world.old) a) (with_world (W.told world.new) a) result }
@@ -33,15 +34,15 @@ pub fn judge<W: World>(alloc: Global, words: &Judgement, world: &mut W) -> Resul
         Ok(tape) => tape,
         Err(stop) => return Err(stop),
     };
-    let (made, tape) = judge_on(alloc, words, tape, world);
+    let (made, tape) = judge_on_tape(alloc, words, tape, world);
     close_tape(world, name, tape);
     made
 }
 
 /// Judges the reload by the store on a tape, which comes back.
-fn judge_on<W: World>(
+fn judge_on_tape<W: World>(
     alloc: Global,
-    words: &Judgement,
+    words: &JudgeWords,
     tape: W::Tap,
     world: &mut W,
 ) -> (Result<Outcome, Stop>, W::Tap)
@@ -57,14 +58,14 @@ fn judge_on<W: World>(
         Ok(store) => store,
         Err((stop, tape)) => return (Err(stop), tape),
     };
-    let made = judge_by(alloc, words, &store, world);
+    let made = judge_stored(alloc, words, &store, world);
     (made, store.close())
 }
 
 /// Judges the reload by what is stored.
-fn judge_by<W: World, T: Tape>(
+fn judge_stored<W: World, T: Tape>(
     alloc: Global,
-    words: &Judgement,
+    words: &JudgeWords,
     store: &Store<T>,
     world: &mut W,
 ) -> Result<Outcome, Stop>
@@ -83,11 +84,11 @@ fn judge_by<W: World, T: Tape>(
         Ok(settings) => settings,
         Err(stop) => return Err(stop),
     };
-    outcome_on(alloc, store, &replicas, words.options.reloaded(), &settings)
+    judgement_outcome(alloc, store, &replicas, words.options.reloaded(), &settings)
 }
 
 /// What the command makes of the new settings of a replica.
-fn outcome_on<T: Tape>(
+fn judgement_outcome<T: Tape>(
     alloc: Global,
     store: &Store<T>,
     replicas: &List<Option<Shared<Settings>>>,
@@ -99,14 +100,14 @@ fn outcome_on<T: Tape>(
     ensures { (a : Around) → Does (judging_at store.now.rows (rows_in replicas.now.0) replica
         (rows_of settings.now.entries.0)) a a result }
 {
-    match verdict_on(alloc, store, replicas, replica, settings) {
-        Ok(verdict) => outcome_of(alloc, &verdict),
+    match replica_verdict(alloc, store, replicas, replica, settings) {
+        Ok(verdict) => judged_outcome(alloc, &verdict),
         Err(stop) => Err(stop),
     }
 }
 
 /// The verdict on the new settings of a replica.
-fn verdict_on<T: Tape>(
+fn replica_verdict<T: Tape>(
     alloc: Global,
     store: &Store<T>,
     replicas: &List<Option<Shared<Settings>>>,
@@ -118,7 +119,7 @@ fn verdict_on<T: Tape>(
     ensures { Judges store.now.rows (rows_in replicas.now.0) replica
         (rows_of settings.now.entries.0) result }
 {
-    let board = match board_of(alloc, store, replicas, 16) {
+    let board = match make_opening_board(alloc, store, replicas, 16) {
         Ok(board) => board,
         Err(StartNo::Stray { path }) => return Err(Stop::Refused(Refusal::Stray(path))),
         Err(StartNo::OtherSecret { path }) => {
@@ -136,7 +137,7 @@ fn verdict_on<T: Tape>(
 }
 
 /// A verdict as what the command makes.
-fn outcome_of(alloc: Global, verdict: &Verdict) -> Result<Outcome, Stop>
+fn judged_outcome(alloc: Global, verdict: &Verdict) -> Result<Outcome, Stop>
     ensures { IsOutcome verdict.now result }
 {
     match verdict_line(alloc, verdict) {

@@ -17,5 +17,5 @@ mod verifying;
 pub use lookup::get;
 pub use migration::migrate;
 pub use rows::list;
-pub use storing::{answer_of, put, store_check};
+pub use storing::{answer_once_added, put, store_check};
 pub use verifying::verify;

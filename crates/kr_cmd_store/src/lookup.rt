@@ -1,10 +1,13 @@
 //! `get`: configuration, programs of its plugins, store, the path's row, random source, links,
 //! publish, unseal.
-ghost use Rattle.std.specs.Prelude.{◌≡◌, ◌≤◌, ◌⊎◌, List, ℕ, IfOk, length};
+ghost use Rattle.std.specs.Prelude.{◌≡◌, ◌≤◌, ◌⊎◌, [], List, ℕ, IfOk, length};
 ghost use Rattle.kr_kms.specs.declared.world.Access.TheVariants.{ToRead};
 ghost use Rattle.kr_base.specs.Limits.{path_limit, value_limit};
-ghost use Rattle.kr_cmd_steps.specs.Around.{Around, with_world};
-ghost use Rattle.kr_cmd_steps.specs.Commands.{getting, tape_for, row_on};
+ghost use Rattle.kr_cmd_steps.specs.Around.{Around, with_exchanges, with_world};
+ghost use Rattle.kr_cmd_steps.specs.Commands.{getting};
+ghost use Rattle.kr_cmd_steps.specs.Phases.{tape_for};
+ghost use Rattle.kr_cmd_steps.specs.StoreSteps.{row_on};
+ghost use Rattle.kr_cmd_steps.specs.Heard.{Heard};
 ghost use Rattle.kr_cmd_messages.specs.declared.refusal.Refusal.{Refusal};
 ghost use Rattle.kr_cmd_messages.specs.declared.refusal.Stop.{Stop};
 ghost use Rattle.kr_cmd_steps.specs.inner.Lent.{with_lent_tape};
@@ -13,22 +16,25 @@ ghost use Rattle.kr_cmd_steps.specs.inner.Tapes.{IsLookedUp};
 
 use kr_base::{Bytes, Shared, Tape, Text};
 use kr_cmd_messages::{Direction, Lookup, Object, Outcome, Refusal, Stop};
-use kr_cmd_steps::{Task, close_tape, configure, load_store, make, open_tape, programs_of};
+use kr_cmd_steps::{Task, close_tape, configure, load_store, make, open_tape, settings_programs};
 use kr_kms::{Access, World};
 use kr_store::{Row, Store};
 use std::alloc::Global;
 
-/// Reads the value at a path of a store. The store's tape is back before a plugin is asked.
+/// Reads the value at a path of a store. Its tape goes back before a plugin is asked, which no
+/// clause says: the world notes what is borrowed, and of what comes back only what is settled.
 pub fn get<W: World>(alloc: Global, words: &Lookup, world: &mut W) -> Result<Outcome, Stop>
     requires path { length words.now.path ≤ path_limit }
-    ensures { (a : Around) → a.truth ≡ W.Link.truth → Does (getting words.now)
-        (with_world (W.told world.old) a) (with_world (W.told world.new) a) result }
+    ensures { Heard W.lent W.took W.Link.step 0 [] [] (λ es. (a : Around)
+        → a.truth ≡ W.Link.truth → Does (getting words.now)
+        (with_world (W.told world.old) a)
+        (with_world (W.told world.new) (with_exchanges es a)) result) }
 {
     let settings = match configure(alloc, world, words.config.as_str()) {
         Ok(settings) => settings,
         Err(stop) => return Err(stop),
     };
-    let programs = match programs_of(alloc, &words.options, &settings) {
+    let programs = match settings_programs(alloc, &words.options, &settings) {
         Ok(programs) => programs,
         Err(stop) => return Err(stop),
     };
@@ -64,13 +70,13 @@ fn find_row<W: World>(
         Ok(tape) => tape,
         Err(stop) => return Err(stop),
     };
-    let (row, tape) = find_on(alloc, tape, path);
+    let (row, tape) = find_on_tape(alloc, tape, path);
     close_tape(world, name, tape);
     row
 }
 
 /// The live row of the path in the store on a tape, which comes back.
-fn find_on<T: Tape>(alloc: Global, tape: T, path: &Text) -> (Result<Shared<Row>, Stop>, T)
+fn find_on_tape<T: Tape>(alloc: Global, tape: T, path: &Text) -> (Result<Shared<Row>, Stop>, T)
     ensures does { (name : List ℕ) (a : Around) → Does (row_on name path.now)
         (with_lent_tape name (T.told tape) (T.count tape) a)
         (with_lent_tape name (T.told result.1) (T.count result.1) a) result.0 }
@@ -80,12 +86,12 @@ fn find_on<T: Tape>(alloc: Global, tape: T, path: &Text) -> (Result<Shared<Row>,
         Ok(store) => store,
         Err((stop, tape)) => return (Err(stop), tape),
     };
-    let row = look_up(alloc, &store, path);
+    let row = find_live_row(alloc, &store, path);
     (row, store.close())
 }
 
 /// The live row of the path.
-fn look_up<T: Tape>(alloc: Global, store: &Store<T>, path: &Text) -> Result<Shared<Row>, Stop>
+fn find_live_row<T: Tape>(alloc: Global, store: &Store<T>, path: &Text) -> Result<Shared<Row>, Stop>
     ensures row { IsLookedUp store.now.rows path.now result }
     ensures fits { IfOk result (λ row. length row.stored ≤ value_limit) }
 {

@@ -5,11 +5,13 @@ ghost use Rattle.kr_base.specs.Rules.{IsPath, IsResource};
 ghost use Rattle.kr_config.specs.Kept.{rows_of};
 ghost use Rattle.kr_kms.specs.Outside.{same_name};
 ghost use Rattle.kr_provider.specs.Readers.{reader_in};
-ghost use Rattle.kr_store.specs.Rows.{delete_of, live, log_row_at};
+ghost use Rattle.kr_store.specs.Rows.{check_in, delete_of, live, log_row_at, put_of};
 ghost use Rattle.kr_store.specs.declared.format.Format as formats;
 ghost use Rattle.kr_store.specs.declared.rows.LogRow.{LogRow};
 ghost use Rattle.kr_cmd_steps.specs.Around.{Around, with_world};
-ghost use Rattle.kr_cmd_steps.specs.Commands.{adding, copied_into, copying, migrated_row, migrating, migrating_into, reader_check, source_on, target_on, target_read};
+ghost use Rattle.kr_cmd_steps.specs.Phases.{adding};
+ghost use Rattle.kr_cmd_steps.specs.StoreSteps.{copied_into, copying, migrated_row, migrating_into, reader_check, source_on, target_on, target_read};
+ghost use Rattle.kr_cmd_steps.specs.Commands.{migrating};
 ghost use Rattle.kr_cmd_steps.specs.Steps.{and_then};
 ghost use Rattle.kr_cmd_messages.specs.declared.refusal.Object as objects;
 ghost use Rattle.kr_cmd_steps.specs.inner.Lent.{with_lent_tape};
@@ -17,17 +19,15 @@ ghost use Rattle.kr_cmd_store.specs.inner.Migrating.{HasCopied, IsNew, all_grown
 ghost use Rattle.kr_cmd_steps.specs.inner.Phases.{Does};
 ghost use Rattle.kr_cmd_steps.specs.inner.Tapes.{HasOneMore, grown_by, stored_of};
 
-use crate::storing::{answer_of, store_check};
+use crate::storing::{answer_once_added, store_check};
 use itoa::Buffer;
 use kr_base::{Bytes, Failed, NoMemory, Tape, Text};
-use kr_cmd_messages::{Migration, Object, Outcome, Refusal, Stop, add};
-use kr_cmd_steps::{
-    add_delete, add_put, close_tape, configure, load_store, open_tape, settle_tape,
-};
+use kr_cmd_messages::{Limit, Migration, Object, Outcome, Refusal, Stop, add};
+use kr_cmd_steps::{add_delete, close_tape, configure, load_store, open_tape, settle_tape};
 use kr_config::{Settings, Who};
 use kr_kms::{Access, World};
-use kr_provider::reader_of;
-use kr_store::{Check, Format, Row, RowRef, Store};
+use kr_provider::find_reader;
+use kr_store::{Check, Format, PutNo, Row, RowRef, Store};
 use std::alloc::Global;
 
 /// Copies a store of the first format into a new one of the second.
@@ -45,13 +45,13 @@ pub fn migrate<W: World>(alloc: Global, words: &Migration, world: &mut W) -> Res
         Ok(tape) => tape,
         Err(stop) => return Err(stop),
     };
-    let (made, tape) = migrate_from(alloc, &words.to, &settings, world, tape);
+    let (made, tape) = migrate_tape(alloc, &words.to, &settings, world, tape);
     close_tape(world, name, tape);
     made
 }
 
 /// Copies the store on a tape, which comes back.
-fn migrate_from<W: World>(
+fn migrate_tape<W: World>(
     alloc: Global,
     to: &Text,
     settings: &Settings,
@@ -70,7 +70,7 @@ fn migrate_from<W: World>(
         Ok(source) => source,
         Err((stop, tape)) => return (Err(stop), tape),
     };
-    let made = migrate_into(alloc, to, settings, &source, world);
+    let made = migrate_store(alloc, to, settings, &source, world);
     (made, source.close())
 }
 
@@ -104,7 +104,7 @@ fn is_new<T: Tape>(store: &Store<T>) -> bool
 }
 
 /// Copies a store into that of a file, which is made where it is absent. The source's tape is out.
-fn migrate_into<W: World>(
+fn migrate_store<W: World>(
     alloc: Global,
     to: &Text,
     settings: &Settings,
@@ -124,12 +124,12 @@ fn migrate_into<W: World>(
         Ok(tape) => tape,
         Err(stop) => return Err(stop),
     };
-    let (made, tape) = copy_on(alloc, settings, source, tape);
+    let (made, tape) = copy_onto_tape(alloc, settings, source, tape);
     settle_tape(world, name, Object::Target, tape, made)
 }
 
 /// Copies a store onto a tape, which comes back.
-fn copy_on<S: Tape, T: Tape>(
+fn copy_onto_tape<S: Tape, T: Tape>(
     alloc: Global,
     settings: &Settings,
     source: &Store<S>,
@@ -148,8 +148,8 @@ fn copy_on<S: Tape, T: Tape>(
         Ok(line) => line,
         Err(NoMemory) => return (Err(Stop::NoMemory), target.close()),
     };
-    let copied = copy_rows(alloc, settings, source, &mut target);
-    (answer_of(copied, line), target.close())
+    let copied = copy_rows(settings, source, &mut target);
+    (answer_once_added(copied, line), target.close())
 }
 
 /// Loads a store that has no bytes yet.
@@ -198,7 +198,6 @@ fn load_empty<T: Tape>(alloc: Global, tape: T) -> Result<Store<T>, (Stop, T)>
 
 /// Writes each row of the source behind those of the target, which has none.
 fn copy_rows<S: Tape, T: Tape>(
-    alloc: Global,
     settings: &Settings,
     source: &Store<S>,
     target: &mut Store<T>,
@@ -213,7 +212,7 @@ fn copy_rows<S: Tape, T: Tape>(
 {
     source.known();
     for copied in 0..source.revision() {
-        match copy_row(alloc, settings, source, copied + 1, target) {
+        match copy_row(settings, source, copied + 1, target) {
             Ok(()) => {}
             Err(stop) => return Err(stop),
         }
@@ -223,7 +222,6 @@ fn copy_rows<S: Tape, T: Tape>(
 
 /// Writes the row of a revision behind those before it.
 fn copy_row<S: Tape, T: Tape>(
-    alloc: Global,
     settings: &Settings,
     source: &Store<S>,
     revision: u64,
@@ -244,20 +242,15 @@ fn copy_row<S: Tape, T: Tape>(
         HasCopied (rows_of settings.now.entries.0) source.now.rows revision target.new) }
 {
     source.known();
-    match source.row_at(revision) {
-        Some(RowRef::Put(row)) => copy_put(alloc, settings, row, target),
+    match source.row_by_revision(revision) {
+        Some(RowRef::Put(row)) => copy_put(settings, row, target),
         Some(RowRef::Delete(path)) => copy_delete(target, path),
         None => unreachable!(),
     }
 }
 
 /// Writes a put with the check of the provider that reads its value.
-fn copy_put<T: Tape>(
-    alloc: Global,
-    settings: &Settings,
-    row: &Row,
-    target: &mut Store<T>,
-) -> Result<(), Stop>
+fn copy_put<T: Tape>(settings: &Settings, row: &Row, target: &mut Store<T>) -> Result<(), Stop>
     requires path { IsPath row.now.path }
     requires resource { IsResource row.now.resource }
     requires stored { length row.now.stored ≤ value_limit }
@@ -272,20 +265,41 @@ fn copy_put<T: Tape>(
     ensures grown { IfOk result (λ done.
         HasOneMore (migrated_put (rows_of settings.now.entries.0) row.now) target.old target.new) }
 {
-    let stored = match Bytes::copy(alloc, row.stored.as_slice()) {
-        Ok(stored) => stored,
-        Err(_) => return Err(Stop::NoMemory),
-    };
-    let list = settings.list_for(row.resource.as_str());
+    let list = settings.resource_list(row.resource.as_str());
     let check = reader_check(list, row.stored.as_slice());
-    add_put(
-        target,
-        Object::Target,
-        row.path.as_str(),
-        row.resource.as_str(),
-        stored,
-        check,
-    )
+    add_row(target, row, check)
+}
+
+/// Writes a put of what a row puts, which shares its path and its value. Nothing is wanted of
+/// memory once the tape is touched.
+fn add_row<T: Tape>(target: &mut Store<T>, row: &Row, check: Check) -> Result<(), Stop>
+    requires path { IsPath row.now.path }
+    requires resource { IsResource row.now.resource }
+    requires stored { length row.now.stored ≤ value_limit }
+    requires within { target.old.limit ≡ store_limit }
+    ensures does { (name : List ℕ) (a : Around) →
+        let line = put_of row.now.path row.now.resource row.now.stored
+        (check_in target.old.format check) in
+        Does (adding objects.Object.Target name (stored_of target.old) line)
+        (with_lent_tape name target.old.told target.old.count a)
+        (with_lent_tape name target.new.told target.new.count a)
+        (grown_by line (stored_of target.old) result) }
+    ensures grown { IfOk result (λ done. HasOneMore (put_of row.now.path row.now.resource
+        row.now.stored (check_in target.old.format check)) target.old target.new) }
+{
+    let written = target.put_row(row, check);
+    target.known();
+    match written {
+        Ok(_revision) => Ok(()),
+        Err(PutNo::Failed) => Err(Stop::Fault(Object::Target, target.faults())),
+        Err(PutNo::Full { needed: _needed }) => Err(Stop::Refused(Refusal::Limit(Limit::Store))),
+        Err(
+            PutNo::Changed {
+                revision: _revision,
+            },
+        ) => unreachable!(),
+        Err(PutNo::NoMemory) => Err(Stop::NoMemory),
+    }
 }
 
 /// Writes a delete.
@@ -308,7 +322,7 @@ fn copy_delete<T: Tape>(target: &mut Store<T>, path: &str) -> Result<(), Stop>
 fn reader_check(list: &[Who], bytes: &[u8]) -> Check
     ensures { result ≡ reader_check (reader_in list.now bytes.now) }
 {
-    match reader_of(list, bytes) {
+    match find_reader(list, bytes) {
         Some(place) => store_check(&list[place]),
         None => Check { value: 0 },
     }

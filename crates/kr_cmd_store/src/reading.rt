@@ -1,23 +1,26 @@
 //! What the values of a store read as: random source, links, publish, unseal each row.
-ghost use Rattle.std.specs.Prelude.{◌≡◌, ◌++◌, ℕ, All, Ok, Err, IfOk, IfErr, IfSome, IsSome, length, map};
+ghost use Rattle.std.specs.Prelude.{◌≡◌, ◌++◌, [], ℕ, All, Err, IfOk, IfErr, IfSome, IsSome, length, map};
+ghost use Rattle.kr_base.specs.Walks.{Talk};
 ghost use Rattle.kr_config.specs.Kept.{rows_of};
-ghost use Rattle.kr_kms.specs.Truth.{TellsOf, key_of};
+ghost use Rattle.kr_kms.specs.Cache.{AreOpen};
+ghost use Rattle.kr_provider.specs.AskedLinks.{Among};
 ghost use Rattle.kr_provider.specs.Names.{AreDistinct, names_of};
 ghost use Rattle.kr_provider.specs.PluginOrder.{plugin_order};
-ghost use Rattle.kr_cmd_steps.specs.Around.{Around, with_world};
-ghost use Rattle.kr_cmd_steps.specs.Commands.{row_finding, row_findings, verifying_by, verifying_with};
+ghost use Rattle.kr_cmd_steps.specs.Around.{Around, with_exchanges, with_world};
+ghost use Rattle.kr_cmd_steps.specs.StoreSteps.{row_findings, verifying_by, verifying_with};
+ghost use Rattle.kr_cmd_steps.specs.Heard.{Heard};
 ghost use Rattle.kr_cmd_steps.specs.Plugins.{borrow_links};
 ghost use Rattle.kr_cmd_steps.specs.inner.Lent.{Name, with_lent_dice, with_lent_links};
 ghost use Rattle.kr_cmd_steps.specs.inner.Phases.{Does};
 ghost use Rattle.kr_cmd_messages.specs.declared.refusal.Stop.{Stop};
-ghost use Rattle.kr_cmd_store.specs.inner.Verifying.{IsToldOf, IsUnreadStop, IsWithin, NamesUnread, findings_in, found_in, read_as};
+ghost use Rattle.kr_cmd_store.specs.inner.Verifying.{IsRowRead, IsToldOf, IsUnreadStop, IsWithin, NamesUnread, findings_in, value_finding, read_finding};
 
 use crate::finding_lines::tell_findings;
 use kr_base::{Dice, List, NoMemory, Shared, Text};
 use kr_cmd_messages::{Object, Outcome, Stop};
 use kr_cmd_steps::{
-    Finding, Program, adopted, close_dice, close_link, first_of, open_dice, open_link, publish_by,
-    take_last,
+    Finding, Program, adopted, close_dice, close_link, open_dice, open_link, publish_settings,
+    split_first_program, take_last,
 };
 use kr_config::Settings;
 use kr_kms::{Kms, World};
@@ -37,9 +40,11 @@ pub fn read_by_links<W: World>(
     requires programs { map (λ program. program.plugin) programs.now
         ≡ plugin_order (rows_of settings.entries.0) }
     requires within { All IsWithin rows.now }
-    ensures { (a : Around) → a.truth ≡ W.Link.truth → Does
+    ensures { Heard W.lent W.took W.Link.step 0 [] [] (λ es. (a : Around)
+        → a.truth ≡ W.Link.truth → Does
         (verifying_with programs.now (rows_of settings.entries.0) rows.now)
-        (with_world (W.told world.old) a) (with_world (W.told world.new) a) result }
+        (with_world (W.told world.old) a)
+        (with_world (W.told world.new) (with_exchanges es a)) result) }
 {
     let dice = match open_dice(alloc, world, 0) {
         Ok(dice) => dice,
@@ -66,21 +71,22 @@ fn read_linked<W: World>(
         ++ map (λ program. program.plugin) programs.now
         ≡ plugin_order (rows_of settings.entries.0) }
     requires within { All IsWithin rows.now }
-    ensures does { (a : Around) → a.truth ≡ W.Link.truth → Does
+    ensures does { Heard W.lent W.took W.Link.step 0 links result.1 (λ es. (a : Around)
+        → a.truth ≡ W.Link.truth → Does
         (borrow_links programs.now (verifying_by (rows_of settings.entries.0) rows.now))
         (with_lent_links W.Link.link 0 links
         (with_lent_dice 0 (W.Rand.left dice) (W.Rand.count dice) (with_world (W.told world.old) a)))
         (with_lent_links W.Link.link 0 result.1
         (with_lent_dice 0 (W.Rand.left result.2) (W.Rand.count result.2)
-        (with_world (W.told world.new) a)))
-        result.0 }
+        (with_world (W.told world.new) (with_exchanges es a))))
+        result.0) }
     ensures names { names_of W.Link.link result.1 ≡ names_of W.Link.link links }
     ensures dice { (W.told world.new).dice ≡ (W.told world.old).dice }
     ensures out { (key : ℕ × Name)
         → (W.told world.new).links.out key ≡ (W.told world.old).links.out key }
 {
-    let Some((program, more)) = first_of(programs) else {
-        return read_by(alloc, settings, rows, links, dice);
+    let Some((program, more)) = split_first_program(programs) else {
+        return read_stored_rows(alloc, settings, rows, links, dice);
     };
     let link = match open_link(
         alloc,
@@ -106,7 +112,7 @@ fn read_linked<W: World>(
 }
 
 /// What a bench of these settings tells of the rows. The links and the random source come back.
-fn read_by<L: Kms, D: Dice>(
+fn read_stored_rows<L: Kms, D: Dice>(
     alloc: Global,
     settings: Settings,
     rows: &[Shared<Row>],
@@ -115,19 +121,19 @@ fn read_by<L: Kms, D: Dice>(
 ) -> (Result<Outcome, Stop>, Links<L>, D)
     requires links { names_of L.link links ≡ plugin_order (rows_of settings.entries.0) }
     requires within { All IsWithin rows.now }
-    ensures does { (a : Around) → a.truth ≡ L.truth → Does
-        (verifying_by (rows_of settings.entries.0) rows.now)
+    ensures does { Talk (Among L.step) links result.1 (λ es. (a : Around) → a.truth ≡ L.truth
+        → Does (verifying_by (rows_of settings.entries.0) rows.now)
         (with_lent_links L.link 0 links (with_lent_dice 0 (D.left dice) (D.count dice) a))
         (with_lent_links L.link 0 result.1
-        (with_lent_dice 0 (D.left result.2) (D.count result.2) a))
-        result.0 }
+        (with_lent_dice 0 (D.left result.2) (D.count result.2) (with_exchanges es a)))
+        result.0) }
     ensures names { names_of L.link result.1 ≡ names_of L.link links }
 {
     let settings = match Shared::new(alloc, settings) {
         Ok(settings) => settings,
         Err(_) => return (Err(Stop::NoMemory), links, dice),
     };
-    let published = match publish_by(alloc, settings, &mut links, &mut dice) {
+    let published = match publish_settings(alloc, settings, &mut links, &mut dice) {
         Ok(published) => published,
         Err(stop) => return (Err(stop), links, dice),
     };
@@ -148,16 +154,15 @@ fn read_rows<L: Kms, D: Dice>(
 ) -> (Result<List<Finding>, Stop>, Links<L>, D)
     requires adopted { IsSome bench.published }
     requires distinct { AreDistinct L.link bench.links }
-    requires opens { IfSome bench.published
-        (λ p. All (λ row. TellsOf L.truth (key_of row) row.seed) p.seeds) }
+    requires cold { bench.cache.rows ≡ [] }
     requires within { All IsWithin rows.now }
-    ensures does { (a : Around) → a.truth ≡ L.truth → IfSome bench.published (λ p. Does
-        (row_findings p rows.now)
+    ensures does { Talk (Among L.step) bench.links result.1 (λ es. (a : Around)
+        → a.truth ≡ L.truth → IfSome bench.published (λ p. Does (row_findings p rows.now)
         (with_lent_links L.link 0 bench.links
         (with_lent_dice 0 (D.left bench.dice) (D.count bench.dice) a))
         (with_lent_links L.link 0 result.1
-        (with_lent_dice 0 (D.left result.2) (D.count result.2) a))
-        (findings_in result.0)) }
+        (with_lent_dice 0 (D.left result.2) (D.count result.2) (with_exchanges es a)))
+        (findings_in result.0))) }
     ensures all { IfOk result.0 (λ findings. length findings.0 ≡ length rows.now) }
     ensures names { names_of L.link result.1 ≡ names_of L.link bench.links }
 {
@@ -193,24 +198,10 @@ fn read_row<L: Kms, D: Dice>(
 ) -> Result<Finding, Unread>
     requires adopted { IsSome bench.old.published }
     requires distinct { AreDistinct L.link bench.old.links }
-    requires opens { IfSome bench.old.published
-        (λ p. All (λ row. TellsOf L.truth (key_of row) row.seed) p.seeds) }
+    requires opened { AreOpen L.truth bench.old.cache.rows }
     requires within { IsWithin row.now }
-    ensures found { IfOk result (λ finding. (a : Around) → a.truth ≡ L.truth
-        → IfSome bench.old.published (λ p. Does (row_finding p row.now)
-        (with_lent_links L.link 0 bench.old.links
-        (with_lent_dice 0 (D.left bench.old.dice) (D.count bench.old.dice) a))
-        (with_lent_links L.link 0 bench.new.links
-        (with_lent_dice 0 (D.left bench.new.dice) (D.count bench.new.dice) a))
-        (Ok finding))) }
-    ensures unread { IfErr result (λ why. (stop : Stop) (a : Around) → a.truth ≡ L.truth
-        → IsUnreadStop L.link bench.new.links why stop
-        → IfSome bench.old.published (λ p. Does (row_finding p row.now)
-        (with_lent_links L.link 0 bench.old.links
-        (with_lent_dice 0 (D.left bench.old.dice) (D.count bench.old.dice) a))
-        (with_lent_links L.link 0 bench.new.links
-        (with_lent_dice 0 (D.left bench.new.dice) (D.count bench.new.dice) a))
-        (Err stop))) }
+    ensures read { Talk (Among L.step) bench.old.links bench.new.links
+        (IsRowRead L.truth L.link D.left D.count row.now bench.old bench.new result) }
     ensures named { IfErr result (NamesUnread (names_of L.link bench.new.links)) }
     ensures names { names_of L.link bench.new.links ≡ names_of L.link bench.old.links }
     ensures kept { bench.new
@@ -222,12 +213,12 @@ fn read_row<L: Kms, D: Dice>(
         row.path.as_str(),
         row.stored.as_slice(),
     );
-    found_in(opened)
+    value_finding(opened)
 }
 
 /// What a value is found to be by what a bench read of it.
-fn found_in(opened: Result<Opened, UnsealNo>) -> Result<Finding, Unread>
-    ensures { result ≡ found_in opened }
+fn value_finding(opened: Result<Opened, UnsealNo>) -> Result<Finding, Unread>
+    ensures { result ≡ value_finding opened }
 {
     match opened {
         Ok(
@@ -235,7 +226,7 @@ fn found_in(opened: Result<Opened, UnsealNo>) -> Result<Finding, Unread>
                 plain: _plain,
                 stale,
             },
-        ) => Ok(read_as(stale)),
+        ) => Ok(read_finding(stale)),
         Err(UnsealNo::Refused(why)) => Ok(Finding::Refused(why)),
         Err(UnsealNo::PluginFailed { name }) => Err(Unread::PluginFailed { name }),
         Err(UnsealNo::NoMemory) => Err(Unread::NoMemory),
@@ -243,8 +234,8 @@ fn found_in(opened: Result<Opened, UnsealNo>) -> Result<Finding, Unread>
 }
 
 /// What a value that is read is found to be.
-fn read_as(stale: bool) -> Finding
-    ensures { result ≡ read_as stale }
+fn read_finding(stale: bool) -> Finding
+    ensures { result ≡ read_finding stale }
 {
     if stale {
         Finding::Stale

@@ -4,7 +4,7 @@ ghost use Rattle.kr_words.specs.Grammar.{replicas_of};
 ghost use Rattle.kr_kms.specs.Outside.{KeepsObjects};
 ghost use Rattle.kr_cmd_steps.specs.Around.{Around, with_world};
 ghost use Rattle.kr_cmd_messages.specs.Command.{replica_names};
-ghost use Rattle.kr_cmd_steps.specs.Commands.{configurations};
+ghost use Rattle.kr_cmd_steps.specs.StoreSteps.{configurations};
 ghost use Rattle.kr_cmd_steps.specs.inner.Lent.{Tapes, with_tapes};
 ghost use Rattle.kr_cmd_steps.specs.inner.Phases.{Does};
 ghost use Rattle.kr_cmd_store.specs.inner.Judging.{replica_rows, AreIn};

@@ -1,9 +1,9 @@
 //! The lines of a store's live rows.
 ghost use Rattle.std.specs.Prelude.{◌≡◌, ◌++◌, List, ℕ, IfOk, codes, decimal};
 ghost use Rattle.kr_cmd_steps.specs.Inspect.{kind_text};
-ghost use Rattle.kr_cmd_steps.specs.RowLines.{ShowsRows, IsTag, row_line, next_word};
+ghost use Rattle.kr_cmd_steps.specs.RowLines.{ShowsRows, IsTag, row_line, spaced_word};
 ghost use Rattle.kr_cmd_steps.specs.inner.Phases.{Yields};
-ghost use Rattle.kr_cmd_steps.specs.inner.Tapes.{path_of};
+ghost use Rattle.kr_cmd_steps.specs.inner.Tapes.{walk_path};
 
 use itoa::Buffer;
 use kr_base::{Bytes, NoMemory, Shared, Tape};
@@ -21,7 +21,7 @@ pub fn row_lines<T: Tape>(alloc: Global, store: &Store<T>) -> Result<Bytes, Stop
     let mut text = Vec::new(alloc);
     let mut last = None;
     loop {
-        let row = match store.next_after(path_of(&last)) {
+        let row = match store.successor(walk_path(&last)) {
             Ok(Some(row)) => row,
             Ok(None) => return Ok(Bytes::from_vec(text)),
             Err(_) => return Err(Stop::NoMemory),
@@ -35,8 +35,8 @@ pub fn row_lines<T: Tape>(alloc: Global, store: &Store<T>) -> Result<Bytes, Stop
 }
 
 /// The path of the row where the walk is; the empty one at its begin.
-fn path_of(last: &Option<Shared<Row>>) -> &str
-    ensures { result.now ≡ path_of last.now }
+fn walk_path(last: &Option<Shared<Row>>) -> &str
+    ensures { result.now ≡ walk_path last.now }
 {
     match last {
         Some(row) => row.get().path.as_str(),
@@ -66,7 +66,7 @@ pub fn add_revision(text: &mut Vec<u8>, revision: u64) -> Result<(), NoMemory>
 
 /// Adds a word behind others.
 pub fn add_word(text: &mut Vec<u8>, word: &str) -> Result<(), NoMemory>
-    ensures { IfOk result (λ done. text.new.items ≡ text.old.items ++ next_word word.now) }
+    ensures { IfOk result (λ done. text.new.items ≡ text.old.items ++ spaced_word word.now) }
 {
     add(text, " ")?;
     add(text, word)
@@ -75,7 +75,7 @@ pub fn add_word(text: &mut Vec<u8>, word: &str) -> Result<(), NoMemory>
 /// Adds what the value's prefix says of who wrote it.
 fn add_tag(text: &mut Vec<u8>, stored: &[u8]) -> Result<(), NoMemory>
     ensures { IfOk result (λ done. (tag : List ℕ) × IsTag stored.now tag
-        × (text.new.items ≡ text.old.items ++ next_word tag)) }
+        × (text.new.items ≡ text.old.items ++ spaced_word tag)) }
 {
     match split(stored) {
         Tagged::Plain(_content) => add(text, " plain"),
@@ -90,7 +90,7 @@ fn add_tag(text: &mut Vec<u8>, stored: &[u8]) -> Result<(), NoMemory>
 
 fn add_provider(text: &mut Vec<u8>, kind: Kind, name: &str) -> Result<(), NoMemory>
     ensures { IfOk result (λ done. text.new.items
-        ≡ text.old.items ++ next_word (kind_text kind ++ (codes ":" ++ name.now))) }
+        ≡ text.old.items ++ spaced_word (kind_text kind ++ (codes ":" ++ name.now))) }
 {
     add(text, " ")?;
     add(text, kind_text(kind))?;

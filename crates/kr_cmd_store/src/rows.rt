@@ -1,7 +1,8 @@
 //! `list`: store, its live rows.
 ghost use Rattle.std.specs.Prelude.{List, ℕ};
 ghost use Rattle.kr_cmd_steps.specs.Around.{Around, with_world};
-ghost use Rattle.kr_cmd_steps.specs.Commands.{steps, listing_on};
+ghost use Rattle.kr_cmd_steps.specs.Commands.{steps};
+ghost use Rattle.kr_cmd_steps.specs.StoreSteps.{listing_on};
 ghost use Rattle.kr_cmd_steps.specs.inner.Lent.{with_lent_tape};
 ghost use Rattle.kr_cmd_steps.specs.inner.Phases.{Does};
 
@@ -21,13 +22,13 @@ pub fn list<W: World>(alloc: Global, name: &str, world: &mut W) -> Result<Outcom
         Ok(tape) => tape,
         Err(stop) => return Err(stop),
     };
-    let (made, tape) = list_on(alloc, tape);
+    let (made, tape) = list_on_tape(alloc, tape);
     close_tape(world, name, tape);
     made
 }
 
 /// The text of the live rows of the store on a tape, which comes back.
-fn list_on<T: Tape>(alloc: Global, tape: T) -> (Result<Outcome, Stop>, T)
+fn list_on_tape<T: Tape>(alloc: Global, tape: T) -> (Result<Outcome, Stop>, T)
     ensures { (name : List ℕ) (a : Around) → Does (listing_on name)
         (with_lent_tape name (T.told tape) (T.count tape) a)
         (with_lent_tape name (T.told result.1) (T.count result.1) a) result.0 }

@@ -1,19 +1,22 @@
 //! `put`: configuration, programs of its plugins, input, store, random source, links, publish,
 //! seal, the row.
-ghost use Rattle.std.specs.Prelude.{◌≡◌, ◌≤◌, ◌++◌, ℕ, List, map, IfOk, codes, decimal, length};
+ghost use Rattle.std.specs.Prelude.{◌≡◌, ◌≤◌, ◌++◌, [], ℕ, List, map, IfOk, codes, decimal, length};
 ghost use Rattle.kr_base.specs.Rules.{IsPath, IsResource};
 ghost use Rattle.kr_base.specs.Limits.{data_limit, store_limit};
 ghost use Rattle.kr_config.specs.Kept.{rows_of};
 ghost use Rattle.kr_provider.specs.PluginOrder.{plugin_order};
 ghost use Rattle.kr_provider.specs.Readers.{writer_of};
 ghost use Rattle.kr_store.specs.declared.rows.LogRow.{LogRow};
-ghost use Rattle.kr_cmd_steps.specs.Around.{Around, around, with_world};
+ghost use Rattle.kr_cmd_steps.specs.Around.{Around, with_exchanges, with_world};
 ghost use Rattle.kr_opening.specs.Checks.{store_check};
-ghost use Rattle.kr_cmd_steps.specs.Commands.{putting, revision_line, sealed_into, stored_into, stored_on};
+ghost use Rattle.kr_cmd_steps.specs.Commands.{putting};
+ghost use Rattle.kr_cmd_steps.specs.StoreSteps.{revision_line, sealed_into, stored_into};
+ghost use Rattle.kr_cmd_steps.specs.Phases.{stored_on};
+ghost use Rattle.kr_cmd_steps.specs.Heard.{Heard};
 ghost use Rattle.kr_cmd_steps.specs.Steps.{and_then};
 ghost use Rattle.kr_cmd_steps.specs.StoreFiles.{with_row};
 ghost use Rattle.kr_cmd_messages.specs.declared.refusal.Object as objects;
-ghost use Rattle.kr_cmd_steps.specs.inner.Lent.{with_lent_tape};
+ghost use Rattle.kr_cmd_steps.specs.inner.Lent.{with_lent_tape, with_told_input};
 ghost use Rattle.kr_cmd_steps.specs.inner.Phases.{Does};
 ghost use Rattle.kr_cmd_steps.specs.inner.Tapes.{answered, stored_of};
 
@@ -21,12 +24,12 @@ use itoa::Buffer;
 use kr_base::{Bytes, NoMemory, Source, Tape, Text};
 use kr_cmd_messages::{Conversion, Direction, Done, Object, Outcome, Stop, add};
 use kr_cmd_steps::{
-    Program, Task, add_put, configure, load_store, make, open_tape, programs_of, settle_tape,
+    Program, Task, add_put, configure, load_store, make, open_tape, settings_programs, settle_tape,
     take_input,
 };
 use kr_config::{Settings, Who};
 use kr_kms::{Access, World};
-use kr_provider::check_of;
+use kr_provider::provider_check;
 use kr_store::{Check, Store};
 use std::alloc::Global;
 
@@ -40,16 +43,17 @@ pub fn put<W: World, I: Source>(
 ) -> Result<Outcome, Stop>
     requires path { IsPath words.now.path }
     requires resource { IsResource words.now.resource }
-    ensures { Does (putting words.now store.now)
-        (around W.Link.truth (W.told world.old) (I.left input.old) (I.count input.old))
-        (around W.Link.truth (W.told world.new) (I.left input.new) (I.count input.new))
-        result }
+    ensures { Heard W.lent W.took W.Link.step 0 [] [] (λ es. (a : Around)
+        → a.truth ≡ W.Link.truth → Does (putting words.now store.now)
+        (with_told_input (I.left input.old) (I.count input.old) (with_world (W.told world.old) a))
+        (with_told_input (I.left input.new) (I.count input.new)
+        (with_world (W.told world.new) (with_exchanges es a))) result) }
 {
     let settings = match configure(alloc, world, words.config.as_str()) {
         Ok(settings) => settings,
         Err(stop) => return Err(stop),
     };
-    let programs = match programs_of(alloc, &words.options, &settings) {
+    let programs = match settings_programs(alloc, &words.options, &settings) {
         Ok(programs) => programs,
         Err(stop) => return Err(stop),
     };
@@ -57,7 +61,7 @@ pub fn put<W: World, I: Source>(
         Ok(bytes) => bytes,
         Err(stop) => return Err(stop),
     };
-    put_into(
+    put_into_store(
         alloc,
         words,
         store,
@@ -69,7 +73,7 @@ pub fn put<W: World, I: Source>(
 }
 
 /// Seals the data into the store of a file, which is made where it is absent.
-fn put_into<W: World>(
+fn put_into_store<W: World>(
     alloc: Global,
     words: &Conversion,
     store: &Text,
@@ -83,21 +87,23 @@ fn put_into<W: World>(
     requires path { IsPath words.now.path }
     requires resource { IsResource words.now.resource }
     requires fits { length bytes ≤ data_limit }
-    ensures { (a : Around) → a.truth ≡ W.Link.truth → Does (stored_into words.now store.now
+    ensures { Heard W.lent W.took W.Link.step 0 [] [] (λ es. (a : Around)
+        → a.truth ≡ W.Link.truth → Does (stored_into words.now store.now
         (rows_of settings.entries.0) programs.now bytes)
-        (with_world (W.told world.old) a) (with_world (W.told world.new) a) result }
+        (with_world (W.told world.old) a)
+        (with_world (W.told world.new) (with_exchanges es a)) result) }
 {
     let name = store.as_str();
     let tape = match open_tape(alloc, world, name, Access::ToMake) {
         Ok(tape) => tape,
         Err(stop) => return Err(stop),
     };
-    let (put, tape) = put_on(alloc, words, settings, programs, world, tape, bytes);
+    let (put, tape) = put_on_tape(alloc, words, settings, programs, world, tape, bytes);
     settle_tape(world, name, Object::Store, tape, put)
 }
 
 /// Seals the data into the store on a tape, which comes back.
-fn put_on<W: World>(
+fn put_on_tape<W: World>(
     alloc: Global,
     words: &Conversion,
     settings: Settings,
@@ -111,19 +117,20 @@ fn put_on<W: World>(
     requires path { IsPath words.now.path }
     requires resource { IsResource words.now.resource }
     requires fits { length bytes ≤ data_limit }
-    ensures made { (name : List ℕ) (a : Around) → a.truth ≡ W.Link.truth → Does
+    ensures made { Heard W.lent W.took W.Link.step 0 [] [] (λ es. (name : List ℕ) (a : Around)
+        → a.truth ≡ W.Link.truth → Does
         (and_then (stored_on objects.Object.Store name) (sealed_into words.now name
         (rows_of settings.entries.0) programs.now bytes))
         (with_lent_tape name (W.Tap.told tape) (W.Tap.count tape) (with_world (W.told world.old) a))
         (with_lent_tape name (W.Tap.told result.1) (W.Tap.count result.1)
-        (with_world (W.told world.new) a)) result.0 }
+        (with_world (W.told world.new) (with_exchanges es a))) result.0) }
     ensures tapes { (W.told world.new).tapes ≡ (W.told world.old).tapes }
 {
     let mut store = match load_store(alloc, tape, Object::Store) {
         Ok(store) => store,
         Err((stop, tape)) => return (Err(stop), tape),
     };
-    let check = writer_check(settings.list_for(words.resource.as_str()));
+    let check = writer_check(settings.resource_list(words.resource.as_str()));
     let task = Task {
         direction: Direction::Encrypt,
         resource: words.resource.as_str(),
@@ -145,11 +152,11 @@ fn put_on<W: World>(
         sealed.bytes,
         check,
     );
-    (answer_of(added, line), store.close())
+    (answer_once_added(added, line), store.close())
 }
 
 /// What a command answers, once its rows were added.
-pub fn answer_of(added: Result<(), Stop>, line: Bytes) -> Result<Outcome, Stop>
+pub fn answer_once_added(added: Result<(), Stop>, line: Bytes) -> Result<Outcome, Stop>
     ensures { result ≡ answered added line }
 {
     match added {
@@ -176,7 +183,7 @@ pub fn store_check(who: &Who) -> Check
     ensures { result ≡ store_check who.now }
 {
     Check {
-        value: u64::from_be_bytes(check_of(who)),
+        value: u64::from_be_bytes(provider_check(who)),
     }
 }
 

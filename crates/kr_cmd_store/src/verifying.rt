@@ -1,33 +1,39 @@
 //! `verify`: configuration, programs of its plugins, store, its live rows, random source, links,
 //! publish, unseal each row.
-ghost use Rattle.std.specs.Prelude.{◌≡◌, All, IfOk, None};
+ghost use Rattle.std.specs.Prelude.{◌≡◌, [], All, IfOk, None};
 ghost use Rattle.std.specs.List.{last_or};
 ghost use Rattle.kr_kms.specs.declared.world.Access.TheVariants.{ToRead};
-ghost use Rattle.kr_cmd_steps.specs.Around.{Around, with_world};
-ghost use Rattle.kr_cmd_steps.specs.Commands.{live_on, tape_for, verifying};
+ghost use Rattle.kr_cmd_steps.specs.Around.{Around, with_exchanges, with_world};
+ghost use Rattle.kr_cmd_steps.specs.StoreSteps.{live_on};
+ghost use Rattle.kr_cmd_steps.specs.Phases.{tape_for};
+ghost use Rattle.kr_cmd_steps.specs.Commands.{verifying};
+ghost use Rattle.kr_cmd_steps.specs.Heard.{Heard};
 ghost use Rattle.kr_cmd_steps.specs.inner.Lent.{Name, with_lent_tape};
 ghost use Rattle.kr_cmd_steps.specs.inner.Phases.{Does};
-ghost use Rattle.kr_cmd_steps.specs.inner.Tapes.{path_of};
+ghost use Rattle.kr_cmd_steps.specs.inner.Tapes.{walk_path};
 ghost use Rattle.kr_cmd_store.specs.inner.Verifying.{IsWithin, ListsRows, rows_listed};
 
 use crate::reading::read_by_links;
 use kr_base::{List, Shared, Tape};
 use kr_cmd_messages::{Object, Outcome, Stop, Verification};
-use kr_cmd_steps::{close_tape, configure, load_store, open_tape, programs_of};
+use kr_cmd_steps::{close_tape, configure, load_store, open_tape, settings_programs};
 use kr_kms::{Access, World};
 use kr_store::{Row, Store};
 use std::alloc::Global;
 
-/// Tells what each value of a store reads as. The store's tape is back before a plugin is asked.
+/// Tells what each value of a store reads as. Its tape goes back before a plugin is asked, which no
+/// clause says.
 pub fn verify<W: World>(alloc: Global, words: &Verification, world: &mut W) -> Result<Outcome, Stop>
-    ensures { (a : Around) → a.truth ≡ W.Link.truth → Does (verifying words.now)
-        (with_world (W.told world.old) a) (with_world (W.told world.new) a) result }
+    ensures { Heard W.lent W.took W.Link.step 0 [] [] (λ es. (a : Around)
+        → a.truth ≡ W.Link.truth → Does (verifying words.now)
+        (with_world (W.told world.old) a)
+        (with_world (W.told world.new) (with_exchanges es a)) result) }
 {
     let settings = match configure(alloc, world, words.config.as_str()) {
         Ok(settings) => settings,
         Err(stop) => return Err(stop),
     };
-    let programs = match programs_of(alloc, &words.options, &settings) {
+    let programs = match settings_programs(alloc, &words.options, &settings) {
         Ok(programs) => programs,
         Err(stop) => return Err(stop),
     };
@@ -48,13 +54,13 @@ fn find_rows<W: World>(alloc: Global, world: &mut W, name: &str) -> Result<List<
         Ok(tape) => tape,
         Err(stop) => return Err(stop),
     };
-    let (rows, tape) = rows_on(alloc, tape);
+    let (rows, tape) = live_rows_on_tape(alloc, tape);
     close_tape(world, name, tape);
     rows
 }
 
 /// The live rows of the store on a tape, which comes back.
-fn rows_on<T: Tape>(alloc: Global, tape: T) -> (Result<List<Shared<Row>>, Stop>, T)
+fn live_rows_on_tape<T: Tape>(alloc: Global, tape: T) -> (Result<List<Shared<Row>>, Stop>, T)
     ensures does { (name : Name) (a : Around) → Does (live_on name)
         (with_lent_tape name (T.told tape) (T.count tape) a)
         (with_lent_tape name (T.told result.1) (T.count result.1) a) (rows_listed result.0) }
@@ -76,7 +82,7 @@ fn live_rows<T: Tape>(alloc: Global, store: &Store<T>) -> Result<List<Shared<Row
     store.known();
     let mut rows = List::new(alloc);
     loop {
-        let row = match store.next_after(path_behind(rows.as_slice())) {
+        let row = match store.successor(last_row_path(rows.as_slice())) {
             Ok(Some(row)) => row,
             Ok(None) => return Ok(rows),
             Err(_) => return Err(Stop::NoMemory),
@@ -89,8 +95,8 @@ fn live_rows<T: Tape>(alloc: Global, store: &Store<T>) -> Result<List<Shared<Row
 }
 
 /// The path of the last of some rows; the empty one where there is none.
-fn path_behind(rows: &[Shared<Row>]) -> &str
-    ensures { result.now ≡ path_of (last_or None rows.now) }
+fn last_row_path(rows: &[Shared<Row>]) -> &str
+    ensures { result.now ≡ walk_path (last_or None rows.now) }
 {
     match rows.last() {
         Some(row) => row.get().path.as_str(),

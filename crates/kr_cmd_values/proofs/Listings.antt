@@ -5,21 +5,21 @@ use Rattle.std.specs.List.{concat}
 use Rattle.std.proofs.lemmas.List.{drop_all}
 use Rattle.kr_config.specs.declared.settings.Entry.{Entry}
 use Rattle.kr_config.specs.declared.who.Who.{Who}
-use Rattle.kr_config.specs.Kept.{row_of, rows_of}
+use Rattle.kr_config.specs.Kept.{entry_lists, rows_of}
 use Rattle.kr_plan.specs.declared.moves.Move.{Move}
 use Rattle.kr_cmd_messages.specs.Texts.{line}
 use Rattle.kr_cmd_steps.specs.Check.{provider_text, with_commas, entry_line, lines_from, provider_lines}
 use Rattle.kr_cmd_steps.specs.PlanLines.{move_text, move_lines}
 
 pub entries_more : (entries : List Entry) (i n : ℕ) (e : Entry) → i < length entries
-    → e ≡ get_or entries i e → lines_from n (rows_of (drop i entries)) ≡ entry_line n (row_of e)
+    → e ≡ get_or entries i e → lines_from n (rows_of (drop i entries)) ≡ entry_line n (entry_lists e)
     ++ lines_from (n + 1) (rows_of (drop (i + 1) entries))
 entries_more entries i n e h is = ap (λ l. lines_from n (rows_of l)) (drop-cons entries i e h)
-    ∙ ap (λ x. entry_line n (row_of x) ++ lines_from (suc n) (rows_of (drop (suc i) entries)))
+    ∙ ap (λ x. entry_line n (entry_lists x) ++ lines_from (suc n) (rows_of (drop (suc i) entries)))
     (sym is)
-    ∙ ap (λ k. entry_line n (row_of e) ++ lines_from k (rows_of (drop (suc i) entries)))
+    ∙ ap (λ k. entry_line n (entry_lists e) ++ lines_from k (rows_of (drop (suc i) entries)))
     (sym (add-one n))
-    ∙ ap (λ k. entry_line n (row_of e) ++ lines_from (n + 1) (rows_of (drop k entries)))
+    ∙ ap (λ k. entry_line n (entry_lists e) ++ lines_from (n + 1) (rows_of (drop k entries)))
     (sym (add-one i))
 
 pub entries_all : {text whole : List ℕ} (entries : List Entry) (i n : ℕ) → length entries ≤ i → text

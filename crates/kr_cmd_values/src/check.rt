@@ -37,7 +37,7 @@ fn listing(alloc: Global, settings: &Settings, resource: &Option<Text>) -> Resul
         result }
 {
     let made = match resource {
-        Some(resource) => provider_lines(alloc, settings.list_for(resource.as_str())),
+        Some(resource) => provider_lines(alloc, settings.resource_list(resource.as_str())),
         None => entry_lines(alloc, settings.entries.as_slice()),
     };
     match made {

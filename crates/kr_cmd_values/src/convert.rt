@@ -1,14 +1,16 @@
 //! `encrypt` and `decrypt`: configuration, programs of its plugins, input, random source, links,
 //! publish, seal or unseal.
-ghost use Rattle.std.specs.Prelude.{◌≤◌, length};
+ghost use Rattle.std.specs.Prelude.{◌≡◌, ◌≤◌, [], length};
 ghost use Rattle.kr_base.specs.Limits.{path_limit};
-ghost use Rattle.kr_cmd_steps.specs.Around.{around};
+ghost use Rattle.kr_cmd_steps.specs.Around.{Around, with_exchanges, with_world};
 ghost use Rattle.kr_cmd_steps.specs.Commands.{converting};
+ghost use Rattle.kr_cmd_steps.specs.Heard.{Heard};
+ghost use Rattle.kr_cmd_steps.specs.inner.Lent.{with_told_input};
 ghost use Rattle.kr_cmd_steps.specs.inner.Phases.{Does};
 
 use kr_base::Source;
 use kr_cmd_messages::{Conversion, Outcome, Stop};
-use kr_cmd_steps::{Task, configure, make, programs_of, take_input};
+use kr_cmd_steps::{Task, configure, make, settings_programs, take_input};
 use kr_kms::World;
 use std::alloc::Global;
 
@@ -20,18 +22,17 @@ pub fn convert<W: World, I: Source>(
     input: &mut I,
 ) -> Result<Outcome, Stop>
     requires path { length words.now.path ≤ path_limit }
-    ensures { Does (converting words.now)
-        (around W.Link.truth (W.told world.old) (I.left input.old)
-        (I.count input.old))
-        (around W.Link.truth (W.told world.new) (I.left input.new)
-        (I.count input.new))
-        result }
+    ensures { Heard W.lent W.took W.Link.step 0 [] [] (λ es. (a : Around)
+        → a.truth ≡ W.Link.truth → Does (converting words.now)
+        (with_told_input (I.left input.old) (I.count input.old) (with_world (W.told world.old) a))
+        (with_told_input (I.left input.new) (I.count input.new)
+        (with_world (W.told world.new) (with_exchanges es a))) result) }
 {
     let settings = match configure(alloc, world, words.config.as_str()) {
         Ok(settings) => settings,
         Err(stop) => return Err(stop),
     };
-    let programs = match programs_of(alloc, &words.options, &settings) {
+    let programs = match settings_programs(alloc, &words.options, &settings) {
         Ok(programs) => programs,
         Err(stop) => return Err(stop),
     };

@@ -4,7 +4,7 @@ ghost use Rattle.std.specs.List.{concat};
 ghost use Rattle.kr_envelope.specs.Limits.{number_of};
 ghost use Rattle.kr_cmd_steps.specs.Around.{Around};
 ghost use Rattle.kr_cmd_steps.specs.Commands.{steps};
-ghost use Rattle.kr_cmd_steps.specs.Inspect.{kind_text, tag_line, annotation_line, object_lines, object_refusal};
+ghost use Rattle.kr_cmd_steps.specs.Inspect.{kind_text, tag_line, annotation_line, object_lines, inspect_refusal};
 ghost use Rattle.kr_cmd_steps.specs.Inspect.{Inspects, ShowsBody};
 ghost use Rattle.kr_base.specs.Visible.{visible};
 ghost use Rattle.kr_cmd_messages.specs.Texts.{line, word_and_number};
@@ -64,7 +64,7 @@ fn known_lines(alloc: Global, kind: Kind, name: &str, body: &[u8]) -> Result<Byt
             let object = match EncryptedObject::read(alloc, body) {
                 Ok(object) => object,
                 Err(ObjectNo::NoMemory) => return Err(Stop::NoMemory),
-                Err(why) => return Err(Stop::Refused(object_refusal(why))),
+                Err(why) => return Err(Stop::Refused(inspect_refusal(why))),
             };
             match add_object(&mut text, &object) {
                 Ok(()) => Ok(Bytes::from_vec(text)),
@@ -75,9 +75,9 @@ fn known_lines(alloc: Global, kind: Kind, name: &str, body: &[u8]) -> Result<Byt
 }
 
 /// Why bytes are no object.
-fn object_refusal(why: ObjectNo) -> Refusal
+fn inspect_refusal(why: ObjectNo) -> Refusal
     requires { why ≢ ObjectNo.NoMemory }
-    ensures { object_refusal why ≡ Some result }
+    ensures { inspect_refusal why ≡ Some result }
 {
     match why {
         ObjectNo::Wire { at } => Refusal::Placed(ValueNo::Wire, at),

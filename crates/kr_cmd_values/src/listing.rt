@@ -1,7 +1,7 @@
 //! The texts of a configuration: its entries, patterns and providers.
 ghost use Rattle.std.specs.Prelude.{◌≡◌, ◌++◌, codes, decimal, List, [], IfOk, map, drop};
-ghost use Rattle.kr_config.specs.Kept.{rows_of, row_of};
-ghost use Rattle.kr_cmd_steps.specs.Check.{pattern_text, provider_text, with_commas, entry_line, lines_from, provider_lines};
+ghost use Rattle.kr_config.specs.Kept.{rows_of, entry_lists};
+ghost use Rattle.kr_cmd_steps.specs.Check.{spelled_pattern_text, provider_text, with_commas, entry_line, lines_from, provider_lines};
 
 use kr_base::{Bytes, NoMemory};
 use kr_cmd_messages::{add, add_number, add_pair};
@@ -38,7 +38,7 @@ pub fn provider_lines(alloc: Global, providers: &[Who]) -> Result<Bytes, NoMemor
 
 fn add_entry(text: &mut Vec<u8>, number: usize, entry: &Entry) -> Result<(), NoMemory>
     ensures { IfOk result (λ done. text.new.items
-        ≡ text.old.items ++ entry_line number (row_of entry.now)) }
+        ≡ text.old.items ++ entry_line number (entry_lists entry.now)) }
 {
     add_entry_number(text, number)?;
     add_patterns(text, entry.patterns.as_slice())?;
@@ -58,7 +58,8 @@ fn add_entry_number(text: &mut Vec<u8>, number: usize) -> Result<(), NoMemory>
 
 fn add_patterns(text: &mut Vec<u8>, patterns: &[Pattern]) -> Result<(), NoMemory>
     ensures { IfOk result
-        (λ done. text.new.items ≡ text.old.items ++ with_commas (map pattern_text patterns.now)) }
+        (λ done. text.new.items ≡ text.old.items
+        ++ with_commas (map spelled_pattern_text patterns.now)) }
 {
     let Some((first, rest)) = patterns.split_first() else {
         return Ok(());
@@ -87,7 +88,8 @@ fn add_providers(text: &mut Vec<u8>, providers: &[Who]) -> Result<(), NoMemory>
 }
 
 fn add_pattern(text: &mut Vec<u8>, pattern: &Pattern) -> Result<(), NoMemory>
-    ensures { IfOk result (λ done. text.new.items ≡ text.old.items ++ pattern_text pattern.now) }
+    ensures { IfOk result (λ done. text.new.items ≡ text.old.items
+        ++ spelled_pattern_text pattern.now) }
 {
     match pattern {
         Pattern::Exact(resource) => add(text, resource.as_str()),

@@ -1,6 +1,6 @@
 //! `plan`: both configurations, and the rollout from the one to the other.
 ghost use Rattle.std.specs.Prelude.{◌≡◌, ◌≤◌, ℕ, List, Ok};
-ghost use Rattle.kr_config.specs.Kept.{Row, rows_of};
+ghost use Rattle.kr_config.specs.Kept.{ConfigEntry, rows_of};
 ghost use Rattle.kr_plan.specs.Plans.{IsPlan};
 ghost use Rattle.kr_cmd_steps.specs.Around.{Around, with_world};
 ghost use Rattle.kr_cmd_steps.specs.Commands.{steps};
@@ -11,7 +11,7 @@ ghost use Rattle.kr_cmd_values.specs.inner.Planned.{IsStopBy};
 use crate::clash_text::clash_text;
 use crate::plan_lines::{move_lines, text_line};
 use kr_base::Bytes;
-use kr_cmd_messages::{Command, Outcome, Planning, Refusal, Shown, Stop};
+use kr_cmd_messages::{Command, Outcome, Planning, Refusal, ShownSettings, Stop};
 use kr_cmd_steps::{configure, show};
 use kr_config::{ConfigNo, Settings};
 use kr_kms::World;
@@ -46,19 +46,19 @@ fn planned(alloc: Global, words: &Planning, from: &Settings, to: &Settings) -> R
 {
     match planning::plan(alloc, from, to, words.replicas) {
         Ok(plan) => shown(alloc, words.shown, &plan),
-        Err(why) => Err(stop_of(alloc, why)),
+        Err(why) => Err(plan_stop(alloc, why)),
     }
 }
 
 /// The moves of the plan, or those of its settings that are to be shown.
-fn shown(alloc: Global, shown: Option<Shown>, plan: &Plan) -> Result<Bytes, Stop>
-    ensures { (from to : List Row) (replicas : ℕ) → IsPlan from to replicas plan.now
+fn shown(alloc: Global, shown: Option<ShownSettings>, plan: &Plan) -> Result<Bytes, Stop>
+    ensures { (from to : List ConfigEntry) (replicas : ℕ) → IsPlan from to replicas plan.now
         → Yields (λ text. text ≡ Ok (plan_text from to replicas shown)) result }
 {
     let made = match shown {
         None => move_lines(alloc, plan.moves.as_slice()),
-        Some(Shown::Wide) => text_line(alloc, plan.wide.get()),
-        Some(Shown::Turned) => text_line(alloc, plan.turned.get()),
+        Some(ShownSettings::Wide) => text_line(alloc, plan.wide.get()),
+        Some(ShownSettings::Turned) => text_line(alloc, plan.turned.get()),
     };
     match made {
         Ok(text) => Ok(text),
@@ -67,7 +67,7 @@ fn shown(alloc: Global, shown: Option<Shown>, plan: &Plan) -> Result<Bytes, Stop
 }
 
 /// How the command stops where there is no plan.
-fn stop_of(alloc: Global, why: PlanNo) -> Stop
+fn plan_stop(alloc: Global, why: PlanNo) -> Stop
     ensures { IsStopBy why result }
 {
     match why {

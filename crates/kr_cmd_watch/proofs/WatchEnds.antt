@@ -22,7 +22,7 @@ use Rattle.kr_watch.specs.Watches.{Follows, WatchState, newest_of}
 use Rattle.kr_watch.specs.declared.item.Item.{Item}
 use Rattle.kr_watch.proofs.ChangeLaws.{newest_is_last, none_is_missing}
 use Rattle.kr_watch.proofs.ShownLaws.{shown_since_is_shown}
-use Rattle.kr_workers.specs.Endings.{ending_of}
+use Rattle.kr_workers.specs.Endings.{gravest_ending}
 use Rattle.kr_workers.specs.declared.ending.Ending.{Ending}
 use Rattle.kr_workers.specs.declared.worker.Worker as fleet_worker
 use Rattle.kr_cmd_messages.specs.Receipts.{Receipt}
@@ -30,7 +30,7 @@ use Rattle.kr_cmd_messages.specs.declared.refusal.Stop.{Stop}
 use Rattle.kr_cmd_messages.specs.declared.refusal.Stop.TheVariants.{Words, Refused, Fault, NoMemory}
 use Rattle.kr_cmd_messages.specs.declared.watch_words.WatchWords.{WatchWords}
 use Rattle.kr_cmd_steps.specs.Around.{Around, left_of}
-use Rattle.kr_cmd_steps.specs.Ran.{IsIdle}
+use Rattle.kr_cmd_steps.specs.Ran.{WroteNothing}
 use Rattle.kr_cmd_steps.specs.declared.programs.Program.{Program}
 use Rattle.kr_cmd_steps.specs.inner.Phases.{Does}
 use Rattle.kr_cmd_steps.specs.inner.ProgramNames.{names_in}
@@ -38,7 +38,7 @@ use Rattle.kr_cmd_steps.proofs.Goes.{goes_on, home_trans, stays_refl, stops}
 use Rattle.kr_cmd_fleet.specs.FleetFiles.{FleetPlan, planning}
 use Rattle.kr_cmd_fleet.specs.Fleets.{Begun, opening_of, over_store}
 use Rattle.kr_cmd_fleet.specs.declared.fleet.Record.{Record}
-use Rattle.kr_cmd_fleet.specs.inner.FleetOutcomes.{LacksSettling, LacksWorkers, LeavesRecord}
+use Rattle.kr_cmd_fleet.specs.inner.FleetOutcomes.{Beginning, LacksSettling, LacksWorkers, LeavesRecord}
 use Rattle.kr_cmd_fleet.specs.inner.Readings.{AreFirstItems}
 use Rattle.kr_cmd_watch.specs.WatchTexts.{ahead_text, changes_text, gone_text}
 use Rattle.kr_cmd_watch.specs.Watchings.{AreShown, DidWatch, Shows, ShowsHistory, WritesWatch, keep, refused_at_least}
@@ -127,7 +127,7 @@ module _ (T : Type 0) {L D : Type 0} (truth : Truth) (link : L → Link)
   -- the plan wasn't made
   pub watch_unplanned : (old new : Around) (file : List ℕ) → file ≡ words.fleet.file
       → (stop : Stop) (output : Receipt)
-      → Does (planning file words.fleet.options) old new (Err stop) → IsIdle output
+      → Does (planning file words.fleet.options) old new (Err stop) → WroteNothing output
       → DidWatch T truth link step left count words old new output (Err stop)
   watch_unplanned old new file is stop output d idle =
       let all = stops (planning words.fleet.file words.fleet.options)
@@ -150,7 +150,8 @@ module _ (T : Type 0) {L D : Type 0} (truth : Truth) (link : L → Link)
         → Does (over_store true store plan) now new (Err stop)
         ⊎ LacksWorkers T truth link step left count (over_store true store plan) store now new stop
         ⊎ LacksSettling T truth link step left count (over_store true store plan) store now new stop
-        → IsIdle output → DidWatch T truth link step left count words old new output (Err stop)
+        → WroteNothing output → DidWatch T truth link step left count words old new output
+        (Err stop)
     watch_stopped stop output (inl e) idle =
         let all = goes_on (planning words.fleet.file words.fleet.options)
         (over_store true words.fleet.store) plan d
@@ -196,14 +197,14 @@ module _ (T : Type 0) {L D : Type 0} (truth : Truth) (link : L → Link)
         }
 
     -- the workers ran, and left this record
-    module _ (made : Record)
-        (left_so : LeavesRecord T truth link step left count true true (over_store true store plan)
-        store
-        plan now new made) where
-      l : LeavesRecord T truth link step left count true true
+    module _ (made : Record) (Begins : Beginning T L D)
+        (left_so : LeavesRecord T truth link step left count Begins true true
+        (over_store true store plan) store plan now new made) where
+      l : LeavesRecord T truth link step left count Begins true true
           (over_store true words.fleet.store plan)
           words.fleet.store plan now new made
-      l = subst (λ s. LeavesRecord T truth link step left count true true (over_store true s plan) s
+      l = subst (λ s. LeavesRecord T truth link step left count Begins true true
+          (over_store true s plan) s
           plan
           now new made) is_store left_so
 
@@ -231,13 +232,13 @@ module _ (T : Type 0) {L D : Type 0} (truth : Truth) (link : L → Link)
           → AreOfOne made.start.items.0 made.start.revision lines
       are_of_one lines same = (Opened, l.history, handed lines same)
 
-      ended_so : ending_of made.replies.0
-          ≡ ending_of (map (λ (w : fleet_worker.Worker T L D). w.told) l.ended)
-      ended_so = ap ending_of l.replies
+      ended_so : gravest_ending made.replies.0
+          ≡ gravest_ending (map (λ (w : fleet_worker.Worker T L D). w.told) l.ended)
+      ended_so = ap gravest_ending l.replies
 
       starts : (output : Receipt) (result : Result Ending Stop)
           → WritesWatch (ShowsHistory truth words l.begun Opened l.history
-          (ending_of (map (λ (w : fleet_worker.Worker T L D). w.told) l.ended))) output result
+          (gravest_ending (map (λ (w : fleet_worker.Worker T L D). w.told) l.ended))) output result
           → DidWatch T truth link step left count words old new output result
       starts output result w =
           let all = goes_on (planning words.fleet.file words.fleet.options)
@@ -257,7 +258,7 @@ module _ (T : Type 0) {L D : Type 0} (truth : Truth) (link : L → Link)
           }
 
       -- and memory lacked for what is shown
-      pub watch_lacks : (output : Receipt) → IsIdle output
+      pub watch_lacks : (output : Receipt) → WroteNothing output
           → DidWatch T truth link step left count words old new output (Err NoMemory)
       watch_lacks output idle = starts output (Err NoMemory) idle
 
@@ -266,7 +267,7 @@ module _ (T : Type 0) {L D : Type 0} (truth : Truth) (link : L → Link)
           → watch.keep ≡ keep → ((o : Opening) (history : List Entry)
           → AreOf made.start.items.0 made.start.revision lines o history
           → Follows made.start.items.0 o history watch) → (ended : Ending)
-          → ended ≡ ending_of made.replies.0 → (text : List ℕ) (told : Ending)
+          → ended ≡ gravest_ending made.replies.0 → (text : List ℕ) (told : Ending)
           → ShowsState words.since words watch ended text told → (output : Receipt)
           (result : Result Ending Stop) → WritesWatch (IsText text told) output result
           → DidWatch T truth link step left count words old new output result
@@ -275,20 +276,20 @@ module _ (T : Type 0) {L D : Type 0} (truth : Truth) (link : L → Link)
           (follows Opened l.history (handed lines same)) in
           let legal = l.runs.one.legal in
           let has : ShowsHistory truth words l.begun Opened l.history
-          (ending_of (map (λ (x : fleet_worker.Worker T L D). x.told) l.ended)) text told = (
+          (gravest_ending (map (λ (x : fleet_worker.Worker T L D). x.told) l.ended)) text told = (
             watch.items,
             are_shown truth l.begun Opened l.history legal watch f first
                 (λ t. (l.runs.opens t).opening) (λ none. ap names_in none),
             shows_so truth l.begun Opened l.history legal watch f kept words.since words
-                (ending_of (map (λ (x : fleet_worker.Worker T L D). x.told) l.ended)) text told
+                (gravest_ending (map (λ (x : fleet_worker.Worker T L D). x.told) l.ended)) text told
                 (subst (λ e. ShowsState words.since words watch e text told)
                 (end ∙ ended_so) shows),
           ) in
           starts output result (writes_so (IsText text told)
           (ShowsHistory truth words l.begun Opened l.history
-          (ending_of (map (λ (x : fleet_worker.Worker T L D). x.told) l.ended))) output result
+          (gravest_ending (map (λ (x : fleet_worker.Worker T L D). x.told) l.ended))) output result
           (λ other end_of same. subst (λ x. ShowsHistory truth words l.begun Opened l.history
-          (ending_of (map (λ (y : fleet_worker.Worker T L D). y.told) l.ended)) x end_of)
+          (gravest_ending (map (λ (y : fleet_worker.Worker T L D). y.told) l.ended)) x end_of)
           (sym same.0) (subst (λ x. ShowsHistory truth words l.begun Opened l.history
-          (ending_of (map (λ (y : fleet_worker.Worker T L D). y.told) l.ended)) text x)
+          (gravest_ending (map (λ (y : fleet_worker.Worker T L D). y.told) l.ended)) text x)
           (sym same.1) has)) w)

@@ -23,7 +23,7 @@ use Rattle.kr_cmd_messages.specs.inner.FleetAnswers.{IsFleetAsked}
 use Rattle.kr_cmd_messages.specs.inner.LoadAnswers.{IsLoadAsked}
 use Rattle.kr_cmd_messages.specs.inner.WatchAnswers.{IsWatchAsked}
 use Rattle.kr_cmd_steps.specs.Around.{Around, left_of}
-use Rattle.kr_cmd_steps.specs.Ran.{IsIdle, StopsAtOnce}
+use Rattle.kr_cmd_steps.specs.Ran.{WroteNothing, StopsAtOnce}
 use Rattle.kr_cmd_steps.proofs.Goes.{home_refl, reach, stays_refl}
 use Rattle.kr_cmd_watch.specs.Watchings.{DidWatch, RanWatch}
 
@@ -72,7 +72,7 @@ module _ (T : Type 0) {L D : Type 0} (truth : Truth) (link : L → Link)
     (step : L → Exchange → L → Type 0)
     (left : D → Option (List ℕ)) (count : D → ℕ) where
   pub watch_unread : (asked : WatchWords) (stop : Stop) → stop ≡ NoMemory → (a : Around)
-      (output : Receipt) → IsIdle output
+      (output : Receipt) → WroteNothing output
       → DidWatch T truth link step left count asked a a output (Err stop)
   watch_unread asked stop lacks a output idle =
       subst (λ s. DidWatch T truth link step left count asked a a output (Err s)) (sym lacks)

@@ -3,7 +3,7 @@ use Rattle.std.specs.Prelude.{◌≡◌, ℕ, List, [], ◌∷◌, ◌++◌, len
 use Rattle.std.specs.List.{flat_map}
 use Rattle.kr_script.specs.Output.{data_text, three, two}
 use Rattle.kr_watch.specs.Pages.{AreTaken, Taken}
-use Rattle.kr_watch.specs.declared.change.Change.{Change}
+use Rattle.kr_watch.specs.declared.change.ObjectChange.{ObjectChange}
 use Rattle.kr_watch.specs.declared.change.What.{What}
 use Rattle.kr_watch.specs.declared.change.What.TheVariants as kind
 use Rattle.kr_watch.specs.declared.item.Item.{Item}
@@ -41,16 +41,16 @@ pub record ShowsPages (resource : List ℕ) (limit : ℕ) (items : List Item) (t
 
 -- ---- changes
 
-abbrev pub kind_text : What → List ℕ
-kind_text kind.Put = codes "put"
-kind_text kind.Delete = codes "delete"
-kind_text kind.Replace = codes "replace"
+abbrev pub change_kind_text : What → List ℕ
+change_kind_text kind.Put = codes "put"
+change_kind_text kind.Delete = codes "delete"
+change_kind_text kind.Replace = codes "replace"
 
-abbrev pub change_line : Change → List ℕ
+abbrev pub change_line : ObjectChange → List ℕ
 change_line change = line (two (codes "change")
-    (three (decimal change.revision) (kind_text change.what) change.path))
+    (three (decimal change.revision) (change_kind_text change.what) change.path))
 
-abbrev pub changes_text : List Change → List ℕ
+abbrev pub changes_text : List ObjectChange → List ℕ
 changes_text changes = flat_map change_line changes ++ end_line
 
 -- a revision of which a change may be gone, with the oldest one whose changes are kept; and one

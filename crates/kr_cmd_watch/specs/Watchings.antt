@@ -12,7 +12,7 @@ use Rattle.kr_rollout.specs.declared.opening.Opening.{Opening}
 use Rattle.kr_watch.specs.Changes.{changes_above, changes_in, earlier_ones, revision_after}
 use Rattle.kr_watch.specs.Shown.{IsShown, IsShownSince}
 use Rattle.kr_watch.specs.declared.item.Item.{Item}
-use Rattle.kr_workers.specs.Endings.{ending_of}
+use Rattle.kr_workers.specs.Endings.{gravest_ending}
 use Rattle.kr_workers.specs.declared.ending.Ending.{Ending}
 use Rattle.kr_workers.specs.declared.ending.Ending.TheVariants as ending
 use Rattle.kr_workers.specs.declared.worker.Worker as fleet_worker
@@ -22,7 +22,7 @@ use Rattle.kr_cmd_messages.specs.declared.refusal.Stop.{Stop}
 use Rattle.kr_cmd_messages.specs.declared.refusal.Stop.TheVariants.{Fault, NoMemory}
 use Rattle.kr_cmd_messages.specs.declared.watch_words.WatchWords.{WatchWords}
 use Rattle.kr_cmd_steps.specs.Around.{Around, IsHome, Reaches, left_of}
-use Rattle.kr_cmd_steps.specs.Ran.{IsIdle}
+use Rattle.kr_cmd_steps.specs.Ran.{WroteNothing}
 use Rattle.kr_cmd_steps.specs.Steps.{gives}
 use Rattle.kr_cmd_fleet.specs.Fleets.{Begun, RunsFleet, StopsBefore, TellsFleet, opening_of, settled_behind, watch_steps}
 use Rattle.kr_cmd_watch.specs.WatchTexts.{ShowsPages, ahead_text, changes_text, gone_text}
@@ -85,7 +85,7 @@ WritesWatch Shown output (Err (Fault object n)) =
     ((text : List ℕ) × (told : Ending) × Shown text told
     × AppendsFront output.old output.new text)
     × (object ≡ Output) × Rose output.old_faults output.new_faults × (n ≡ output.new_faults)
-WritesWatch Shown output (Err NoMemory) = IsIdle output
+WritesWatch Shown output (Err NoMemory) = WroteNothing output
 WritesWatch Shown output (Err why) = ⊥
 
 -- ---- once the workers were started
@@ -106,13 +106,14 @@ module _ (T : Type 0) {L D : Type 0} (truth : Truth) (link : L → Link)
         (settled_behind words.fleet.store mid) new history ended
     pub writes : WritesWatch (ShowsHistory truth words begun
         (opening_of words.fleet.store begun mid) history
-        (ending_of (map (λ (w : fleet_worker.Worker T L D). w.told) ended))) output result
+        (gravest_ending (map (λ (w : fleet_worker.Worker T L D). w.told) ended))) output result
 
   -- all that was handed out is back
   pub record DidWatch (words : WatchWords) (old new : Around) (output : Receipt)
       (result : Result Ending Stop) : Type 0 where
     pub home : IsHome old new
-    pub did : StopsBefore (watch_steps words.fleet) words.fleet.store old new output result
+    pub did : StopsBefore T truth link step left count (watch_steps words.fleet)
+        words.fleet.store old new output result
         ⊎ StartsWatch words old new output result
 
 -- what a call of `run` did for a watch

@@ -1,7 +1,7 @@
 //! The lines that `watch` prints.
 ghost use Rattle.std.specs.Prelude.{◌≡◌, ◌++◌, IfOk, decimal};
 ghost use Rattle.kr_script.specs.Output.{data_text};
-ghost use Rattle.kr_cmd_watch.specs.WatchTexts.{change_line, changes_text, item_line, kind_text};
+ghost use Rattle.kr_cmd_watch.specs.WatchTexts.{change_line, changes_text, item_line, change_kind_text};
 ghost use Rattle.kr_cmd_watch.specs.WatchTexts.{line, plain_text};
 ghost use Rattle.kr_script.specs.Output.{two};
 
@@ -9,7 +9,7 @@ use base64::engine::general_purpose::STANDARD;
 use itoa::Buffer;
 use kr_base::{Bytes, NoMemory, Shared};
 use kr_cmd_messages::add;
-use kr_watch::{Change, Item, What};
+use kr_watch::{Item, ObjectChange, What};
 use std::alloc::Global;
 
 /// Adds the line of an object.
@@ -56,7 +56,10 @@ fn add_data(alloc: Global, text: &mut Vec<u8>, plain: &[u8]) -> Result<(), NoMem
 }
 
 /// The lines of changes, and the end.
-pub(crate) fn changes_text(alloc: Global, changes: &[Shared<Change>]) -> Result<Vec<u8>, NoMemory>
+pub(crate) fn changes_text(
+    alloc: Global,
+    changes: &[Shared<ObjectChange>],
+) -> Result<Vec<u8>, NoMemory>
     ensures { IfOk result (λ text. text.items ≡ changes_text changes.now) }
 {
     let mut text = Vec::new(alloc);
@@ -68,20 +71,20 @@ pub(crate) fn changes_text(alloc: Global, changes: &[Shared<Change>]) -> Result<
 }
 
 /// Adds the line of a change.
-fn add_change(text: &mut Vec<u8>, change: &Change) -> Result<(), NoMemory>
+fn add_change(text: &mut Vec<u8>, change: &ObjectChange) -> Result<(), NoMemory>
     ensures { IfOk result (λ done. text.new.items ≡ text.old.items ++ change_line change.now) }
 {
     add(text, "change ")?;
     add_revision(text, change.revision)?;
     add(text, " ")?;
-    add(text, kind_text(change.what))?;
+    add(text, change_kind_text(change.what))?;
     add(text, " ")?;
     add(text, change.path.as_str())?;
     add(text, "\n")
 }
 
-fn kind_text(what: What) -> &'static str
-    ensures { result.now ≡ kind_text what }
+fn change_kind_text(what: What) -> &'static str
+    ensures { result.now ≡ change_kind_text what }
 {
     match what {
         What::Put => "put",

@@ -1,7 +1,7 @@
 //! `watch`: the steps of `fleet`, at which the live rows are read before the core starts; then the
 //! journal goes through a watch, and what it shows is written.
 ghost use Rattle.std.specs.Prelude.{◌≡◌, ◌≤◌, IfOk};
-ghost use Rattle.kr_cmd_steps.specs.Around.{Around, with_world};
+ghost use Rattle.kr_cmd_steps.specs.Around.{Around, with_world, IsUnheard};
 ghost use Rattle.kr_cmd_messages.specs.Receipts.{receipt};
 ghost use Rattle.kr_cmd_watch.specs.Watchings.{DidWatch, WritesWatch, refused_at_least};
 ghost use Rattle.kr_cmd_watch.specs.inner.Followings.{IsText, ShowsSince, ShowsState};
@@ -10,12 +10,12 @@ use crate::following::follow;
 use crate::page_text::pages_text;
 use crate::texts::{changes_text, one_line};
 use kr_base::{NoMemory, Sink, write_all};
-use kr_cmd_fleet::fleet::{Record, fleet_by};
+use kr_cmd_fleet::fleet::{Record, run_fleet_over_store};
 use kr_cmd_fleet::load_plan;
 use kr_cmd_messages::{Object, Stop, WatchWords};
 use kr_kms::World;
 use kr_watch::{SinceNo, Watch};
-use kr_workers::{Ending, ending_of};
+use kr_workers::{Ending, gravest_ending};
 use std::alloc::Global;
 use std::sync::Wait;
 use std::thread::Threads;
@@ -29,7 +29,7 @@ pub fn watch<R: Threads + Wait + Sync, W: World, O: Sink>(
     output: &mut O,
 ) -> Result<Ending, Stop>
     requires limit { 1 ≤ words.now.limit }
-    ensures did { (a : Around) → a.truth ≡ W.Link.truth
+    ensures did { (a : Around) → IsUnheard W.Link.truth a
         → DidWatch W.Tap W.Link.truth W.Link.link W.Link.step W.Rand.left W.Rand.count words.now
         (with_world (W.told world.old) a) (with_world (W.told world.new) a)
         (receipt (O.held output.old) (O.held output.new) (O.count output.old) (O.count output.new))
@@ -41,7 +41,7 @@ pub fn watch<R: Threads + Wait + Sync, W: World, O: Sink>(
         Ok(plan) => plan,
         Err(stop) => return Err(stop),
     };
-    let record = match fleet_by(rt, alloc, fleet.store.as_str(), &plan, true, world) {
+    let record = match run_fleet_over_store(rt, alloc, fleet.store.as_str(), &plan, true, world) {
         Ok(record) => record,
         Err(stop) => return Err(stop),
     };
@@ -51,7 +51,7 @@ pub fn watch<R: Threads + Wait + Sync, W: World, O: Sink>(
         replies,
         start,
     } = record;
-    let ended = ending_of(replies.as_slice());
+    let ended = gravest_ending(replies.as_slice());
     drop(replies);
     let watch = match follow(alloc, start, lines.as_slice()) {
         Ok(watch) => watch,
@@ -84,17 +84,22 @@ fn show(alloc: Global, words: &WatchWords, watch: &Watch, ended: Ending) -> Resu
             text: pages_text(alloc, watch, words.resource.as_str(), words.limit)?,
             ending: ended,
         }),
-        Some(revision) => show_since(alloc, watch, revision, ended),
+        Some(revision) => show_changes(alloc, watch, revision, ended),
     }
 }
 
 /// The changes since a revision; or that some of them may be gone, or that there is no such one.
-fn show_since(alloc: Global, watch: &Watch, revision: u64, ended: Ending) -> Result<Shown, NoMemory>
+fn show_changes(
+    alloc: Global,
+    watch: &Watch,
+    revision: u64,
+    ended: Ending,
+) -> Result<Shown, NoMemory>
     ensures { IfOk result (λ shown. ShowsSince revision watch.now ended shown.text.items
         shown.ending) }
 {
     let refused = refused_at_least(ended);
-    match watch.since(revision) {
+    match watch.later_changes(revision) {
         Ok(changes) => Ok(Shown {
             text: changes_text(alloc, changes.as_slice())?,
             ending: ended,

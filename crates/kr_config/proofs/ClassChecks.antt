@@ -14,10 +14,10 @@ use Rattle.std.proofs.lemmas.List.Sums.{AllPass-from_list_all, list_all-from_All
 use Rattle.kr_config.specs.declared.class.Class.{Class}
 use Rattle.kr_config.specs.declared.class.Class.TheVariants.{Rest}
 use Rattle.kr_config.specs.declared.class_index.ClassPlace.{ClassPlace}
-use Rattle.kr_config.specs.Kept.{Row}
+use Rattle.kr_config.specs.Kept.{ConfigEntry}
 use Rattle.kr_config.specs.Lists.{class_list}
 use Rattle.kr_config.specs.Classes.{class_cmp, classes_in}
-use Rattle.kr_config.specs.inner.ClassIndexes.{class_at, list_at, ascend, has_class, are_classes_of}
+use Rattle.kr_config.specs.inner.ClassIndexes.{class_at, entry_list, ascend, has_class, are_classes_of}
 use Rattle.kr_config.specs.inner.ClassIndexes.{lists_by_place, lists_by_class, IsIndexOf}
 use Rattle.kr_config.proofs.ClassSearches.{same_class, equal}
 use Rattle.kr_config.proofs.Inversions.{both, left, right}
@@ -105,10 +105,10 @@ maps_same f g xs e k d l =
 -- ---- the index
 
 -- the classes of one settings
-alone : (rows : List Row) → Rest ∷ (classes_in rows ++ []) ≡ Rest ∷ classes_in rows
+alone : (rows : List ConfigEntry) → Rest ∷ (classes_in rows ++ []) ≡ Rest ∷ classes_in rows
 alone rows = ap (λ l. Rest ∷ l) (append-nil (classes_in rows))
 
-pub are_classes : (rows : List Row) (index : List ClassPlace) → IsIndexOf rows index
+pub are_classes : (rows : List ConfigEntry) (index : List ClassPlace) → IsIndexOf rows index
     → are_classes_of rows (map class_at index) ≡ true
 are_classes rows index indexed =
     let classes : List Class = map class_at index in
@@ -121,13 +121,13 @@ are_classes rows index indexed =
     (all_there classes told
     (λ c m. (indexed.table.members c).1 (subst (λ l. Contains l c) (sym (alone rows)) m)))
 
-pub are_listed : (rows : List Row) (index : List ClassPlace) → IsIndexOf rows index
+pub are_listed : (rows : List ConfigEntry) (index : List ClassPlace) → IsIndexOf rows index
     → lists_by_place rows index ≡ lists_by_class rows index
 are_listed rows index indexed =
-    same_maps (λ (own : ClassPlace). list_at rows own.entry)
+    same_maps (λ (own : ClassPlace). entry_list rows own.entry)
     (λ own. class_list rows own.class) index indexed.lists
 
-pub indexed : (rows : List Row) (index : List ClassPlace)
+pub indexed : (rows : List ConfigEntry) (index : List ClassPlace)
     → are_classes_of rows (map class_at index) ≡ true
     → lists_by_place rows index ≡ lists_by_class rows index → IsIndexOf rows index
 indexed rows index told listed =
@@ -149,6 +149,6 @@ indexed rows index told listed =
           λ m. to c (subst (λ l. Contains l c) (alone rows) m),
         );
       };
-      lists = maps_same (λ (own : ClassPlace). list_at rows own.entry)
+      lists = maps_same (λ (own : ClassPlace). entry_list rows own.entry)
           (λ own. class_list rows own.class) index listed;
     }

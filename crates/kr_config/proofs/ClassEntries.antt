@@ -14,9 +14,9 @@ use Rattle.kr_config.specs.declared.class.Class.TheVariants.{Exact, Group, Rest}
 use Rattle.kr_config.specs.declared.pattern.Pattern.{Pattern}
 use Rattle.kr_config.specs.declared.who.Who.{Who}
 use Rattle.kr_config.specs.Classes.{class_cmp, class_in, is_exact, is_group, IsTableOf}
-use Rattle.kr_config.specs.Kept.{Row}
+use Rattle.kr_config.specs.Kept.{ConfigEntry}
 use Rattle.kr_config.specs.Lists.{first_list, class_list}
-use Rattle.kr_config.specs.Patterns.{group_of, matches, covers_group, covers_rest}
+use Rattle.kr_config.specs.Patterns.{resource_group, matches, covers_group, covers_rest}
 use Rattle.kr_config.proofs.ClassTables.{law_of_classes, known_class, group_narrows}
 use Rattle.kr_config.proofs.Orders.{class_total}
 use Rattle.kr_config.proofs.Places.{exact_is, group_is}
@@ -105,38 +105,38 @@ exact_least text Rest t = inr refl
 
 group_least : (text : List ℕ) (classes : List Class) → list_any (is_exact text) classes ≡ false
     → (d : Class) → Contains classes d → exact_test text d ≡ true
-    → IsBehind (Group (group_of text)) d
+    → IsBehind (Group (resource_group text)) d
 group_least text classes none (Exact own) m t =
     absurd (not_there (is_exact text) classes (Exact own) none m t)
 group_least text classes none (Group own) m t =
-    inl (ap Group ((bytes_eq-Decides own (group_of text)).0 t))
+    inl (ap Group ((bytes_eq-Decides own (resource_group text)).0 t))
 group_least text classes none Rest m t = inr refl
 
 rest_least : (text : List ℕ) (classes : List Class) → list_any (is_exact text) classes ≡ false
-    → list_any (is_group (group_of text)) classes ≡ false
+    → list_any (is_group (resource_group text)) classes ≡ false
     → (d : Class) → Contains classes d → exact_test text d ≡ true → IsBehind Rest d
 rest_least text classes none other (Exact own) m t =
     absurd (not_there (is_exact text) classes (Exact own) none m t)
 rest_least text classes none other (Group own) m t =
-    absurd (not_there (is_group (group_of text)) classes (Group own) other m t)
+    absurd (not_there (is_group (resource_group text)) classes (Group own) other m t)
 rest_least text classes none other Rest m t = inl refl
 
 found_exact : (classes : List Class) (text : List ℕ) → IsStrictlySortedBy class_cmp classes
     → Contains classes Rest → find (exact_test text) classes ≡ Some (class_in classes text)
 unfolding class_in
 found_exact classes text s rest =
-    by (list_any (is_exact text) classes) (list_any (is_group (group_of text)) classes) refl refl
+    by (list_any (is_exact text) classes) (list_any (is_group (resource_group text)) classes) refl refl
   where
     by : (b c : Bool) → list_any (is_exact text) classes ≡ b
-        → list_any (is_group (group_of text)) classes ≡ c
+        → list_any (is_group (resource_group text)) classes ≡ c
         → find (exact_test text) classes
-        ≡ Some (if b then Exact text else if c then Group (group_of text) else Rest)
+        ≡ Some (if b then Exact text else if c then Group (resource_group text) else Rest)
     by true c h k = found_least (exact_test text) classes (Exact text) s
         (known_in (is_exact text) (Exact text) classes (exact_is text) h) (its_own text)
         (λ d m t. exact_least text d t)
-    by false true h k = found_least (exact_test text) classes (Group (group_of text)) s
-        (known_in (is_group (group_of text)) (Group (group_of text)) classes
-        (group_is (group_of text)) k) (its_own (group_of text)) (group_least text classes h)
+    by false true h k = found_least (exact_test text) classes (Group (resource_group text)) s
+        (known_in (is_group (resource_group text)) (Group (resource_group text)) classes
+        (group_is (resource_group text)) k) (its_own (resource_group text)) (group_least text classes h)
     by false false h k = found_least (exact_test text) classes Rest s rest refl
         (rest_least text classes h k)
 
@@ -180,7 +180,7 @@ made_list list classes Rest s rest = first_by list covers_rest classes Rest
     (found_least rest_test classes Rest s rest refl (λ d m t. alone_least d t))
 
 -- the list of a class is that of the class to which it narrows
-pub narrows : (added : List (List Row)) (classes : List Class) (class : Class) (rows : List Row)
+pub narrows : (added : List (List ConfigEntry)) (classes : List Class) (class : Class) (rows : List ConfigEntry)
     → IsTableOf added classes → Contains added rows
     → class_list rows class ≡ class_list rows (narrow classes class)
 narrows added classes (Exact text) rows table there =
@@ -202,7 +202,7 @@ itself : (classes : List Class) (class : Class) → Contains classes class
 unfolding class_in
 itself classes (Exact text) m =
     ap (λ b. if b then Exact text
-    else if list_any (is_group (group_of text)) classes then Group (group_of text) else Rest)
+    else if list_any (is_group (resource_group text)) classes then Group (resource_group text) else Rest)
     (list_any_at (is_exact text) classes m.0 (Exact text) m.1
     (ap (is_exact text) m.2 ∙ its_own text))
 itself classes (Group group) m = ap (λ b. if b then Group group else Rest)
@@ -210,7 +210,7 @@ itself classes (Group group) m = ap (λ b. if b then Group group else Rest)
     (ap (is_group group) m.2 ∙ its_own group))
 itself classes Rest m = refl
 
-pub narrow_there : (added : List (List Row)) (classes : List Class) (class : Class)
+pub narrow_there : (added : List (List ConfigEntry)) (classes : List Class) (class : Class)
     → IsTableOf added classes → Contains classes (narrow classes class)
 narrow_there added classes (Exact text) table = class_there added classes text table
 narrow_there added classes (Group group) table = by (list_any (is_group group) classes) refl

@@ -14,8 +14,8 @@ use Rattle.kr_config.specs.declared.pattern.Pattern.{Pattern}
 use Rattle.kr_config.specs.declared.pattern.Pattern.TheVariants as pattern
 use Rattle.kr_config.specs.declared.class.Class.{Class}
 use Rattle.kr_config.specs.declared.class.Class.TheVariants.{Exact, Group, Rest}
-use Rattle.kr_config.specs.Patterns.{group_of, matches, covers_group, covers_rest}
-use Rattle.kr_config.specs.Kept.{Row}
+use Rattle.kr_config.specs.Patterns.{resource_group, matches, covers_group, covers_rest}
+use Rattle.kr_config.specs.Kept.{ConfigEntry}
 use Rattle.kr_config.specs.Lists.{first_list, list_of, class_list}
 use Rattle.kr_config.specs.Classes.{class_cmp, class_made, classes_made, classes_in, IsTableOf}
 use Rattle.kr_config.specs.Classes.{class_in, is_exact, is_group, is_rest}
@@ -44,7 +44,7 @@ in_flat {X} {Y} f (z ∷ xs) x y h m = at_place (λ there. in_flat f xs x y ther
         Contains-append_right (f z) (flat_map f xs) y (rest (k, omega (arith, l), is))
 
 -- one more settings
-pub table_added : (added : List (List Row)) (rows : List Row) (old fresh new : List Class)
+pub table_added : (added : List (List ConfigEntry)) (rows : List ConfigEntry) (old fresh new : List Class)
     → IsTableOf added old → fresh ≡ classes_in rows
     → IsStrictlySortedBy class_cmp new
     → ((class : Class) → Contains new class ↔ Contains (old ++ fresh) class)
@@ -166,7 +166,7 @@ same_any classes f g each (p ∷ ps) known =
 same_list : (classes : List Class) (f g : Pattern → Bool)
     → ((p : Pattern) → ((class : Class) → Contains (class_made p) class → Contains classes class)
     → f p ≡ g p)
-    → (rows : List Row) → ((class : Class) → Contains (classes_in rows) class
+    → (rows : List ConfigEntry) → ((class : Class) → Contains (classes_in rows) class
     → Contains classes class) → first_list f rows ≡ first_list g rows
 same_list classes f g each [] known = refl
 same_list classes f g each (row ∷ rows) known =
@@ -185,7 +185,7 @@ one x = (0, omega arith, refl)
 group_agrees : (classes : List Class) (resource : List ℕ)
     → list_any (is_exact resource) classes ≡ false
     → (p : Pattern) → ((class : Class) → Contains (class_made p) class → Contains classes class)
-    → matches p resource ≡ covers_group p (group_of resource)
+    → matches p resource ≡ covers_group p (resource_group resource)
 group_agrees classes resource none (pattern.Exact text) known =
     not_exact classes resource text none (known (Exact text) (one (Exact text)))
 group_agrees classes resource none (pattern.Group group) known = refl
@@ -193,16 +193,16 @@ group_agrees classes resource none pattern.All known = refl
 
 rest_agrees : (classes : List Class) (resource : List ℕ)
     → list_any (is_exact resource) classes ≡ false
-    → list_any (is_group (group_of resource)) classes ≡ false
+    → list_any (is_group (resource_group resource)) classes ≡ false
     → (p : Pattern) → ((class : Class) → Contains (class_made p) class → Contains classes class)
     → matches p resource ≡ covers_rest p
 rest_agrees classes resource none other (pattern.Exact text) known =
     not_exact classes resource text none (known (Exact text) (one (Exact text)))
 rest_agrees classes resource none other (pattern.Group group) known =
-    not_group classes (group_of resource) group other (known (Group group) (one (Group group)))
+    not_group classes (resource_group resource) group other (known (Group group) (one (Group group)))
 rest_agrees classes resource none other pattern.All known = refl
 
-pub known_class : (added : List (List Row)) (classes : List Class) (rows : List Row)
+pub known_class : (added : List (List ConfigEntry)) (classes : List Class) (rows : List ConfigEntry)
     → IsTableOf added classes → Contains added rows → (class : Class)
     → Contains (classes_in rows) class → Contains classes class
 known_class added classes rows table there class h =
@@ -219,7 +219,7 @@ no_group classes group none (pattern.Group own) known =
 no_group classes group none pattern.All known = refl
 
 pub group_narrows : (classes : List Class) (group : List ℕ)
-    → list_any (is_group group) classes ≡ false → (rows : List Row)
+    → list_any (is_group group) classes ≡ false → (rows : List ConfigEntry)
     → ((class : Class) → Contains (classes_in rows) class → Contains classes class)
     → class_list rows (Group group) ≡ class_list rows Rest
 group_narrows classes group none rows known =
@@ -228,29 +228,29 @@ group_narrows classes group none rows known =
 
 -- an exact class that no pattern is of has the list of its group
 pub exact_widens : (classes : List Class) (resource : List ℕ)
-    → list_any (is_exact resource) classes ≡ false → (rows : List Row)
+    → list_any (is_exact resource) classes ≡ false → (rows : List ConfigEntry)
     → ((class : Class) → Contains (classes_in rows) class → Contains classes class)
-    → list_of rows resource ≡ class_list rows (Group (group_of resource))
+    → list_of rows resource ≡ class_list rows (Group (resource_group resource))
 exact_widens classes resource none rows known =
-    same_list classes (λ p. matches p resource) (λ p. covers_group p (group_of resource))
+    same_list classes (λ p. matches p resource) (λ p. covers_group p (resource_group resource))
     (group_agrees classes resource none) rows known
 
 -- the list of a resource is the list of its class
-pub law_of_classes : (added : List (List Row)) (classes : List Class) (rows : List Row)
+pub law_of_classes : (added : List (List ConfigEntry)) (classes : List Class) (rows : List ConfigEntry)
     (resource : List ℕ) → IsTableOf added classes → Contains added rows
     → list_of rows resource ≡ class_list rows (class_in classes resource)
 unfolding class_in
 law_of_classes added classes rows resource table there =
-    by (list_any (is_exact resource) classes) (list_any (is_group (group_of resource)) classes) refl
+    by (list_any (is_exact resource) classes) (list_any (is_group (resource_group resource)) classes) refl
     refl
   where
     by : (b c : Bool) → list_any (is_exact resource) classes ≡ b
-        → list_any (is_group (group_of resource)) classes ≡ c
+        → list_any (is_group (resource_group resource)) classes ≡ c
         → list_of rows resource ≡ class_list rows
-        (if b then Exact resource else if c then Group (group_of resource) else Rest)
+        (if b then Exact resource else if c then Group (resource_group resource) else Rest)
     by true c h k = refl
     by false true h k = same_list classes (λ p. matches p resource)
-        (λ p. covers_group p (group_of resource)) (group_agrees classes resource h) rows
+        (λ p. covers_group p (resource_group resource)) (group_agrees classes resource h) rows
         (known_class added classes rows table there)
     by false false h k = same_list classes (λ p. matches p resource) covers_rest
         (rest_agrees classes resource h k) rows (known_class added classes rows table there)

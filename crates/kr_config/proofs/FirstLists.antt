@@ -7,16 +7,16 @@ use Rattle.std.proofs.lemmas.List.{drop_all}
 use Rattle.kr_config.specs.declared.pattern.Pattern.{Pattern}
 use Rattle.kr_config.specs.declared.settings.Entry.{Entry}
 use Rattle.kr_config.specs.declared.who.Who.TheVariants.{Identity}
-use Rattle.kr_config.specs.Kept.{row_of, rows_of}
+use Rattle.kr_config.specs.Kept.{entry_lists, rows_of}
 use Rattle.kr_config.specs.Lists.{first_list}
 
 at_drop : (test : Pattern → Bool) (entries : List Entry) (i : ℕ) (e : Entry) → i < length entries
     → e ≡ get_or entries i e
     → first_list test (rows_of (drop i entries))
-    ≡ first_list test (row_of e ∷ rows_of (drop (i + 1) entries))
+    ≡ first_list test (entry_lists e ∷ rows_of (drop (i + 1) entries))
 at_drop test entries i e h is = ap (λ l. first_list test (rows_of l)) (drop-cons entries i e h)
-    ∙ ap (λ x. first_list test (row_of x ∷ rows_of (drop (suc i) entries))) (sym is)
-    ∙ ap (λ n. first_list test (row_of e ∷ rows_of (drop n entries))) (sym (add-one i))
+    ∙ ap (λ x. first_list test (entry_lists x ∷ rows_of (drop (suc i) entries))) (sym is)
+    ∙ ap (λ n. first_list test (entry_lists e ∷ rows_of (drop n entries))) (sym (add-one i))
 
 pub first_more : (test : Pattern → Bool) (entries : List Entry) (i : ℕ) (e : Entry)
     → i < length entries → e ≡ get_or entries i e → list_any test e.patterns.0 ≡ false

@@ -9,7 +9,7 @@ use Rattle.serde_json.specs.Data.{Data}
 use Rattle.kr_config.specs.declared.refusal.ConfigNo.{ConfigNo}
 use Rattle.kr_config.specs.Kept.{apart}
 use Rattle.kr_base.specs.Numbering.{next_place}
-use Rattle.kr_config.specs.Walk.{and_then, walk, walk_each}
+use Rattle.kr_config.specs.Walk.{then_unless_breach, walk, walk_each}
 
 abbrev ok_or : {A : Type 0} → Result A ConfigNo → A → A
 ok_or (Ok x) d = x
@@ -29,7 +29,7 @@ pub same_some : {A : Type 0} (x y : A) → Some x ≡ Some y → x ≡ y
 same_some x y h = ap (λ r. some_or r x) h
 
 pub and_then_ok : {A B : Type 0} (r : Result A ConfigNo) (f : A → Result B ConfigNo) (t : B)
-    → and_then r f ≡ Ok t → (x : A) × (r ≡ Ok x) × (f x ≡ Ok t)
+    → then_unless_breach r f ≡ Ok t → (x : A) × (r ≡ Ok x) × (f x ≡ Ok t)
 and_then_ok (Ok x) f t h = (x, refl, h)
 and_then_ok (Err why) f t h = absurd (cc)
 

@@ -6,12 +6,12 @@ use Rattle.std.proofs.lemmas.Bool.{false≢true}
 use Rattle.kr_config.specs.declared.class.Class.{Class}
 use Rattle.kr_config.specs.declared.class.Class.TheVariants.{Exact, Group, Rest}
 use Rattle.kr_config.specs.declared.pattern.Pattern.{Pattern}
-use Rattle.kr_config.specs.Kept.{Row, keeps, keeps_patterns, keeps_providers, keeps_row, patterns_in, keys_in, kms_in}
+use Rattle.kr_config.specs.Kept.{ConfigEntry, keeps, keeps_patterns, keeps_providers, keeps_row, patterns_in, count_entry_keys, kms_in}
 use Rattle.kr_config.specs.Lists.{first_list, class_list}
 use Rattle.kr_config.specs.Patterns.{matches, covers_group, covers_rest}
 use Rattle.kr_config.proofs.Inversions.{left, right}
 
-first_keeps : (test : Pattern → Bool) (rows : List Row) → list_all keeps_row rows ≡ true
+first_keeps : (test : Pattern → Bool) (rows : List ConfigEntry) → list_all keeps_row rows ≡ true
     → keeps_providers (first_list test rows) ≡ true
 first_keeps test [] h = refl
 first_keeps test (row ∷ rows) h =
@@ -25,12 +25,12 @@ first_keeps test (row ∷ rows) h =
     by false rest = rest
 
 -- what settings keep, one by one
-pub record IsKept (rows : List Row) : Type 0 where
+pub record IsKept (rows : List ConfigEntry) : Type 0 where
   pub some : nat_le 1 (length rows) ≡ true
   pub few : nat_le (length rows) 64 ≡ true
   pub each : list_all keeps_row rows ≡ true
   pub patterns : nat_le (patterns_in rows) 256 ≡ true
-  pub keys : nat_le (keys_in rows) 64 ≡ true
+  pub keys : nat_le (count_entry_keys rows) 64 ≡ true
   pub plugins : nat_le (kms_in rows) 16 ≡ true
 
 all_six : (a b c d e f : Bool) → (a && b && c && d && e && f) ≡ true
@@ -48,11 +48,11 @@ all_six a b c d e f h =
       right (a && b && c && d && e) f h,
     )
 
-pub kept_of : (rows : List Row) → keeps rows ≡ true → IsKept rows
+pub kept_of : (rows : List ConfigEntry) → keeps rows ≡ true → IsKept rows
 unfolding keeps
 kept_of rows h =
     let k = all_six (nat_le 1 (length rows)) (nat_le (length rows) 64) (list_all keeps_row rows)
-    (nat_le (patterns_in rows) 256) (nat_le (keys_in rows) 64) (nat_le (kms_in rows) 16) h in
+    (nat_le (patterns_in rows) 256) (nat_le (count_entry_keys rows) 64) (nat_le (kms_in rows) 16) h in
     record {
       some = k.0;
       few = k.1;
@@ -62,10 +62,10 @@ kept_of rows h =
       plugins = k.5;
     }
 
-pub each_kept : (rows : List Row) → keeps rows ≡ true → list_all keeps_row rows ≡ true
+pub each_kept : (rows : List ConfigEntry) → keeps rows ≡ true → list_all keeps_row rows ≡ true
 each_kept rows h = let kept = kept_of rows h in kept.each
 
-pub list_keeps : (rows : List Row) (class : Class) → keeps rows ≡ true
+pub list_keeps : (rows : List ConfigEntry) (class : Class) → keeps rows ≡ true
     → keeps_providers (class_list rows class) ≡ true
 list_keeps rows (Exact text) h =
     first_keeps (λ pattern. matches pattern text) rows (each_kept rows h)
@@ -73,7 +73,7 @@ list_keeps rows (Group group) h =
     first_keeps (λ pattern. covers_group pattern group) rows (each_kept rows h)
 list_keeps rows Rest h = first_keeps covers_rest rows (each_kept rows h)
 
-pub full_list : (rows : List Row) (class : Class) → keeps rows ≡ true → class_list rows class ≡ []
+pub full_list : (rows : List ConfigEntry) (class : Class) → keeps rows ≡ true → class_list rows class ≡ []
     → ⊥
 full_list rows class h none =
     false≢true (subst (λ l. keeps_providers l ≡ true) none (list_keeps rows class h))

@@ -12,11 +12,11 @@ use Rattle.kr_base.specs.Rules.{is_resource}
 use Rattle.kr_config.specs.declared.pattern.Pattern.{Pattern}
 use Rattle.kr_config.specs.declared.pattern.Pattern.TheVariants.{Exact, Group, All}
 use Rattle.kr_config.specs.declared.refusal.Rule.TheVariants as rule
-use Rattle.kr_config.specs.declared.place.Place.{Place}
-use Rattle.kr_config.specs.Patterns.{group_of, is_group, is_pattern, same, overlap, clash}
+use Rattle.kr_config.specs.declared.place.ConfigPlace.{ConfigPlace}
+use Rattle.kr_config.specs.Patterns.{resource_group, is_group, is_pattern, same, overlap, clash}
 use Rattle.kr_config.specs.Kept.{apart}
 use Rattle.kr_base.specs.Numbering.{next_place}
-use Rattle.kr_config.specs.Walk.{breach, place_at, walk, pattern_of, star_pattern, place_pattern}
+use Rattle.kr_config.specs.Walk.{breach, place_at, walk, spelled_pattern, star_pattern, place_pattern}
 use Rattle.kr_config.specs.Walk.{pattern_step}
 use Rattle.kr_config.proofs.Inversions.{same_ok, same_some, if_ok, if_not, some_ok, neither_any}
 use Rattle.kr_config.proofs.Inversions.{all_push, apart_push, walk_keeps, and_then_ok}
@@ -36,14 +36,14 @@ form_by true false false r group text p g e h = absurd (cc)
 form_by false b c true group text p g e h = ap is_pattern (sym (same_some (Exact text) p h)) ∙ e
 form_by false b c false group text p g e h = absurd (cc)
 
-form : (text : List ℕ) (p : Pattern) → pattern_of text ≡ Some p → is_pattern p ≡ true
-unfolding pattern_of star_pattern
+form : (text : List ℕ) (p : Pattern) → spelled_pattern text ≡ Some p → is_pattern p ≡ true
+unfolding spelled_pattern star_pattern
 form text p h = form_by (list_any (λ byte. byte == 0x2E) text
     && bytes_eq (before_first (λ byte. byte == 0x2E) text) (codes "*"))
-    (bytes_eq (group_of text) (codes "*")) (is_group (group_of text)) (is_resource text)
-    (group_of text) text p refl refl h
+    (bytes_eq (resource_group text) (codes "*")) (is_group (resource_group text)) (is_resource text)
+    (resource_group text) text p refl refl h
 
-place_keeps : (counted : ℕ) (place : Place) (before : List Pattern) (p : Pattern)
+place_keeps : (counted : ℕ) (place : ConfigPlace) (before : List Pattern) (p : Pattern)
     (after : List Pattern)
     → Patterns counted before → is_pattern p ≡ true
     → place_pattern counted place before p ≡ Ok after
@@ -76,8 +76,8 @@ unfolding pattern_step
 pattern_kept counted entry item before d after k h =
     let text = some_ok (as_str d)
     (λ text. option_map_or (place_pattern counted (place_at entry item) before)
-    (pattern_of text) (breach rule.Pattern (place_at entry item))) _ after h in
-    let pattern = some_ok (pattern_of text.0) (place_pattern counted (place_at entry item) before) _
+    (spelled_pattern text) (breach rule.Pattern (place_at entry item))) _ after h in
+    let pattern = some_ok (spelled_pattern text.0) (place_pattern counted (place_at entry item) before) _
     after text.2 in
     place_keeps counted (place_at entry item) before pattern.0 after k
     (form text.0 pattern.0 pattern.1)

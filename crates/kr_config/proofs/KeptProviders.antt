@@ -15,18 +15,18 @@ use Rattle.kr_base.specs.Rules.{is_name}
 use Rattle.kr_config.specs.declared.who.Who.{Who}
 use Rattle.kr_config.specs.declared.refusal.Rule.TheVariants as rule
 use Rattle.kr_config.specs.declared.refusal.Counted.TheVariants.{Keys, Plugins}
-use Rattle.kr_config.specs.declared.place.Place.{Place}
+use Rattle.kr_config.specs.declared.place.ConfigPlace.{ConfigPlace}
 use Rattle.kr_config.specs.declared.who.Who.TheVariants.{Identity, Kms}
 use Rattle.kr_config.specs.declared.provider.Cipher.{Cipher}
 use Rattle.kr_config.specs.declared.provider.Cipher.TheVariants as cipher
 use Rattle.kr_config.specs.Providers.{is_secret, is_provider, is_key, is_kms, rivals}
 use Rattle.kr_config.specs.Kept.{apart}
 use Rattle.kr_base.specs.Numbering.{next_place}
-use Rattle.kr_config.specs.Walk.{breach, over_limit, place_at, counts_of, and_then, walk, walk_each}
-use Rattle.kr_config.specs.Walk.{is_mapping, text_at, list_of_items, named_list, place_provider}
+use Rattle.kr_config.specs.Walk.{breach, over_limit, place_at, counts_of, then_unless_breach, walk, walk_each}
+use Rattle.kr_config.specs.Walk.{is_mapping, text_under_key, list_of_items, named_list, place_provider}
 use Rattle.kr_config.specs.Walk.{place_key, place_plugin, identity_step, of_cipher, name_at}
 use Rattle.kr_config.specs.Walk.{secret_at, key_step, keys_step, version_at, endpoint_at}
-use Rattle.kr_config.specs.Walk.{plugin_step, kinds_of, kind_step, element_step}
+use Rattle.kr_config.specs.Walk.{plugin_step, count_kinds, kind_step, element_step}
 use Rattle.kr_config.proofs.Inversions.{same_ok, and_then_ok, if_ok, if_not, some_ok, none_any}
 use Rattle.kr_config.proofs.Inversions.{all_push, apart_push, walk_keeps, each_keeps, both}
 
@@ -70,7 +70,7 @@ push_keeps keys plugins before who k f r key kms =
     within true met n m limit h less is = let l = less refl in omega arith
     within false met n m limit h less is = omega arith
 
-place_fits : (place : Place) (before : List Who) (who : Who) (after : List Who)
+place_fits : (place : ConfigPlace) (before : List Who) (who : Who) (after : List Who)
     → place_provider place before who ≡ Ok after
     → (list_any (λ w. rivals w who) before ≡ false) × (before ++ who ∷ [] ≡ after)
 unfolding place_provider
@@ -78,7 +78,7 @@ place_fits place before who after h =
     let a = if_not (list_any (λ w. rivals w who) before) _ _ after h in
     (a.0, same_ok (before ++ who ∷ []) after a.1)
 
-key_placed : (keys plugins : ℕ) (place : Place) (before : List Who) (who : Who) (after : List Who)
+key_placed : (keys plugins : ℕ) (place : ConfigPlace) (before : List Who) (who : Who) (after : List Who)
     → Providers keys plugins before → is_provider who ≡ true → is_kms who ≡ false
     → place_key keys place before who ≡ Ok after → Kept keys plugins after
 unfolding place_key
@@ -92,7 +92,7 @@ key_placed keys plugins place before who after k f n h =
     subst (Kept keys plugins) (p.1 ∙ same_ok a.0 after b.1)
     (push_keeps keys plugins before who k f p.0 (λ t. below) (λ t. absurd (cc)))
 
-plugin_placed : (keys plugins : ℕ) (place : Place) (before : List Who) (who : Who)
+plugin_placed : (keys plugins : ℕ) (place : ConfigPlace) (before : List Who) (who : Who)
     (after : List Who) → Providers keys plugins before → is_provider who ≡ true → is_key who ≡ false
     → place_plugin plugins place before who ≡ Ok after → Kept keys plugins after
 unfolding place_plugin
@@ -106,7 +106,7 @@ plugin_placed keys plugins place before who after k f n h =
     subst (Kept keys plugins) (p.1 ∙ same_ok a.0 after b.1)
     (push_keeps keys plugins before who k f p.0 (λ t. absurd (cc)) (λ t. below))
 
-identity_kept : (keys plugins : ℕ) (place : Place) (before : List Who) (d : Data) (after : List Who)
+identity_kept : (keys plugins : ℕ) (place : ConfigPlace) (before : List Who) (d : Data) (after : List Who)
     → Providers keys plugins before → identity_step place before d ≡ Ok after
     → Kept keys plugins after
 unfolding identity_step
@@ -117,20 +117,20 @@ identity_kept keys plugins place before d after k h =
     subst (Kept keys plugins) p.1
     (push_keeps keys plugins before Identity k refl p.0 (λ t. absurd (cc)) (λ t. absurd (cc)))
 
-name_fits : (place : Place) (d : Data) (name : List ℕ) → name_at place d ≡ Ok name
+name_fits : (place : ConfigPlace) (d : Data) (name : List ℕ) → name_at place d ≡ Ok name
     → is_name name ≡ true
 unfolding name_at
 name_fits place d name h =
-    let a = some_ok (text_at (codes "name") d)
+    let a = some_ok (text_under_key (codes "name") d)
     (λ n. if is_name n then Ok n else breach rule.Name place) _ name h in
     let b = if_ok (is_name a.0) (Ok a.0) _ name a.2 in
     subst (λ n. is_name n ≡ true) (same_ok a.0 name b.1) b.0
 
-secret_fits : (place : Place) (d : Data) (secret : List ℕ) → secret_at place d ≡ Ok secret
+secret_fits : (place : ConfigPlace) (d : Data) (secret : List ℕ) → secret_at place d ≡ Ok secret
     → is_secret secret ≡ true
 unfolding secret_at
 secret_fits place d secret h =
-    let a = some_ok (text_at (codes "secret") d)
+    let a = some_ok (text_under_key (codes "secret") d)
     (λ text. option_map_or (λ s. if is_secret s then Ok s else breach rule.SecretLength place)
     (result_ok (decode_of standard text)) (breach rule.Base64 place)) _ secret h in
     let b = some_ok (result_ok (decode_of standard a.0))
@@ -147,13 +147,13 @@ cipher_no_plugin : (c : Cipher) (name secret : List ℕ) → is_kms (of_cipher c
 cipher_no_plugin cipher.Cbc name secret = refl
 cipher_no_plugin cipher.Gcm name secret = refl
 
-key_kept : (keys plugins : ℕ) (c : Cipher) (place : Place) (before : List Who) (d : Data)
+key_kept : (keys plugins : ℕ) (c : Cipher) (place : ConfigPlace) (before : List Who) (d : Data)
     (after : List Who) → Providers keys plugins before → key_step c keys place before d ≡ Ok after
     → Kept keys plugins after
 unfolding key_step
 key_kept keys plugins c place before d after k h =
     let a = and_then_ok (name_at place d)
-    (λ name. and_then (secret_at place d)
+    (λ name. then_unless_breach (secret_at place d)
     (λ secret. place_key keys place before (of_cipher c name secret))) after h in
     let b = and_then_ok (secret_at place d)
     (λ secret. place_key keys place before (of_cipher c a.0 secret)) after a.2 in
@@ -161,7 +161,7 @@ key_kept keys plugins c place before d after k h =
     (cipher_form c a.0 b.0 (name_fits place d a.0 a.1) (secret_fits place d b.0 b.1))
     (cipher_no_plugin c a.0 b.0) b.2
 
-pub named_some : (key : List ℕ) (place : Place) (d : Data) (ds : List Data)
+pub named_some : (key : List ℕ) (place : ConfigPlace) (d : Data) (ds : List Data)
     → named_list key place d ≡ Ok ds → length ds ≡ 0 → ⊥
 unfolding named_list
 named_some key place d ds h z =
@@ -173,7 +173,7 @@ named_some key place d ds h z =
     let zero_long : length (list_of_items a.0) ≡ 0 = ap length same ∙ z in
     let test = b.0 in grind (arith, zero_long, test)
 
-keys_each : (keys plugins : ℕ) (c : Cipher) (place : Place) (before : List Who) (ds : List Data)
+keys_each : (keys plugins : ℕ) (c : Cipher) (place : ConfigPlace) (before : List Who) (ds : List Data)
     (after : List Who) → Providers keys plugins before → (length ds ≡ 0 → ⊥)
     → walk_each (key_step c keys place) before ds ≡ Ok after → Kept keys plugins after
 keys_each keys plugins c place before [] after k some h = absurd (some refl)
@@ -184,7 +184,7 @@ keys_each keys plugins c place before (d ∷ ds) after k some h =
     (λ s x t p q. key_kept keys plugins c place s x t p.0 q) first.0 ds after
     (key_kept keys plugins c place before d first.0 k first.1) first.2
 
-keys_kept : (keys plugins : ℕ) (c : Cipher) (place : Place) (before : List Who) (d : Data)
+keys_kept : (keys plugins : ℕ) (c : Cipher) (place : ConfigPlace) (before : List Who) (d : Data)
     (after : List Who) → Providers keys plugins before → keys_step c keys place before d ≡ Ok after
     → Kept keys plugins after
 unfolding keys_step
@@ -195,24 +195,24 @@ keys_kept keys plugins c place before d after k h =
     keys_each keys plugins c place before b.0 after k (named_some (codes "keys") place d b.0 b.1)
     b.2
 
-plugin_kept : (keys plugins : ℕ) (place : Place) (before : List Who) (d : Data) (after : List Who)
+plugin_kept : (keys plugins : ℕ) (place : ConfigPlace) (before : List Who) (d : Data) (after : List Who)
     → Providers keys plugins before → plugin_step plugins place before d ≡ Ok after
     → Kept keys plugins after
 unfolding plugin_step
 plugin_kept keys plugins place before d after k h =
     let a = if_ok (is_mapping d) _ _ after h in
     let b = and_then_ok (version_at place d)
-    (λ ok. and_then (name_at place d)
-    (λ name. and_then (endpoint_at place d)
+    (λ ok. then_unless_breach (name_at place d)
+    (λ name. then_unless_breach (endpoint_at place d)
     (λ fine. place_plugin plugins place before (Kms name)))) after a.1 in
     let c = and_then_ok (name_at place d)
-    (λ name. and_then (endpoint_at place d)
+    (λ name. then_unless_breach (endpoint_at place d)
     (λ fine. place_plugin plugins place before (Kms name))) after b.2 in
     let f = and_then_ok (endpoint_at place d) (λ fine. place_plugin plugins place before (Kms c.0))
     after c.2 in
     plugin_placed keys plugins place before (Kms c.0) after k (name_fits place d c.0 c.1) refl f.2
 
-kind_by : (keys plugins : ℕ) (place : Place) (before after : List Who) (a b c d : Option Data)
+kind_by : (keys plugins : ℕ) (place : ConfigPlace) (before after : List Who) (a b c d : Option Data)
     → Providers keys plugins before
     → option_map_or (identity_step place before) a
     (option_map_or (keys_step cipher.Cbc keys place before) b
@@ -237,8 +237,8 @@ pub element_kept : (keys plugins patterns entry item : ℕ) (before : List Who) 
 unfolding element_step kind_step
 element_kept keys plugins patterns entry item before d after k h =
     let a = if_ok (is_mapping d) _ _ after h in
-    let b = if_not (kinds_of d == 0) _ _ after a.1 in
-    let c = if_not (nat_lt 1 (kinds_of d)) _ _ after b.1 in
+    let b = if_not (count_kinds d == 0) _ _ after a.1 in
+    let c = if_not (nat_lt 1 (count_kinds d)) _ _ after b.1 in
     kind_by keys plugins (place_at entry item) before after (get (codes "identity") d)
     (get (codes "aescbc") d) (get (codes "aesgcm") d) (get (codes "kms") d) k c.1
 

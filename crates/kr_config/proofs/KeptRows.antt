@@ -7,11 +7,11 @@ use Rattle.std.proofs.lemmas.List.Sums.{sum_by-append}
 use Rattle.serde_json.specs.Data.{Data}
 use Rattle.kr_config.specs.Providers.{is_key, is_kms}
 use Rattle.kr_config.specs.declared.refusal.Counted.TheVariants.{Entries}
-use Rattle.kr_config.specs.Kept.{Row, keeps_patterns, keeps_providers, keeps_row, patterns_in}
-use Rattle.kr_config.specs.Kept.{keys_in, kms_in, keeps}
+use Rattle.kr_config.specs.Kept.{ConfigEntry, keeps_patterns, keeps_providers, keeps_row, patterns_in}
+use Rattle.kr_config.specs.Kept.{count_entry_keys, kms_in, keeps}
 use Rattle.kr_base.specs.Numbering.{next_place}
-use Rattle.kr_config.specs.Walk.{over_limit, place_at, start, counts_of, and_then, walk, is_mapping}
-use Rattle.kr_config.specs.Walk.{has_text, named_list, pattern_step, element_step, entry_of}
+use Rattle.kr_config.specs.Walk.{over_limit, place_at, start, counts_of, then_unless_breach, walk, is_mapping}
+use Rattle.kr_config.specs.Walk.{has_text, named_list, pattern_step, element_step, config_entry}
 use Rattle.kr_config.specs.Walk.{entry_step, config_in}
 use Rattle.kr_config.proofs.Inversions.{same_ok, and_then_ok, if_ok, both, all_push}
 use Rattle.kr_config.proofs.KeptPatterns.{patterns_kept}
@@ -21,29 +21,29 @@ le_true : (a b : ℕ) → a ≤ b → nat_le a b ≡ true
 le_true a b h = grind arith
 
 -- an entry keeps the rules, and passes no limit
-pub record KeptRow (patterns keys plugins : ℕ) (row : Row) : Type 0 where
+pub record KeptRow (patterns keys plugins : ℕ) (row : ConfigEntry) : Type 0 where
   pub form : keeps_row row ≡ true
   pub few_patterns : patterns + length row.patterns ≤ 256
   pub few_keys : keys + count_by is_key row.providers ≤ 64
   pub few_plugins : plugins + count_by is_kms row.providers ≤ 16
 
-pub entry_kept : (patterns keys plugins e : ℕ) (d : Data) (row : Row) → patterns ≤ 256 → keys ≤ 64
-    → plugins ≤ 16 → entry_of (counts_of patterns keys plugins) e d ≡ Ok row
+pub entry_kept : (patterns keys plugins e : ℕ) (d : Data) (row : ConfigEntry) → patterns ≤ 256 → keys ≤ 64
+    → plugins ≤ 16 → config_entry (counts_of patterns keys plugins) e d ≡ Ok row
     → KeptRow patterns keys plugins row
-unfolding entry_of
+unfolding config_entry
 entry_kept patterns keys plugins e d row p k m h =
     let a = if_ok (is_mapping d) _ _ row h in
     let b = and_then_ok (named_list (codes "resources") (place_at e 0) d)
-    (λ texts. and_then (walk (pattern_step patterns e) 0 [] texts)
-    (λ ps. and_then (named_list (codes "providers") (place_at e 0) d)
-    (λ elements. and_then (walk (element_step (counts_of patterns keys plugins) e) 0 []
+    (λ texts. then_unless_breach (walk (pattern_step patterns e) 0 [] texts)
+    (λ ps. then_unless_breach (named_list (codes "providers") (place_at e 0) d)
+    (λ elements. then_unless_breach (walk (element_step (counts_of patterns keys plugins) e) 0 []
     elements) (λ ws. Ok (record { patterns = ps; providers = ws }))))) row a.1 in
     let c = and_then_ok (walk (pattern_step patterns e) 0 [] b.0)
-    (λ ps. and_then (named_list (codes "providers") (place_at e 0) d)
-    (λ elements. and_then (walk (element_step (counts_of patterns keys plugins) e) 0 []
+    (λ ps. then_unless_breach (named_list (codes "providers") (place_at e 0) d)
+    (λ elements. then_unless_breach (walk (element_step (counts_of patterns keys plugins) e) 0 []
     elements) (λ ws. Ok (record { patterns = ps; providers = ws })))) row b.2 in
     let f = and_then_ok (named_list (codes "providers") (place_at e 0) d)
-    (λ elements. and_then (walk (element_step (counts_of patterns keys plugins) e) 0 []
+    (λ elements. then_unless_breach (walk (element_step (counts_of patterns keys plugins) e) 0 []
     elements) (λ ws. Ok (record { patterns = c.0; providers = ws }))) row c.2 in
     let g = and_then_ok (walk (element_step (counts_of patterns keys plugins) e) 0 [] f.0)
     (λ ws. Ok (record { patterns = c.0; providers = ws })) row f.2 in
@@ -62,23 +62,23 @@ entry_kept patterns keys plugins e d row p k m h =
       few_plugins = w.0.few_plugins;
     })
 
-pub record KeptRows (rows : List Row) : Type 0 where
+pub record KeptRows (rows : List ConfigEntry) : Type 0 where
   pub forms : list_all keeps_row rows ≡ true
   pub few_patterns : patterns_in rows ≤ 256
-  pub few_keys : keys_in rows ≤ 64
+  pub few_keys : count_entry_keys rows ≤ 64
   pub few_plugins : kms_in rows ≤ 16
 
-pub step_kept : (e : ℕ) (before : List Row) (d : Data) (after : List Row) → KeptRows before
+pub step_kept : (e : ℕ) (before : List ConfigEntry) (d : Data) (after : List ConfigEntry) → KeptRows before
     → entry_step e before d ≡ Ok after → KeptRows after × (length after ≡ length before + 1)
 unfolding entry_step
 step_kept e before d after k h =
-    let a = and_then_ok (entry_of (counts_of (patterns_in before) (keys_in before) (kms_in before))
+    let a = and_then_ok (config_entry (counts_of (patterns_in before) (count_entry_keys before) (kms_in before))
     e d) (λ row. Ok (before ++ row ∷ [])) after h in
-    let r = entry_kept (patterns_in before) (keys_in before) (kms_in before) e d a.0 k.few_patterns
+    let r = entry_kept (patterns_in before) (count_entry_keys before) (kms_in before) e d a.0 k.few_patterns
     k.few_keys k.few_plugins a.1 in
-    let sums : (f : Row → ℕ) → sum_by f (before ++ a.0 ∷ [])
+    let sums : (f : ConfigEntry → ℕ) → sum_by f (before ++ a.0 ∷ [])
     ≡ sum_by f before + sum_by f (a.0 ∷ []) = λ f. sum_by-append f before (a.0 ∷ []) in
-    let P : List Row → Type 0 = λ l. KeptRows l × (length l ≡ length before + 1) in
+    let P : List ConfigEntry → Type 0 = λ l. KeptRows l × (length l ≡ length before + 1) in
     subst P (same_ok (before ++ a.0 ∷ []) after a.2) (
       record {
         forms = all_push keeps_row before a.0 k.forms r.form;
@@ -94,11 +94,11 @@ step_kept e before d after k h =
 
 -- what a walk over all entries keeps
 
-walk_kept : (e : ℕ) (before : List Row) (ds : List Data) (after : List Row) → KeptRows before
+walk_kept : (e : ℕ) (before : List ConfigEntry) (ds : List Data) (after : List ConfigEntry) → KeptRows before
     → walk entry_step e before ds ≡ Ok after
     → KeptRows after × (length after ≡ length before + length ds)
 walk_kept e before [] after k h =
-    let P : List Row → Type 0 = λ l. KeptRows l × (length l ≡ length before + 0) in
+    let P : List ConfigEntry → Type 0 = λ l. KeptRows l × (length l ≡ length before + 0) in
     subst P (same_ok before after h) (k, omega arith)
 walk_kept e before (d ∷ ds) after k h =
     let first = and_then_ok (entry_step e before d) (λ u. walk entry_step (next_place e) u ds) after
@@ -108,12 +108,12 @@ walk_kept e before (d ∷ ds) after k h =
     (rest.0, let a = one.1 in let b = rest.1 in grind arith)
 
 -- the facts of all entries, as one test
-all_kept : (rows : List Row) → KeptRows rows → 1 ≤ length rows → length rows ≤ 64
+all_kept : (rows : List ConfigEntry) → KeptRows rows → 1 ≤ length rows → length rows ≤ 64
     → keeps rows ≡ true
 unfolding keeps
 all_kept rows k least most =
     both_four (le_true 1 (length rows) least) (le_true (length rows) 64 most) k.forms
-    (le_true (patterns_in rows) 256 k.few_patterns) (le_true (keys_in rows) 64 k.few_keys)
+    (le_true (patterns_in rows) 256 k.few_patterns) (le_true (count_entry_keys rows) 64 k.few_keys)
     (le_true (kms_in rows) 16 k.few_plugins)
   where
     both_four : {a b c d e f : Bool} → a ≡ true → b ≡ true → c ≡ true → d ≡ true → e ≡ true
@@ -123,7 +123,7 @@ all_kept rows k least most =
 low : (a b : ℕ) → nat_le a b ≡ true → a ≤ b
 low a b h = grind arith
 
-pub config_kept : (d : Data) (rows : List Row) → config_in d ≡ Ok rows → keeps rows ≡ true
+pub config_kept : (d : Data) (rows : List ConfigEntry) → config_in d ≡ Ok rows → keeps rows ≡ true
 unfolding config_in
 config_kept d rows h =
     let a = if_ok (is_mapping d) _ _ rows h in
@@ -145,6 +145,6 @@ config_kept d rows h =
     whole rows f.0 w.0 w.1 (named_some (codes "resources") start d f.0 f.1)
     (low (length f.0) 64 g.0)
   where
-    whole : (rows : List Row) (ds : List Data) → KeptRows rows → length rows ≡ 0 + length ds
+    whole : (rows : List ConfigEntry) (ds : List Data) → KeptRows rows → length rows ≡ 0 + length ds
         → (length ds ≡ 0 → ⊥) → length ds ≤ 64 → keeps rows ≡ true
     whole rows ds k long some most = all_kept rows k (omega (arith, some)) (omega arith)

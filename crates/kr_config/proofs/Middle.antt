@@ -9,7 +9,7 @@ use Rattle.serde_json.specs.Data.{Data}
 use Rattle.kr_base.specs.Numbering.{next_place}
 use Rattle.kr_config.specs.declared.refusal.ConfigNo.{ConfigNo}
 use Rattle.kr_config.specs.Kept.{apart}
-use Rattle.kr_config.specs.Walk.{and_then, walk}
+use Rattle.kr_config.specs.Walk.{then_unless_breach, walk}
 use Rattle.kr_config.proofs.Inversions.{left, right}
 
 pub middle_all : {T : Type 0} (test : T → Bool) (front : List T) (x : T) (behind : List T)
@@ -69,6 +69,6 @@ pub walk_back : {T : Type 0} (step : ℕ → List T → Data → Result (List T)
     → before ++ rest ≡ all → walk step i before (map write rest) ≡ Ok all
 walk_back step write all before [] i each e = ap (λ l. Ok l) (sym (append-nil before) ∙ e)
 walk_back step write all before (x ∷ rest) i each e =
-    ap (λ r. and_then r (λ t. walk step (next_place i) t (map write rest))) (each i before x rest e)
+    ap (λ r. then_unless_breach r (λ t. walk step (next_place i) t (map write rest))) (each i before x rest e)
     ∙ walk_back step write all (before ++ x ∷ []) rest (next_place i) each
     (append_assoc before (x ∷ []) rest ∙ e)

@@ -8,8 +8,8 @@ use Rattle.std.proofs.lemmas.List.Elements.{All-contains, All-contains_itself, A
 use Rattle.std.proofs.lemmas.List.Folds.{Any-from_list_any}
 use Rattle.kr_config.specs.declared.class.Class.{Class}
 use Rattle.kr_config.specs.declared.class.Class.TheVariants.{Exact, Group, Rest}
-use Rattle.kr_config.specs.Kept.{Row}
-use Rattle.kr_config.specs.Patterns.{group_of}
+use Rattle.kr_config.specs.Kept.{ConfigEntry}
+use Rattle.kr_config.specs.Patterns.{resource_group}
 use Rattle.kr_config.specs.Lists.{class_list}
 use Rattle.kr_config.specs.Classes.{classes_in, IsTableOf, class_in, class_cmp, is_exact, is_group}
 use Rattle.kr_config.specs.Nexts.{comes_after, IsNextClass}
@@ -23,35 +23,35 @@ pub known_in : (test : Class → Bool) (class : Class) (classes : List Class)
 known_in test class classes is h = let some = Any-from_list_any test classes h in
     subst (Contains classes) (is some.1 some.4) (some.0, some.2, some.3)
 
-pub has_rest : (added : List (List Row)) (classes : List Class) → IsTableOf added classes
+pub has_rest : (added : List (List ConfigEntry)) (classes : List Class) → IsTableOf added classes
     → Contains classes Rest
 has_rest added classes table = (table.members Rest).1 (one_first Rest (flat_map classes_in added))
   where
     one_first : (c : Class) (cs : List Class) → Contains (c ∷ cs) c
     one_first c cs = (0, omega arith, refl)
 
-pub class_there : (added : List (List Row)) (classes : List Class) (resource : List ℕ)
+pub class_there : (added : List (List ConfigEntry)) (classes : List Class) (resource : List ℕ)
     → IsTableOf added classes → Contains classes (class_in classes resource)
 unfolding class_in
 class_there added classes resource table =
-    by (list_any (is_exact resource) classes) (list_any (is_group (group_of resource)) classes) refl
+    by (list_any (is_exact resource) classes) (list_any (is_group (resource_group resource)) classes) refl
     refl
   where
     by : (b c : Bool) → list_any (is_exact resource) classes ≡ b
-        → list_any (is_group (group_of resource)) classes ≡ c
-        → Contains classes (if b then Exact resource else if c then Group (group_of resource)
+        → list_any (is_group (resource_group resource)) classes ≡ c
+        → Contains classes (if b then Exact resource else if c then Group (resource_group resource)
         else Rest)
     by true c h k = known_in (is_exact resource) (Exact resource) classes (exact_is resource) h
-    by false true h k = known_in (is_group (group_of resource)) (Group (group_of resource)) classes
-        (group_is (group_of resource)) k
+    by false true h k = known_in (is_group (resource_group resource)) (Group (resource_group resource)) classes
+        (group_is (resource_group resource)) k
     by false false h k = has_rest added classes table
 
-abbrev Narrows : List (List Row) → List Class → Class → Type 0
+abbrev Narrows : List (List ConfigEntry) → List Class → Class → Type 0
 Narrows added classes class =
     (kept : Class) × Contains classes kept
-    × ((rows : List Row) → Contains added rows → class_list rows class ≡ class_list rows kept)
+    × ((rows : List ConfigEntry) → Contains added rows → class_list rows class ≡ class_list rows kept)
 
-group_by : (added : List (List Row)) (classes : List Class) (group : List ℕ) (v : Bool)
+group_by : (added : List (List ConfigEntry)) (classes : List Class) (group : List ℕ) (v : Bool)
     → IsTableOf added classes → list_any (is_group group) classes ≡ v
     → Narrows added classes (Group group)
 group_by added classes group true table h = (

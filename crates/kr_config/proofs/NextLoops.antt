@@ -6,7 +6,7 @@ use Rattle.std.proofs.lemmas.List.{take_all, take_more, flat_map_more}
 use Rattle.kr_config.specs.declared.settings.Entry.{Entry}
 use Rattle.kr_config.specs.declared.who.Who.{Who}
 use Rattle.kr_config.specs.Providers.{plugin_of, plugins_among}
-use Rattle.kr_config.specs.Kept.{Row, row_of, rows_of, plugins_in}
+use Rattle.kr_config.specs.Kept.{ConfigEntry, entry_lists, rows_of, plugins_in}
 use Rattle.kr_config.specs.Nexts.{earlier, name_cmp, IsNextName}
 use Rattle.kr_config.proofs.Nexts.{names_joined, no_name}
 
@@ -19,10 +19,10 @@ all_parts : {X Y : Type 0} (f : X → List Y) (xs : List X) (i : ℕ) → length
     → flat_map f (take i xs) ≡ flat_map f xs
 all_parts f xs i h = ap (flat_map f) (take_all i xs h)
 
-row_parts : {Y : Type 0} (f : Row → List Y) (entries : List Entry)
-    → flat_map f (rows_of entries) ≡ flat_map (λ entry. f (row_of entry)) entries
+row_parts : {Y : Type 0} (f : ConfigEntry → List Y) (entries : List Entry)
+    → flat_map f (rows_of entries) ≡ flat_map (λ entry. f (entry_lists entry)) entries
 row_parts f [] = refl
-row_parts f (e ∷ entries) = ap (λ l. f (row_of e) ++ l) (row_parts f entries)
+row_parts f (e ∷ entries) = ap (λ l. f (entry_lists e) ++ l) (row_parts f entries)
 
 -- over providers
 pub names_begin : (providers : List Who) (after : List ℕ)

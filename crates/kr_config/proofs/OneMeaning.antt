@@ -17,8 +17,8 @@ use Rattle.kr_yaml.proofs.SomeAnswer.{some_answer}
 use Rattle.kr_config.specs.declared.refusal.YamlRule.TheVariants as yaml_rule
 use Rattle.kr_config.specs.declared.refusal.ConfigNo.{ConfigNo}
 use Rattle.kr_config.specs.declared.refusal.ConfigNo.TheVariants.{Yaml}
-use Rattle.kr_config.specs.Kept.{Row}
-use Rattle.kr_config.specs.Walk.{and_then, config_in}
+use Rattle.kr_config.specs.Kept.{ConfigEntry}
+use Rattle.kr_config.specs.Walk.{then_unless_breach, config_in}
 use Rattle.kr_config.specs.Yaml.{json_of, IsBreachOf, TreeOf}
 use Rattle.kr_config.specs.Meanings.{begins_json, json_rows, no_text, MeansYaml, TextMeans, MeansBy}
 use Rattle.kr_config.specs.Laws.{OneMeaning, SomeMeaning}
@@ -65,17 +65,17 @@ one_tree text (Err why) (Ok d) h k = absurd (tree_or (text_tokens text) d h.0 wh
 one_tree text (Err why) (Err other) h k =
     ap (λ x. Err x) (two_breaches (text_tokens text) h.0 k.0 why other h.1 k.1 h.2 k.2)
 
-one_yaml : (text : List ℕ) (a b : Result (List Row) ConfigNo) → MeansYaml text a → MeansYaml text b
+one_yaml : (text : List ℕ) (a b : Result (List ConfigEntry) ConfigNo) → MeansYaml text a → MeansYaml text b
     → a ≡ b
 one_yaml text a b h k = sym h.2
-    ∙ ap (λ tree. and_then tree (λ d. config_in (json_of d))) (one_tree text h.0 k.0 h.1 k.1) ∙ k.2
+    ∙ ap (λ tree. then_unless_breach tree (λ d. config_in (json_of d))) (one_tree text h.0 k.0 h.1 k.1) ∙ k.2
 
-one_text : (is_json : Bool) (text : List ℕ) (a b : Result (List Row) ConfigNo)
+one_text : (is_json : Bool) (text : List ℕ) (a b : Result (List ConfigEntry) ConfigNo)
     → TextMeans is_json text a → TextMeans is_json text b → a ≡ b
 one_text true text a b h k = sym h ∙ k
 one_text false text a b h k = one_yaml text a b h k
 
-one_by : (utf8 : Bool) (bytes : List ℕ) (a b : Result (List Row) ConfigNo) → MeansBy utf8 bytes a
+one_by : (utf8 : Bool) (bytes : List ℕ) (a b : Result (List ConfigEntry) ConfigNo) → MeansBy utf8 bytes a
     → MeansBy utf8 bytes b → a ≡ b
 one_by true bytes a b h k = one_text (begins_json bytes) bytes a b h k
 one_by false bytes a b h k = sym h ∙ k
@@ -98,13 +98,13 @@ some_tree text (inl h) = (Ok h.0, h.1)
 some_tree text (inr h) = let n = some_restatement h.0 h.2 in (Err n.0, (h.0, h.1, n.1))
 
 some_text : (is_json : Bool) (text : List ℕ)
-    → (rows : Result (List Row) ConfigNo) × TextMeans is_json text rows
+    → (rows : Result (List ConfigEntry) ConfigNo) × TextMeans is_json text rows
 some_text true text = (json_rows text, refl)
 some_text false text = let t = some_tree text (some_answer (text_tokens text)) in
-    (and_then t.0 (λ d. config_in (json_of d)), (t.0, t.1, refl))
+    (then_unless_breach t.0 (λ d. config_in (json_of d)), (t.0, t.1, refl))
 
 some_by : (utf8 : Bool) (bytes : List ℕ)
-    → (rows : Result (List Row) ConfigNo) × MeansBy utf8 bytes rows
+    → (rows : Result (List ConfigEntry) ConfigNo) × MeansBy utf8 bytes rows
 some_by true bytes = some_text (begins_json bytes) bytes
 some_by false bytes = (Err (no_text (begins_json bytes)), refl)
 

@@ -24,18 +24,18 @@ use Rattle.kr_base.specs.Limits.{name_limit}
 use Rattle.kr_base.specs.Rules.{is_name, is_label, is_label_byte, is_resource, first_part, later_parts}
 use Rattle.kr_config.specs.declared.pattern.Pattern.{Pattern}
 use Rattle.kr_config.specs.declared.pattern.Pattern.TheVariants.{Exact, Group, All as Every}
-use Rattle.kr_config.specs.declared.place.Place.{Place}
+use Rattle.kr_config.specs.declared.place.ConfigPlace.{ConfigPlace}
 use Rattle.kr_config.specs.declared.provider.Cipher.{Cipher}
 use Rattle.kr_config.specs.declared.provider.Cipher.TheVariants as cipher
 use Rattle.kr_config.specs.declared.refusal.Counted.TheVariants.{Entries, Patterns, Keys, Plugins}
 use Rattle.kr_config.specs.declared.refusal.Rule.TheVariants as rule
 use Rattle.kr_config.specs.declared.who.Who.{Who}
 use Rattle.kr_config.specs.declared.who.Who.TheVariants.{Identity, Aescbc, Aesgcm, Kms}
-use Rattle.kr_config.specs.Kept.{Row, apart, keeps, keeps_patterns, keeps_providers, keeps_row, patterns_in, keys_in, kms_in}
-use Rattle.kr_config.specs.Meanings.{begins_json, json_rows, Means, MeansBy, TextMeans}
-use Rattle.kr_config.specs.Patterns.{clash, group_of, is_group, is_pattern, overlap, same}
+use Rattle.kr_config.specs.Kept.{ConfigEntry, apart, keeps, keeps_patterns, keeps_providers, keeps_row, patterns_in, count_entry_keys, kms_in}
+use Rattle.kr_config.specs.Meanings.{begins_json, json_rows, MeansConfig, MeansBy, TextMeans}
+use Rattle.kr_config.specs.Patterns.{clash, resource_group, is_group, is_pattern, overlap, same}
 use Rattle.kr_config.specs.Providers.{is_key, is_kms, is_provider, is_secret, rivals}
-use Rattle.kr_config.specs.Walk.{breach, over_limit, place_at, start, counts_in, counts_of, and_then, walk, walk_each, list_of_items, named_list, pattern_of, star_pattern, place_pattern, pattern_step, place_provider, place_key, place_plugin, identity_step, of_cipher, name_at, secret_at, key_step, keys_step, version_at, endpoint_at, plugin_step, kind_step, element_step, entry_of, entry_step, config_in}
+use Rattle.kr_config.specs.Walk.{breach, over_limit, place_at, start, counts_in, counts_of, then_unless_breach, walk, walk_each, list_of_items, named_list, spelled_pattern, star_pattern, place_pattern, pattern_step, place_provider, place_key, place_plugin, identity_step, of_cipher, name_at, secret_at, key_step, keys_step, version_at, endpoint_at, plugin_step, kind_step, element_step, config_entry, entry_step, config_in}
 use Rattle.kr_config.proofs.Inversions.{left, right}
 use Rattle.kr_config.proofs.ListParts.{here}
 use Rattle.kr_config.specs.Texts.{pattern_text, pattern_data, key_data, keys_data, plugin_data, element_data, entry_data, settings_data, settings_text}
@@ -49,7 +49,7 @@ items_back : (ds : List Data) → list_of_items (items_of ds) ≡ ds
 items_back [] = refl
 items_back (d ∷ ds) = ap (λ l. d ∷ l) (items_back ds)
 
-named : (key : List ℕ) (place : Place) (d : Data) (ds : List Data)
+named : (key : List ℕ) (place : ConfigPlace) (d : Data) (ds : List Data)
     → get key d ≡ Some (array (items_of ds)) → (length ds ≡ 0 → ⊥)
     → named_list key place d ≡ Ok ds
 unfolding named_list
@@ -89,12 +89,12 @@ and_false : (v : Bool) → (v && false) ≡ false
 and_false true = refl
 and_false false = refl
 
-exact_back : (text : List ℕ) → is_resource text ≡ true → pattern_of text ≡ Some (Exact text)
-unfolding pattern_of
+exact_back : (text : List ℕ) → is_resource text ≡ true → spelled_pattern text ≡ Some (Exact text)
+unfolding spelled_pattern
 exact_back text h =
-    ap (λ v. if list_any is_dot text && v then star_pattern (group_of text)
+    ap (λ v. if list_any is_dot text && v then star_pattern (resource_group text)
     else if is_resource text then Some (Exact text) else None) (not_star text h)
-    ∙ ap (λ v. if v then star_pattern (group_of text)
+    ∙ ap (λ v. if v then star_pattern (resource_group text)
     else if is_resource text then Some (Exact text) else None) (and_false (list_any is_dot text))
     ∙ ap (λ v. if v then Some (Exact text) else None) h
 
@@ -107,20 +107,20 @@ not_every group h = by (bytes_eq group (codes "*")) refl
     by false e = e
 
 group_back : (group : List ℕ) → is_group group ≡ true
-    → pattern_of (codes "*." ++ group) ≡ Some (Group group)
-unfolding pattern_of star_pattern
+    → spelled_pattern (codes "*." ++ group) ≡ Some (Group group)
+unfolding spelled_pattern star_pattern
 group_back group h =
     ap (λ v. if v then Some Every else if is_group group then Some (Group group) else None)
     (not_every group h)
     ∙ ap (λ v. if v then Some (Group group) else None) h
 
-pattern_back : (q : Pattern) → is_pattern q ≡ true → pattern_of (pattern_text q) ≡ Some q
-unfolding pattern_of star_pattern
+pattern_back : (q : Pattern) → is_pattern q ≡ true → spelled_pattern (pattern_text q) ≡ Some q
+unfolding spelled_pattern star_pattern
 pattern_back (Exact text) h = exact_back text h
 pattern_back (Group group) h = group_back group h
 pattern_back Every h = refl
 
-placed : (counted : ℕ) (place : Place) (front : List Pattern) (q : Pattern)
+placed : (counted : ℕ) (place : ConfigPlace) (front : List Pattern) (q : Pattern)
     → list_any (λ x. clash x q) front ≡ false → counted + length front < 256
     → place_pattern counted place front q ≡ Ok (front ++ q ∷ [])
 unfolding place_pattern
@@ -162,39 +162,39 @@ patterns_back counted entry ps h few =
 
 -- ---- providers
 
-provider_placed : (place : Place) (front : List Who) (who : Who)
+provider_placed : (place : ConfigPlace) (front : List Who) (who : Who)
     → list_any (λ x. rivals x who) front ≡ false
     → place_provider place front who ≡ Ok (front ++ who ∷ [])
 unfolding place_provider
 provider_placed place front who none =
     ap (λ b. if b then breach rule.SameProvider place else Ok (front ++ who ∷ [])) none
 
-key_placed : (counted : ℕ) (place : Place) (front : List Who) (who : Who)
+key_placed : (counted : ℕ) (place : ConfigPlace) (front : List Who) (who : Who)
     → list_any (λ x. rivals x who) front ≡ false → counted + count_by is_key front < 64
     → place_key counted place front who ≡ Ok (front ++ who ∷ [])
 unfolding place_key
 key_placed counted place front who none room =
-    ap (λ r. and_then r (λ new. if nat_lt (counted + count_by is_key front) 64 then Ok new
+    ap (λ r. then_unless_breach r (λ new. if nat_lt (counted + count_by is_key front) 64 then Ok new
     else over_limit Keys)) (provider_placed place front who none)
     ∙ ap (λ b. if b then Ok (front ++ who ∷ []) else over_limit Keys)
     (lt-ltb (counted + count_by is_key front) 64 room)
 
-plugin_placed : (counted : ℕ) (place : Place) (front : List Who) (who : Who)
+plugin_placed : (counted : ℕ) (place : ConfigPlace) (front : List Who) (who : Who)
     → list_any (λ x. rivals x who) front ≡ false → counted + count_by is_kms front < 16
     → place_plugin counted place front who ≡ Ok (front ++ who ∷ [])
 unfolding place_plugin
 plugin_placed counted place front who none room =
-    ap (λ r. and_then r (λ new. if nat_lt (counted + count_by is_kms front) 16 then Ok new
+    ap (λ r. then_unless_breach r (λ new. if nat_lt (counted + count_by is_kms front) 16 then Ok new
     else over_limit Plugins)) (provider_placed place front who none)
     ∙ ap (λ b. if b then Ok (front ++ who ∷ []) else over_limit Plugins)
     (lt-ltb (counted + count_by is_kms front) 16 room)
 
-name_back : (place : Place) (name secret : List ℕ) → is_name name ≡ true
+name_back : (place : ConfigPlace) (name secret : List ℕ) → is_name name ≡ true
     → name_at place (key_data name secret) ≡ Ok name
 unfolding name_at
 name_back place name secret h = ap (λ b. if b then Ok name else breach rule.Name place) h
 
-plugin_name_back : (place : Place) (name : List ℕ) → is_name name ≡ true
+plugin_name_back : (place : ConfigPlace) (name : List ℕ) → is_name name ≡ true
     → name_at place (plugin_data name) ≡ Ok name
 unfolding name_at
 plugin_name_back place name h = ap (λ b. if b then Ok name else breach rule.Name place) h
@@ -207,7 +207,7 @@ as_bytes bytes h i = by (nat_lt i (length bytes)) refl
     by false f = subst (λ v. v < 256) (sym (get_or_past bytes i 0 (grind (arith, nat_tests))))
         (omega arith)
 
-secret_back : (place : Place) (name secret : List ℕ) → is_secret secret ≡ true
+secret_back : (place : ConfigPlace) (name secret : List ℕ) → is_secret secret ≡ true
     → All (λ byte. byte < 256) secret → secret_at place (key_data name secret) ≡ Ok secret
 unfolding secret_at
 secret_back place name secret h bytes =
@@ -216,7 +216,7 @@ secret_back place name secret h bytes =
     (decode_of-encode_of standard secret refl (as_bytes secret bytes))
     ∙ ap (λ b. if b then Ok secret else breach rule.SecretLength place) h
 
-key_back : (c : Cipher) (counted : ℕ) (place : Place) (front : List Who) (name secret : List ℕ)
+key_back : (c : Cipher) (counted : ℕ) (place : ConfigPlace) (front : List Who) (name secret : List ℕ)
     → is_name name ≡ true → is_secret secret ≡ true → All (λ byte. byte < 256) secret
     → list_any (λ x. rivals x (of_cipher c name secret)) front ≡ false
     → counted + count_by is_key front < 64
@@ -224,13 +224,13 @@ key_back : (c : Cipher) (counted : ℕ) (place : Place) (front : List Who) (name
     ≡ Ok (front ++ of_cipher c name secret ∷ [])
 unfolding key_step
 key_back c counted place front name secret n s bytes none room =
-    ap (λ r. and_then r (λ own. and_then (secret_at place (key_data name secret))
+    ap (λ r. then_unless_breach r (λ own. then_unless_breach (secret_at place (key_data name secret))
     (λ key. place_key counted place front (of_cipher c own key)))) (name_back place name secret n)
-    ∙ ap (λ r. and_then r (λ key. place_key counted place front (of_cipher c name key)))
+    ∙ ap (λ r. then_unless_breach r (λ key. place_key counted place front (of_cipher c name key)))
     (secret_back place name secret s bytes)
     ∙ key_placed counted place front (of_cipher c name secret) none room
 
-keys_back : (c : Cipher) (counted : ℕ) (place : Place) (front : List Who) (name secret : List ℕ)
+keys_back : (c : Cipher) (counted : ℕ) (place : ConfigPlace) (front : List Who) (name secret : List ℕ)
     → is_name name ≡ true → is_secret secret ≡ true → All (λ byte. byte < 256) secret
     → list_any (λ x. rivals x (of_cipher c name secret)) front ≡ false
     → counted + count_by is_key front < 64
@@ -238,23 +238,23 @@ keys_back : (c : Cipher) (counted : ℕ) (place : Place) (front : List Who) (nam
     ≡ Ok (front ++ of_cipher c name secret ∷ [])
 unfolding keys_step
 keys_back c counted place front name secret n s bytes none room =
-    ap (λ r. and_then r (λ keys. walk_each (key_step c counted place) front keys))
+    ap (λ r. then_unless_breach r (λ keys. walk_each (key_step c counted place) front keys))
     (named (codes "keys") place (keys_data name secret) (key_data name secret ∷ []) refl
     (λ e. omega (arith, e)))
-    ∙ ap (λ r. and_then r (λ done. Ok done))
+    ∙ ap (λ r. then_unless_breach r (λ done. Ok done))
     (key_back c counted place front name secret n s bytes none room)
 
-plugin_back : (counted : ℕ) (place : Place) (front : List Who) (name : List ℕ)
+plugin_back : (counted : ℕ) (place : ConfigPlace) (front : List Who) (name : List ℕ)
     → is_name name ≡ true → list_any (λ x. rivals x (Kms name)) front ≡ false
     → counted + count_by is_kms front < 16
     → plugin_step counted place front (plugin_data name) ≡ Ok (front ++ Kms name ∷ [])
 unfolding plugin_step version_at endpoint_at
 plugin_back counted place front name n none room =
-    ap (λ r. and_then r (λ own. and_then (endpoint_at place (plugin_data name))
+    ap (λ r. then_unless_breach r (λ own. then_unless_breach (endpoint_at place (plugin_data name))
     (λ fine. place_plugin counted place front (Kms own)))) (plugin_name_back place name n)
     ∙ plugin_placed counted place front (Kms name) none room
 
-identity_back : (place : Place) (front : List Who) → list_any (λ x. rivals x Identity) front ≡ false
+identity_back : (place : ConfigPlace) (front : List Who) → list_any (λ x. rivals x Identity) front ≡ false
     → identity_step place front (object no_members) ≡ Ok (front ++ Identity ∷ [])
 unfolding identity_step
 identity_back place front none = provider_placed place front Identity none
@@ -321,11 +321,11 @@ some_of : {T : Type 0} (write : T → Data) (xs : List T) → nat_le 1 (length x
 some_of write xs h e =
     let long = length-map xs write in omega (arith, leb-true 1 (length xs) h, long, e)
 
-entry_back : (p k m e : ℕ) (row : Row) → keeps_row row ≡ true → All IsOfBytes row.providers
+entry_back : (p k m e : ℕ) (row : ConfigEntry) → keeps_row row ≡ true → All IsOfBytes row.providers
     → p + length row.patterns ≤ 256 → k + count_by is_key row.providers ≤ 64
     → m + count_by is_kms row.providers ≤ 16
-    → entry_of (counts_of p k m) e (entry_data row) ≡ Ok row
-unfolding entry_of
+    → config_entry (counts_of p k m) e (entry_data row) ≡ Ok row
+unfolding config_entry
 entry_back p k m e row h bytes patterns keys plugins =
     let d : Data = entry_data row in
     let ps : List Pattern = row.patterns in
@@ -336,37 +336,37 @@ entry_back p k m e row h bytes patterns keys plugins =
     (left (nat_le 1 (length ps) && list_all is_pattern ps) (apart clash ps) kept_ps) in
     let some_ws = left (nat_le 1 (length ws)) (list_all is_provider ws)
     (left (nat_le 1 (length ws) && list_all is_provider ws) (apart rivals ws) kept_ws) in
-    ap (λ r. and_then r (λ texts. and_then (walk (pattern_step p e) 0 [] texts) (λ own.
-    and_then (named_list (codes "providers") (place_at e 0) d) (λ elements.
-    and_then (walk (element_step (counts_of p k m) e) 0 [] elements) (λ found.
+    ap (λ r. then_unless_breach r (λ texts. then_unless_breach (walk (pattern_step p e) 0 [] texts) (λ own.
+    then_unless_breach (named_list (codes "providers") (place_at e 0) d) (λ elements.
+    then_unless_breach (walk (element_step (counts_of p k m) e) 0 [] elements) (λ found.
     Ok (record { patterns = own; providers = found }))))))
     (named (codes "resources") (place_at e 0) d (map pattern_data ps) refl
     (some_of pattern_data ps some_ps))
-    ∙ ap (λ r. and_then r (λ own.
-    and_then (named_list (codes "providers") (place_at e 0) d) (λ elements.
-    and_then (walk (element_step (counts_of p k m) e) 0 [] elements) (λ found.
+    ∙ ap (λ r. then_unless_breach r (λ own.
+    then_unless_breach (named_list (codes "providers") (place_at e 0) d) (λ elements.
+    then_unless_breach (walk (element_step (counts_of p k m) e) 0 [] elements) (λ found.
     Ok (record { patterns = own; providers = found }))))) (patterns_back p e ps kept_ps patterns)
-    ∙ ap (λ r. and_then r (λ elements.
-    and_then (walk (element_step (counts_of p k m) e) 0 [] elements) (λ found.
+    ∙ ap (λ r. then_unless_breach r (λ elements.
+    then_unless_breach (walk (element_step (counts_of p k m) e) 0 [] elements) (λ found.
     Ok (record { patterns = ps; providers = found }))))
     (named (codes "providers") (place_at e 0) d (map element_data ws) refl
     (some_of element_data ws some_ws))
-    ∙ ap (λ r. and_then r (λ found. Ok (record { patterns = ps; providers = found })))
+    ∙ ap (λ r. then_unless_breach r (λ found. Ok (record { patterns = ps; providers = found })))
     (providers_back p k m e ws kept_ws bytes keys plugins)
 
-entry_goes : (e : ℕ) (front : List Row) (row : Row) → keeps_row row ≡ true
+entry_goes : (e : ℕ) (front : List ConfigEntry) (row : ConfigEntry) → keeps_row row ≡ true
     → All IsOfBytes row.providers → patterns_in front + length row.patterns ≤ 256
-    → keys_in front + count_by is_key row.providers ≤ 64
+    → count_entry_keys front + count_by is_key row.providers ≤ 64
     → kms_in front + count_by is_kms row.providers ≤ 16
     → entry_step e front (entry_data row) ≡ Ok (front ++ row ∷ [])
 unfolding entry_step
 entry_goes e front row h bytes patterns keys plugins =
-    ap (λ r. and_then r (λ own. Ok (front ++ own ∷ [])))
-    (entry_back (patterns_in front) (keys_in front) (kms_in front) e row h bytes patterns keys
+    ap (λ r. then_unless_breach r (λ own. Ok (front ++ own ∷ [])))
+    (entry_back (patterns_in front) (count_entry_keys front) (kms_in front) e row h bytes patterns keys
     plugins)
 
 -- the sums over all entries
-sum_within : (amount : Row → ℕ) (limit : ℕ) (all front : List Row) (row : Row) (behind : List Row)
+sum_within : (amount : ConfigEntry → ℕ) (limit : ℕ) (all front : List ConfigEntry) (row : ConfigEntry) (behind : List ConfigEntry)
     → front ++ row ∷ behind ≡ all → sum_by amount all ≤ limit
     → sum_by amount front + amount row ≤ limit
 sum_within amount limit all front row behind e few =
@@ -375,7 +375,7 @@ sum_within amount limit all front row behind e few =
     let a = sum_by-append amount front (row ∷ behind) in
     let b = sum_by-cons amount row behind in omega (arith, same_all, a, b, few)
 
-rows_back : (rows : List Row) → keeps rows ≡ true → AreOfBytes rows
+rows_back : (rows : List ConfigEntry) → keeps rows ≡ true → AreOfBytes rows
     → walk entry_step 0 [] (map entry_data rows) ≡ Ok rows
 rows_back rows h bytes =
     let kept = kept_of rows h in
@@ -388,18 +388,18 @@ rows_back rows h bytes =
     (sum_within (λ r. length r.patterns) 256 rows front row behind e
     (leb-true (patterns_in rows) 256 kept.patterns))
     (sum_within (λ r. count_by is_key r.providers) 64 rows front row behind e
-    (leb-true (keys_in rows) 64 kept.keys))
+    (leb-true (count_entry_keys rows) 64 kept.keys))
     (sum_within (λ r. count_by is_kms r.providers) 16 rows front row behind e
     (leb-true (kms_in rows) 16 kept.plugins))) refl
 
-config_back : (rows : List Row) → keeps rows ≡ true → AreOfBytes rows
+config_back : (rows : List ConfigEntry) → keeps rows ≡ true → AreOfBytes rows
     → config_in (settings_data rows) ≡ Ok rows
 unfolding config_in
 config_back rows h bytes =
     let kept = kept_of rows h in
     let entries : List Data = map entry_data rows in
     let long : length entries ≡ length rows = length-map rows entry_data in
-    ap (λ r. and_then r (λ own. if nat_le (length own) 64 then walk entry_step 0 [] own
+    ap (λ r. then_unless_breach r (λ own. if nat_le (length own) 64 then walk entry_step 0 [] own
     else over_limit Entries))
     (named (codes "resources") start (settings_data rows) entries refl
     (some_of entry_data rows kept.some))
@@ -409,9 +409,9 @@ config_back rows h bytes =
 
 -- ---- the text
 
-pub means_back : (text : List ℕ) (rows : List Row) → keeps rows ≡ true → AreOfBytes rows
+pub means_back : (text : List ℕ) (rows : List ConfigEntry) → keeps rows ≡ true → AreOfBytes rows
     → IsUtf8 text → text ≡ settings_text rows → read text ≡ Some (settings_data rows)
-    → Means text (Ok rows)
+    → MeansConfig text (Ok rows)
 unfolding json_rows
 means_back text rows h bytes utf8 is is_read =
     let begins : begins_json text ≡ true = ap begins_json is in
@@ -433,14 +433,14 @@ element_deep (Aescbc name secret) = omega arith
 element_deep (Aesgcm name secret) = omega arith
 element_deep (Kms name) = omega arith
 
-entry_deep : (row : Row) → depth (entry_data row) ≤ 6
+entry_deep : (row : ConfigEntry) → depth (entry_data row) ≤ 6
 entry_deep row = omega (
   arith,
   items_deep element_data 4 row.providers element_deep,
   items_deep pattern_data 0 row.patterns (λ q. omega arith),
 )
 
-pub settings_deep : (rows : List Row) → depth (settings_data rows) ≤ max_depth
+pub settings_deep : (rows : List ConfigEntry) → depth (settings_data rows) ≤ max_depth
 settings_deep rows = omega (arith, items_deep entry_data 6 rows entry_deep)
 
 items_whole : {T : Type 0} (write : T → Data) (xs : List T)
@@ -455,26 +455,26 @@ element_whole (Aescbc name secret) = refl
 element_whole (Aesgcm name secret) = refl
 element_whole (Kms name) = refl
 
-entry_whole : (row : Row) → has_float (entry_data row) ≡ false
+entry_whole : (row : ConfigEntry) → has_float (entry_data row) ≡ false
 entry_whole row =
     ap (λ v. v || (items_have_float (items_of (map pattern_data row.patterns)) || false))
     (items_whole element_data row.providers element_whole)
     ∙ ap (λ v. v || false) (items_whole pattern_data row.patterns (λ q. refl))
 
-pub settings_whole : (rows : List Row) → has_float (settings_data rows) ≡ false
+pub settings_whole : (rows : List ConfigEntry) → has_float (settings_data rows) ≡ false
 settings_whole rows = ap (λ v. v || false) (items_whole entry_data rows entry_whole)
 
 -- ---- what a writer of such data gives
 
-pub text_is : (rows : List Row) (d : Data) (text : List ℕ) → d ≡ settings_data rows
+pub text_is : (rows : List ConfigEntry) (d : Data) (text : List ℕ) → d ≡ settings_data rows
     → (has_float d ≡ false → text ≡ compact_text d) → text ≡ settings_text rows
 text_is rows d text is written =
     written (ap has_float is ∙ settings_whole rows) ∙ ap compact_text is
 
-pub text_means : (rows : List Row) (d : Data) (text : List ℕ) → keeps rows ≡ true
+pub text_means : (rows : List ConfigEntry) (d : Data) (text : List ℕ) → keeps rows ≡ true
     → AreOfBytes rows → d ≡ settings_data rows → IsUtf8 text
     → (has_float d ≡ false → text ≡ compact_text d)
-    → (depth d ≤ max_depth → read text ≡ Some d) → Means text (Ok rows)
+    → (depth d ≤ max_depth → read text ≡ Some d) → MeansConfig text (Ok rows)
 text_means rows d text h bytes is utf8 written reads =
     means_back text rows h bytes utf8 (text_is rows d text is written)
     (reads (subst (λ x. depth x ≤ max_depth) (sym is) (settings_deep rows))

@@ -7,14 +7,14 @@ use Rattle.std.proofs.lemmas.List.Folds.{fold-map}
 use Rattle.std.proofs.lemmas.List.Sums.{sum_by_more, sum_by_more_le}
 use Rattle.kr_config.specs.declared.settings.Entry.{Entry}
 use Rattle.kr_config.specs.declared.who.Who.{Who}
-use Rattle.kr_config.specs.Kept.{Row, row_of, rows_of}
+use Rattle.kr_config.specs.Kept.{ConfigEntry, entry_lists, rows_of}
 
-abbrev amount : (Who → Bool) → Row → ℕ
+abbrev amount : (Who → Bool) → ConfigEntry → ℕ
 amount test row = count_by test row.providers
 
 by_entries : (test : Who → Bool) (entries : List Entry)
-    → sum_by (amount test) (rows_of entries) ≡ sum_by (λ e. amount test (row_of e)) entries
-by_entries test entries = fold-map (λ s row. s + amount test row) row_of 0 entries
+    → sum_by (amount test) (rows_of entries) ≡ sum_by (λ e. amount test (entry_lists e)) entries
+by_entries test entries = fold-map (λ s row. s + amount test row) entry_lists 0 entries
 
 pub sum_more : (test : Who → Bool) (entries : List Entry) (i : ℕ) (entry : Entry) (sum n : ℕ)
     → sum ≡ sum_by (amount test) (rows_of (take i entries)) → i < length entries
@@ -23,9 +23,9 @@ pub sum_more : (test : Who → Bool) (entries : List Entry) (i : ℕ) (entry : E
 sum_more test entries i entry sum n was h is counted =
     let a = by_entries test (take i entries) in
     let b = by_entries test (take (i + 1) entries) in
-    let s = sum_by_more (λ (e : Entry). amount test (row_of e)) entries i entry h in
-    let own : amount test (row_of entry) ≡ amount test (row_of (get_or entries i entry)) =
-    ap (λ (e : Entry). amount test (row_of e)) is in
+    let s = sum_by_more (λ (e : Entry). amount test (entry_lists e)) entries i entry h in
+    let own : amount test (entry_lists entry) ≡ amount test (entry_lists (get_or entries i entry)) =
+    ap (λ (e : Entry). amount test (entry_lists e)) is in
     omega (arith, was, a, b, s, own, counted)
 
 pub sum_fits : (test : Who → Bool) (entries : List Entry) (i : ℕ) (entry : Entry) (sum n most : ℕ)
@@ -35,9 +35,9 @@ pub sum_fits : (test : Who → Bool) (entries : List Entry) (i : ℕ) (entry : E
 sum_fits test entries i entry sum n most was h is counted small =
     let a = by_entries test (take i entries) in
     let b = by_entries test entries in
-    let s = sum_by_more_le (λ (e : Entry). amount test (row_of e)) entries i entry h in
-    let own : amount test (row_of entry) ≡ amount test (row_of (get_or entries i entry)) =
-    ap (λ (e : Entry). amount test (row_of e)) is in
+    let s = sum_by_more_le (λ (e : Entry). amount test (entry_lists e)) entries i entry h in
+    let own : amount test (entry_lists entry) ≡ amount test (entry_lists (get_or entries i entry)) =
+    ap (λ (e : Entry). amount test (entry_lists e)) is in
     omega (arith, was, a, b, s, own, counted, small)
 
 pub sum_in_word : (test : Who → Bool) (entries : List Entry) (i : ℕ) (entry : Entry) (sum n : ℕ)

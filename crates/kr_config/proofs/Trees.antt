@@ -11,9 +11,9 @@ use Rattle.std.proofs.lemmas.List.{drop_all}
 use Rattle.serde_json.specs.Find.{get, as_array}
 use Rattle.kr_config.specs.declared.refusal.Rule.TheVariants as rule
 use Rattle.kr_config.specs.declared.refusal.ConfigNo.{ConfigNo}
-use Rattle.kr_config.specs.declared.place.Place.{Place}
+use Rattle.kr_config.specs.declared.place.ConfigPlace.{ConfigPlace}
 use Rattle.kr_base.specs.Numbering.{next_place}
-use Rattle.kr_config.specs.Walk.{list_of_items, named_list, breach, and_then, walk, walk_each}
+use Rattle.kr_config.specs.Walk.{list_of_items, named_list, breach, then_unless_breach, walk, walk_each}
 
 items_back : (ds : List Data) → list_of_items (items_of ds) ≡ ds
 items_back [] = refl
@@ -27,7 +27,7 @@ not_empty : (values : List Value) → (length values ≡ 0 → ⊥)
 not_empty [] h = absurd (h refl)
 not_empty (v ∷ values) h = grind arith
 
-pub named_ok : (key : List ℕ) (place : Place) (d : Data) (values : List Value)
+pub named_ok : (key : List ℕ) (place : ConfigPlace) (d : Data) (values : List Value)
     → option_and_then as_array (get key d) ≡ Some (items_view values) → (length values ≡ 0 → ⊥)
     → named_list key place d ≡ Ok (map view values)
 unfolding named_list
@@ -53,7 +53,7 @@ pub walk_more : {S : Type 0} (step : ℕ → S → Data → Result S ConfigNo) (
     ≡ walk step (next_place i) t (map view (drop (k + 1) values))
 walk_more step i s t values k v h is ok =
     front (walk step i s) values k v h is
-    ∙ ap (λ r. and_then r (λ u. walk step (next_place i) u (map view (drop (k + 1) values)))) ok
+    ∙ ap (λ r. then_unless_breach r (λ u. walk step (next_place i) u (map view (drop (k + 1) values)))) ok
 
 pub walk_stops : {S : Type 0} (step : ℕ → S → Data → Result S ConfigNo) (i : ℕ) (s : S)
     (why : ConfigNo) (values : List Value) (k : ℕ) (v : Value) → k < length values
@@ -61,7 +61,7 @@ pub walk_stops : {S : Type 0} (step : ℕ → S → Data → Result S ConfigNo) 
     → step i s (view v) ≡ Err why → walk step i s (map view (drop k values)) ≡ Err why
 walk_stops step i s why values k v h is err =
     front (walk step i s) values k v h is
-    ∙ ap (λ r. and_then r (λ u. walk step (next_place i) u (map view (drop (k + 1) values)))) err
+    ∙ ap (λ r. then_unless_breach r (λ u. walk step (next_place i) u (map view (drop (k + 1) values)))) err
 
 pub walk_ends : {S : Type 0} (step : ℕ → S → Data → Result S ConfigNo) (i : ℕ) (s : S)
     (values : List Value) (k : ℕ) → length values ≤ k
@@ -74,14 +74,14 @@ pub each_more : {S : Type 0} (step : S → Data → Result S ConfigNo) (s t : S)
     ≡ walk_each step t (map view (drop (k + 1) values))
 each_more step s t values k v h is ok =
     front (walk_each step s) values k v h is
-    ∙ ap (λ r. and_then r (λ u. walk_each step u (map view (drop (k + 1) values)))) ok
+    ∙ ap (λ r. then_unless_breach r (λ u. walk_each step u (map view (drop (k + 1) values)))) ok
 
 pub each_stops : {S : Type 0} (step : S → Data → Result S ConfigNo) (s : S) (why : ConfigNo)
     (values : List Value) (k : ℕ) (v : Value) → k < length values → v ≡ get_or values k v
     → step s (view v) ≡ Err why → walk_each step s (map view (drop k values)) ≡ Err why
 each_stops step s why values k v h is err =
     front (walk_each step s) values k v h is
-    ∙ ap (λ r. and_then r (λ u. walk_each step u (map view (drop (k + 1) values)))) err
+    ∙ ap (λ r. then_unless_breach r (λ u. walk_each step u (map view (drop (k + 1) values)))) err
 
 pub each_ends : {S : Type 0} (step : S → Data → Result S ConfigNo) (s : S) (values : List Value)
     (k : ℕ) → length values ≤ k → walk_each step s (map view (drop k values)) ≡ Ok s

@@ -7,7 +7,7 @@ use Rattle.serde_json.specs.View.{view, items_of, items_view}
 use Rattle.serde_json.specs.declared.value.Value.{Value}
 use Rattle.kr_config.specs.declared.settings.Entry.{Entry}
 use Rattle.kr_config.specs.declared.who.Who.{Who}
-use Rattle.kr_config.specs.Kept.{Row, row_of, rows_of}
+use Rattle.kr_config.specs.Kept.{ConfigEntry, entry_lists, rows_of}
 use Rattle.kr_config.proofs.ListParts.{take_at_more}
 use Rattle.kr_config.specs.Texts.{entry_data}
 use Rattle.kr_config.specs.inner.Written.{IsOfBytes, AreOfBytes}
@@ -46,19 +46,19 @@ values_end write xs i values was h = was ∙ ap (λ l. items_of (map write l)) (
 
 rows_push : (entries : List Entry) (i : ℕ) (entry : Entry) → i < length entries
     → entry ≡ get_or entries i entry
-    → rows_of (take (i + 1) entries) ≡ rows_of (take i entries) ++ row_of entry ∷ []
+    → rows_of (take (i + 1) entries) ≡ rows_of (take i entries) ++ entry_lists entry ∷ []
 rows_push entries i entry h is =
     ap rows_of (take_at_more entries i entry h is)
-    ∙ map-append row_of (take i entries) (entry ∷ [])
+    ∙ map-append entry_lists (take i entries) (entry ∷ [])
 
 pub entries_more : (entries : List Entry) (i : ℕ) (entry : Entry) (values : List Value)
     (value : Value)
     → items_view values ≡ items_of (map entry_data (rows_of (take i entries)))
     → i < length entries → entry ≡ get_or entries i entry
-    → view value ≡ entry_data (row_of entry)
+    → view value ≡ entry_data (entry_lists entry)
     → items_view (values ++ value ∷ []) ≡ items_of (map entry_data (rows_of (take (i + 1) entries)))
 entries_more entries i entry values value was h is own =
-    more_by entry_data (rows_of (take i entries)) (rows_of (take (i + 1) entries)) (row_of entry)
+    more_by entry_data (rows_of (take i entries)) (rows_of (take (i + 1) entries)) (entry_lists entry)
     values value (rows_push entries i entry h is) was own
 
 pub entries_end : (entries : List Entry) (i : ℕ) (values : List Value)
@@ -75,10 +75,10 @@ pub secrets_more : (entries : List Entry) (i : ℕ) (entry : Entry)
     → AreOfBytes (rows_of (take (i + 1) entries))
 secrets_more entries i entry was h is own =
     subst AreOfBytes (sym (rows_push entries i entry h is))
-    (All-append (λ (row : Row). All IsOfBytes row.providers) (rows_of (take i entries))
-    (row_of entry ∷ []) was
-    (All-cons (λ (row : Row). All IsOfBytes row.providers) (row_of entry) [] own
-    (All-nil (λ (row : Row). All IsOfBytes row.providers))))
+    (All-append (λ (row : ConfigEntry). All IsOfBytes row.providers) (rows_of (take i entries))
+    (entry_lists entry ∷ []) was
+    (All-cons (λ (row : ConfigEntry). All IsOfBytes row.providers) (entry_lists entry) [] own
+    (All-nil (λ (row : ConfigEntry). All IsOfBytes row.providers))))
 
 pub secrets_end : (entries : List Entry) (i : ℕ) → AreOfBytes (rows_of (take i entries))
     → length entries ≤ i → AreOfBytes (rows_of entries)

@@ -11,8 +11,8 @@ use Rattle.kr_config.specs.declared.pattern.Pattern.{Pattern}
 use Rattle.kr_config.specs.declared.pattern.Pattern.TheVariants as pattern
 use Rattle.kr_config.specs.declared.class.Class.{Class}
 use Rattle.kr_config.specs.declared.class.Class.TheVariants.{Exact, Group, Rest}
-use Rattle.kr_config.specs.Patterns.{group_of}
-use Rattle.kr_config.specs.Kept.{Row}
+use Rattle.kr_config.specs.Patterns.{resource_group}
+use Rattle.kr_config.specs.Kept.{ConfigEntry}
 
 -- exact ones by their bytes, then groups by their bytes, then the rest
 abbrev pub class_cmp : Class → Class → Ordering
@@ -35,12 +35,12 @@ class_made pattern.All = []
 abbrev pub classes_made : List Pattern → List Class
 classes_made patterns = flat_map class_made patterns
 
-abbrev pub classes_in : List Row → List Class
+abbrev pub classes_in : List ConfigEntry → List Class
 classes_in rows = flat_map (λ row. classes_made row.patterns) rows
 
 -- the table of some settings that were added: in order, each once, the class of each pattern and
 -- the rest
-pub record IsTableOf (added : List (List Row)) (classes : List Class) : Type 0 where
+pub record IsTableOf (added : List (List ConfigEntry)) (classes : List Class) : Type 0 where
   pub ascends : IsStrictlySortedBy class_cmp classes
   pub members : (class : Class)
       → Contains classes class ↔ Contains (Rest ∷ flat_map classes_in added) class
@@ -64,4 +64,5 @@ is_rest Rest = true
 -- else the rest
 unfoldable pub class_in : List Class → List ℕ → Class
 class_in classes resource = if list_any (is_exact resource) classes then Exact resource
-    else if list_any (is_group (group_of resource)) classes then Group (group_of resource) else Rest
+    else if list_any (is_group (resource_group resource)) classes then Group
+    (resource_group resource) else Rest

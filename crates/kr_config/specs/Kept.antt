@@ -11,15 +11,15 @@ use Rattle.kr_config.specs.Patterns.{is_pattern, clash}
 use Rattle.kr_config.specs.Providers.{is_provider, is_key, is_kms, plugins_among, rivals}
 
 -- an entry as its two lists
-pub record Row : Type 0 where
+pub record ConfigEntry : Type 0 where
   pub patterns : List Pattern
   pub providers : List Who
 
-abbrev pub row_of : Entry → Row
-row_of entry = record { patterns = entry.patterns.0; providers = entry.providers.0 }
+abbrev pub entry_lists : Entry → ConfigEntry
+entry_lists entry = record { patterns = entry.patterns.0; providers = entry.providers.0 }
 
-abbrev pub rows_of : List Entry → List Row
-rows_of entries = map row_of entries
+abbrev pub rows_of : List Entry → List ConfigEntry
+rows_of entries = map entry_lists entries
 
 -- no two items of a list clash
 abbrev pub apart : {T : Type 0} → (T → T → Bool) → List T → Bool
@@ -34,26 +34,27 @@ abbrev pub keeps_providers : List Who → Bool
 keeps_providers providers = nat_le 1 (length providers) && list_all is_provider providers
     && apart rivals providers
 
-abbrev pub keeps_row : Row → Bool
+abbrev pub keeps_row : ConfigEntry → Bool
 keeps_row row = keeps_patterns row.patterns && keeps_providers row.providers
 
-abbrev pub patterns_in : List Row → ℕ
+abbrev pub patterns_in : List ConfigEntry → ℕ
 patterns_in rows = sum_by (λ row. length row.patterns) rows
 
-abbrev pub keys_in : List Row → ℕ
-keys_in rows = sum_by (λ row. count_by is_key row.providers) rows
+abbrev pub count_entry_keys : List ConfigEntry → ℕ
+count_entry_keys rows = sum_by (λ row. count_by is_key row.providers) rows
 
-abbrev pub kms_in : List Row → ℕ
+abbrev pub kms_in : List ConfigEntry → ℕ
 kms_in rows = sum_by (λ row. count_by is_kms row.providers) rows
 
 -- the names of the plugins
-abbrev pub plugins_in : List Row → List (List ℕ)
+abbrev pub plugins_in : List ConfigEntry → List (List ℕ)
 plugins_in rows = flat_map (λ row. plugins_among row.providers) rows
 
 -- 1 to 64 entries, each of which keeps the rules; in all at most 256 patterns, 64 keys and 16
 -- plugins
-unfoldable pub keeps : List Row → Bool
+unfoldable pub keeps : List ConfigEntry → Bool
 keeps rows = nat_le 1 (length rows) && nat_le (length rows) (limit_of Entries)
     && list_all keeps_row rows
-    && nat_le (patterns_in rows) (limit_of Patterns) && nat_le (keys_in rows) (limit_of Keys)
+    && nat_le (patterns_in rows) (limit_of Patterns)
+    && nat_le (count_entry_keys rows) (limit_of Keys)
     && nat_le (kms_in rows) (limit_of Plugins)

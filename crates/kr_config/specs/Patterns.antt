@@ -8,13 +8,13 @@ use Rattle.kr_config.specs.declared.pattern.Pattern.{Pattern}
 use Rattle.kr_config.specs.declared.pattern.Pattern.TheVariants.{Exact, Group, All}
 
 -- what stands behind the first dot; a name alone is of the core group, whose text is empty
-abbrev pub group_of : List ℕ → List ℕ
-group_of resource = after_first (λ byte. byte == 0x2E) resource
+abbrev pub resource_group : List ℕ → List ℕ
+resource_group resource = after_first (λ byte. byte == 0x2E) resource
 
 -- an exact pattern matches its own text, a group every resource of it, and `All` every resource
 abbrev pub matches : Pattern → List ℕ → Bool
 matches (Exact text) resource = bytes_eq text resource
-matches (Group group) resource = bytes_eq group (group_of resource)
+matches (Group group) resource = bytes_eq group (resource_group resource)
 matches All resource = true
 
 -- a pattern that matches all resources of a group, and one that matches all
@@ -53,9 +53,9 @@ same All All = true
 -- one of two matches all, or one is a group and the other an exact one of that group
 abbrev pub overlap : Pattern → Pattern → Bool
 overlap (Exact a) (Exact b) = false
-overlap (Exact a) (Group b) = bytes_eq (group_of a) b
+overlap (Exact a) (Group b) = bytes_eq (resource_group a) b
 overlap (Exact a) All = true
-overlap (Group a) (Exact b) = bytes_eq a (group_of b)
+overlap (Group a) (Exact b) = bytes_eq a (resource_group b)
 overlap (Group a) (Group b) = false
 overlap (Group a) All = true
 overlap All (Exact b) = true

@@ -10,7 +10,7 @@ use Rattle.kr_config.specs.declared.pattern.Pattern.{Pattern}
 use Rattle.kr_config.specs.declared.pattern.Pattern.TheVariants.{Exact, Group, All}
 use Rattle.kr_config.specs.declared.who.Who.{Who}
 use Rattle.kr_config.specs.declared.who.Who.TheVariants.{Identity, Aescbc, Aesgcm, Kms}
-use Rattle.kr_config.specs.Kept.{Row}
+use Rattle.kr_config.specs.Kept.{ConfigEntry}
 
 abbrev pub pattern_text : Pattern → List ℕ
 pattern_text (Exact text) = text
@@ -44,16 +44,16 @@ element_data (Aescbc name secret) = single (codes "aescbc") (keys_data name secr
 element_data (Aesgcm name secret) = single (codes "aesgcm") (keys_data name secret)
 element_data (Kms name) = single (codes "kms") (plugin_data name)
 
-abbrev pub entry_data : Row → Data
+abbrev pub entry_data : ConfigEntry → Data
 entry_data row = object
     (member (codes "providers") (array (items_of (map element_data row.providers)))
     (member (codes "resources") (array (items_of (map pattern_data row.patterns))) no_members))
 
-abbrev pub settings_data : List Row → Data
+abbrev pub settings_data : List ConfigEntry → Data
 settings_data rows = object
     (member (codes "apiVersion") (string (codes "apiserver.config.k8s.io/v1"))
     (member (codes "kind") (string (codes "EncryptionConfiguration"))
     (member (codes "resources") (array (items_of (map entry_data rows))) no_members)))
 
-abbrev pub settings_text : List Row → List ℕ
+abbrev pub settings_text : List ConfigEntry → List ℕ
 settings_text rows = compact_text (settings_data rows)

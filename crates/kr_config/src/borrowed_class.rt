@@ -38,7 +38,7 @@ pub fn compare(class: BorrowedClass<'_>, other: BorrowedClass<'_>) -> Ordering
 }
 
 /// Whether this class comes before the other.
-pub fn is_before(class: BorrowedClass<'_>, other: BorrowedClass<'_>) -> bool
+pub fn comes_earlier(class: BorrowedClass<'_>, other: BorrowedClass<'_>) -> bool
     ensures { result ≡ is_lt (class_cmp (lent_class class.entry) (lent_class other.entry)) }
 {
     compare(class, other).is_lt()
@@ -56,7 +56,7 @@ pub fn copy_class(alloc: Global, class: BorrowedClass<'_>) -> Result<Class, NoMe
 }
 
 /// The first of two: what comes next in one list of classes and what comes next in another.
-pub fn first_of<'a>(
+pub fn first_class<'a>(
     one: Option<BorrowedClass<'a>>,
     other: Option<BorrowedClass<'a>>,
 ) -> Option<BorrowedClass<'a>>
@@ -64,7 +64,7 @@ pub fn first_of<'a>(
         ≡ earlier class_cmp (option_map lent_class one.entry) (option_map lent_class other.entry) }
 {
     match (one, other) {
-        (Some(class), Some(rival)) => if is_before(rival, class) {
+        (Some(class), Some(rival)) => if comes_earlier(rival, class) {
             Some(rival)
         } else {
             Some(class)

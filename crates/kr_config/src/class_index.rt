@@ -3,17 +3,17 @@
 ghost use Rattle.std.specs.Prelude.{◌≡◌, IfOk, List, map, IfSome, IfNone};
 ghost use Rattle.std.specs.Option.{option_map};
 ghost use Rattle.kr_config.specs.declared.class.Class.TheVariants.{Group, Rest};
-ghost use Rattle.kr_config.specs.Kept.{Row, rows_of};
+ghost use Rattle.kr_config.specs.Kept.{ConfigEntry, rows_of};
 ghost use Rattle.kr_config.specs.Lists.{class_list};
 ghost use Rattle.kr_config.specs.Nexts.{lent_class, IsNextClass};
-ghost use Rattle.kr_config.specs.inner.ClassIndexes.{class_at, list_at, ArePlaces, IsIndexOf};
+ghost use Rattle.kr_config.specs.inner.ClassIndexes.{class_at, entry_list, ArePlaces, IsIndexOf};
 ghost use Rattle.kr_config.specs.inner.ClassIndexes.{IsSearchable, IsPlaceOf, StandsAt};
 ghost use Rattle.kr_config.specs.inner.ClassIndexes.{IsPlaceAfter, IsEntryOf, IsAbsent};
 
 use crate::borrowed_class::{BorrowedClass, compare};
 use crate::class::Class;
 use crate::class_table::{fresh_classes, put_in_order};
-use crate::pattern::group_of;
+use crate::pattern::resource_group;
 use crate::settings::Entry;
 use kr_base::NoMemory;
 use std::alloc::Global;
@@ -29,18 +29,18 @@ pub struct ClassPlace {
 }
 
 /// The index of entries.
-pub fn index_of(alloc: Global, entries: &[Entry]) -> Result<Vec<ClassPlace>, NoMemory>
+pub fn make_class_index(alloc: Global, entries: &[Entry]) -> Result<Vec<ClassPlace>, NoMemory>
     ensures { IfOk result (λ index. IsIndexOf (rows_of entries.now) index.items) }
 {
     let mut classes = fresh_classes(alloc, entries)?;
     put_in_order(&mut classes);
-    let index = places_of(alloc, classes.as_slice(), entries)?;
+    let index = class_places(alloc, classes.as_slice(), entries)?;
     Ok(index)
 }
 
 /// The classes with the places of their lists.
 #[tactic(auto, using(crate::proofs::ClassIndexes::places_begin, crate::proofs::ClassIndexes::places_more, crate::proofs::ClassIndexes::places_end))]
-fn places_of(
+fn class_places(
     alloc: Global,
     classes: &[Class],
     entries: &[Entry],
@@ -59,11 +59,11 @@ fn places_of(
 /// The place of the first entry that speaks of all of the class, or how many there are.
 #[tactic(auto, using(crate::proofs::ClassIndexes::first_begin, crate::proofs::FirstLists::first_more, crate::proofs::ClassIndexes::first_here, crate::proofs::ClassIndexes::first_nowhere))]
 fn first_entry(entries: &[Entry], class: BorrowedClass<'_>) -> usize
-    ensures { list_at (rows_of entries.now) result
+    ensures { entry_list (rows_of entries.now) result
         ≡ class_list (rows_of entries.now) (lent_class class.entry) }
 {
     for (i, entry) in entries.iter().enumerate() {
-        if entry.speaks_of(class) {
+        if entry.covers_class(class) {
             return i;
         }
     }
@@ -71,7 +71,7 @@ fn first_entry(entries: &[Entry], class: BorrowedClass<'_>) -> usize
 }
 
 /// The first class after this one, or the first of all; found at once where its number is this.
-pub fn next_in<'a>(
+pub fn next_listed_class<'a>(
     index: &'a [ClassPlace],
     after: Option<BorrowedClass<'_>>,
     number: usize,
@@ -80,7 +80,7 @@ pub fn next_in<'a>(
     ensures { IsNextClass (map class_at index.now) (option_map lent_class after.entry)
         (option_map lent_class result) }
 {
-    let place = place_after(index, after, number);
+    let place = next_class_place(index, after, number);
     if place == index.len() {
         return None;
     }
@@ -88,14 +88,14 @@ pub fn next_in<'a>(
 }
 
 /// How many classes don't come after this one.
-fn place_after(index: &[ClassPlace], after: Option<BorrowedClass<'_>>, number: usize) -> usize
+fn next_class_place(index: &[ClassPlace], after: Option<BorrowedClass<'_>>, number: usize) -> usize
     requires { IsSearchable index.now }
     ensures { IsPlaceAfter index.now (option_map lent_class after.entry) result }
 {
     let Some(after) = after else {
         return 0;
     };
-    match place_of(index, after, number.saturating_sub(1)) {
+    match find_class(index, after, number.saturating_sub(1)) {
         Ok(place) => place + 1,
         Err(place) => place,
     }
@@ -103,10 +103,10 @@ fn place_after(index: &[ClassPlace], after: Option<BorrowedClass<'_>>, number: u
 
 /// The place of the entry with the class's list: that of its own place, or else of its group's, or
 /// else of the rest's.
-pub fn entry_for(index: &[ClassPlace], class: BorrowedClass<'_>, number: usize) -> usize
+pub fn entry_place(index: &[ClassPlace], class: BorrowedClass<'_>, number: usize) -> usize
     requires { IsSearchable index.now }
-    ensures { (rows : List Row) → IsIndexOf rows index.now
-        → list_at rows result ≡ class_list rows (lent_class class.entry) }
+    ensures { (rows : List ConfigEntry) → IsIndexOf rows index.now
+        → entry_list rows result ≡ class_list rows (lent_class class.entry) }
 {
     match own_entry(index, class, number) {
         Some(entry) => entry,
@@ -118,11 +118,11 @@ pub fn entry_for(index: &[ClassPlace], class: BorrowedClass<'_>, number: usize) 
 fn wider_entry(index: &[ClassPlace], class: BorrowedClass<'_>) -> usize
     requires ordered { IsSearchable index.now }
     requires absent { IsAbsent index.now (lent_class class) }
-    ensures { (rows : List Row) → IsIndexOf rows index.now
-        → list_at rows result ≡ class_list rows (lent_class class.entry) }
+    ensures { (rows : List ConfigEntry) → IsIndexOf rows index.now
+        → entry_list rows result ≡ class_list rows (lent_class class.entry) }
 {
     match class {
-        BorrowedClass::Exact(text) => group_entry(index, group_of(text)),
+        BorrowedClass::Exact(text) => group_entry(index, resource_group(text)),
         BorrowedClass::Group(_) => rest_entry(index),
         BorrowedClass::Rest => rest_entry(index),
     }
@@ -131,8 +131,8 @@ fn wider_entry(index: &[ClassPlace], class: BorrowedClass<'_>) -> usize
 /// The same, of a group.
 fn group_entry(index: &[ClassPlace], group: &str) -> usize
     requires { IsSearchable index.now }
-    ensures { (rows : List Row) → IsIndexOf rows index.now
-        → list_at rows result ≡ class_list rows (Group group.now) }
+    ensures { (rows : List ConfigEntry) → IsIndexOf rows index.now
+        → entry_list rows result ≡ class_list rows (Group group.now) }
 {
     match own_entry(index, BorrowedClass::Group(group), 0) {
         Some(entry) => entry,
@@ -157,25 +157,25 @@ fn own_entry(index: &[ClassPlace], class: BorrowedClass<'_>, number: usize) -> O
     ensures some { IfSome result (IsEntryOf index.now (lent_class class.entry)) }
     ensures none { IfNone result (IsAbsent index.now (lent_class class.entry)) }
 {
-    match place_of(index, class, number) {
+    match find_class(index, class, number) {
         Ok(place) => Some(index[place].entry),
         Err(_) => None,
     }
 }
 
 /// Where the class stands, or else before which it belongs; found at once where its number is this.
-fn place_of(index: &[ClassPlace], class: BorrowedClass<'_>, number: usize) -> Result<usize, usize>
+fn find_class(index: &[ClassPlace], class: BorrowedClass<'_>, number: usize) -> Result<usize, usize>
     requires { IsSearchable index.now }
     ensures { IsPlaceOf index.now (lent_class class.entry) result }
 {
-    if stands_at(index, class, number) {
+    if place_holds_class(index, class, number) {
         return Ok(number);
     }
     place_by_halves(index, class)
 }
 
 /// Whether the class stands at the place.
-fn stands_at(index: &[ClassPlace], class: BorrowedClass<'_>, place: usize) -> bool
+fn place_holds_class(index: &[ClassPlace], class: BorrowedClass<'_>, place: usize) -> bool
     ensures { StandsAt index.now (lent_class class.entry) place result }
 {
     if place >= index.len() {

@@ -5,14 +5,14 @@ ghost use Rattle.std.specs.List.{slice_index_or, list_any, flat_map};
 ghost use Rattle.std.specs.List.Sorted.{IsStrictlySortedBy};
 ghost use Rattle.kr_config.specs.declared.class.Class.{Class};
 ghost use Rattle.kr_config.specs.declared.class.Class.TheVariants.{Exact, Group, Rest};
-ghost use Rattle.kr_config.specs.Kept.{Row, rows_of};
+ghost use Rattle.kr_config.specs.Kept.{ConfigEntry, rows_of};
 ghost use Rattle.kr_config.specs.Lists.{list_of, class_list};
 ghost use Rattle.kr_config.specs.Classes.{class_cmp, class_made, classes_made, classes_in};
 ghost use Rattle.kr_config.specs.Classes.{IsTableOf, class_in, is_exact, is_group, is_rest};
 ghost use Rattle.kr_config.specs.inner.Finds.{Finds};
 
 use crate::class::Class;
-use crate::pattern::{Pattern, group_of};
+use crate::pattern::{Pattern, resource_group};
 use crate::settings::{Entry, Settings};
 use kr_base::{NoMemory, Text};
 use std::alloc::Global;
@@ -61,7 +61,7 @@ impl ClassTable {
 
     /// Adds the classes of the settings.
     pub fn add(&mut self, settings: &Settings) -> Result<(), NoMemory>
-        ensures ok { OnOk result ((added : List (List Row)) → IsTableOf added self.old
+        ensures ok { OnOk result ((added : List (List ConfigEntry)) → IsTableOf added self.old
             → IsTableOf (added ++ rows_of settings.now.entries.0 ∷ []) self.new) }
         ensures err { OnErr result (self.new ≡ self.old) }
     {
@@ -88,11 +88,12 @@ impl ClassTable {
     /// else the rest's. In each of the settings that were added the list of the resource is the
     /// list of this class.
     #[tactic(auto, unfolding(crate::specs::Classes::class_in), using(crate::proofs::ClassTables::law_of_classes))]
-    pub fn class_of(&self, resource: &str) -> usize
+    pub fn class_place(&self, resource: &str) -> usize
         ensures within { result < length self.now }
         ensures class { (other : Class)
             → slice_index_or self.now result other ≡ class_in self.now resource.now }
-        ensures law { (added : List (List Row)) → IsTableOf added self.now → (rows : List Row)
+        ensures law { (added : List (List ConfigEntry)) → IsTableOf added self.now
+            → (rows : List ConfigEntry)
             → Contains added rows
             → list_of rows resource.now ≡ class_list rows (class_in self.now resource.now) }
     {
@@ -100,7 +101,7 @@ impl ClassTable {
         if let Some(at) = exact_place(classes, resource) {
             return at;
         }
-        if let Some(at) = group_place(classes, group_of(resource)) {
+        if let Some(at) = group_place(classes, resource_group(resource)) {
             return at;
         }
         match rest_place(classes) {

@@ -23,16 +23,16 @@ mod who;
 mod writing;
 mod yaml;
 
-pub use borrowed_class::{BorrowedClass, copy_class, first_of, is_before};
+pub use borrowed_class::{BorrowedClass, comes_earlier, copy_class, first_class};
 pub use class::Class;
 pub use class_index::ClassPlace;
 pub use class_table::ClassTable;
-pub use counts::{keys_in, plugins_in};
+pub use counts::{count_entry_keys, count_plugins};
 pub use laws::{
     class_entries_give_their_lists, classes_narrow, one_meaning, texts_are_read_as_meant,
 };
 pub use pattern::Pattern;
-pub use place::Place;
+pub use place::ConfigPlace;
 pub use reading::read;
 pub use refusal::{ConfigErr, ConfigNo, Counted, Rule, YamlRule};
 pub use settings::{Entry, Settings};

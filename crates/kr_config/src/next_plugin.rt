@@ -12,7 +12,7 @@ use kr_base::Text;
 use std::cmp::Ordering;
 
 /// Whether the name comes before the other by bytes.
-fn is_before(name: &str, other: &str) -> bool
+fn comes_earlier(name: &str, other: &str) -> bool
     ensures { result ≡ is_lt (name_cmp name.now other.now) }
 {
     match name.cmp(other) {
@@ -22,14 +22,14 @@ fn is_before(name: &str, other: &str) -> bool
 }
 
 /// The first of two: what comes next in one list of names and what comes next in another.
-fn first_of<'a>(one: Option<&'a Text>, other: Option<&'a Text>) -> Option<&'a Text>
+fn first_name<'a>(one: Option<&'a Text>, other: Option<&'a Text>) -> Option<&'a Text>
     ensures { option_map (λ name. name.now) result
         ≡ earlier name_cmp (option_map (λ name. name.now) one.entry)
         (option_map (λ name. name.now) other.entry) }
 {
     match (one, other) {
         (Some(name), Some(rival)) => {
-            if is_before(rival.as_str(), name.as_str()) {
+            if comes_earlier(rival.as_str(), name.as_str()) {
                 Some(rival)
             } else {
                 Some(name)
@@ -41,10 +41,10 @@ fn first_of<'a>(one: Option<&'a Text>, other: Option<&'a Text>) -> Option<&'a Te
 }
 
 /// The name, if it comes after this one.
-fn if_after<'a>(name: &'a Text, after: &str) -> Option<&'a Text>
+fn name_if_later<'a>(name: &'a Text, after: &str) -> Option<&'a Text>
     ensures { IsNextName (name.now ∷ []) after.now (option_map (λ name. name.now) result) }
 {
-    if is_before(after, name.as_str()) {
+    if comes_earlier(after, name.as_str()) {
         Some(name)
     } else {
         None
@@ -53,11 +53,11 @@ fn if_after<'a>(name: &'a Text, after: &str) -> Option<&'a Text>
 
 /// The provider's name, if it is a plugin and comes after this name.
 #[tactic(auto, using(crate::proofs::Nexts::no_name))]
-fn next_of<'a>(who: &'a Who, after: &str) -> Option<&'a Text>
+fn later_plugin<'a>(who: &'a Who, after: &str) -> Option<&'a Text>
     ensures { IsNextName (plugin_of who.now) after.now (option_map (λ name. name.now) result) }
 {
     match who {
-        Who::Kms(name) => if_after(name, after),
+        Who::Kms(name) => name_if_later(name, after),
         Who::Identity => None,
         Who::Aescbc(_, _) => None,
         Who::Aesgcm(_, _) => None,
@@ -66,26 +66,29 @@ fn next_of<'a>(who: &'a Who, after: &str) -> Option<&'a Text>
 
 /// The least name of a plugin after this one, of these providers.
 #[tactic(auto, using(crate::proofs::NextLoops::names_begin, crate::proofs::NextLoops::names_more, crate::proofs::NextLoops::names_end))]
-fn next_among<'a>(providers: &'a [Who], after: &str) -> Option<&'a Text>
+fn next_provider_plugin<'a>(providers: &'a [Who], after: &str) -> Option<&'a Text>
     ensures { IsNextName (plugins_among providers.now) after.now
         (option_map (λ name. name.now) result) }
 {
     let mut next = None;
     for who in providers {
-        next = first_of(next, next_of(who, after));
+        next = first_name(next, later_plugin(who, after));
     }
     next
 }
 
 /// The least name of a plugin after this one.
 #[tactic(auto, using(crate::proofs::NextLoops::entries_begin, crate::proofs::NextLoops::entries_more, crate::proofs::NextLoops::entries_end))]
-pub fn next_in<'a>(entries: &'a [Entry], after: &str) -> Option<&'a Text>
+pub fn next_plugin_name<'a>(entries: &'a [Entry], after: &str) -> Option<&'a Text>
     ensures { IsNextName (plugins_in (rows_of entries.now)) after.now
         (option_map (λ name. name.now) result) }
 {
     let mut next = None;
     for entry in entries {
-        next = first_of(next, next_among(entry.providers.as_slice(), after));
+        next = first_name(
+            next,
+            next_provider_plugin(entry.providers.as_slice(), after),
+        );
     }
     next
 }

@@ -1,9 +1,9 @@
 //! Patterns of resources.
 ghost use Rattle.std.specs.Prelude.{◌≡◌};
-ghost use Rattle.kr_config.specs.Patterns.{matches, covers_group, covers_rest, group_of, same};
+ghost use Rattle.kr_config.specs.Patterns.{matches, covers_group, covers_rest, resource_group, same};
 ghost use Rattle.kr_config.specs.Patterns.{overlap};
 ghost use Rattle.kr_config.specs.Nexts.{lent_class};
-ghost use Rattle.kr_config.specs.inner.ClassIndexes.{speaks_of};
+ghost use Rattle.kr_config.specs.inner.ClassIndexes.{covers_class};
 
 use crate::borrowed_class::BorrowedClass;
 use kr_base::Text;
@@ -26,7 +26,7 @@ impl Pattern {
     {
         match self {
             Pattern::Exact(text) => text.as_str() == resource,
-            Pattern::Group(group) => group.as_str() == group_of(resource),
+            Pattern::Group(group) => group.as_str() == resource_group(resource),
             Pattern::All => true,
         }
     }
@@ -43,8 +43,8 @@ impl Pattern {
     }
 
     /// Whether the pattern speaks of all of the class.
-    pub(crate) fn speaks_of(&self, class: BorrowedClass<'_>) -> bool
-        ensures { result ≡ speaks_of (lent_class class.entry) self.now }
+    pub(crate) fn covers_class(&self, class: BorrowedClass<'_>) -> bool
+        ensures { result ≡ covers_class (lent_class class.entry) self.now }
     {
         match class {
             BorrowedClass::Exact(text) => self.matches(text),
@@ -72,10 +72,10 @@ impl Pattern {
     {
         match (self, other) {
             (Pattern::All, _) | (_, Pattern::All) => true,
-            (Pattern::Exact(text), Pattern::Group(group)) => group_of(text.as_str())
+            (Pattern::Exact(text), Pattern::Group(group)) => resource_group(text.as_str())
                 == group.as_str(),
             (Pattern::Group(group), Pattern::Exact(text)) => group.as_str()
-                == group_of(text.as_str()),
+                == resource_group(text.as_str()),
             _ => false,
         }
     }
@@ -89,8 +89,8 @@ impl Pattern {
 }
 
 /// The group of a resource: what stands behind its first dot. The core group's text is empty.
-pub fn group_of(resource: &str) -> &str
-    ensures { result.now ≡ group_of resource.now }
+pub fn resource_group(resource: &str) -> &str
+    ensures { result.now ≡ resource_group resource.now }
 {
     match resource.split_once('.') {
         Some((_, group)) => group,

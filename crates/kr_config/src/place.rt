@@ -5,7 +5,7 @@ ghost use Rattle.kr_config.specs.Walk.{start};
 /// The numbers of an entry, and of the pattern or provider element in it, each from 0; 0 where a
 /// breach is of none.
 #[derive(Clone, Copy, Debug, PartialEq, Eq)]
-pub struct Place {
+pub struct ConfigPlace {
     /// The entry's number.
     pub entry: u32,
     /// The number in it.
@@ -24,8 +24,8 @@ pub struct Counts {
 }
 
 /// Before all entries.
-pub fn start() -> Place
+pub fn start() -> ConfigPlace
     ensures { result ≡ start }
 {
-    Place { entry: 0, item: 0 }
+    ConfigPlace { entry: 0, item: 0 }
 }

@@ -8,9 +8,9 @@ ghost use Rattle.kr_config.specs.Walk.{of_cipher, name_at, secret_at, key_step, 
 ghost use Rattle.kr_config.specs.Walk.{endpoint_at, plugin_step};
 ghost use Rattle.kr_config.specs.inner.Reads.{Reads, ReadsInto, Checks};
 
-use crate::place::Place;
+use crate::place::ConfigPlace;
 use crate::refusal::{ConfigErr, ConfigNo, Counted, Rule};
-use crate::tree::{has_text, is_mapping, text_at};
+use crate::tree::{has_text, is_mapping, text_under_key};
 use crate::who::Who;
 use base64::DecodeAllocError;
 use base64::engine::general_purpose::STANDARD;
@@ -29,11 +29,11 @@ pub enum Cipher {
 
 /// Puts a provider behind those that stand before it, where none of them has its prefix.
 #[tactic(auto, unfolding(crate::specs::Walk::place_provider))]
-fn place_provider(place: Place, before: &mut List<Who>, who: Who) -> Result<(), ConfigErr>
+fn place_provider(place: ConfigPlace, before: &mut List<Who>, who: Who) -> Result<(), ConfigErr>
     ensures { ReadsInto (place_provider place before.old.0 who) before.new.0 result }
 {
     if has_rival(before.as_slice(), &who) {
-        return Err(ConfigErr::No(Rule::SameProvider.at(place)));
+        return Err(ConfigErr::No(Rule::SameProvider.to_breach(place)));
     }
     match before.push(who) {
         Ok(()) => Ok(()),
@@ -52,7 +52,7 @@ fn has_rival(before: &[Who], who: &Who) -> bool
 #[tactic(auto, unfolding(crate::specs::Walk::place_key))]
 fn place_key(
     counted: usize,
-    place: Place,
+    place: ConfigPlace,
     before: &mut List<Who>,
     who: Who,
 ) -> Result<(), ConfigErr>
@@ -70,7 +70,7 @@ fn place_key(
 #[tactic(auto, unfolding(crate::specs::Walk::place_plugin))]
 fn place_plugin(
     counted: usize,
-    place: Place,
+    place: ConfigPlace,
     before: &mut List<Who>,
     who: Who,
 ) -> Result<(), ConfigErr>
@@ -86,11 +86,15 @@ fn place_plugin(
 
 /// Reads an identity element.
 #[tactic(auto, unfolding(crate::specs::Walk::identity_step))]
-pub fn read_identity(place: Place, before: &mut List<Who>, value: &Value) -> Result<(), ConfigErr>
+pub fn read_identity(
+    place: ConfigPlace,
+    before: &mut List<Who>,
+    value: &Value,
+) -> Result<(), ConfigErr>
     ensures { ReadsInto (identity_step place before.old.0 (view value.now)) before.new.0 result }
 {
     if !is_mapping(value) && !value.is_null() {
-        return Err(ConfigErr::No(Rule::Form.at(place)));
+        return Err(ConfigErr::No(Rule::Form.to_breach(place)));
     }
     place_provider(place, before, Who::Identity)
 }
@@ -101,7 +105,7 @@ pub fn read_key(
     alloc: Global,
     cipher: Cipher,
     counted: usize,
-    place: Place,
+    place: ConfigPlace,
     before: &mut List<Who>,
     value: &Value,
 ) -> Result<(), ConfigErr>
@@ -119,31 +123,31 @@ pub fn read_key(
 
 /// The name at `name`, by its rule.
 #[tactic(auto, unfolding(crate::specs::Walk::name_at))]
-fn read_name(alloc: Global, place: Place, value: &Value) -> Result<Text, ConfigErr>
+fn read_name(alloc: Global, place: ConfigPlace, value: &Value) -> Result<Text, ConfigErr>
     ensures { Reads (name_at place (view value.now)) result }
 {
-    let Some(name) = text_at(value, "name") else {
-        return Err(ConfigErr::No(Rule::Form.at(place)));
+    let Some(name) = text_under_key(value, "name") else {
+        return Err(ConfigErr::No(Rule::Form.to_breach(place)));
     };
     if !name_ok(name) {
-        return Err(ConfigErr::No(Rule::Name.at(place)));
+        return Err(ConfigErr::No(Rule::Name.to_breach(place)));
     }
     Ok(Text::copy(alloc, name)?)
 }
 
 /// The key at `secret`, by its rule.
 #[tactic(auto, unfolding(crate::specs::Walk::secret_at))]
-fn read_secret(alloc: Global, place: Place, value: &Value) -> Result<Bytes, ConfigErr>
+fn read_secret(alloc: Global, place: ConfigPlace, value: &Value) -> Result<Bytes, ConfigErr>
     ensures { Reads (secret_at place (view value.now)) result }
 {
-    let Some(text) = text_at(value, "secret") else {
-        return Err(ConfigErr::No(Rule::Form.at(place)));
+    let Some(text) = text_under_key(value, "secret") else {
+        return Err(ConfigErr::No(Rule::Form.to_breach(place)));
     };
     match STANDARD.decode(alloc, text.as_bytes()) {
         Ok(secret) if matches!(secret.len(), 16 | 24 | 32) => Ok(Bytes::from_vec(secret)),
-        Ok(_) => Err(ConfigErr::No(Rule::SecretLength.at(place))),
+        Ok(_) => Err(ConfigErr::No(Rule::SecretLength.to_breach(place))),
         Err(DecodeAllocError::OutOfMemory) => Err(ConfigErr::NoMemory),
-        Err(_) => Err(ConfigErr::No(Rule::Base64.at(place))),
+        Err(_) => Err(ConfigErr::No(Rule::Base64.to_breach(place))),
     }
 }
 
@@ -152,7 +156,7 @@ fn read_secret(alloc: Global, place: Place, value: &Value) -> Result<Bytes, Conf
 pub fn read_plugin(
     alloc: Global,
     counted: usize,
-    place: Place,
+    place: ConfigPlace,
     before: &mut List<Who>,
     value: &Value,
 ) -> Result<(), ConfigErr>
@@ -160,7 +164,7 @@ pub fn read_plugin(
         result }
 {
     if !is_mapping(value) {
-        return Err(ConfigErr::No(Rule::Form.at(place)));
+        return Err(ConfigErr::No(Rule::Form.to_breach(place)));
     }
     check_version(place, value)?;
     let name = read_name(alloc, place, value)?;
@@ -170,34 +174,34 @@ pub fn read_plugin(
 
 /// Whether a kms element's version is `v2`, or which rule it breaks.
 #[tactic(auto, unfolding(crate::specs::Walk::version_at))]
-fn check_version(place: Place, value: &Value) -> Result<(), ConfigNo>
+fn check_version(place: ConfigPlace, value: &Value) -> Result<(), ConfigNo>
     ensures { Checks (version_at place (view value.now)) result }
 {
     let Some(version) = value.get("apiVersion") else {
-        return Err(Rule::KmsV1.at(place));
+        return Err(Rule::KmsV1.to_breach(place));
     };
     if has_text(value, "apiVersion", "v1") {
-        return Err(Rule::KmsV1.at(place));
+        return Err(Rule::KmsV1.to_breach(place));
     }
     let Some(text) = version.as_str() else {
-        return Err(Rule::Form.at(place));
+        return Err(Rule::Form.to_breach(place));
     };
     if text != "v2" {
-        return Err(Rule::KmsVersion.at(place));
+        return Err(Rule::KmsVersion.to_breach(place));
     }
     Ok(())
 }
 
 /// Whether its endpoint begins `unix://`, or which rule it breaks.
 #[tactic(auto, unfolding(crate::specs::Walk::endpoint_at))]
-fn check_endpoint(place: Place, value: &Value) -> Result<(), ConfigNo>
+fn check_endpoint(place: ConfigPlace, value: &Value) -> Result<(), ConfigNo>
     ensures { Checks (endpoint_at place (view value.now)) result }
 {
-    let Some(text) = text_at(value, "endpoint") else {
-        return Err(Rule::Form.at(place));
+    let Some(text) = text_under_key(value, "endpoint") else {
+        return Err(Rule::Form.to_breach(place));
     };
     if !text.as_bytes().starts_with(b"unix://") {
-        return Err(Rule::Endpoint.at(place));
+        return Err(Rule::Endpoint.to_breach(place));
     }
     Ok(())
 }

@@ -1,11 +1,11 @@
 //! Reading a provider element.
 ghost use Rattle.std.specs.Prelude.{◌≡◌, ◌≤◌, map};
 ghost use Rattle.serde_json.specs.View.{view};
-ghost use Rattle.kr_config.specs.Walk.{walk_each, key_step, keys_step, one_if, kinds_of, kind_step};
+ghost use Rattle.kr_config.specs.Walk.{walk_each, key_step, keys_step, one_if, count_kinds, kind_step};
 ghost use Rattle.kr_config.specs.Walk.{element_step};
 ghost use Rattle.kr_config.specs.inner.Reads.{ReadsInto};
 
-use crate::place::{Counts, Place};
+use crate::place::{ConfigPlace, Counts};
 use crate::provider::{Cipher, read_identity, read_key, read_plugin};
 use crate::refusal::{ConfigErr, Rule};
 use crate::tree::{has, is_mapping, named_list};
@@ -20,7 +20,7 @@ use std::alloc::Global;
 pub fn read_element(
     alloc: Global,
     counts: Counts,
-    place: Place,
+    place: ConfigPlace,
     before: &mut List<Who>,
     value: &Value,
 ) -> Result<(), ConfigErr>
@@ -28,21 +28,21 @@ pub fn read_element(
         before.new.0 result }
 {
     if !is_mapping(value) {
-        return Err(ConfigErr::No(Rule::Form.at(place)));
+        return Err(ConfigErr::No(Rule::Form.to_breach(place)));
     }
-    let kinds = kinds_of(value);
+    let kinds = count_kinds(value);
     if kinds == 0 {
-        return Err(ConfigErr::No(Rule::NoProvider.at(place)));
+        return Err(ConfigErr::No(Rule::NoProvider.to_breach(place)));
     }
     if kinds > 1 {
-        return Err(ConfigErr::No(Rule::SeveralProviders.at(place)));
+        return Err(ConfigErr::No(Rule::SeveralProviders.to_breach(place)));
     }
     read_kind(alloc, counts, place, before, value)
 }
 
 /// How many of the five providers the element has.
-fn kinds_of(value: &Value) -> u32
-    ensures { result ≡ kinds_of (view value.now) }
+fn count_kinds(value: &Value) -> u32
+    ensures { result ≡ count_kinds (view value.now) }
 {
     one_if(has(value, "identity"))
         + one_if(has(value, "aescbc"))
@@ -64,7 +64,7 @@ fn one_if(b: bool) -> u32
 fn read_kind(
     alloc: Global,
     counts: Counts,
-    place: Place,
+    place: ConfigPlace,
     before: &mut List<Who>,
     value: &Value,
 ) -> Result<(), ConfigErr>
@@ -82,7 +82,7 @@ fn read_kind(
     if let Some(kms) = value.get("kms") {
         return read_plugin(alloc, counts.plugins, place, before, kms);
     }
-    Err(ConfigErr::No(Rule::Secretbox.at(place)))
+    Err(ConfigErr::No(Rule::Secretbox.to_breach(place)))
 }
 
 /// Reads an element of keys.
@@ -91,7 +91,7 @@ fn read_keys(
     alloc: Global,
     cipher: Cipher,
     counted: usize,
-    place: Place,
+    place: ConfigPlace,
     before: &mut List<Who>,
     value: &Value,
 ) -> Result<(), ConfigErr>
@@ -99,7 +99,7 @@ fn read_keys(
         result }
 {
     if !is_mapping(value) {
-        return Err(ConfigErr::No(Rule::Form.at(place)));
+        return Err(ConfigErr::No(Rule::Form.to_breach(place)));
     }
     let keys = named_list(value, "keys", place)?;
     read_each_key(alloc, cipher, counted, place, before, keys)
@@ -111,7 +111,7 @@ fn read_each_key(
     alloc: Global,
     cipher: Cipher,
     counted: usize,
-    place: Place,
+    place: ConfigPlace,
     before: &mut List<Who>,
     keys: &[Value],
 ) -> Result<(), ConfigErr>

@@ -1,11 +1,11 @@
 //! Reading an entry.
 ghost use Rattle.std.specs.Prelude.{◌≡◌, map, []};
 ghost use Rattle.serde_json.specs.View.{view};
-ghost use Rattle.kr_config.specs.Walk.{walk, pattern_step, element_step, entry_of};
+ghost use Rattle.kr_config.specs.Walk.{walk, pattern_step, element_step, config_entry};
 ghost use Rattle.kr_config.specs.inner.Reads.{ReadsList, ReadsEntry};
 
 use crate::pattern::Pattern;
-use crate::place::{Counts, Place};
+use crate::place::{ConfigPlace, Counts};
 use crate::read_element::read_element;
 use crate::read_pattern::read_pattern;
 use crate::refusal::{ConfigErr, Rule};
@@ -17,18 +17,18 @@ use serde_json::Value;
 use std::alloc::Global;
 
 /// Reads an entry, where those before it have so many patterns, keys and plugins.
-#[tactic(auto, unfolding(crate::specs::Walk::entry_of))]
+#[tactic(auto, unfolding(crate::specs::Walk::config_entry))]
 pub fn read_entry(
     alloc: Global,
     counts: Counts,
     entry: u32,
     value: &Value,
 ) -> Result<Entry, ConfigErr>
-    ensures { ReadsEntry (entry_of counts entry (view value.now)) result }
+    ensures { ReadsEntry (config_entry counts entry (view value.now)) result }
 {
-    let place = Place { entry, item: 0 };
+    let place = ConfigPlace { entry, item: 0 };
     if !is_mapping(value) {
-        return Err(ConfigErr::No(Rule::Form.at(place)));
+        return Err(ConfigErr::No(Rule::Form.to_breach(place)));
     }
     let texts = named_list(value, "resources", place)?;
     let patterns = read_patterns(alloc, counts.patterns, entry, texts)?;
@@ -53,7 +53,13 @@ fn read_patterns(
     let mut patterns = List::new(alloc);
     let mut item: u32 = 0;
     for text in texts {
-        read_pattern(alloc, counted, Place { entry, item }, &mut patterns, text)?;
+        read_pattern(
+            alloc,
+            counted,
+            ConfigPlace { entry, item },
+            &mut patterns,
+            text,
+        )?;
         item = item.saturating_add(1);
     }
     Ok(patterns)
@@ -75,7 +81,7 @@ fn read_elements(
         read_element(
             alloc,
             counts,
-            Place { entry, item },
+            ConfigPlace { entry, item },
             &mut providers,
             element,
         )?;

@@ -5,11 +5,11 @@ ghost use Rattle.kr_base.specs.Rules.{is_resource};
 ghost use Rattle.kr_config.specs.declared.pattern.Pattern.TheVariants.{Exact};
 ghost use Rattle.serde_json.specs.View.{view};
 ghost use Rattle.kr_config.specs.Patterns.{same, overlap, is_group};
-ghost use Rattle.kr_config.specs.Walk.{star_pattern, pattern_of, place_pattern, pattern_step};
+ghost use Rattle.kr_config.specs.Walk.{star_pattern, spelled_pattern, place_pattern, pattern_step};
 ghost use Rattle.kr_config.specs.inner.Reads.{ReadsInto};
 
 use crate::pattern::Pattern;
-use crate::place::Place;
+use crate::place::ConfigPlace;
 use crate::refusal::{ConfigErr, ConfigNo, Counted, Rule};
 use kr_base::{List, NAME_LIMIT, NoMemory, Text, resource_ok};
 use serde_json::Value;
@@ -21,7 +21,7 @@ use std::alloc::Global;
 pub fn read_pattern(
     alloc: Global,
     counted: usize,
-    place: Place,
+    place: ConfigPlace,
     before: &mut List<Pattern>,
     value: &Value,
 ) -> Result<(), ConfigErr>
@@ -29,11 +29,11 @@ pub fn read_pattern(
         before.new.0 result }
 {
     let Some(text) = value.as_str() else {
-        return Err(ConfigErr::No(Rule::Form.at(place)));
+        return Err(ConfigErr::No(Rule::Form.to_breach(place)));
     };
-    match pattern_of(alloc, text)? {
+    match spelled_pattern(alloc, text)? {
         Some(pattern) => place_pattern(counted, place, before, pattern),
-        None => Err(ConfigErr::No(Rule::Pattern.at(place))),
+        None => Err(ConfigErr::No(Rule::Pattern.to_breach(place))),
     }
 }
 
@@ -41,17 +41,17 @@ pub fn read_pattern(
 #[tactic(auto, unfolding(crate::specs::Walk::place_pattern))]
 fn place_pattern(
     counted: usize,
-    place: Place,
+    place: ConfigPlace,
     before: &mut List<Pattern>,
     pattern: Pattern,
 ) -> Result<(), ConfigErr>
     ensures { ReadsInto (place_pattern counted place before.old.0 pattern) before.new.0 result }
 {
     if has_same(before.as_slice(), &pattern) {
-        return Err(ConfigErr::No(Rule::SamePattern.at(place)));
+        return Err(ConfigErr::No(Rule::SamePattern.to_breach(place)));
     }
     if has_overlap(before.as_slice(), &pattern) {
-        return Err(ConfigErr::No(Rule::Overlap.at(place)));
+        return Err(ConfigErr::No(Rule::Overlap.to_breach(place)));
     }
     if !Counted::Patterns.has_room(counted, before.as_slice().len()) {
         return Err(ConfigErr::No(ConfigNo::Limit(Counted::Patterns)));
@@ -77,9 +77,9 @@ fn has_overlap(before: &[Pattern], pattern: &Pattern) -> bool
 }
 
 /// The pattern that a text spells, or none.
-#[tactic(auto, unfolding(crate::specs::Walk::pattern_of))]
-fn pattern_of(alloc: Global, text: &str) -> Result<Option<Pattern>, NoMemory>
-    ensures { IfOk result (λ pattern. pattern ≡ pattern_of text.now) }
+#[tactic(auto, unfolding(crate::specs::Walk::spelled_pattern))]
+fn spelled_pattern(alloc: Global, text: &str) -> Result<Option<Pattern>, NoMemory>
+    ensures { IfOk result (λ pattern. pattern ≡ spelled_pattern text.now) }
 {
     match text.split_once('.') {
         Some((first, group)) => if first == "*" {

@@ -3,12 +3,12 @@ ghost use Rattle.std.specs.Prelude.{◌≡◌, map, []};
 ghost use Rattle.serde_json.specs.View.{view};
 ghost use Rattle.serde_json.specs.Read.{read};
 ghost use Rattle.kr_config.specs.Walk.{walk, entry_step, config_in};
-ghost use Rattle.kr_config.specs.Meanings.{begins_json, is_blank, json_rows, MeansYaml, TextMeans};
-ghost use Rattle.kr_config.specs.Meanings.{no_text, Means};
+ghost use Rattle.kr_config.specs.Meanings.{begins_json, is_json_blank, json_rows, MeansYaml, TextMeans};
+ghost use Rattle.kr_config.specs.Meanings.{no_text, MeansConfig};
 ghost use Rattle.kr_config.specs.Meanings.{ReadsSettings};
 ghost use Rattle.kr_config.specs.inner.Reads.{ReadsEntries, ReadsMeant, ReadsJson};
 
-use crate::counts::{keys_among, plugins_among};
+use crate::counts::{count_provider_keys, count_provider_plugins};
 use crate::place::{Counts, start};
 use crate::read_entry::read_entry;
 use crate::refusal::{ConfigErr, ConfigNo, Counted, Rule, YamlRule};
@@ -26,7 +26,7 @@ use std::str;
 /// then the provider elements; the first breach decides. Members that no rule names are ignored.
 #[tactic(auto, using(crate::proofs::Meant::text_kept))]
 pub fn read(alloc: Global, bytes: &[u8]) -> Result<Settings, ConfigErr>
-    ensures { ReadsSettings (Means bytes.now) result }
+    ensures { ReadsSettings (MeansConfig bytes.now) result }
 {
     let is_json = begins_json(bytes);
     let text = match str::from_utf8(bytes) {
@@ -37,7 +37,7 @@ pub fn read(alloc: Global, bytes: &[u8]) -> Result<Settings, ConfigErr>
         Ok(entries) => entries,
         Err(why) => return Err(why),
     };
-    match Settings::of(alloc, entries) {
+    match Settings::from_entries(alloc, entries) {
         Ok(settings) => Ok(settings),
         Err(_) => Err(ConfigErr::NoMemory),
     }
@@ -48,7 +48,7 @@ fn no_text(is_json: bool) -> ConfigNo
     ensures { result ≡ no_text is_json }
 {
     if is_json {
-        return Rule::Json.at(start());
+        return Rule::Json.to_breach(start());
     }
     ConfigNo::Yaml(YamlRule::NotUtf8, 0)
 }
@@ -70,7 +70,7 @@ fn read_json_text(alloc: Global, text: &str) -> Result<List<Entry>, ConfigErr>
 {
     match read_json(alloc, text) {
         Ok(value) => read_config(alloc, &value),
-        Err(JsonNo::Form) => Err(ConfigErr::No(Rule::Json.at(start()))),
+        Err(JsonNo::Form) => Err(ConfigErr::No(Rule::Json.to_breach(start()))),
         Err(JsonNo::NoMemory) => Err(ConfigErr::NoMemory),
     }
 }
@@ -88,7 +88,7 @@ fn begins_json(bytes: &[u8]) -> bool
     ensures { result ≡ begins_json bytes.now }
 {
     for byte in bytes {
-        if !is_blank(*byte) {
+        if !is_json_blank(*byte) {
             return *byte == b'{';
         }
     }
@@ -96,8 +96,8 @@ fn begins_json(bytes: &[u8]) -> bool
 }
 
 /// Whether it is a space, tab, CR or LF.
-fn is_blank(byte: u8) -> bool
-    ensures { result ≡ is_blank byte }
+fn is_json_blank(byte: u8) -> bool
+    ensures { result ≡ is_json_blank byte }
 {
     byte == b' ' || byte == b'\t' || byte == b'\r' || byte == b'\n'
 }
@@ -129,13 +129,13 @@ fn read_config(alloc: Global, value: &Value) -> Result<List<Entry>, ConfigErr>
     ensures { ReadsEntries (config_in (view value.now)) result }
 {
     if !is_mapping(value) {
-        return Err(ConfigErr::No(Rule::Form.at(start())));
+        return Err(ConfigErr::No(Rule::Form.to_breach(start())));
     }
     if !has_text(value, "apiVersion", "apiserver.config.k8s.io/v1") {
-        return Err(ConfigErr::No(Rule::ApiVersion.at(start())));
+        return Err(ConfigErr::No(Rule::ApiVersion.to_breach(start())));
     }
     if !has_text(value, "kind", "EncryptionConfiguration") {
-        return Err(ConfigErr::No(Rule::Kind.at(start())));
+        return Err(ConfigErr::No(Rule::Kind.to_breach(start())));
     }
     let entries = named_list(value, "resources", start())?;
     if entries.len() > Counted::Entries.limit() as usize {
@@ -162,8 +162,8 @@ fn read_entries(alloc: Global, values: &[Value]) -> Result<List<Entry>, ConfigEr
         };
         let entry = read_entry(alloc, counts, number, value)?;
         patterns += entry.patterns.as_slice().len();
-        keys += keys_among(entry.providers.as_slice());
-        plugins += plugins_among(entry.providers.as_slice());
+        keys += count_provider_keys(entry.providers.as_slice());
+        plugins += count_provider_plugins(entry.providers.as_slice());
         match entries.push(entry) {
             Ok(()) => {}
             Err(_) => return Err(ConfigErr::NoMemory),

@@ -4,7 +4,7 @@ ghost use Rattle.kr_config.specs.declared.refusal.ConfigNo.TheVariants.{Breach};
 ghost use Rattle.kr_config.specs.Refusals.{code_of_rule, number_of_yaml_rule, number_of_counted};
 ghost use Rattle.kr_config.specs.Refusals.{limit_of, code_of, first_number, second_number};
 
-use crate::place::Place;
+use crate::place::ConfigPlace;
 use kr_base::NoMemory;
 
 /// A rule of a configuration, by what breaks it.
@@ -80,7 +80,7 @@ pub enum Counted {
 #[derive(Clone, Copy, Debug, PartialEq, Eq)]
 pub enum ConfigNo {
     /// This rule, at the element of this place.
-    Breach(Rule, Place),
+    Breach(Rule, ConfigPlace),
     /// This rule of the YAML profile, in the line of this number, from 1; 0 where it isn't UTF-8.
     Yaml(YamlRule, u32),
     /// The limit of these.
@@ -118,7 +118,7 @@ impl From<NoMemory> for ConfigErr {
 
 impl Rule {
     /// The breach of the rule at a place.
-    pub fn at(self, place: Place) -> ConfigNo
+    pub fn to_breach(self, place: ConfigPlace) -> ConfigNo
         ensures { result ≡ Breach self place }
     {
         ConfigNo::Breach(self, place)

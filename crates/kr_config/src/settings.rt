@@ -50,15 +50,15 @@ impl Settings {
     ghost use Rattle.kr_config.specs.Classes.{classes_in};
     ghost use Rattle.kr_config.specs.Kept.{plugins_in};
     ghost use Rattle.kr_config.specs.Lists.{list_of, class_list};
-    ghost use Rattle.kr_config.specs.inner.ClassIndexes.{list_at, IsIndexOf};
+    ghost use Rattle.kr_config.specs.inner.ClassIndexes.{entry_list, IsIndexOf};
     ghost use Rattle.kr_config.specs.Nexts.{lent_class, IsNextClass, IsNextName};
 
     /// The settings of entries that keep the rules.
-    pub fn of(alloc: Global, entries: List<Entry>) -> Result<Settings, NoMemory>
+    pub fn from_entries(alloc: Global, entries: List<Entry>) -> Result<Settings, NoMemory>
         requires { IsTrue (keeps (rows_of entries.0)) }
         ensures { IfOk result (λ settings. settings.entries ≡ entries) }
     {
-        let index = List::from_vec(class_index::index_of(alloc, entries.as_slice())?);
+        let index = List::from_vec(class_index::make_class_index(alloc, entries.as_slice())?);
         let mut fallback = List::new(alloc);
         match fallback.push(Who::Identity) {
             Ok(()) => Ok(Settings {
@@ -80,10 +80,10 @@ impl Settings {
 
     /// The providers of the first entry with a pattern that matches the resource, or identity
     /// alone.
-    pub fn list_for(&self, resource: &str) -> &[Who]
+    pub fn resource_list(&self, resource: &str) -> &[Who]
         ensures { result.now ≡ list_of (rows_of self.now.entries.0) resource.now }
     {
-        self.list_near(BorrowedClass::Exact(resource), 0)
+        self.hinted_list(BorrowedClass::Exact(resource), 0)
     }
 
     /// The providers of a class of resources: for an exact one its resource's, for a group those of
@@ -92,22 +92,22 @@ impl Settings {
     pub fn list_for_class(&self, class: &Class) -> &[Who]
         ensures { result.now ≡ class_list (rows_of self.now.entries.0) class.now }
     {
-        self.list_near(class.borrowed(), 0)
+        self.hinted_list(class.borrowed(), 0)
     }
 
     /// The providers of a class that is lent, as `list_for_class` has them.
     pub fn list_for_borrowed(&self, class: BorrowedClass<'_>) -> &[Who]
         ensures { result.now ≡ class_list (rows_of self.now.entries.0) (lent_class class.entry) }
     {
-        self.list_near(class, 0)
+        self.hinted_list(class, 0)
     }
 
     /// The same, found at once where the class is the one of this number in their order, and else
     /// by halves. Nothing but the time goes by the number.
-    pub fn list_near(&self, class: BorrowedClass<'_>, number: usize) -> &[Who]
+    pub fn hinted_list(&self, class: BorrowedClass<'_>, number: usize) -> &[Who]
         ensures { result.now ≡ class_list (rows_of self.now.entries.0) (lent_class class.entry) }
     {
-        self.list_at(class_index::entry_for(self.classes(), class, number))
+        self.entry_list(class_index::entry_place(self.classes(), class, number))
     }
 
     /// The first class after this one, or the first of all, in the order of classes, of those that
@@ -116,12 +116,12 @@ impl Settings {
         ensures { IsNextClass (Rest ∷ classes_in (rows_of self.now.entries.0))
             (option_map lent_class after.entry) (option_map lent_class result) }
     {
-        self.next_near(after, 0)
+        self.hinted_next_class(after, 0)
     }
 
     /// The same, found at once where it is the class of this number in their order, and else by
     /// halves. Nothing but the time goes by the number.
-    pub fn next_near(
+    pub fn hinted_next_class(
         &self,
         after: Option<BorrowedClass<'_>>,
         number: usize,
@@ -129,7 +129,7 @@ impl Settings {
         ensures { IsNextClass (Rest ∷ classes_in (rows_of self.now.entries.0))
             (option_map lent_class after.entry) (option_map lent_class result) }
     {
-        class_index::next_in(self.classes(), after, number)
+        class_index::next_listed_class(self.classes(), after, number)
     }
 
     /// The least name of a plugin after this one by bytes. Names aren't empty, so the first comes
@@ -138,15 +138,15 @@ impl Settings {
         ensures { IsNextName (plugins_in (rows_of self.now.entries.0)) after.now
             (option_map (λ name. name.now) result) }
     {
-        match next_plugin::next_in(self.entries.as_slice(), after) {
+        match next_plugin::next_plugin_name(self.entries.as_slice(), after) {
             Some(name) => Some(name.as_str()),
             None => None,
         }
     }
 
     /// The providers of the entry at the place, or identity alone behind the last.
-    fn list_at(&self, place: usize) -> &[Who]
-        ensures { result.now ≡ list_at (rows_of self.now.entries.0) place }
+    fn entry_list(&self, place: usize) -> &[Who]
+        ensures { result.now ≡ entry_list (rows_of self.now.entries.0) place }
     {
         let entries = self.entries.as_slice();
         if place >= entries.len() {
@@ -165,15 +165,15 @@ impl Settings {
 
 impl Entry {
     ghost use Rattle.kr_config.specs.Nexts.{lent_class};
-    ghost use Rattle.kr_config.specs.inner.ClassIndexes.{speaks_of};
+    ghost use Rattle.kr_config.specs.inner.ClassIndexes.{covers_class};
 
     /// Whether one of its patterns speaks of all of the class.
-    pub(crate) fn speaks_of(&self, class: BorrowedClass<'_>) -> bool
-        ensures { result ≡ list_any (speaks_of (lent_class class.entry)) self.now.patterns.0 }
+    pub(crate) fn covers_class(&self, class: BorrowedClass<'_>) -> bool
+        ensures { result ≡ list_any (covers_class (lent_class class.entry)) self.now.patterns.0 }
     {
         self.patterns
             .as_slice()
             .iter()
-            .any(|pattern| pattern.speaks_of(class))
+            .any(|pattern| pattern.covers_class(class))
     }
 }

@@ -3,16 +3,16 @@
 ghost use Rattle.std.specs.Prelude.{◌≡◌, map};
 ghost use Rattle.std.specs.Option.{option_map};
 ghost use Rattle.serde_json.specs.View.{view};
-ghost use Rattle.kr_config.specs.Walk.{text_at, has_text, is_mapping, has, named_list};
+ghost use Rattle.kr_config.specs.Walk.{text_under_key, has_text, is_mapping, has, named_list};
 ghost use Rattle.kr_config.specs.inner.Reads.{Lends};
 
-use crate::place::Place;
+use crate::place::ConfigPlace;
 use crate::refusal::{ConfigNo, Rule};
 use serde_json::Value;
 
 /// The text at a member.
-pub fn text_at<'a>(value: &'a Value, key: &str) -> Option<&'a str>
-    ensures { option_map (λ text. text.now) result ≡ text_at key.now (view value.now) }
+pub fn text_under_key<'a>(value: &'a Value, key: &str) -> Option<&'a str>
+    ensures { option_map (λ text. text.now) result ≡ text_under_key key.now (view value.now) }
 {
     match value.get(key) {
         Some(value) => value.as_str(),
@@ -24,7 +24,7 @@ pub fn text_at<'a>(value: &'a Value, key: &str) -> Option<&'a str>
 pub fn has_text(value: &Value, key: &str, text: &str) -> bool
     ensures { result ≡ has_text key.now text.now (view value.now) }
 {
-    match text_at(value, key) {
+    match text_under_key(value, key) {
         Some(found) => text == found,
         None => false,
     }
@@ -46,17 +46,21 @@ pub fn is_mapping(value: &Value) -> bool
 
 /// The items of the list at a member, which isn't empty.
 #[tactic(auto, unfolding(crate::specs::Walk::named_list), using(crate::proofs::Trees::named_ok))]
-pub fn named_list<'a>(value: &'a Value, key: &str, place: Place) -> Result<&'a [Value], ConfigNo>
+pub fn named_list<'a>(
+    value: &'a Value,
+    key: &str,
+    place: ConfigPlace,
+) -> Result<&'a [Value], ConfigNo>
     ensures { Lends (named_list key.now place (view value.now)) result }
 {
     let Some(member) = value.get(key) else {
-        return Err(Rule::Form.at(place));
+        return Err(Rule::Form.to_breach(place));
     };
     let Some(list) = member.as_array() else {
-        return Err(Rule::Form.at(place));
+        return Err(Rule::Form.to_breach(place));
     };
     if list.is_empty() {
-        return Err(Rule::EmptyList.at(place));
+        return Err(Rule::EmptyList.to_breach(place));
     }
     Ok(list.as_slice())
 }

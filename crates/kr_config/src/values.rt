@@ -3,7 +3,7 @@ ghost use Rattle.std.specs.Prelude.{◌≡◌, ◌++◌, IfOk, map};
 ghost use Rattle.std.specs.String.{string_bytes};
 ghost use Rattle.serde_json.specs.View.{view, items_view};
 ghost use Rattle.serde_json.specs.View as json;
-ghost use Rattle.kr_config.specs.Kept.{row_of, rows_of};
+ghost use Rattle.kr_config.specs.Kept.{entry_lists, rows_of};
 ghost use Rattle.kr_config.specs.Texts.{pattern_text, pattern_data, keys_data, plugin_data};
 ghost use Rattle.kr_config.specs.Texts.{element_data, entry_data, settings_data};
 
@@ -40,7 +40,7 @@ fn entry_values(alloc: Global, entries: &[Entry]) -> Result<Vec<Value>, NoMemory
 }
 
 fn entry_value(alloc: Global, entry: &Entry) -> Result<Value, NoMemory>
-    ensures { IfOk result (λ value. view value ≡ entry_data (row_of entry.now)) }
+    ensures { IfOk result (λ value. view value ≡ entry_data (entry_lists entry.now)) }
 {
     let providers = Value::Array(element_values(alloc, entry.providers.as_slice())?);
     let resources = Value::Array(pattern_values(alloc, entry.patterns.as_slice())?);

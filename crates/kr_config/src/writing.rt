@@ -1,7 +1,7 @@
 //! Settings as the text of a configuration.
 ghost use Rattle.std.specs.Prelude.{◌≡◌, ◌<◌, Ok, All, IfOk};
 ghost use Rattle.kr_config.specs.Kept.{rows_of};
-ghost use Rattle.kr_config.specs.Meanings.{Means};
+ghost use Rattle.kr_config.specs.Meanings.{MeansConfig};
 ghost use Rattle.kr_config.specs.Texts.{settings_text};
 ghost use Rattle.kr_config.specs.inner.Written.{IsOfBytes, AreOfBytes};
 
@@ -15,7 +15,7 @@ use std::alloc::Global;
 /// element. Settings keep no endpoint, so that of a plugin is made of its name.
 pub fn settings_text(alloc: Global, settings: &Settings) -> Result<Bytes, NoMemory>
     ensures text { IfOk result (λ text. text ≡ settings_text (rows_of settings.now.entries.0)) }
-    ensures meant { IfOk result (λ text. Means text (Ok (rows_of settings.now.entries.0))) }
+    ensures meant { IfOk result (λ text. MeansConfig text (Ok (rows_of settings.now.entries.0))) }
 {
     tell_secrets(settings.entries.as_slice());
     settings.known();
@@ -29,12 +29,12 @@ fn tell_secrets(entries: &[Entry])
     ensures { AreOfBytes (rows_of entries.now) }
 {
     for entry in entries {
-        tell_among(entry.providers.as_slice());
+        tell_key_bytes(entry.providers.as_slice());
     }
 }
 
 #[tactic(auto, using(crate::proofs::ValueLoops::among_more, crate::proofs::ValueLoops::among_end))]
-fn tell_among(providers: &[Who])
+fn tell_key_bytes(providers: &[Who])
     ensures { All IsOfBytes providers.now }
 {
     for who in providers {

@@ -21,7 +21,7 @@ pub fn read_yaml(alloc: Global, text: &str) -> Result<Value, ConfigErr>
         Ok(tree) => tree,
         Err(why) => return Err(restate(why)),
     };
-    Ok(value_of(alloc, &tree)?)
+    Ok(tree_value(alloc, &tree)?)
 }
 
 /// A breach of the YAML profile, as the configuration's.
@@ -43,27 +43,27 @@ fn restate(why: YamlNo) -> ConfigErr
 /// The tree as a value.
 #[cycle(value)]
 #[tactic(auto, using(crate::proofs::Conversions::as_object))]
-fn value_of(alloc: Global, tree: &Tree) -> Result<Value, NoMemory>
+fn tree_value(alloc: Global, tree: &Tree) -> Result<Value, NoMemory>
     ensures { IfOk result (λ value. view value ≡ json_of (shown.view tree.now)) }
 {
     match tree {
         Tree::Null => Ok(Value::Null),
         Tree::Word(word) => Ok(Value::String(String::from_str(alloc, word.as_str())?)),
-        Tree::Items(items) => Ok(Value::Array(values_of(alloc, items.as_slice())?)),
-        Tree::Members(members) => Ok(Value::Object(map_of(alloc, members.as_slice())?)),
+        Tree::Items(items) => Ok(Value::Array(tree_values(alloc, items.as_slice())?)),
+        Tree::Members(members) => Ok(Value::Object(members_map(alloc, members.as_slice())?)),
     }
 }
 
 /// Trees as values.
 #[cycle(value)]
 #[tactic(auto, using(crate::proofs::Conversions::items_same))]
-fn values_of(alloc: Global, items: &[Tree]) -> Result<Vec<Value>, NoMemory>
+fn tree_values(alloc: Global, items: &[Tree]) -> Result<Vec<Value>, NoMemory>
     ensures { IfOk result (λ values. items_view values.items
         ≡ json_items (items_of (shown.views items.now))) }
 {
     let mut values = Vec::with_capacity(alloc, items.len())?;
     for item in items {
-        let value = value_of(alloc, item)?;
+        let value = tree_value(alloc, item)?;
         values.push(value)?;
     }
     Ok(values)
@@ -72,13 +72,13 @@ fn values_of(alloc: Global, items: &[Tree]) -> Result<Vec<Value>, NoMemory>
 /// Members as a map of values.
 #[cycle(value)]
 #[tactic(auto, using(crate::proofs::Conversions::member_more, crate::proofs::Conversions::members_end))]
-fn map_of(alloc: Global, members: &[Member]) -> Result<Map<String, Value>, NoMemory>
+fn members_map(alloc: Global, members: &[Member]) -> Result<Map<String, Value>, NoMemory>
     ensures { IfOk result (λ map. members_view map.entries
         ≡ json_members no_members (members_of (shown.member_views members.now))) }
 {
     let mut map = Map::new(alloc);
     for member in members {
-        let value = value_of(alloc, &member.value)?;
+        let value = tree_value(alloc, &member.value)?;
         put(&mut map, alloc, member.key.as_str(), value)?;
     }
     Ok(map)

@@ -14,8 +14,8 @@ use Rattle.kr_kms_wire.specs.declared.requests.Request.{Request}
 use Rattle.kr_base.specs.Faults.{Rose}
 use Rattle.kr_kms_wire.specs.declared.replies.ReplyNo.{ReplyNo}
 use Rattle.kr_kms_wire.specs.declared.replies.ReplyNo.TheVariants.{Error}
-use Rattle.kr_edge.specs.Lines.{Ends, Exchanged, IsCutOff, TakesLine, TakesNoLine, broken_off}
-use Rattle.kr_edge.specs.Plugins.{Answers}
+use Rattle.kr_edge.specs.Lines.{ExchangeEnds, Exchanged, IsCutOff, TakesLine, TakesNoLine, broken_off}
+use Rattle.kr_edge.specs.Plugins.{AnswersRequest}
 
 -- a question of which nothing was written, and one that was written whole
 pub asked-nothing : (a : Option (List ℕ)) (question : List ℕ) → AppendsFront a a question
@@ -31,14 +31,14 @@ asked-all a b question p = (
 
 -- an exchange that was broken before, one whose question wasn't written, one whose answer wasn't
 -- read, and one that is whole
-pub cut_before : (old : Ends) (question : List ℕ) → old.broken ≡ true → IsCutOff old old question
+pub cut_before : (old : ExchangeEnds) (question : List ℕ) → old.broken ≡ true → IsCutOff old old question
 cut_before old question is = record {
   asked = asked-nothing old.written question;
   cause = inl (is, refl);
   broken = is;
 }
 
-pub cut_asking : (old new : Ends) (question : List ℕ) → old.broken ≡ false
+pub cut_asking : (old new : ExchangeEnds) (question : List ℕ) → old.broken ≡ false
     → AppendsFront old.written new.written question → Rose old.write_faults new.write_faults
     → new.broken ≡ true → IsCutOff old new question
 cut_asking old new question before front rose is = record {
@@ -47,7 +47,7 @@ cut_asking old new question before front rose is = record {
   broken = is;
 }
 
-pub cut_reading : (old new : Ends) (question : List ℕ) (room : ℕ) → old.broken ≡ false
+pub cut_reading : (old new : ExchangeEnds) (question : List ℕ) (room : ℕ) → old.broken ≡ false
     → Appends old.written new.written question → room ≡ 131073
     → Rose old.read_faults new.read_faults ⊎ TakesNoLine room old.left new.left
     → new.broken ≡ true → IsCutOff old new question
@@ -62,7 +62,7 @@ cut_reading old new question room before whole size none is = record {
 }
 
 -- the same of an answer that hands on why nothing was read
-pub not_read : {T E : Type 0} (result : Result T E) (old new : Ends) (question : List ℕ)
+pub not_read : {T E : Type 0} (result : Result T E) (old new : ExchangeEnds) (question : List ℕ)
     (room : ℕ) → old.broken ≡ false → Appends old.written new.written question → room ≡ 131073
     → Rose old.read_faults new.read_faults ⊎ TakesNoLine room old.left new.left
     → new.broken ≡ true → OnErr result (IsCutOff old new question)
@@ -70,7 +70,7 @@ not_read (Ok x) old new question room before whole size none is = tt
 not_read (Err why) old new question room before whole size none is =
     cut_reading old new question room before whole size none is
 
-pub exchanged : (old new : Ends) (question line : List ℕ) (size : ℕ) → old.broken ≡ false
+pub exchanged : (old new : ExchangeEnds) (question line : List ℕ) (size : ℕ) → old.broken ≡ false
     → Appends old.written new.written question → TakesLine old.left new.left (take size line)
     → size ≤ 131072 → new.broken ≡ false → Exchanged old new question (take size line)
 exchanged old new question line size before whole taken short is = record {
@@ -82,7 +82,7 @@ exchanged old new question line size before whole taken short is = record {
 }
 
 -- the question was this text
-pub cut_off_as : (old new : Ends) (question text : List ℕ) → question ≡ text
+pub cut_off_as : (old new : ExchangeEnds) (question text : List ℕ) → question ≡ text
     → IsCutOff old new question → IsCutOff old new text
 cut_off_as old new question text same cut = subst (IsCutOff old new) same cut
 
@@ -101,10 +101,10 @@ parts x y same = subst (Parts x) same (own x)
     own (Err why) = tt
 
 -- what is no reply at all is none of one kind
-pub passes_on : {T : Type 0} (reply : T → Reply) (usable : T → Type 0) (old new : Ends)
+pub passes_on : {T : Type 0} (reply : T → Reply) (usable : T → Type 0) (old new : ExchangeEnds)
     (asked : Asked) (request : Request) (why : KmsNo)
-    → Answers (λ r. r) (λ _. ⊤) old new asked request (Err why)
-    → Answers reply usable old new asked request (Err why)
+    → AnswersRequest (λ r. r) (λ _. ⊤) old new asked request (Err why)
+    → AnswersRequest reply usable old new asked request (Err why)
 passes_on reply usable old new asked request Failed (inl cut) = inl cut
 passes_on reply usable old new asked request Failed (inr (inl (line, asks, inl refuses))) =
     inr (inl (line, asks, inl refuses))
@@ -117,11 +117,11 @@ passes_on reply usable old new asked request NoMemory (inl same) = inl same
 passes_on reply usable old new asked request NoMemory (inr asks) = inr asks
 
 -- a reply of another kind, behind which the exchange was broken off
-pub other_kind : {T : Type 0} (reply : T → Reply) (usable : T → Type 0) (old mid new : Ends)
+pub other_kind : {T : Type 0} (reply : T → Reply) (usable : T → Type 0) (old mid new : ExchangeEnds)
     (asked : Asked) (request : Request) (found : Reply)
-    → Answers (λ r. r) (λ _. ⊤) old mid asked request (Ok found)
+    → AnswersRequest (λ r. r) (λ _. ⊤) old mid asked request (Ok found)
     → ((answer : T) → found ≡ reply answer → ⊥) → new ≡ broken_off mid
-    → Answers reply usable old new asked request (Err Failed)
+    → AnswersRequest reply usable old new asked request (Err Failed)
 other_kind reply usable old mid new asked request found ((line, asks, is), _) none broken =
     inr (inr (
       mid,
@@ -137,10 +137,10 @@ other_kind reply usable old mid new asked request found ((line, asks, is), _) no
     ))
 
 -- a reply of the kind that can't be used
-pub unusable : {T : Type 0} (reply : T → Reply) (usable : T → Type 0) (old new : Ends)
+pub unusable : {T : Type 0} (reply : T → Reply) (usable : T → Type 0) (old new : ExchangeEnds)
     (asked : Asked) (request : Request) (found : Reply) (answer : T)
-    → Answers (λ r. r) (λ _. ⊤) old new asked request (Ok found) → found ≡ reply answer
-    → (usable answer → ⊥) → Answers reply usable old new asked request (Err Failed)
+    → AnswersRequest (λ r. r) (λ _. ⊤) old new asked request (Ok found) → found ≡ reply answer
+    → (usable answer → ⊥) → AnswersRequest reply usable old new asked request (Err Failed)
 unusable reply usable old new asked request found answer ((line, asks, is), _) same not =
     inr (inl (line, asks, inr (answer, is ∙ ap Ok same, not)))
 

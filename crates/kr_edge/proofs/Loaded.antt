@@ -3,9 +3,9 @@ use Rattle.std.proofs.Common.{◌≡◌, ℕ, ◌+◌, ◌<◌, List, ◌++◌, 
 use Rattle.std.specs.Io.KnownBytes.{Consumes}
 use Rattle.kr_base.specs.Told.{Agrees}
 use Rattle.kr_base.specs.Streams.{TakesCount}
-use Rattle.kr_edge.specs.Opened.{Holds}
+use Rattle.kr_edge.specs.Opened.{ReaderHolds}
 
-pub long_file : (file : Option (Option (List ℕ))) (old new : Option (List ℕ)) (limit : ℕ) → Holds file old → TakesCount old new (limit + 1) → (bytes : List ℕ) × (limit < length bytes) × Agrees file (Some bytes)
+pub long_file : (file : Option (Option (List ℕ))) (old new : Option (List ℕ)) (limit : ℕ) → ReaderHolds file old → TakesCount old new (limit + 1) → (bytes : List ℕ) × (limit < length bytes) × Agrees file (Some bytes)
 long_file None old new limit h t = (t.0, omega (arith, t.2), tt)
 long_file (Some None) old new limit h t = absurd h
 long_file (Some (Some all)) old new limit h t = (all, longer old new h t.1, refl)

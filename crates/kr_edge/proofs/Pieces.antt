@@ -6,7 +6,7 @@ use Rattle.std.proofs.lemmas.List.{append_assoc, append-nil, drop-drop, length-a
 use Rattle.std.proofs.lemmas.List.Edits.{paste_all, paste-paste}
 use Rattle.std.proofs.Math.Seq.{paste, take-add, take-append-add}
 use Rattle.kr_base.specs.Tapes.{KeepsFront, with_bytes_at}
-use Rattle.kr_edge.specs.Placed.{LengthCall, ReadsSome, Restores, SetsLength, with_length, with_length_call}
+use Rattle.kr_edge.specs.Placed.{LengthCall, ReadsSome, Restores, SetsLength, fitted_length, with_length_call}
 use Rattle.kr_edge.proofs.Lines.{next_bytes}
 use borrow.Rule.Slice.PartMut.{put_mid, take_put}
 
@@ -142,7 +142,7 @@ front_restored (Some held) mid new at before result fits is keeps sets =
 
 -- a length that the file has at least cuts it
 pub cut_by_length : (old new : Option (List ℕ)) (len : ℕ)
-    → IfSome old (λ bytes. len ≤ length bytes) → new ≡ option_map (with_length len) old
+    → IfSome old (λ bytes. len ≤ length bytes) → new ≡ option_map (fitted_length len) old
     → new ≡ option_map (λ bytes. take len bytes) old
 cut_by_length None new len fits is = is
 cut_by_length (Some bytes) new len fits is =

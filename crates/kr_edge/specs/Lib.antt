@@ -8,3 +8,4 @@ pub mod RealWorld
 pub mod Stores
 pub mod SystemCalls
 pub mod Wiped
+pub mod inner

@@ -13,21 +13,21 @@ abbrev pub TakesLine : Option (List ℕ) → Option (List ℕ) → List ℕ → 
 TakesLine old new line = Consumes old new (line ++ 10 ∷ []) × HasNoLF line
 
 -- bytes stand behind the line
-abbrev pub GoesOn : List ℕ → Type 0
-GoesOn bytes = (line : List ℕ) × (behind : List ℕ)
+abbrev pub HasMoreBytes : List ℕ → Type 0
+HasMoreBytes bytes = (line : List ℕ) × (behind : List ℕ)
     × (bytes ≡ line ++ 10 ∷ behind) × (0 < length behind)
 
 -- what was taken from the front isn't one line: there is an end in place of its LF, or no LF in so
 -- many bytes, or it goes on behind it
 abbrev pub TakesNoLine : ℕ → Option (List ℕ) → Option (List ℕ) → Type 0
 TakesNoLine most old new = (bytes : List ℕ) × Consumes old new bytes
-    × ((HasNoLF bytes × (IsAtEnd new ⊎ (length bytes ≡ most))) ⊎ GoesOn bytes)
+    × ((HasNoLF bytes × (IsAtEnd new ⊎ (length bytes ≡ most))) ⊎ HasMoreBytes bytes)
 
 -- ---- exchanges
 
 -- the two ends of an exchange: the bytes that were written and those that are left to be read,
 -- where they are told; how often each end failed; and whether an exchange was cut off or broken off
-pub record Ends : Type 0 where
+pub record ExchangeEnds : Type 0 where
   pub written : Option (List ℕ)
   pub left : Option (List ℕ)
   pub write_faults : ℕ
@@ -35,7 +35,7 @@ pub record Ends : Type 0 where
   pub broken : Bool
 
 abbrev pub ends_of : {W R : Type 0} → (W → Option (List ℕ)) → (R → Option (List ℕ))
-    → Exchange W R → Ends
+    → Exchange W R → ExchangeEnds
 ends_of contents remaining exchange = record {
   written = contents exchange.input.writer;
   left = remaining exchange.output.reader;
@@ -44,9 +44,9 @@ ends_of contents remaining exchange = record {
   broken = exchange.broken;
 }
 
--- no exchange was cut off or broken off before; the question was written, once, and a line of at most 131,072
--- bytes was taken as its answer
-pub record Exchanged (old new : Ends) (question line : List ℕ) : Type 0 where
+-- no exchange was cut off or broken off before; the question was written, once, and a line of at
+-- most 131,072 bytes was taken as its answer
+pub record Exchanged (old new : ExchangeEnds) (question line : List ℕ) : Type 0 where
   pub before : old.broken ≡ false
   pub asked : Appends old.written new.written question
   pub answered : TakesLine old.left new.left line
@@ -54,21 +54,21 @@ pub record Exchanged (old new : Ends) (question line : List ℕ) : Type 0 where
   pub whole : new.broken ≡ false
 
 -- an end failed, or no line of at most 131,072 bytes came
-abbrev pub FailsToAnswer : Ends → Ends → Type 0
+abbrev pub FailsToAnswer : ExchangeEnds → ExchangeEnds → Type 0
 FailsToAnswer old new = Rose old.write_faults new.write_faults
     ⊎ Rose old.read_faults new.read_faults ⊎ TakesNoLine 131073 old.left new.left
 
 -- one was cut off or broken off before, so nothing was asked; or this one fails
-abbrev pub CutsOff : Ends → Ends → Type 0
+abbrev pub CutsOff : ExchangeEnds → ExchangeEnds → Type 0
 CutsOff old new = ((old.broken ≡ true) × (new ≡ old))
     ⊎ ((old.broken ≡ false) × FailsToAnswer old new)
 
 -- the same ends, of which the last exchange was broken off by the one who asked
-abbrev pub broken_off : Ends → Ends
+abbrev pub broken_off : ExchangeEnds → ExchangeEnds
 broken_off ends = record ends { broken = true }
 
 -- a front of the question was written at most
-pub record IsCutOff (old new : Ends) (question : List ℕ) : Type 0 where
+pub record IsCutOff (old new : ExchangeEnds) (question : List ℕ) : Type 0 where
   pub asked : AppendsFront old.written new.written question
   pub cause : CutsOff old new
   pub broken : new.broken ≡ true

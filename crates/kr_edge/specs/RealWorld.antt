@@ -13,8 +13,8 @@ TapeCounts = ShelfState (List ℕ) (List ℕ × ℕ)
 abbrev pub LinkCounts : Type 0
 LinkCounts = ShelfState (ℕ × List ℕ) ((ℕ × List ℕ) × ℕ)
 
-abbrev pub key_of : {K : Type 0} → K × ℕ → K
-key_of entry = entry.0
+abbrev pub shelf_key : {K : Type 0} → K × ℕ → K
+shelf_key entry = entry.0
 
 abbrev pub count_of : {K : Type 0} → K × ℕ → ℕ
 count_of entry = entry.1
@@ -32,8 +32,8 @@ real_world file faults dice_faults dice_out tapes links = record {
     faults = λ seat. slice_index_or dice_faults seat 0;
     out = λ seat. slice_index_or dice_out seat 0;
   };
-  tapes = objects_by same_name key_of (λ first. None) count_of tapes;
-  links = objects_by same_link key_of (λ first. None) count_of links;
+  tapes = objects_by same_name shelf_key (λ first. None) count_of tapes;
+  links = objects_by same_link shelf_key (λ first. None) count_of links;
 }
 
 -- what such a world tells, whose system tells these files

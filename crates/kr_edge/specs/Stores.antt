@@ -3,20 +3,23 @@ use Rattle.std.specs.Prelude.{◌≡◌, ℕ, ◌⊎◌, Bool, true, false, List
 use Rattle.std.specs.Fs.{new_options, with_read, with_write, with_create_new}
 use Rattle.std.specs.Path.{path_parent}
 use Rattle.std.specs.declared.fs.options.OpenOptions.{OpenOptions}
+use Rattle.std.specs.declared.process.child.Child.{Child}
 use Rattle.kr_kms.specs.Outside.{makes}
 use Rattle.kr_kms.specs.declared.world.Access.{Access}
 use Rattle.kr_kms.specs.declared.world.Access.TheVariants.{ToRead, ToWrite, ToMake}
 use Rattle.kr_kms.specs.declared.world.FileNo.{FileNo}
 use Rattle.kr_kms.specs.declared.world.FileNo.TheVariants as file
-use Rattle.kr_edge.specs.SystemCalls.{noted, with_note}
+use Rattle.kr_edge.specs.SystemCalls.{has_ends, noted, with_note}
+use Rattle.kr_edge.specs.declared.system.ChildStream.TheVariants.{Piped, Shared}
+use Rattle.kr_edge.specs.declared.system.ChildStreams.{ChildStreams}
 use Rattle.kr_edge.specs.declared.system.Found.{Found}
 use Rattle.kr_edge.specs.declared.system.Found.TheVariants.{Absent, Empty, Filled, Other, Failed}
 use Rattle.kr_edge.specs.declared.system.OpenNo.{OpenNo}
 use Rattle.kr_edge.specs.declared.system.OpenNo.TheVariants as why
-use Rattle.kr_edge.specs.declared.system.StartNo.{StartNo}
-use Rattle.kr_edge.specs.declared.system.StartNo.TheVariants as no
+use Rattle.kr_edge.specs.declared.system.ProcessStartNo.{ProcessStartNo}
+use Rattle.kr_edge.specs.declared.system.ProcessStartNo.TheVariants as no
 use Rattle.kr_edge.specs.declared.system.SystemCall.{SystemCall}
-use Rattle.kr_edge.specs.declared.system.SystemCall.TheVariants.{Look, Open, Lock, LookAt, SyncFolder, Start}
+use Rattle.kr_edge.specs.declared.system.SystemCall.TheVariants.{Read, Look, Open, Lock, LookAt, SyncFolder, Start}
 
 -- the folder of a file: what stands before its name, or the one that this process is in
 abbrev pub named_folder : Option (List ℕ) → List ℕ
@@ -24,8 +27,8 @@ named_folder None = codes "."
 named_folder (Some []) = codes "."
 named_folder (Some (byte ∷ bytes)) = byte ∷ bytes
 
-abbrev pub folder_of : List ℕ → List ℕ
-folder_of name = named_folder (path_parent name)
+abbrev pub parent_folder : List ℕ → List ℕ
+parent_folder name = named_folder (path_parent name)
 
 -- a store that is only read needs no right to write, and others may read it too
 abbrev pub only_reads : Access → Bool
@@ -40,20 +43,20 @@ options_by ToWrite = with_write (with_read new_options true) true
 options_by ToMake = with_write (with_read new_options true) true
 
 -- where there is none it may be made, and must be new then
-abbrev pub options_for : Access → Found → Option OpenOptions
-options_for access Empty = Some (options_by access)
-options_for access Filled = Some (options_by access)
-options_for ToMake Absent = Some (with_create_new (options_by ToMake) true)
-options_for access found = None
+abbrev pub open_options : Access → Found → Option OpenOptions
+open_options access Empty = Some (options_by access)
+open_options access Filled = Some (options_by access)
+open_options ToMake Absent = Some (with_create_new (options_by ToMake) true)
+open_options access found = None
 
 -- the options, or why it can't be opened
 abbrev pub ChoosesOptions : Access → Found → Result OpenOptions OpenNo → Type 0
-ChoosesOptions access found (Ok options) = options_for access found ≡ Some options
+ChoosesOptions access found (Ok options) = open_options access found ≡ Some options
 ChoosesOptions access found (Err why.Absent) = (found ≡ Absent) × (makes access ≡ false)
 ChoosesOptions access found (Err why.Failed) = (found ≡ Other) ⊎ (found ≡ Failed)
 
--- the file of the name was looked at behind its lock, which readers share and a writer has alone; or
--- it is locked already
+-- the file of the name was looked at behind its lock, which readers share and a writer has alone;
+-- or it is locked already
 abbrev pub LooksLocked : (name : List ℕ) → Access → Option (List SystemCall)
     → Option (List SystemCall) → Option Found → Type 0
 LooksLocked name access old new (Some at) =
@@ -64,7 +67,7 @@ LooksLocked name access old new None = new ≡ with_note (Lock name (only_reads 
 -- bytes needs no more calls, and what isn't a plain file is no store
 abbrev pub folder_calls : (name : List ℕ) → (make : Bool) → Found → Option (List SystemCall)
 folder_calls name make Filled = Some []
-folder_calls name true Empty = Some (SyncFolder (folder_of name) true ∷ [])
+folder_calls name true Empty = Some (SyncFolder (parent_folder name) true ∷ [])
 folder_calls name false Empty = Some []
 folder_calls name make found = None
 
@@ -72,19 +75,19 @@ folder_calls name make found = None
 -- looked at
 abbrev pub OpensBy : (name : List ℕ) → Access → List SystemCall → Type 0
 OpensBy name access calls = (found at : Found) × (options : OpenOptions) × (last : List SystemCall)
-    × (options_for access found ≡ Some options)
+    × (open_options access found ≡ Some options)
     × (folder_calls name (makes access) at ≡ Some last)
     × (calls ≡ Look name found ∷ Open name options 0o600 true
     ∷ Lock name (only_reads access) true ∷ LookAt name at ∷ last)
 
 -- what the last call answered is a reason to open no store
-abbrev pub Refuses : SystemCall → Type 0
-Refuses (Look name found) = (found ≡ Other) ⊎ (found ≡ Failed)
-Refuses (Open name options mode opened) = opened ≡ false
-Refuses (Lock name shared locked) = locked ≡ false
-Refuses (LookAt name found) = (found ≡ Absent) ⊎ (found ≡ Other) ⊎ (found ≡ Failed)
-Refuses (SyncFolder folder synced) = synced ≡ false
-Refuses call = ⊥
+abbrev pub ForbidsOpening : SystemCall → Type 0
+ForbidsOpening (Look name found) = (found ≡ Other) ⊎ (found ≡ Failed)
+ForbidsOpening (Open name options mode opened) = opened ≡ false
+ForbidsOpening (Lock name shared locked) = locked ≡ false
+ForbidsOpening (LookAt name found) = (found ≡ Absent) ⊎ (found ≡ Other) ⊎ (found ≡ Failed)
+ForbidsOpening (SyncFolder folder synced) = synced ≡ false
+ForbidsOpening call = ⊥
 
 abbrev pub OpensStore : {F : Type 0} → (name : List ℕ) → Access
     → Option (List SystemCall) → Option (List SystemCall) → Result F OpenNo → Type 0
@@ -93,22 +96,34 @@ OpensStore name access old new (Ok file) =
 OpensStore name access old new (Err why.Absent) =
     (makes access ≡ false) × (new ≡ noted (Look name Absent ∷ []) old)
 OpensStore name access old new (Err why.Failed) =
-    (calls : List SystemCall) × (last : SystemCall) × Refuses last
+    (calls : List SystemCall) × (last : SystemCall) × ForbidsOpening last
     × (new ≡ with_note last (noted calls old))
 
--- the program was started, and nothing else; or why not. Where there was no memory, perhaps not even
--- that was tried
-abbrev pub Starts : {C : Type 0} → (program : List ℕ)
-    → Option (List SystemCall) → Option (List SystemCall) → Result C StartNo → Type 0
-Starts program old new (Ok child) = new ≡ with_note (Start program true) old
-Starts program old new (Err no.Failed) = new ≡ with_note (Start program false) old
-Starts program old new (Err no.NoMemory) =
-    (new ≡ old) ⊎ (new ≡ with_note (Start program false) old)
+-- a plugin's input and output are pipes, and its errors are this process' own
+abbrev pub plugin_streams : ChildStreams
+plugin_streams = record { input = Piped; output = Piped; errors = Shared }
+
+-- a plugin was to be started: it was, and has the ends of its pipes, or not
+abbrev pub plugin_start : (program : List ℕ) → (started piped : Bool) → SystemCall
+plugin_start program started piped = Start program plugin_streams started piped
+
+-- the program was started, and nothing else; or why not. Where there was no memory, perhaps not
+-- even that was tried
+abbrev pub StartsProgram : {P I O E : Type 0} → (program : List ℕ)
+    → Option (List SystemCall) → Option (List SystemCall) → Result (Child P I O E) ProcessStartNo
+    → Type 0
+StartsProgram program old new (Ok child) =
+    new ≡ with_note (plugin_start program true (has_ends child)) old
+StartsProgram program old new (Err no.Failed) = new
+    ≡ with_note (plugin_start program false false) old
+StartsProgram program old new (Err no.NoMemory) =
+    (new ≡ old) ⊎ (new ≡ with_note (plugin_start program false false) old)
 
 -- ---- what a world lends
 
 -- the store of a tape was opened; or why there is no tape: one of the name is out, so nothing was
--- asked; or its store was refused; or memory lacked, before anything was asked or behind the opening
+-- asked; or its store was refused; or memory lacked, before anything was asked or behind the
+-- opening
 abbrev pub LendsStore : {F : Type 0} → (name : List ℕ) → Access → (IsOut : Type 0)
     → Option (List SystemCall) → Option (List SystemCall) → Result F FileNo → Type 0
 LendsStore {F} name access IsOut old new (Ok tape) =
@@ -121,13 +136,39 @@ LendsStore {F} name access IsOut old new (Err file.Failed) =
 LendsStore {F} name access IsOut old new (Err file.NoMemory) = (new ≡ old)
     ⊎ ((calls : List SystemCall) × OpensBy name access calls × (new ≡ noted calls old))
 
+-- the file of the name was opened to be read, and nothing else; or why it gave no bytes: it wasn't
+-- opened, or what was opened is too long or failed as it was read, or memory lacked for it
+abbrev pub LoadsBy : {B : Type 0} → (name : List ℕ) → (FailsToRead : Type 0)
+    → Option (List SystemCall) → Option (List SystemCall) → Result B FileNo → Type 0
+LoadsBy name FailsToRead old new (Ok bytes) = new ≡ with_note (Read name None) old
+LoadsBy name FailsToRead old new (Err file.Absent) =
+    new ≡ with_note (Read name (Some why.Absent)) old
+LoadsBy name FailsToRead old new (Err file.TooLong) = new ≡ with_note (Read name None) old
+LoadsBy name FailsToRead old new (Err file.Failed) =
+    (new ≡ with_note (Read name (Some why.Failed)) old)
+    ⊎ (FailsToRead × (new ≡ with_note (Read name None) old))
+LoadsBy name FailsToRead old new (Err file.NoMemory) = new ≡ with_note (Read name None) old
+
+-- the device of random bytes was opened, and nothing else; or there is no source left to lend, so
+-- nothing was asked; or the device wasn't opened
+abbrev pub DrawsFrom : {D : Type 0} → (IsLent : Type 0)
+    → Option (List SystemCall) → Option (List SystemCall) → Result D FileNo → Type 0
+DrawsFrom IsLent old new (Ok dice) = new ≡ with_note (Read (codes "/dev/urandom") None) old
+DrawsFrom IsLent old new (Err file.Absent) = ⊥
+DrawsFrom IsLent old new (Err file.TooLong) = ⊥
+DrawsFrom IsLent old new (Err file.Failed) = (IsLent × (new ≡ old))
+    ⊎ ((answer : OpenNo) × (new ≡ with_note (Read (codes "/dev/urandom") (Some answer)) old))
+DrawsFrom IsLent old new (Err file.NoMemory) = ⊥
+
 -- the program of a link was started; or it wasn't, or has no pipe, or memory lacked
 abbrev pub LendsLink : {L : Type 0} → (program : List ℕ)
     → Option (List SystemCall) → Option (List SystemCall) → Result L FileNo → Type 0
-LendsLink program old new (Ok link) = new ≡ with_note (Start program true) old
+LendsLink program old new (Ok link) = new ≡ with_note (plugin_start program true true) old
 LendsLink program old new (Err file.Absent) = ⊥
 LendsLink program old new (Err file.TooLong) = ⊥
 LendsLink program old new (Err file.Failed) =
-    (new ≡ with_note (Start program false) old) ⊎ (new ≡ with_note (Start program true) old)
+    (new ≡ with_note (plugin_start program false false) old)
+    ⊎ (new ≡ with_note (plugin_start program true false) old)
 LendsLink program old new (Err file.NoMemory) = (new ≡ old)
-    ⊎ (new ≡ with_note (Start program false) old) ⊎ (new ≡ with_note (Start program true) old)
+    ⊎ (new ≡ with_note (plugin_start program false false) old)
+    ⊎ (new ≡ with_note (plugin_start program true true) old)

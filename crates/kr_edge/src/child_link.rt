@@ -1,5 +1,5 @@
 //! A link to a plugin over its lines, as over the pipes of a child program.
-ghost use Rattle.std.specs.Prelude.{◌≡◌, false, ⊤};
+ghost use Rattle.std.specs.Prelude.{◌≡◌, false, is_some, ⊤};
 ghost use Rattle.kr_base.specs.Numbering.{next_number};
 ghost use Rattle.kr_kms.specs.Calls.{Says, Unwraps, Wraps, asked_key};
 ghost use Rattle.kr_kms.specs.Exchanges.{StatusCall, WrapCall, UnwrapCall};
@@ -9,8 +9,9 @@ ghost use Rattle.kr_kms_wire.specs.declared.replies.Asked.{Asked};
 ghost use Rattle.kr_kms_wire.specs.declared.replies.Reply.{Reply};
 ghost use Rattle.kr_kms_wire.specs.declared.requests.Request.{Request};
 ghost use Rattle.kr_edge.specs.Lines.{ends_of};
-ghost use Rattle.kr_edge.specs.Links.{LineStep, line_keeps};
-ghost use Rattle.kr_edge.specs.Plugins.{Answers, Counts, line_link};
+ghost use Rattle.kr_edge.specs.Links.{LineStep, line_keeps, line_tells};
+ghost use Rattle.kr_edge.specs.Plugins.{AnswersRequest, CountsFailures, line_link};
+ghost use Rattle.kr_edge.specs.SystemCalls.{has_ends};
 ghost use Rattle.kr_edge.specs.Wiped.{IsWiped};
 
 use crate::answer_room::AnswerRoom;
@@ -32,8 +33,7 @@ pub struct LineLink<C, W, R> {
 /// to its output. A link has no way to stop a program that neither answers nor ends.
 pub type ChildLink = LineLink<Child<SystemProcess>, ChildStdin, ChildStdout>;
 
-/// A started child with its pipes.
-#[derive(Drop)]
+/// A started child with its pipes. It can't be dropped: `close` ends it, or a link takes it over.
 pub struct ChildEnds {
     child: Child<SystemProcess>,
     input: ChildStdin,
@@ -41,7 +41,9 @@ pub struct ChildEnds {
 }
 
 /// The pipes of a started child. One that lacks a pipe is ended.
-pub fn take_ends(mut child: Child<SystemProcess>) -> Option<ChildEnds> {
+pub fn take_ends(mut child: Child<SystemProcess>) -> Option<ChildEnds>
+    ensures { is_some result ≡ has_ends child }
+{
     let input = child.stdin.take();
     let output = child.stdout.take();
     match (input, output) {
@@ -135,6 +137,8 @@ impl<C, W: Write, R: Read> Kms for LineLink<C, W, R> {
 
     ghost keeps = { line_keeps W.contents R.remaining };
 
+    ghost tells = { line_tells W.contents R.remaining };
+
     fn name(&self) -> &str {
         self.name.as_str()
     }
@@ -144,12 +148,12 @@ impl<C, W: Write, R: Read> Kms for LineLink<C, W, R> {
     }
 
     fn status(&mut self, alloc: Global) -> Result<Status, KmsNo>
-        ensures answers { Answers Reply.Status (λ _. ⊤)
+        ensures answers { AnswersRequest Reply.Status (λ _. ⊤)
             (ends_of W.contents R.remaining self.old.lines.exchange)
             (ends_of W.contents R.remaining self.new.lines.exchange)
             Asked.Status Request.Status result }
         ensures uid { self.new.lines.uid ≡ self.old.lines.uid }
-        ensures once { Counts result self.old.lines.faults self.new.lines.faults }
+        ensures once { CountsFailures result self.old.lines.faults self.new.lines.faults }
         ensures wiped { IsWiped self.new.lines.exchange.line.line.items }
 
         // As the trait says.
@@ -162,12 +166,12 @@ impl<C, W: Write, R: Read> Kms for LineLink<C, W, R> {
     }
 
     fn wrap(&mut self, alloc: Global, plain: &[u8]) -> Result<Wrapped, KmsNo>
-        ensures answers { Answers Reply.Encrypt IsWithinLimits
+        ensures answers { AnswersRequest Reply.Encrypt IsWithinLimits
             (ends_of W.contents R.remaining self.old.lines.exchange)
             (ends_of W.contents R.remaining self.new.lines.exchange)
             Asked.Encrypt (Request.Encrypt plain.now (next_number self.old.lines.uid)) result }
         ensures uid { self.new.lines.uid ≡ next_number self.old.lines.uid }
-        ensures once { Counts result self.old.lines.faults self.new.lines.faults }
+        ensures once { CountsFailures result self.old.lines.faults self.new.lines.faults }
         ensures wiped { IsWiped self.new.lines.exchange.line.line.items }
 
         // As the trait says.
@@ -186,13 +190,13 @@ impl<C, W: Write, R: Read> Kms for LineLink<C, W, R> {
         annotations: &Annotations,
         source: &[u8],
     ) -> Result<Bytes, KmsNo>
-        ensures answers { Answers Reply.Decrypt (λ _. ⊤)
+        ensures answers { AnswersRequest Reply.Decrypt (λ _. ⊤)
             (ends_of W.contents R.remaining self.old.lines.exchange)
             (ends_of W.contents R.remaining self.new.lines.exchange)
             Asked.Decrypt (Request.Decrypt source.now key_id.now annotations.now
             (next_number self.old.lines.uid)) result }
         ensures uid { self.new.lines.uid ≡ next_number self.old.lines.uid }
-        ensures once { Counts result self.old.lines.faults self.new.lines.faults }
+        ensures once { CountsFailures result self.old.lines.faults self.new.lines.faults }
         ensures wiped { IsWiped self.new.lines.exchange.line.line.items }
 
         // As the trait says.

@@ -69,7 +69,7 @@ impl<W: Write, R: Read> Exchange<W, R> {
     }
 
     /// Breaks it off: what was read is no answer to what was asked, so the answer may still come.
-    pub fn break_off(&mut self)
+    pub fn abandon(&mut self)
         ensures ends { ends_of W.contents R.remaining self.new
             ≡ broken_off (ends_of W.contents R.remaining self.old) }
     {
@@ -127,11 +127,11 @@ fn read_piece<S: Source>(source: &mut S, into: &mut [u8]) -> Result<(usize, Opti
     ensures cause { IsCounted (S.count source.old) (S.count source.new) result }
 {
     let count = source.read(into)?;
-    Ok((count, end_in(&into[..count])))
+    Ok((count, find_line_end(&into[..count])))
 }
 
 /// Where the first LF stands.
-fn end_in(bytes: &[u8]) -> Option<usize>
+fn find_line_end(bytes: &[u8]) -> Option<usize>
     ensures first { result ≡ position (λ byte. byte == 10) bytes.now }
     ensures within { IfSome result (λ at. at < length bytes.now) }
 {

@@ -11,7 +11,7 @@ pub use plugin_lines::PluginLines;
 pub use real_world::{DeviceDice, RealWorld};
 pub use standard::hold_standard_streams;
 pub use streams::{StdSink, StdSource};
-pub use system::{Found, OpenNo, StartNo, System, SystemCall};
+pub use system::{ChildStream, ChildStreams, Found, OpenNo, ProcessStartNo, System, SystemCall};
 pub use system_files::SystemFiles;
 pub use tape::FileTape;
 

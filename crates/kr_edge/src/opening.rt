@@ -1,29 +1,29 @@
 //! How stores are opened, and programs started.
 ghost use Rattle.std.specs.Prelude.{◌≡◌};
-ghost use Rattle.kr_edge.specs.Stores.{ChoosesOptions, LooksLocked, OpensStore, Starts};
-ghost use Rattle.kr_edge.specs.Stores.{folder_of, only_reads};
+ghost use Rattle.kr_edge.specs.Stores.{ChoosesOptions, LooksLocked, OpensStore, StartsProgram};
+ghost use Rattle.kr_edge.specs.Stores.{parent_folder, only_reads};
 
 use crate::placed::DiskFile;
-use crate::system::{Found, OpenNo, StartNo, System};
+use crate::system::{ChildStream, ChildStreams, Found, OpenNo, ProcessStartNo, System};
 use kr_base::Text;
 use kr_kms::Access;
 use std::alloc::Global;
 use std::fs::OpenOptions;
 use std::path::Path;
-use std::process::{Child, Command, Stdio, SystemProcess};
+use std::process::{Child, Command, SystemProcess};
 
 /// Opens the file of that name for what it is asked for, and locks it: one that is only read by a
-/// lock that others share who read it, and any other by one of its own. An absent one may be made, of
-/// mode 600; the folder of an empty one is synced then, so that its name outlasts a loss of power: it
-/// may just have been made, here or by a call that was cut off before it synced the folder. What is
-/// no plain file fails, and so does one whose lock another open holds, here or in another process.
-/// What the name leads to is looked at before it is opened, since to open a device may do something,
-/// and again behind that.
+/// lock that others share who read it, and any other by one of its own. An absent one may be made,
+/// of mode 600; the folder of an empty one is synced then, so that its name outlasts a loss of
+/// power: it may just have been made, here or by a call that was cut off before it synced the
+/// folder. What is no plain file fails, and so does one whose lock another open holds, here or in
+/// another process. What the name leads to is looked at before it is opened, since to open a device
+/// may do something, and again behind that.
 pub fn open_store<S: System>(system: &mut S, name: Text, access: Access) -> Result<DiskFile, OpenNo>
     ensures calls { OpensStore name access (S.calls system.old) (S.calls system.new) result }
     ensures same { S.told system.new ≡ S.told system.old }
 {
-    let mut options = match options_for(access, system.look(name.as_str())) {
+    let mut options = match open_options(access, system.look(name.as_str())) {
         Ok(options) => options,
         Err(why) => {
             drop(name);
@@ -40,7 +40,7 @@ pub fn open_store<S: System>(system: &mut S, name: Text, access: Access) -> Resu
     match at {
         Found::Filled => Ok(file),
         Found::Empty => {
-            if access.makes() && !system.sync_folder(folder_of(file.name())) {
+            if access.makes() && !system.sync_folder(parent_folder(file.name())) {
                 drop(file);
                 return Err(OpenNo::Failed);
             }
@@ -60,7 +60,7 @@ fn look_locked<S: System>(system: &mut S, file: &DiskFile, access: Access) -> Op
     ensures same { S.told system.new ≡ S.told system.old }
 {
     if system.lock(file, only_reads(access)) {
-        Some(system.look_at(file))
+        Some(system.inspect_file(file))
     } else {
         None
     }
@@ -77,7 +77,7 @@ pub(crate) fn only_reads(access: Access) -> bool
 }
 
 /// By which options a store is opened whose name leads to what was found.
-fn options_for(access: Access, found: Found) -> Result<OpenOptions, OpenNo>
+fn open_options(access: Access, found: Found) -> Result<OpenOptions, OpenNo>
     ensures { ChoosesOptions access found result }
 {
     let mut options = OpenOptions::new();
@@ -98,31 +98,32 @@ fn options_for(access: Access, found: Found) -> Result<OpenOptions, OpenNo>
     }
 }
 
-/// Starts the program of that name with no arguments, with pipes as its input and output. Its errors
-/// are this process' own, so that the user reads them and nobody's pipe fills.
+/// Starts the program of that name with no arguments, with pipes as its input and output. Its
+/// errors are this process' own, so that the user reads them and nobody's pipe fills.
 pub fn start<S: System>(
     system: &mut S,
     alloc: Global,
     program: &str,
-) -> Result<Child<SystemProcess>, StartNo>
-    ensures calls { Starts program.now (S.calls system.old) (S.calls system.new) result }
+) -> Result<Child<SystemProcess>, ProcessStartNo>
+    ensures calls { StartsProgram program.now (S.calls system.old) (S.calls system.new) result }
     ensures same { S.told system.new ≡ S.told system.old }
 {
     let Ok(mut command) = Command::new(alloc, program) else {
-        return Err(StartNo::NoMemory);
+        return Err(ProcessStartNo::NoMemory);
     };
-    command
-        .stdin(Stdio::piped())
-        .stdout(Stdio::piped())
-        .stderr(Stdio::inherit());
-    let started = system.start(&mut command);
+    let streams = ChildStreams {
+        input: ChildStream::Piped,
+        output: ChildStream::Piped,
+        errors: ChildStream::Shared,
+    };
+    let started = system.start(&mut command, streams);
     drop(command);
     started
 }
 
 /// The folder that a file of that name stands in.
-fn folder_of(name: &str) -> &str
-    ensures { result.now ≡ folder_of name.now }
+fn parent_folder(name: &str) -> &str
+    ensures { result.now ≡ parent_folder name.now }
 {
     match Path::new(name).parent() {
         None => ".",

@@ -8,7 +8,7 @@ ghost use Rattle.kr_kms_wire.specs.declared.replies.Reply.{Reply};
 ghost use Rattle.kr_kms_wire.specs.declared.requests.Request.{Request};
 ghost use Rattle.kr_kms.specs.declared.plugin.KmsNo.{KmsNo};
 ghost use Rattle.kr_edge.specs.Lines.{ends_of};
-ghost use Rattle.kr_edge.specs.Plugins.{Answers, Counts};
+ghost use Rattle.kr_edge.specs.Plugins.{AnswersRequest, CountsFailures};
 ghost use Rattle.kr_edge.specs.Wiped.{IsWiped};
 
 use crate::answer_room::AnswerRoom;
@@ -21,8 +21,8 @@ use std::io::{Read, Write};
 
 /// The calls on a plugin over two ends, of which the one takes requests and the other gives
 /// replies. An exchange that was cut off, and a line that is no reply to what was asked, leave it
-/// broken, so that each later call fails too; a refusal, and a wrap above the limits, are faults that
-/// leave it whole.
+/// broken, so that each later call fails too; a refusal, and a wrap above the limits, are faults
+/// that leave it whole.
 #[derive(Drop)]
 pub struct PluginLines<W, R> {
     exchange: Exchange<W, R>,
@@ -58,8 +58,8 @@ impl<W: Write, R: Read> PluginLines<W, R> {
     pub fn status(&mut self, alloc: Global) -> Result<Status, KmsNo>
         ensures later { self.old.faults ≤ self.new.faults }
         ensures failed { IsErrOf result KmsNo.Failed → Rose self.old.faults self.new.faults }
-        ensures once { Counts result self.old.faults self.new.faults }
-        ensures answers { Answers Reply.Status (λ _. ⊤)
+        ensures once { CountsFailures result self.old.faults self.new.faults }
+        ensures answers { AnswersRequest Reply.Status (λ _. ⊤)
             (ends_of W.contents R.remaining self.old.exchange)
             (ends_of W.contents R.remaining self.new.exchange)
             Asked.Status Request.Status result }
@@ -70,7 +70,7 @@ impl<W: Write, R: Read> PluginLines<W, R> {
             Ok(Reply::Status(status)) => Ok(status),
             Ok(other) => {
                 drop(other);
-                self.exchange.break_off();
+                self.exchange.abandon();
                 self.faults.rise();
                 Err(KmsNo::Failed)
             }
@@ -84,8 +84,8 @@ impl<W: Write, R: Read> PluginLines<W, R> {
     pub fn wrap(&mut self, alloc: Global, plain: &[u8]) -> Result<Wrapped, KmsNo>
         ensures later { self.old.faults ≤ self.new.faults }
         ensures failed { IsErrOf result KmsNo.Failed → Rose self.old.faults self.new.faults }
-        ensures once { Counts result self.old.faults self.new.faults }
-        ensures answers { Answers Reply.Encrypt IsWithinLimits
+        ensures once { CountsFailures result self.old.faults self.new.faults }
+        ensures answers { AnswersRequest Reply.Encrypt IsWithinLimits
             (ends_of W.contents R.remaining self.old.exchange)
             (ends_of W.contents R.remaining self.new.exchange)
             Asked.Encrypt (Request.Encrypt plain.now (next_number self.old.uid)) result }
@@ -112,7 +112,7 @@ impl<W: Write, R: Read> PluginLines<W, R> {
             }
             Ok(other) => {
                 drop(other);
-                self.exchange.break_off();
+                self.exchange.abandon();
                 self.faults.rise();
                 Err(KmsNo::Failed)
             }
@@ -131,8 +131,8 @@ impl<W: Write, R: Read> PluginLines<W, R> {
     ) -> Result<Bytes, KmsNo>
         ensures later { self.old.faults ≤ self.new.faults }
         ensures failed { IsErrOf result KmsNo.Failed → Rose self.old.faults self.new.faults }
-        ensures once { Counts result self.old.faults self.new.faults }
-        ensures answers { Answers Reply.Decrypt (λ _. ⊤)
+        ensures once { CountsFailures result self.old.faults self.new.faults }
+        ensures answers { AnswersRequest Reply.Decrypt (λ _. ⊤)
             (ends_of W.contents R.remaining self.old.exchange)
             (ends_of W.contents R.remaining self.new.exchange)
             Asked.Decrypt (Request.Decrypt source.now key_id.now annotations.now
@@ -151,7 +151,7 @@ impl<W: Write, R: Read> PluginLines<W, R> {
             Ok(Reply::Decrypt(plain)) => Ok(plain),
             Ok(other) => {
                 drop(other);
-                self.exchange.break_off();
+                self.exchange.abandon();
                 self.faults.rise();
                 Err(KmsNo::Failed)
             }
@@ -174,8 +174,8 @@ impl<W: Write, R: Read> PluginLines<W, R> {
     fn ask(&mut self, alloc: Global, asked: Asked, request: &Request) -> Result<Reply, KmsNo>
         ensures later { self.old.faults ≤ self.new.faults }
         ensures failed { IsErrOf result KmsNo.Failed → Rose self.old.faults self.new.faults }
-        ensures once { Counts result self.old.faults self.new.faults }
-        ensures answers { Answers (λ reply. reply) (λ _. ⊤)
+        ensures once { CountsFailures result self.old.faults self.new.faults }
+        ensures answers { AnswersRequest (λ reply. reply) (λ _. ⊤)
             (ends_of W.contents R.remaining self.old.exchange)
             (ends_of W.contents R.remaining self.new.exchange) asked request.now result }
         ensures uid { self.new.uid ≡ self.old.uid }
@@ -202,7 +202,7 @@ fn ask_once<W: Write, R: Read>(
     asked: Asked,
     request: &Request,
 ) -> Result<Reply, KmsNo>
-    ensures { Answers (λ reply. reply) (λ _. ⊤)
+    ensures { AnswersRequest (λ reply. reply) (λ _. ⊤)
         (ends_of W.contents R.remaining exchange.old)
         (ends_of W.contents R.remaining exchange.new) asked request.now result }
 {
@@ -222,11 +222,11 @@ fn ask_once<W: Write, R: Read>(
             Err(KmsNo::Failed)
         }
         Err(ReplyNo::NotJson) | Err(ReplyNo::Shape) => {
-            exchange.break_off();
+            exchange.abandon();
             Err(KmsNo::Failed)
         }
         Err(ReplyNo::NoMemory) => {
-            exchange.break_off();
+            exchange.abandon();
             Err(KmsNo::NoMemory)
         }
     }

@@ -1,28 +1,28 @@
 //! The world of the system: its files, its random device for each seat, and programs as plugins.
-ghost use Rattle.std.specs.Prelude.{◌≡◌, ◌<◌, ◌==◌, ◌&&◌, length, position, codes, None};
+ghost use Rattle.std.specs.Prelude.{◌≡◌, ◌<◌, ◌≤◌, ◌==◌, ◌&&◌, ◌-◌, ◌^◌, ◌⊎◌, [], length, position};
+ghost use Rattle.std.specs.Prelude.{⊤, replicate, codes, None};
 ghost use Rattle.std.specs.Prelude.{OnOk, OnErr, IfOk, IfErr, IfSome, IsErrOf, MatchResult, is_some, true};
 ghost use Rattle.std.specs.Io.KnownBytes.{Consumes, Keeps};
 ghost use Rattle.kr_base.specs.Faults.{Rose, IsCounted, counted};
 ghost use Rattle.std.specs.Str.{bytes_eq};
-ghost use Rattle.kr_kms.specs.Outside.{Notes, KeepsFiles, HandsOut, IsFaultOrMemory, IsTape, RefusesTape};
+ghost use Rattle.kr_kms.specs.Outside.{FetchesFile, NotesCall, KeepsFiles, KeepsObjects, HandsOut, IsTape};
+ghost use Rattle.kr_kms.specs.Outside.{IsFaultOrMemory, RefusesTape};
 ghost use Rattle.kr_kms.specs.Outside.{has_failed, makes, link_at, same_link, same_name, same_seat};
 ghost use Rattle.kr_kms.specs.declared.world.WorldCall.{WorldCall};
-ghost use Rattle.kr_edge.specs.Opened.{Holds};
+ghost use Rattle.kr_edge.specs.Opened.{EndsBefore, FailsToRead, ReaderHolds};
 ghost use Rattle.kr_edge.specs.Plugins.{line_link};
 ghost use Rattle.kr_edge.specs.RealWorld.{seen};
-ghost use Rattle.kr_edge.specs.Stores.{LendsLink, LendsStore};
+ghost use Rattle.kr_edge.specs.Stores.{DrawsFrom, LendsLink, LendsStore, LoadsBy};
 
 use crate::answer_room::AnswerRoom;
 use crate::child_link::{ChildLink, take_ends};
 use crate::opening::{open_store, start};
 use crate::placed::DiskFile;
-use crate::streams::StdSource;
-use crate::system::{OpenNo, StartNo, System};
+use crate::system::{OpenNo, ProcessStartNo, System};
 use crate::tape::FileTape;
-use kr_base::{Bytes, Dice, Failed, FaultCount, List, ReadNo, Text, read_all};
+use kr_base::{Bytes, Dice, Failed, FaultCount, List, ReadNo, Source, Text, read_all};
 use kr_kms::{Access, FileFaults, FileNo, Kms, Shelf, World, name_place, plugin_place};
 use std::alloc::Global;
-use std::io::Read;
 
 /// The device that random bytes are drawn from.
 const RANDOM_DEVICE: &str = "/dev/urandom";
@@ -37,7 +37,7 @@ pub struct DeviceDice<R> {
     faults: FaultCount,
 }
 
-impl<R: Read> Dice for DeviceDice<R> {
+impl<R: Source> Dice for DeviceDice<R> {
     ghost left = { λ dice. None };
 
     ghost count = { λ dice. dice.faults };
@@ -45,16 +45,20 @@ impl<R: Read> Dice for DeviceDice<R> {
     fn fill(&mut self, into: &mut [u8]) -> Result<(), Failed>
         // The whole buffer is the next of the device.
         ensures drawn { OnOk result
-            (Consumes (R.remaining self.old.device) (R.remaining self.new.device) into.new) }
+            (Consumes (R.left self.old.device) (R.left self.new.device) into.new) }
+
+        // It fails where the device does, or ends.
+        ensures fault { OnErr result (Rose (R.count self.old.device) (R.count self.new.device)
+            ⊎ EndsBefore (length into.new) (R.left self.old.device) (R.left self.new.device)) }
 
         // As the trait says.
         ensures bytes { MatchResult result
             (λ _. Consumes None None into.new) (λ _. Keeps None None) }
         ensures cause { IsCounted self.old.faults self.new.faults result }
     {
-        match self.device.read_exact(into) {
+        match fill_from(&mut self.device, into) {
             Ok(()) => Ok(()),
-            Err(_) => {
+            Err(Failed) => {
                 self.faults.rise();
                 Err(Failed)
             }
@@ -64,6 +68,23 @@ impl<R: Read> Dice for DeviceDice<R> {
     fn faults(&self) -> u64 {
         self.faults.count()
     }
+}
+
+/// Fills the buffer with the next bytes.
+fn fill_from<S: Source>(source: &mut S, into: &mut [u8]) -> Result<(), Failed>
+    ensures drawn { OnOk result (Consumes (S.left source.old) (S.left source.new) into.new) }
+    ensures fault { OnErr result (Rose (S.count source.old) (S.count source.new)
+        ⊎ EndsBefore (length into.new) (S.left source.old) (S.left source.new)) }
+{
+    let mut filled = 0;
+    while filled < into.len() {
+        let n = source.read(&mut into[filled..])?;
+        if n == 0 {
+            return Err(Failed);
+        }
+        filled += n;
+    }
+    Ok(())
 }
 
 /// The files of the system, its random device for each seat, and programs as plugins.
@@ -80,7 +101,11 @@ pub struct RealWorld<S> {
 impl<S: System> RealWorld<S> {
     /// The world of this system, with no fault so far and nothing handed out.
     pub fn new(alloc: Global, system: S) -> RealWorld<S>
-        ensures { result.system ≡ system }
+        ensures system { result.system ≡ system }
+        ensures faults { result.faults ≡ record { loads = 0; tapes = 0; dice = 0; links = 0 } }
+        ensures dice { (result.dice_faults ≡ replicate 64 0) × (result.dice_out ≡ replicate 64 0) }
+        ensures tapes { result.tapes ≡ record { items = []; out = [] } }
+        ensures links { result.links ≡ record { items = []; out = [] } }
     {
         RealWorld {
             system,
@@ -105,12 +130,34 @@ where
 
     ghost told = { seen S.told };
 
+    // No more is said of its links than that they were handed out and came back.
+    ghost lent = { λ seat link. ⊤ };
+
+    ghost took = { λ seat link. ⊤ };
+
     fn faults(&self) -> u64 {
         self.faults.total()
     }
 
-    fn load(&mut self, alloc: Global, name: &str, limit: u64) -> Result<Bytes, FileNo> {
-        let file = match self.system.read(name) {
+    fn load(&mut self, alloc: Global, name: &str, limit: u64) -> Result<Bytes, FileNo>
+        // The file of that name was opened to be read, and nothing else.
+        ensures calls { LoadsBy name.now
+            (FailsToRead S.File.left S.File.count (S.told self.old.system name.now))
+            (S.calls self.old.system) (S.calls self.new.system) result }
+
+        // As the trait says.
+        ensures file { FetchesFile (seen S.told self.old) (seen S.told self.new) name.now limit
+            result }
+        ensures once { self.new.faults.loads
+            ≡ counted (has_failed result) self.old.faults.loads }
+        ensures asked { NotesCall (seen S.told self.old) (seen S.told self.new)
+            (WorldCall.File name.now) result }
+        ensures kind { self.new.faults
+            ≡ record self.old.faults { loads = self.new.faults.loads } }
+        ensures files { KeepsFiles (seen S.told self.old) (seen S.told self.new) }
+        ensures objects { KeepsObjects (seen S.told self.old) (seen S.told self.new) }
+    {
+        let mut file = match self.system.read(name) {
             Ok(file) => file,
             Err(OpenNo::Absent) => return Err(FileNo::Absent),
             Err(OpenNo::Failed) => {
@@ -118,7 +165,7 @@ where
                 return Err(FileNo::Failed);
             }
         };
-        match read_all(alloc, &mut StdSource::new(file), limit) {
+        match read_all(alloc, &mut file, limit) {
             Ok(bytes) => Ok(bytes),
             Err(ReadNo::TooLong) => Err(FileNo::TooLong),
             Err(ReadNo::NoMemory) => Err(FileNo::NoMemory),
@@ -157,7 +204,7 @@ where
             → Rose self.old.faults.tapes self.new.faults.tapes }
         ensures once { self.new.faults.tapes
             ≡ counted (has_failed result) self.old.faults.tapes }
-        ensures asked { Notes (seen S.told self.old) (seen S.told self.new)
+        ensures asked { NotesCall (seen S.told self.old) (seen S.told self.new)
             (WorldCall.Tape name.now access) result }
         ensures kind { self.new.faults
             ≡ record self.old.faults { tapes = self.new.faults.tapes } }
@@ -165,7 +212,7 @@ where
         ensures dice { (seen S.told self.new).dice ≡ (seen S.told self.old).dice }
         ensures links { (seen S.told self.new).links ≡ (seen S.told self.old).links }
     {
-        if name_place(self.tapes.out(), name).is_some() {
+        if name_place(self.tapes.taken_keys(), name).is_some() {
             self.faults.tapes.rise();
             return Err(FileNo::Failed);
         }
@@ -208,8 +255,12 @@ where
     fn dice(&mut self, _alloc: Global, seat: u32) -> Result<DeviceDice<S::File>, FileNo>
         // The random bytes are those of the system's device.
         ensures device { IfOk result (λ dice.
-            Holds (S.told self.old.system (codes "/dev/urandom"))
-            (S.File.remaining dice.device)) }
+            ReaderHolds (S.told self.old.system (codes "/dev/urandom"))
+            (S.File.left dice.device)) }
+        // It was opened, and nothing else; it isn't where the seat has no source left.
+        ensures calls { DrawsFrom ((64 ≤ seat)
+            ⊎ ((seen S.told self.old).dice.out seat ≡ 2 ^ 64 - 1))
+            (S.calls self.old.system) (S.calls self.new.system) result }
 
         // As the trait says.
         ensures ok { IfOk result (λ dice. HandsOut same_seat
@@ -226,7 +277,7 @@ where
             → Rose self.old.faults.dice self.new.faults.dice }
         ensures once { self.new.faults.dice
             ≡ counted (has_failed result) self.old.faults.dice }
-        ensures asked { Notes
+        ensures asked { NotesCall
             (seen S.told self.old)
             (seen S.told self.new)
             (WorldCall.RandomSource seat) result }
@@ -283,7 +334,7 @@ where
             → Rose self.old.faults.links self.new.faults.links }
         ensures once { self.new.faults.links
             ≡ counted (has_failed result) self.old.faults.links }
-        ensures asked { Notes (seen S.told self.old) (seen S.told self.new)
+        ensures asked { NotesCall (seen S.told self.old) (seen S.told self.new)
             (WorldCall.Link seat plugin.now program.now) result }
         ensures kind { self.new.faults
             ≡ record self.old.faults { links = self.new.faults.links } }
@@ -300,8 +351,8 @@ where
         };
         let child = match start(&mut self.system, alloc, program) {
             Ok(child) => child,
-            Err(StartNo::NoMemory) => return Err(FileNo::NoMemory),
-            Err(StartNo::Failed) => {
+            Err(ProcessStartNo::NoMemory) => return Err(FileNo::NoMemory),
+            Err(ProcessStartNo::Failed) => {
                 self.faults.links.rise();
                 return Err(FileNo::Failed);
             }
@@ -334,10 +385,10 @@ where
     }
 
     fn back_tape(&mut self, name: &str, tape: FileTape<DiskFile>) {
-        let Some(at) = name_place(self.tapes.out(), name) else {
+        let Some(at) = name_place(self.tapes.taken_keys(), name) else {
             unreachable!();
         };
-        self.tapes.put_back_by(at, tape.close());
+        self.tapes.return_keyed(at, tape.close());
     }
 
     fn back_settled(&mut self, name: &str, tape: FileTape<DiskFile>) {
@@ -358,10 +409,10 @@ where
     }
 
     fn back_link(&mut self, seat: u32, link: ChildLink) {
-        let Some(at) = plugin_place(self.links.out(), seat, link.name()) else {
+        let Some(at) = plugin_place(self.links.taken_keys(), seat, link.name()) else {
             unreachable!();
         };
-        self.links.put_back_by(at, link.close());
+        self.links.return_keyed(at, link.close());
     }
 }
 

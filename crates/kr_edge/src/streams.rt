@@ -6,7 +6,7 @@ ghost use Rattle.std.specs.Io.KnownBytes.{ReadConsumes, WriteAppends};
 ghost use Rattle.kr_base.specs.Faults.{IsCounted};
 ghost use Rattle.kr_base.specs.Numbering.{next_number};
 
-use crate::system_error::kind_of;
+use crate::system_error::io_error_kind;
 use kr_base::{Failed, FaultCount, Sink, Source};
 use std::io::{ErrorKind, Read, Write};
 
@@ -121,7 +121,7 @@ fn read_again<R: Read>(reader: &mut R, into: &mut [u8]) -> Result<usize, Failed>
         match reader.read(into) {
             Ok(n) => return Ok(n),
             Err(error) => {
-                if kind_of(error) != ErrorKind::Interrupted {
+                if io_error_kind(error) != ErrorKind::Interrupted {
                     return Err(Failed);
                 }
             }
@@ -145,7 +145,7 @@ fn write_again<W: Write>(writer: &mut W, bytes: &[u8]) -> Result<usize, Failed>
                 return Ok(n);
             }
             Err(error) => {
-                if kind_of(error) != ErrorKind::Interrupted {
+                if io_error_kind(error) != ErrorKind::Interrupted {
                     return Err(Failed);
                 }
             }

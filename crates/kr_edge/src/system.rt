@@ -1,13 +1,13 @@
 //! The calls of the system by which files are opened and programs started.
 ghost use Rattle.std.specs.Prelude.{◌≡◌, ℕ, List, Option, IfSome, is_ok, is_some};
+ghost use Rattle.std.specs.Result.{result_err};
 ghost use Rattle.std.specs.Process.{command_program};
-ghost use Rattle.kr_edge.specs.Opened.{Opens};
-ghost use Rattle.kr_edge.specs.SystemCalls.{IsBare, with_note};
+ghost use Rattle.kr_edge.specs.Opened.{OpensFile};
+ghost use Rattle.kr_edge.specs.SystemCalls.{IsBare, has_pipes, with_note};
 
 use crate::placed::DiskFile;
-use kr_base::Text;
+use kr_base::{Source, Text};
 use std::fs::OpenOptions;
-use std::io::Read;
 use std::process::{Child, Command, SystemProcess};
 
 /// Why a file wasn't opened.
@@ -21,11 +21,31 @@ pub enum OpenNo {
 
 /// Why a program wasn't started.
 #[derive(Clone, Copy, Debug, PartialEq, Eq)]
-pub enum StartNo {
+pub enum ProcessStartNo {
     /// It failed.
     Failed,
     /// There was no memory for it.
     NoMemory,
+}
+
+/// What a stream of a program is.
+#[derive(Clone, Copy, Debug, PartialEq, Eq)]
+pub enum ChildStream {
+    /// A pipe, whose other end this process has.
+    Piped,
+    /// This process' own.
+    Shared,
+}
+
+/// What the streams of a program are.
+#[derive(Clone, Copy, Debug, PartialEq, Eq)]
+pub struct ChildStreams {
+    /// What it reads.
+    pub input: ChildStream,
+    /// What it writes.
+    pub output: ChildStream,
+    /// Where it writes what went wrong.
+    pub errors: ChildStream,
 }
 
 /// What a name leads to, or what an open file is.
@@ -46,8 +66,11 @@ pub enum Found {
 /// A call of the system, and what it answered.
 #[derive(Drop)]
 pub enum SystemCall {
-    /// The file of a name was to be opened, to be read.
-    Read(Text),
+    /// The file of a name was to be opened, to be read; why it wasn't, if so.
+    Read {
+        name: Text,
+        refused: Option<OpenNo>,
+    },
     /// It was asked what a name leads to.
     Look {
         name: Text,
@@ -77,10 +100,13 @@ pub enum SystemCall {
         folder: Text,
         synced: bool,
     },
-    /// A program was to be started, by its name alone.
+    /// A program was to be started, by its name alone, with these streams; and whether its input
+    /// and its output are pipes then.
     Start {
         program: Text,
+        streams: ChildStreams,
         started: bool,
+        piped: bool,
     },
 }
 
@@ -90,7 +116,7 @@ pub trait System {
     ghost use Rattle.kr_edge.specs.declared.system.SystemCall.{SystemCall};
 
     /// A file that is open to be read.
-    type File: Read + Drop;
+    type File: Source + Drop;
 
     // A file by its name: none where it isn't told; else absent, or its bytes.
     ghost told: { Self → List ℕ → Option (Option (List ℕ)) };
@@ -100,8 +126,9 @@ pub trait System {
 
     /// Opens the file of that name to be read, from its first byte.
     fn read(&mut self, name: &str) -> Result<Self::File, OpenNo>
-        ensures bytes { Opens Self.File.remaining (told self.old name.now) result }
-        ensures noted { calls self.new ≡ with_note (SystemCall.Read name.now) (calls self.old) }
+        ensures bytes { OpensFile Self.File.left (told self.old name.now) result }
+        ensures noted { calls self.new
+            ≡ with_note (SystemCall.Read name.now (result_err result)) (calls self.old) }
         ensures same { told self.new ≡ told self.old };
 
     /// What the name leads to.
@@ -117,15 +144,15 @@ pub trait System {
             (SystemCall.Open name options.old mode (is_some result)) (calls self.old) }
         ensures same { told self.new ≡ told self.old };
 
-    /// Takes the lock of the file, a shared one if so, unless another open of it holds one that goes
-    /// with none beside it.
+    /// Takes the lock of the file, a shared one if so, unless another open of it holds one that
+    /// goes with none beside it.
     fn lock(&mut self, file: &DiskFile, shared: bool) -> bool
         ensures noted { calls self.new
             ≡ with_note (SystemCall.Lock file.now.name shared result) (calls self.old) }
         ensures same { told self.new ≡ told self.old };
 
     /// What the open file is.
-    fn look_at(&mut self, file: &DiskFile) -> Found
+    fn inspect_file(&mut self, file: &DiskFile) -> Found
         ensures noted { calls self.new
             ≡ with_note (SystemCall.LookAt file.now.name result) (calls self.old) }
         ensures same { told self.new ≡ told self.old };
@@ -136,10 +163,15 @@ pub trait System {
             ≡ with_note (SystemCall.SyncFolder folder.now result) (calls self.old) }
         ensures same { told self.new ≡ told self.old };
 
-    /// Starts a program by its name alone.
-    fn start(&mut self, command: &mut Command) -> Result<Child<SystemProcess>, StartNo>
+    /// Starts a program by its name alone, with these streams.
+    fn start(
+        &mut self,
+        command: &mut Command,
+        streams: ChildStreams,
+    ) -> Result<Child<SystemProcess>, ProcessStartNo>
         requires { IsBare command.old }
-        ensures noted { calls self.new ≡ with_note
-            (SystemCall.Start (command_program command.old) (is_ok result)) (calls self.old) }
+        ensures noted { calls self.new ≡ with_note (SystemCall.Start
+            (command_program command.old) streams (is_ok result) (has_pipes result))
+            (calls self.old) }
         ensures same { told self.new ≡ told self.old };
 }

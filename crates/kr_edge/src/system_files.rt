@@ -1,14 +1,18 @@
 //! The files and the programs of the system. What they do is the system's, which no clause knows.
-ghost use Rattle.std.specs.Prelude.{None};
+ghost use Rattle.std.specs.Prelude.{◌≡◌, ◌≢◌, ◌↔◌, ◌⊎◌, None, IfErr, IfOk, OnErr, false};
+ghost use Rattle.std.specs.IoError.{error_kind};
+ghost use Rattle.std.specs.Process.{makes_pipe};
+ghost use Rattle.kr_edge.specs.inner.Answered.{IsFound, is_piped};
 
 use crate::placed::DiskFile;
-use crate::system::{Found, OpenNo, StartNo, System};
-use crate::system_error::kind_of;
+use crate::streams::StdSource;
+use crate::system::{ChildStream, ChildStreams, Found, OpenNo, ProcessStartNo, System};
+use crate::system_error::io_error_kind;
 use kr_base::Text;
 use std::fs::{File, Metadata, OpenFile, OpenOptions};
 use std::io::{self, ErrorKind};
 use std::os::unix::fs::OpenOptionsExt;
-use std::process::{Child, Command, Processes, SystemProcess};
+use std::process::{Child, Command, Processes, Stdio, SystemProcess};
 use std::rt::Files;
 
 /// The files and programs that a runtime reaches. It tells of none.
@@ -25,22 +29,16 @@ impl<'a, R> SystemFiles<'a, R> {
 }
 
 impl<R: Files<File = File> + Processes<Started = SystemProcess>> System for SystemFiles<'_, R> {
-    type File = File;
+    type File = StdSource<File>;
 
     ghost told = { λ files. λ name. None };
 
     ghost calls = { λ files. None };
 
-    fn read(&mut self, name: &str) -> Result<File, OpenNo> {
+    fn read(&mut self, name: &str) -> Result<StdSource<File>, OpenNo> {
         match File::open(self.rt, name) {
-            Ok(file) => Ok(file),
-            Err(error) => {
-                if kind_of(error) == ErrorKind::NotFound {
-                    Err(OpenNo::Absent)
-                } else {
-                    Err(OpenNo::Failed)
-                }
-            }
+            Ok(file) => Ok(StdSource::new(file)),
+            Err(error) => Err(open_no(error)),
         }
     }
 
@@ -74,36 +72,82 @@ impl<R: Files<File = File> + Processes<Started = SystemProcess>> System for Syst
         }
     }
 
-    fn look_at(&mut self, file: &DiskFile) -> Found {
+    fn inspect_file(&mut self, file: &DiskFile) -> Found {
         found(file.file().metadata())
     }
 
     fn sync_folder(&mut self, folder: &str) -> bool {
-        match File::open(self.rt, folder) {
-            Ok(folder) => folder.sync_all().is_ok(),
-            Err(error) => {
-                drop(error);
-                false
-            }
-        }
+        is_synced(File::open(self.rt, folder))
     }
 
-    fn start(&mut self, command: &mut Command) -> Result<Child<SystemProcess>, StartNo> {
+    fn start(
+        &mut self,
+        command: &mut Command,
+        streams: ChildStreams,
+    ) -> Result<Child<SystemProcess>, ProcessStartNo> {
+        command
+            .stdin(stdio_of(streams.input))
+            .stdout(stdio_of(streams.output))
+            .stderr(stdio_of(streams.errors));
         match command.spawn(self.rt) {
             Ok(child) => Ok(child),
-            Err(error) => {
-                if kind_of(error) == ErrorKind::OutOfMemory {
-                    Err(StartNo::NoMemory)
-                } else {
-                    Err(StartNo::Failed)
-                }
-            }
+            Err(error) => Err(start_no(error)),
+        }
+    }
+}
+
+/// A program's stream, as std has it.
+fn stdio_of(stream: ChildStream) -> Stdio
+    ensures { makes_pipe result ≡ is_piped stream }
+{
+    match stream {
+        ChildStream::Piped => Stdio::piped(),
+        ChildStream::Shared => Stdio::inherit(),
+    }
+}
+
+/// Why a file wasn't opened.
+fn open_no(error: io::Error) -> OpenNo
+    ensures { (result ≡ OpenNo.Absent) ↔ (error_kind error ≡ ErrorKind.NotFound) }
+{
+    if io_error_kind(error) == ErrorKind::NotFound {
+        OpenNo::Absent
+    } else {
+        OpenNo::Failed
+    }
+}
+
+/// Why a program wasn't started.
+fn start_no(error: io::Error) -> ProcessStartNo
+    ensures { (result ≡ ProcessStartNo.NoMemory) ↔ (error_kind error ≡ ErrorKind.OutOfMemory) }
+{
+    if io_error_kind(error) == ErrorKind::OutOfMemory {
+        ProcessStartNo::NoMemory
+    } else {
+        ProcessStartNo::Failed
+    }
+}
+
+/// Whether an opened folder was synced; one that wasn't opened isn't.
+fn is_synced(opened: io::Result<File>) -> bool
+    ensures { OnErr opened (result ≡ false) }
+{
+    match opened {
+        Ok(folder) => folder.sync_all().is_ok(),
+        Err(error) => {
+            drop(error);
+            false
         }
     }
 }
 
 /// What was found where the system was asked.
-fn found(asked: io::Result<Metadata>) -> Found {
+fn found(asked: io::Result<Metadata>) -> Found
+    ensures file { IfOk asked (λ metadata. IsFound metadata result) }
+    ensures none { IfErr asked (λ error.
+        ((result ≡ Found.Absent) × (error_kind error ≡ ErrorKind.NotFound))
+        ⊎ ((result ≡ Found.Failed) × (error_kind error ≢ ErrorKind.NotFound))) }
+{
     match asked {
         Ok(metadata) => {
             if !metadata.is_file() {
@@ -115,7 +159,7 @@ fn found(asked: io::Result<Metadata>) -> Found {
             }
         }
         Err(error) => {
-            if kind_of(error) == ErrorKind::NotFound {
+            if io_error_kind(error) == ErrorKind::NotFound {
                 Found::Absent
             } else {
                 Found::Failed

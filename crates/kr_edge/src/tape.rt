@@ -1,18 +1,19 @@
 //! Files that are read and written at any place, as tapes.
-ghost use Rattle.std.specs.Prelude.{◌≡◌, ◌≤◌, length, true, IfOk, IfSome, IsErr, OnOk, OnErr};
-ghost use Rattle.std.specs.Io.{ReadsAtMost};
+ghost use Rattle.std.specs.Prelude.{◌≡◌, ◌≤◌, ◌⊎◌, length, true, Ok, IfOk, IfSome, IsErr, OnOk, OnErr};
+ghost use Rattle.std.specs.Io.{ReadsAtMost, WritesAtMost};
 ghost use Rattle.kr_base.specs.Faults.{IsCounted};
-ghost use Rattle.kr_base.specs.Tapes.{ReadsAt, PutsAt, Cuts};
-ghost use Rattle.kr_edge.specs.Placed.{Restores};
+ghost use Rattle.kr_base.specs.Tapes.{ReadsAt, PutsAt, Cuts, KeepsFront};
+ghost use Rattle.kr_edge.specs.Placed.{HasFailed, IsBeyond, ReadsSome, Restores, WritesSome};
 ghost use Rattle.kr_edge.specs.Stores.{only_reads};
+ghost use Rattle.kr_edge.specs.inner.Stops.{WasInterrupted};
 
 use crate::opening::only_reads;
 use crate::placed::{PlacedFile, PlacedNo};
 use kr_base::{Failed, FaultCount, Tape};
 use kr_kms::Access;
 
-/// A file that is read at any place, and written where it was asked for that. What the file tells of
-/// its bytes is told.
+/// A file that is read at any place, and written where it was asked for that. What the file tells
+/// of its bytes is told.
 pub struct FileTape<F> {
     file: F,
     access: Access,
@@ -69,8 +70,10 @@ impl<F: PlacedFile> Tape for FileTape<F> {
     ghost settled = { λ tape. F.synced tape.file };
 
     fn len(&mut self) -> Result<u64, Failed>
-        // It stays for what it was asked for.
+        // It stays for what it was asked for, and fails where the file does.
         ensures access { self.new.access ≡ self.old.access }
+        ensures fault { OnErr result
+            (HasFailed (F.stops self.old.file) (F.stops self.new.file)) }
 
         // As the trait says.
         ensures length { IfOk result
@@ -80,7 +83,7 @@ impl<F: PlacedFile> Tape for FileTape<F> {
     {
         match self.file.len() {
             Ok(n) => Ok(n),
-            Err(_) => {
+            Err(Failed) => {
                 self.faults.rise();
                 Err(Failed)
             }
@@ -89,8 +92,10 @@ impl<F: PlacedFile> Tape for FileTape<F> {
 
     fn read_at(&mut self, at: u64, into: &mut [u8]) -> Result<usize, Failed>
         requires { IfSome (F.told self.old.file) (λ bytes. at ≤ length bytes) }
-        // It stays for what it was asked for.
+        // It stays for what it was asked for, and fails where the file does.
         ensures access { self.new.access ≡ self.old.access }
+        ensures fault { OnErr result (IsBeyond at (length into.new)
+            ⊎ HasFailed (F.stops self.old.file) (F.stops self.new.file)) }
 
         // As the trait says.
         ensures bound { ReadsAtMost result into.new }
@@ -98,7 +103,7 @@ impl<F: PlacedFile> Tape for FileTape<F> {
         ensures same { F.told self.new.file ≡ F.told self.old.file }
         ensures cause { IsCounted self.old.faults self.new.faults result }
     {
-        match fill_at(&mut self.file, at, into) {
+        match fill_buffer(&mut self.file, at, into) {
             Ok(n) => Ok(n),
             Err(Failed) => {
                 self.faults.rise();
@@ -115,6 +120,10 @@ impl<F: PlacedFile> Tape for FileTape<F> {
         // After a fault the file has its old length again, unless that failed too.
         ensures restored { OnErr result (Restores (F.told self.old.file) (F.told self.new.file)
             (F.lengths self.old.file) (F.lengths self.new.file)) }
+        // Else it fails where the file does.
+        ensures fault { OnErr result ((only_reads self.old.access ≡ true)
+            ⊎ IsBeyond at (length bytes.now)
+            ⊎ HasFailed (F.stops self.old.file) (F.stops self.new.file)) }
         ensures access { self.new.access ≡ self.old.access }
 
         // As the trait says.
@@ -139,6 +148,9 @@ impl<F: PlacedFile> Tape for FileTape<F> {
         // One that is only read isn't cut: that is a fault.
         ensures refused { only_reads self.old.access ≡ true
             → IsErr result × (self.new.file ≡ self.old.file) }
+        // Else it fails where the file does.
+        ensures fault { OnErr result ((only_reads self.old.access ≡ true)
+            ⊎ HasFailed (F.stops self.old.file) (F.stops self.new.file)) }
         ensures access { self.new.access ≡ self.old.access }
 
         // As the trait says.
@@ -151,7 +163,7 @@ impl<F: PlacedFile> Tape for FileTape<F> {
         }
         match self.file.set_len(len) {
             Ok(()) => Ok(()),
-            Err(_) => {
+            Err(Failed) => {
                 self.faults.rise();
                 Err(Failed)
             }
@@ -160,8 +172,12 @@ impl<F: PlacedFile> Tape for FileTape<F> {
 
     // The file's length is synced with its bytes.
     fn settle(&mut self) -> Result<(), Failed>
-        // It stays for what it was asked for.
+        // It stays for what it was asked for, and fails where the file does.
         ensures access { self.new.access ≡ self.old.access }
+        ensures fault { OnErr result
+            (HasFailed (F.stops self.old.file) (F.stops self.new.file)) }
+        // A sync that failed isn't made good by another: what it lost is lost.
+        ensures once { OnOk result (F.stops self.new.file ≡ F.stops self.old.file) }
 
         // As the trait says.
         ensures settled { OnOk result (F.synced self.new.file ≡ true) }
@@ -170,7 +186,7 @@ impl<F: PlacedFile> Tape for FileTape<F> {
     {
         match self.file.sync_data() {
             Ok(()) => Ok(()),
-            Err(_) => {
+            Err(Failed) => {
                 self.faults.rise();
                 Err(Failed)
             }
@@ -183,27 +199,39 @@ impl<F: PlacedFile> Tape for FileTape<F> {
 }
 
 /// Reads until the buffer is full or the file ends.
-fn fill_at<F: PlacedFile>(file: &mut F, at: u64, into: &mut [u8]) -> Result<usize, Failed>
+fn fill_buffer<F: PlacedFile>(file: &mut F, at: u64, into: &mut [u8]) -> Result<usize, Failed>
     requires { IfSome (F.told file.old) (λ bytes. at ≤ length bytes) }
     ensures bound { ReadsAtMost result into.new }
     ensures bytes { IfOk result (λ n. ReadsAt (F.told file.old) at n into.new) }
     ensures same { F.told file.new ≡ F.told file.old }
+    ensures fault { OnErr result (IsBeyond at (length into.new)
+        ⊎ HasFailed (F.stops file.old) (F.stops file.new)) }
 {
     let mut filled = 0;
-    for _ in 0..u64::MAX {
-        if filled == into.len() {
-            return Ok(filled);
-        }
+    while filled < into.len() {
         let Some(place) = at.checked_add(filled as u64) else {
             return Err(Failed);
         };
-        match file.read_at(place, &mut into[filled..]) {
-            Ok(n) => {
-                if n == 0 {
-                    return Ok(filled);
-                }
-                filled += n;
-            }
+        let n = read_again(file, place, &mut into[filled..])?;
+        if n == 0 {
+            return Ok(filled);
+        }
+        filled += n;
+    }
+    Ok(filled)
+}
+
+/// One read, tried again where it was interrupted.
+fn read_again<F: PlacedFile>(file: &mut F, at: u64, into: &mut [u8]) -> Result<usize, Failed>
+    ensures bound { ReadsAtMost result into.new }
+    ensures bytes { IfOk result (λ n. ReadsSome (F.told file.old) at n into.new) }
+    ensures same { F.told file.new ≡ F.told file.old }
+    ensures later { WasInterrupted 0 (F.stops file.old) (F.stops file.new) }
+    ensures fault { OnErr result (HasFailed (F.stops file.old) (F.stops file.new)) }
+{
+    for _ in 0..u64::MAX {
+        match file.read_at(at, into) {
+            Ok(n) => return Ok(n),
             Err(PlacedNo::Interrupted) => {}
             Err(PlacedNo::Failed) => return Err(Failed),
         }
@@ -218,6 +246,8 @@ fn put_or_restore<F: PlacedFile>(file: &mut F, at: u64, bytes: &[u8]) -> Result<
     ensures bytes { PutsAt (F.told file.old) (F.told file.new) at bytes.now result }
     ensures restored { OnErr result (Restores (F.told file.old) (F.told file.new)
         (F.lengths file.old) (F.lengths file.new)) }
+    ensures fault { OnErr result (IsBeyond at (length bytes.now)
+        ⊎ HasFailed (F.stops file.old) (F.stops file.new)) }
 {
     let Ok(before) = file.len() else {
         return Err(Failed);
@@ -231,23 +261,43 @@ fn put_or_restore<F: PlacedFile>(file: &mut F, at: u64, bytes: &[u8]) -> Result<
     }
 }
 
-/// Writes all bytes at the place. A write that takes nothing is a fault.
+/// Writes all bytes at the place.
 fn put_all<F: PlacedFile>(file: &mut F, at: u64, bytes: &[u8]) -> Result<(), Failed>
     requires { IfSome (F.told file.old) (λ held. at ≤ length held) }
     ensures bytes { PutsAt (F.told file.old) (F.told file.new) at bytes.now result }
     ensures lengths { F.lengths file.new ≡ F.lengths file.old }
+    ensures fault { OnErr result (IsBeyond at (length bytes.now)
+        ⊎ HasFailed (F.stops file.old) (F.stops file.new)) }
 {
     let mut done = 0;
-    for _ in 0..u64::MAX {
-        if done == bytes.len() {
-            return Ok(());
-        }
+    while done < bytes.len() {
         let Some(place) = at.checked_add(done as u64) else {
             return Err(Failed);
         };
-        match file.write_at(place, &bytes[done..]) {
-            Ok(0) => return Err(Failed),
-            Ok(n) => done += n,
+        let n = match write_again(file, place, &bytes[done..]) {
+            Ok(n) => n,
+            Err(Failed) => return Err(Failed),
+        };
+        done += n;
+    }
+    Ok(())
+}
+
+/// One write of a part of the bytes, tried again where it was interrupted.
+fn write_again<F: PlacedFile>(file: &mut F, at: u64, bytes: &[u8]) -> Result<usize, Failed>
+    requires { IfSome (F.told file.old) (λ held. at ≤ length held) }
+    ensures bound { WritesAtMost result bytes.now }
+    ensures progress { IfOk result (λ n. n ≡ 0 → length bytes.now ≡ 0) }
+    ensures bytes { IfOk result
+        (λ n. WritesSome (F.told file.old) (F.told file.new) at bytes.now (Ok n)) }
+    ensures front { OnErr result (KeepsFront (F.told file.old) (F.told file.new) at) }
+    ensures lengths { F.lengths file.new ≡ F.lengths file.old }
+    ensures later { WasInterrupted 0 (F.stops file.old) (F.stops file.new) }
+    ensures fault { OnErr result (HasFailed (F.stops file.old) (F.stops file.new)) }
+{
+    for _ in 0..u64::MAX {
+        match file.write_at(at, bytes) {
+            Ok(n) => return Ok(n),
             Err(PlacedNo::Interrupted) => {}
             Err(PlacedNo::Failed) => return Err(Failed),
         }

@@ -5,13 +5,13 @@ use Rattle.std.proofs.lemmas.Bool.Decides.{nat_tests}
 use Rattle.kr_envelope.specs.inner.Reading.{Says, TakesItem}
 use Rattle.kr_envelope.specs.declared.item.ItemNo.{ItemNo}
 use Rattle.kr_envelope.specs.declared.item.ItemNo.TheVariants as no
-use Rattle.kr_envelope.specs.Wire.{Spells, Starts, Payload, varint, fixed64, bytes, fixed32, Field, IsField}
-use Rattle.kr_envelope.specs.Messages.{of_bytes, content_of, last_bytes, Item, encrypted, key_id, source, annotation, kind, other, is_own, Means, IsItem}
+use Rattle.kr_envelope.specs.Wire.{Spells, BeginsSpelled, Payload, varint, fixed64, bytes, fixed32, WireField, IsField}
+use Rattle.kr_envelope.specs.Messages.{of_bytes, content_of, last_bytes, WireItem, encrypted, key_id, source, annotation, kind, other, is_own, MeansItem, IsItem}
 use Rattle.kr_envelope.proofs.Fields.{one_field, some_field}
 use Rattle.kr_envelope.proofs.Spellings.{IsCode, fields_code, spells_one}
 
 -- each item by the number of its field
-tag : Item → ℕ
+tag : WireItem → ℕ
 tag (encrypted content) = 1
 tag (key_id content) = 2
 tag (source content) = 3
@@ -23,20 +23,20 @@ own_number : Bool → ℕ → ℕ
 own_number true n = n
 own_number false n = 0
 
-tagged : (field : Field) (item : Item) → Means field item → tag item ≡ own_number (is_own field) field.number
+tagged : (field : WireField) (item : WireItem) → MeansItem field item → tag item ≡ own_number (is_own field) field.number
 unfolding tag own_number
-tagged field (encrypted content) m = sym (ap (λ (f : Field). own_number (is_own f) f.number) m)
-tagged field (key_id content) m = sym (ap (λ (f : Field). own_number (is_own f) f.number) m)
-tagged field (source content) m = sym (ap (λ (f : Field). own_number (is_own f) f.number) m)
-tagged field (annotation key value) m = sym (ap (λ (f : Field). own_number (is_own f) f.number) m.1)
-tagged field (kind n) m = sym (ap (λ (f : Field). own_number (is_own f) f.number) m.1)
+tagged field (encrypted content) m = sym (ap (λ (f : WireField). own_number (is_own f) f.number) m)
+tagged field (key_id content) m = sym (ap (λ (f : WireField). own_number (is_own f) f.number) m)
+tagged field (source content) m = sym (ap (λ (f : WireField). own_number (is_own f) f.number) m)
+tagged field (annotation key value) m = sym (ap (λ (f : WireField). own_number (is_own f) f.number) m.1)
+tagged field (kind n) m = sym (ap (λ (f : WireField). own_number (is_own f) f.number) m.1)
 tagged field other m = sym (ap (λ b. own_number b field.number) m)
 
 some_one : {T : Type 0} (x y : T) → Some x ≡ Some y → x ≡ y
 some_one x y e = cc
 
-pub one_content : (field : Field) (n m : ℕ) (a b : List ℕ) → field ≡ of_bytes n a → field ≡ of_bytes m b → a ≡ b
-one_content field n m a b e f = some_one a b (sym (ap (λ (g : Field). content_of g.payload) e) ∙ ap (λ (g : Field). content_of g.payload) f)
+pub one_content : (field : WireField) (n m : ℕ) (a b : List ℕ) → field ≡ of_bytes n a → field ≡ of_bytes m b → a ≡ b
+one_content field n m a b e f = some_one a b (sym (ap (λ (g : WireField). content_of g.payload) e) ∙ ap (λ (g : WireField). content_of g.payload) f)
 
 varint_in : Payload → ℕ
 varint_in (varint n) = n
@@ -44,11 +44,11 @@ varint_in (fixed64 content) = 0
 varint_in (bytes content) = 0
 varint_in (fixed32 content) = 0
 
-one_number : (field : Field) (n m : ℕ) → field ≡ record { number = 5; payload = varint n } → field ≡ record { number = 5; payload = varint m } → n ≡ m
+one_number : (field : WireField) (n m : ℕ) → field ≡ record { number = 5; payload = varint n } → field ≡ record { number = 5; payload = varint m } → n ≡ m
 unfolding varint_in
-one_number field n m e f = sym (ap (λ (g : Field). varint_in g.payload) e) ∙ ap (λ (g : Field). varint_in g.payload) f
+one_number field n m e f = sym (ap (λ (g : WireField). varint_in g.payload) e) ∙ ap (λ (g : WireField). varint_in g.payload) f
 
-same_tag : (field : Field) (a b : Item) → Means field a → Means field b → tag a ≡ tag b → a ≡ b
+same_tag : (field : WireField) (a b : WireItem) → MeansItem field a → MeansItem field b → tag a ≡ tag b → a ≡ b
 unfolding tag
 same_tag field (encrypted a) (encrypted b) m n t = ap encrypted (one_content field 1 1 a b m n)
 same_tag field (encrypted a) b m n t = absurd (omega arith)
@@ -66,35 +66,35 @@ same_tag field (kind a) b m n t = absurd (omega arith)
 same_tag field other other m n t = refl
 same_tag field other b m n t = absurd (omega arith)
 
-pub one_meaning : (field : Field) (a b : Item) → Means field a → Means field b → a ≡ b
+pub one_meaning : (field : WireField) (a b : WireItem) → MeansItem field a → MeansItem field b → a ≡ b
 one_meaning field a b m n = same_tag field a b m n (tagged field a m ∙ sym (tagged field b n))
 
 -- an item begins with its field
-pub field_there : (text : List ℕ) (item : Item) (rest : List ℕ) → (s : Starts IsItem text item rest) → Starts IsField text s.1.0 rest
+pub field_there : (text : List ℕ) (item : WireItem) (rest : List ℕ) → (s : BeginsSpelled IsItem text item rest) → BeginsSpelled IsField text s.1.0 rest
 field_there text item rest s = (s.0, s.1.1, s.2)
 
-one_item : (text : List ℕ) (a b : Item) (rest tail : List ℕ) → Starts IsItem text a rest → Starts IsItem text b tail → (a ≡ b) × (rest ≡ tail)
+one_item : (text : List ℕ) (a b : WireItem) (rest tail : List ℕ) → BeginsSpelled IsItem text a rest → BeginsSpelled IsItem text b tail → (a ≡ b) × (rest ≡ tail)
 one_item text a b rest tail s t =
     let one = one_field text s.1.0 t.1.0 rest tail (field_there text a rest s) (field_there text b tail t) in
-    (one_meaning t.1.0 a b (subst (λ f. Means f a) one.0 s.1.2) t.1.2, one.1)
+    (one_meaning t.1.0 a b (subst (λ f. MeansItem f a) one.0 s.1.2) t.1.2, one.1)
 
 pub items_code : IsCode IsItem
 items_code = record { one = one_item; some = λ front item s. some_field front s.0 s.1 }
 
 -- what there is by the field that is there
 
-pub no_field : (text : List ℕ) → ((field : Field) (rest : List ℕ) → Starts IsField text field rest → ⊥) → (item : Item) (tail : List ℕ) → Starts IsItem text item tail → ⊥
+pub no_field : (text : List ℕ) → ((field : WireField) (rest : List ℕ) → BeginsSpelled IsField text field rest → ⊥) → (item : WireItem) (tail : List ℕ) → BeginsSpelled IsItem text item tail → ⊥
 no_field text h item tail s = h s.1.0 tail (field_there text item tail s)
 
-pub no_meaning : (text : List ℕ) (field : Field) (rest : List ℕ) → Starts IsField text field rest → ((item : Item) → Means field item → ⊥) → (item : Item) (tail : List ℕ) → Starts IsItem text item tail → ⊥
+pub no_meaning : (text : List ℕ) (field : WireField) (rest : List ℕ) → BeginsSpelled IsField text field rest → ((item : WireItem) → MeansItem field item → ⊥) → (item : WireItem) (tail : List ℕ) → BeginsSpelled IsItem text item tail → ⊥
 no_meaning text field rest f h item tail s =
     let one = one_field text field s.1.0 rest tail f (field_there text item tail s) in
-    h item (subst (λ g. Means g item) (sym one.0) s.1.2)
+    h item (subst (λ g. MeansItem g item) (sym one.0) s.1.2)
 
-pub with_meaning : (text : List ℕ) (field : Field) (rest : List ℕ) (item : Item) → Starts IsField text field rest → Means field item → Starts IsItem text item rest
+pub with_meaning : (text : List ℕ) (field : WireField) (rest : List ℕ) (item : WireItem) → BeginsSpelled IsField text field rest → MeansItem field item → BeginsSpelled IsItem text item rest
 with_meaning text field rest item f m = (f.0, (field, f.1, m), f.2)
 
-pub refused : (text : List ℕ) (field : Field) (rest : List ℕ) → Starts IsField text field rest → (why : ItemNo) → Says field (Err why) → TakesItem text (Err why)
+pub refused : (text : List ℕ) (field : WireField) (rest : List ℕ) → BeginsSpelled IsField text field rest → (why : ItemNo) → Says field (Err why) → TakesItem text (Err why)
 refused text field rest f no.Wire h = no_meaning text field rest f h
 refused text field rest f no.NotUtf8 h = (h.0, rest, with_meaning text field rest h.0 f h.1, h.2)
 

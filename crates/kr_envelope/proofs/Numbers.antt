@@ -9,7 +9,7 @@ use Rattle.std.specs.Str.{IsUtf8}
 use Rattle.std.specs.Prelude.{nat_eq}
 use Rattle.std.proofs.lemmas.List.{get_or_default, append-nil, drop_all}
 use Rattle.std.proofs.Math.Seq.{drop-cons}
-use Rattle.kr_base.specs.Limits.{size_of}
+use Rattle.kr_base.specs.Limits.{pairs_size}
 use Rattle.kr_base.specs.Pairs.{Pairs}
 use Rattle.kr_envelope.specs.Canonical.{groups, shortest, pair_field}
 
@@ -114,7 +114,7 @@ push_ended start out pairs i s h =
 pub paired : (a b : List ℕ) (p : List ℕ × List ℕ) (l : List ℕ) → a ≡ p.0 → b ≡ p.1 → l ++ pair_field (a, b) ≡ l ++ pair_field p
 paired a b p l e f = ap (λ x. l ++ pair_field (x, b)) e ∙ ap (λ x. l ++ pair_field (p.0, x)) f
 
-pub size_at : (pairs : Pairs) (i : ℕ) (d : List ℕ × List ℕ) → i < length pairs → length (get_or pairs i d).0 + length (get_or pairs i d).1 ≤ size_of pairs
+pub size_at : (pairs : Pairs) (i : ℕ) (d : List ℕ × List ℕ) → i < length pairs → length (get_or pairs i d).0 + length (get_or pairs i d).1 ≤ pairs_size pairs
 size_at [] i d h = absurd (omega arith)
 size_at (pair ∷ pairs) zero d h = omega arith
 size_at (pair ∷ pairs) (suc i) d h = omega (arith, size_at pairs i d (omega arith))

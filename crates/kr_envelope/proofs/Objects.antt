@@ -8,11 +8,11 @@ use Rattle.std.specs.Cmp.Lexicographic.{slice_cmp}
 use Rattle.std.proofs.lemmas.List.{append-nil, length-append}
 use Rattle.std.proofs.lemmas.List.Elements.{filter_map-append}
 use Rattle.std.proofs.Math.Seq.{drop-cons}
-use Rattle.kr_base.specs.Limits.{size_of}
+use Rattle.kr_base.specs.Limits.{pairs_size}
 use Rattle.kr_base.specs.Pairs.{Pairs, with_pair}
-use Rattle.kr_envelope.specs.Wire.{Spells, Starts, Field, IsField}
-use Rattle.kr_envelope.specs.Messages.{last_or, bytes_at, of_bytes, Means, Item, encrypted, key_id, source, annotation, kind, other, IsItem, IsText, IsMessage, encrypted_in, key_id_in, source_in, annotation_in, kind_in, put_all, Raw, raw_of}
-use Rattle.kr_envelope.specs.Limits.{Judges, BreaksAt, Reads}
+use Rattle.kr_envelope.specs.Wire.{Spells, BeginsSpelled, WireField, IsField}
+use Rattle.kr_envelope.specs.Messages.{last_or, bytes_at, of_bytes, MeansItem, WireItem, encrypted, key_id, source, annotation, kind, other, IsItem, IsText, IsMessage, encrypted_in, key_id_in, source_in, annotation_in, kind_in, put_all, Raw, raw_of}
+use Rattle.kr_envelope.specs.Limits.{Judges, BreaksAt, ReadsMessage}
 use Rattle.kr_envelope.specs.inner.Reading.{with_item, later, Keeps, Sees, SeesEntry, Walks}
 use Rattle.kr_envelope.specs.declared.partial.PartialObject.{PartialObject}
 use Rattle.kr_envelope.specs.declared.object.ObjectNo.{ObjectNo}
@@ -30,10 +30,10 @@ put_more pairs [] y = refl
 put_more pairs (x ∷ xs) y = put_more (with_pair pairs x.0 x.1) xs y
 
 -- a part of the object where the item has a value for it, and where it has none
-has : {T : Type 0} (f : Item → Option T) (d : T) (items : List Item) (item : Item) (x : T) → f item ≡ Some x → last_or d (filter_map f (items ++ item ∷ [])) ≡ x
+has : {T : Type 0} (f : WireItem → Option T) (d : T) (items : List WireItem) (item : WireItem) (x : T) → f item ≡ Some x → last_or d (filter_map f (items ++ item ∷ [])) ≡ x
 has f d items item x e = ap (last_or d) (filter_map-append f items (item ∷ []) ∙ ap (λ o. filter_map f items ++ cons_option o []) e) ∙ last_more d (filter_map f items) x
 
-keeps : {T : Type 0} (f : Item → Option T) (items : List Item) (item : Item) → f item ≡ None → filter_map f (items ++ item ∷ []) ≡ filter_map f items
+keeps : {T : Type 0} (f : WireItem → Option T) (items : List WireItem) (item : WireItem) → f item ≡ None → filter_map f (items ++ item ∷ []) ≡ filter_map f items
 keeps f items item e = filter_map-append f items (item ∷ []) ∙ ap (λ o. filter_map f items ++ cons_option o []) e ∙ append-nil (filter_map f items)
 
 raw : List ℕ → List ℕ → List ℕ → Pairs → ℕ → Raw
@@ -47,7 +47,7 @@ same_raw a b e k s n m =
     ∙ ap (λ x. raw b.encrypted b.key_id b.source b.annotations x) m
 
 -- one more item goes over those before it
-pub raw_more : (items : List Item) (item : Item) → raw_of (items ++ item ∷ []) ≡ with_item (raw_of items) item
+pub raw_more : (items : List WireItem) (item : WireItem) → raw_of (items ++ item ∷ []) ≡ with_item (raw_of items) item
 raw_more items (encrypted content) = let item = encrypted content in same_raw _ _
     (has encrypted_in [] items item content refl) (ap (last_or []) (keeps key_id_in items item refl)) (ap (last_or []) (keeps source_in items item refl)) (ap (put_all []) (keeps annotation_in items item refl)) (ap (last_or 0) (keeps kind_in items item refl))
 raw_more items (key_id content) = let item = key_id content in same_raw _ _
@@ -80,18 +80,18 @@ pub still_crowded : (partial : PartialObject) (raw : Raw) (key value : List ℕ)
 still_crowded partial raw key value t s = record { encrypted = s.encrypted; key_id = s.key_id; source = s.source; kind = s.kind; annotations = still partial.crowded partial.annotations raw.annotations key value t s.annotations }
 
 -- the bytes of annotations, from a pair on
-pub size_drop : (pairs : Pairs) (i : ℕ) (d : List ℕ × List ℕ) → i < length pairs → size_of (drop i pairs) ≡ length (get_or pairs i d).0 + length (get_or pairs i d).1 + size_of (drop (suc i) pairs)
-size_drop pairs i d h = ap size_of (drop-cons pairs i d h)
+pub size_drop : (pairs : Pairs) (i : ℕ) (d : List ℕ × List ℕ) → i < length pairs → pairs_size (drop i pairs) ≡ length (get_or pairs i d).0 + length (get_or pairs i d).1 + pairs_size (drop (suc i) pairs)
+size_drop pairs i d h = ap pairs_size (drop-cons pairs i d h)
 
 -- an entry, one more field at a time
-last_field : (d : List ℕ) (n : ℕ) (fields : List Field) (field : Field) → last_or d (filter_map (bytes_at n) (fields ++ field ∷ [])) ≡ later (last_or d (filter_map (bytes_at n) fields)) (bytes_at n field)
+last_field : (d : List ℕ) (n : ℕ) (fields : List WireField) (field : WireField) → last_or d (filter_map (bytes_at n) (fields ++ field ∷ [])) ≡ later (last_or d (filter_map (bytes_at n) fields)) (bytes_at n field)
 last_field d n fields field = ap (last_or d) (filter_map-append (bytes_at n) fields (field ∷ [])) ∙ by (bytes_at n field) (filter_map (bytes_at n) fields)
   where
     by : (o : Option (List ℕ)) (xs : List (List ℕ)) → last_or d (xs ++ cons_option o []) ≡ later (last_or d xs) o
     by None xs = ap (last_or d) (append-nil xs)
     by (Some x) xs = last_more d xs x
 
-pub entry_more : (text rest key value key_after value_after behind : List ℕ) (field : Field) → SeesEntry text rest key value → Starts IsField rest field behind → key_after ≡ later key (bytes_at 1 field) → value_after ≡ later value (bytes_at 2 field)
+pub entry_more : (text rest key value key_after value_after behind : List ℕ) (field : WireField) → SeesEntry text rest key value → BeginsSpelled IsField rest field behind → key_after ≡ later key (bytes_at 1 field) → value_after ≡ later value (bytes_at 2 field)
     → SeesEntry text behind key_after value_after
 entry_more text rest key value key_after value_after behind field s f k v = record {
   front = s.front ++ f.0;
@@ -106,24 +106,24 @@ pub entry_begun : (text : List ℕ) → SeesEntry text text [] []
 entry_begun text = record { front = []; fields = []; parts = refl; spelled = refl; key_is = refl; value_is = refl }
 
 -- an entry whose fields end where none begins says nothing
-pub no_entry : (text rest key value : List ℕ) → SeesEntry text rest key value → rest ≢ [] → ((field : Field) (tail : List ℕ) → Starts IsField rest field tail → ⊥) → (item : Item) → Means (of_bytes 4 text) item → ⊥
-no_entry text rest key value s some none (encrypted content) m = absurd (omega (arith, ap (λ (f : Field). f.number) m))
-no_entry text rest key value s some none (key_id content) m = absurd (omega (arith, ap (λ (f : Field). f.number) m))
-no_entry text rest key value s some none (source content) m = absurd (omega (arith, ap (λ (f : Field). f.number) m))
+pub no_entry : (text rest key value : List ℕ) → SeesEntry text rest key value → rest ≢ [] → ((field : WireField) (tail : List ℕ) → BeginsSpelled IsField rest field tail → ⊥) → (item : WireItem) → MeansItem (of_bytes 4 text) item → ⊥
+no_entry text rest key value s some none (encrypted content) m = absurd (omega (arith, ap (λ (f : WireField). f.number) m))
+no_entry text rest key value s some none (key_id content) m = absurd (omega (arith, ap (λ (f : WireField). f.number) m))
+no_entry text rest key value s some none (source content) m = absurd (omega (arith, ap (λ (f : WireField). f.number) m))
 no_entry text rest key value s some none (annotation k v) m =
     let same : text ≡ m.0 = one_content (of_bytes 4 text) 4 4 text m.0 refl m.1 in
     spells_none IsField fields_code text s.front rest s.fields s.spelled s.parts some none m.2.0 (subst (λ l. Spells IsField l m.2.0) (sym same) m.2.1)
-no_entry text rest key value s some none (kind n) m = absurd (omega (arith, ap (λ (f : Field). f.number) m.1))
+no_entry text rest key value s some none (kind n) m = absurd (omega (arith, ap (λ (f : WireField). f.number) m.1))
 no_entry text rest key value s some none other m = cc
 
 -- a whole entry is an annotation
-pub whole_entry : (text rest key value : List ℕ) → SeesEntry text rest key value → rest ≡ [] → Means (of_bytes 4 text) (annotation key value)
+pub whole_entry : (text rest key value : List ℕ) → SeesEntry text rest key value → rest ≡ [] → MeansItem (of_bytes 4 text) (annotation key value)
 whole_entry text rest key value s e =
     let whole : s.front ≡ text = sym (s.parts ∙ ap (λ l. s.front ++ l) e ∙ append-nil s.front) in
     (text, refl, (s.fields, subst (λ l. Spells IsField l s.fields) whole s.spelled, s.key_is, s.value_is))
 
 -- a message, one more item at a time
-pub walk_more : (text rest behind : List ℕ) (partial after : PartialObject) (item : Item) → Walks text rest partial → Starts IsItem rest item behind → IsText item → ((raw : Raw) → Sees partial raw → Sees after (with_item raw item)) → Walks text behind after
+pub walk_more : (text rest behind : List ℕ) (partial after : PartialObject) (item : WireItem) → Walks text rest partial → BeginsSpelled IsItem rest item behind → IsText item → ((raw : Raw) → Sees partial raw → Sees after (with_item raw item)) → Walks text behind after
 walk_more text rest behind partial after item w s t p = record {
   front = w.front ++ s.0;
   items = w.items ++ item ∷ [];
@@ -146,7 +146,7 @@ walk_broken Breach text rest partial at w e b = record {
   breach = b;
 }
 
-judged : (text : List ℕ) (items : List Item) → IsMessage text items → (result : Result EncryptedObject ObjectNo) → Judges (raw_of items) result → Reads text result
+judged : (text : List ℕ) (items : List WireItem) → IsMessage text items → (result : Result EncryptedObject ObjectNo) → Judges (raw_of items) result → ReadsMessage text result
 judged text items m (Ok object) j = (items, m, j)
 judged text items m (Err (Wire at)) j = absurd j
 judged text items m (Err KeyId) j = (items, m, j)
@@ -158,7 +158,7 @@ judged text items m (Err (NotUtf8 at)) j = absurd j
 judged text items m (Err NoMemory) j = tt
 
 -- and the whole
-pub walk_ended : (text rest : List ℕ) (partial : PartialObject) (result : Result EncryptedObject ObjectNo) → Walks text rest partial → rest ≡ [] → ((raw : Raw) → Sees partial raw → Judges raw result) → Reads text result
+pub walk_ended : (text rest : List ℕ) (partial : PartialObject) (result : Result EncryptedObject ObjectNo) → Walks text rest partial → rest ≡ [] → ((raw : Raw) → Sees partial raw → Judges raw result) → ReadsMessage text result
 walk_ended text rest partial result w e j =
     let whole : w.front ≡ text = sym (w.parts ∙ ap (λ l. w.front ++ l) e ∙ append-nil w.front) in
     judged text w.items (subst (λ l. IsMessage l w.items) whole w.message) result (j (raw_of w.items) w.sees)

@@ -5,15 +5,15 @@ use Rattle.std.proofs.lemmas.List.{append-nil, length-append}
 use Rattle.kr_envelope.specs.declared.object.ObjectNo.{ObjectNo}
 use Rattle.kr_envelope.specs.declared.object.ObjectNo.TheVariants.{Wire, KeyId, Source, Annotations, SourceType, NoData, NotUtf8, NoMemory}
 use Rattle.kr_envelope.specs.declared.object.EncryptedObject.{EncryptedObject}
-use Rattle.kr_envelope.specs.Wire.{Starts}
-use Rattle.kr_envelope.specs.Messages.{Item, IsItem, IsText, IsMessage, Raw, raw_of}
-use Rattle.kr_envelope.specs.Limits.{breach_of, raw_in, IsNoItem, IsNoText, Reads, AreOne}
+use Rattle.kr_envelope.specs.Wire.{BeginsSpelled}
+use Rattle.kr_envelope.specs.Messages.{WireItem, IsItem, IsText, IsMessage, Raw, raw_of}
+use Rattle.kr_envelope.specs.Limits.{breach_of, raw_in, IsNoItem, IsNoText, ReadsMessage, AreOne}
 use Rattle.kr_envelope.proofs.Items.{items_code}
 use Rattle.kr_envelope.proofs.RoundTrip.{same_object}
 
 -- no item of text begins there
 abbrev Stuck : List ℕ → Type 0
-Stuck rest = (item : Item) (tail : List ℕ) → Starts IsItem rest item tail → IsText item → ⊥
+Stuck rest = (item : WireItem) (tail : List ℕ) → BeginsSpelled IsItem rest item tail → IsText item → ⊥
 
 stuck_at_end : (rest : List ℕ) → rest ≡ [] → Stuck rest
 stuck_at_end rest e item tail s u = absurd (omega (arith, items_code.some s.0 item s.1, ap length s.2, length-append s.0 tail, ap length e))
@@ -25,7 +25,7 @@ stuck_at_no_text : (rest : List ℕ) → IsNoText rest → Stuck rest
 stuck_at_no_text rest n item tail s u = let one = items_code.one rest item n.0 tail n.1 s n.2 in n.3 (subst IsText one.0 u)
 
 -- the items before a place where none begins are the only ones, and so is the place
-one_run : (front : List ℕ) (items : List Item) (rest : List ℕ) (start : List ℕ) (others : List Item) (tail : List ℕ) → IsMessage front items → IsMessage start others → front ++ rest ≡ start ++ tail → Stuck rest → Stuck tail
+one_run : (front : List ℕ) (items : List WireItem) (rest : List ℕ) (start : List ℕ) (others : List WireItem) (tail : List ℕ) → IsMessage front items → IsMessage start others → front ++ rest ≡ start ++ tail → Stuck rest → Stuck tail
     → (items ≡ others) × (rest ≡ tail)
 one_run front [] rest start [] tail m n e s t = (refl, ap (λ l. l ++ rest) (sym m.0) ∙ e ∙ ap (λ l. l ++ tail) n.0)
 one_run front [] rest start (y ∷ ys) tail m n e s t =
@@ -53,7 +53,7 @@ one_judged raw (Err x) (Err y) j k = ap Err (some_one x y (sym j ∙ k))
     some_one x y e = cc
 
 -- how a reading ended
-record Whole (text : List ℕ) (rest : List ℕ) (items : List Item) (answer : Result EncryptedObject ObjectNo) : Type 0 where
+record Whole (text : List ℕ) (rest : List ℕ) (items : List WireItem) (answer : Result EncryptedObject ObjectNo) : Type 0 where
   end : rest ≡ []
   judged : IsJudged (raw_of items) answer
 
@@ -64,13 +64,13 @@ record Unread (Breach : List ℕ → Type 0) (name : ℕ → ObjectNo) (text res
 record Run (text : List ℕ) (answer : Result EncryptedObject ObjectNo) : Type 0 where
   front : List ℕ
   rest : List ℕ
-  items : List Item
+  items : List WireItem
   parts : text ≡ front ++ rest
   message : IsMessage front items
   stuck : Stuck rest
   ending : Whole text rest items answer ⊎ Unread IsNoItem Wire text rest answer ⊎ Unread IsNoText NotUtf8 text rest answer
 
-whole : (text : List ℕ) (items : List Item) (answer : Result EncryptedObject ObjectNo) → IsMessage text items → IsJudged (raw_of items) answer → Run text answer
+whole : (text : List ℕ) (items : List WireItem) (answer : Result EncryptedObject ObjectNo) → IsMessage text items → IsJudged (raw_of items) answer → Run text answer
 whole text items answer m j = record {
   front = text;
   rest = [];
@@ -84,7 +84,7 @@ whole text items answer m j = record {
 place : (text front rest : List ℕ) (at : ℕ) → text ≡ front ++ rest → at ≡ length front → at ≡ length text - length rest
 place text front rest at e l = omega (arith, ap length e, length-append front rest)
 
-run : (text : List ℕ) (answer : Result EncryptedObject ObjectNo) → Reads text answer → (answer ≡ Err NoMemory) ⊎ Run text answer
+run : (text : List ℕ) (answer : Result EncryptedObject ObjectNo) → ReadsMessage text answer → (answer ≡ Err NoMemory) ⊎ Run text answer
 run text (Ok object) (items, m, j) = inr (whole text items (Ok object) m j)
 run text (Err (Wire at)) b = inr (record {
   front = b.front;
@@ -137,7 +137,7 @@ one_run_ends text a b r s =
       ]
     ]
 
-pub one_reading : (text : List ℕ) (a b : Result EncryptedObject ObjectNo) → Reads text a → Reads text b → AreOne a b
+pub one_reading : (text : List ℕ) (a b : Result EncryptedObject ObjectNo) → ReadsMessage text a → ReadsMessage text b → AreOne a b
 one_reading text a b r s = elim (run text a r) [
   | inl short ↦ inl short
   | inr p ↦ elim (run text b s) [ inl short ↦ inr (inl short) | inr q ↦ inr (inr (one_run_ends text a b p q)) ]

@@ -11,9 +11,9 @@ use Rattle.kr_envelope.specs.declared.object.SourceKind.TheVariants.{Key, Seed}
 use Rattle.kr_envelope.specs.declared.object.ObjectNo.{ObjectNo}
 use Rattle.kr_envelope.specs.declared.object.ObjectNo.TheVariants.{Wire, KeyId, Source, Annotations, SourceType, NoData, NotUtf8, NoMemory}
 use Rattle.kr_envelope.specs.declared.object.EncryptedObject.{EncryptedObject}
-use Rattle.kr_envelope.specs.Wire.{Spells, Starts, number, IsVarint, Payload, varint, fixed64, bytes, fixed32, wire_type, IsPayload, Field, IsField}
-use Rattle.kr_envelope.specs.Messages.{of_bytes, last_bytes, Item, encrypted, key_id, source, annotation, kind, other, Means, IsItem, IsText, IsMessage, Raw, raw_of}
-use Rattle.kr_envelope.specs.Limits.{breach_of, number_of, raw_in, Reads, HaveReadings}
+use Rattle.kr_envelope.specs.Wire.{Spells, BeginsSpelled, number, IsVarint, Payload, varint, fixed64, bytes, fixed32, wire_type, IsPayload, WireField, IsField}
+use Rattle.kr_envelope.specs.Messages.{of_bytes, last_bytes, WireItem, encrypted, key_id, source, annotation, kind, other, MeansItem, IsItem, IsText, IsMessage, Raw, raw_of}
+use Rattle.kr_envelope.specs.Limits.{breach_of, number_of, raw_in, ReadsMessage, HaveReadings}
 use Rattle.kr_envelope.proofs.Varints.{varint_end, varint_groups, varint_found}
 use Rattle.kr_envelope.proofs.Fields.{no_varint, no_size, too_long, with_bytes, no_key, bad_number, no_payload, with_payload}
 use Rattle.kr_envelope.proofs.Spellings.{fields_code, spells_more, all_more}
@@ -21,10 +21,10 @@ use Rattle.kr_envelope.proofs.Items.{one_content, items_code, no_field, no_meani
 
 -- a value begins a text, or none does
 abbrev Begun : {T : Type 0} → (List ℕ → T → Type 0) → List ℕ → Type 0
-Begun {T} Spelling text = (x : T) × ((rest : List ℕ) × Starts Spelling text x rest)
+Begun {T} Spelling text = (x : T) × ((rest : List ℕ) × BeginsSpelled Spelling text x rest)
 
 abbrev Unbegun : {T : Type 0} → (List ℕ → T → Type 0) → List ℕ → Type 0
-Unbegun {T} Spelling text = (x : T) (rest : List ℕ) → Starts Spelling text x rest → ⊥
+Unbegun {T} Spelling text = (x : T) (rest : List ℕ) → BeginsSpelled Spelling text x rest → ⊥
 
 below : (a b : ℕ) → nat_lt a b ≡ true → a < b
 below a b e = grind (arith, nat_tests)
@@ -59,10 +59,10 @@ some_varint text = by (position (λ byte. nat_lt byte 128) text) refl
     by (Some last) e = short last e (nat_lt last 10) refl
 
 abbrev Carried : ℕ → List ℕ → Type 0
-Carried k text = (p : Payload) × ((rest : List ℕ) × ((wire_type p ≡ k) × Starts IsPayload text p rest))
+Carried k text = (p : Payload) × ((rest : List ℕ) × ((wire_type p ≡ k) × BeginsSpelled IsPayload text p rest))
 
 abbrev Uncarried : ℕ → List ℕ → Type 0
-Uncarried k text = (p : Payload) (rest : List ℕ) → wire_type p ≡ k → Starts IsPayload text p rest → ⊥
+Uncarried k text = (p : Payload) (rest : List ℕ) → wire_type p ≡ k → BeginsSpelled IsPayload text p rest → ⊥
 
 no_eight : (text : List ℕ) → length text < 8 → Uncarried 1 text
 no_eight text h (varint n) rest w s = absurd (omega arith)
@@ -101,7 +101,7 @@ bytes_carried text = elim (some_varint text) [
   | inr n ↦ inr (no_size text 2 refl n)
 ]
   where
-    sized : (n : ℕ) (behind : List ℕ) → Starts IsVarint text n behind → (b : Bool) → nat_lt (length behind) n ≡ b → Carried 2 text ⊎ Uncarried 2 text
+    sized : (n : ℕ) (behind : List ℕ) → BeginsSpelled IsVarint text n behind → (b : Bool) → nat_lt (length behind) n ≡ b → Carried 2 text ⊎ Uncarried 2 text
     sized n behind v true e = inr (too_long text 2 n behind refl v (below _ _ e))
     sized n behind v false e = inl (bytes (take n behind), (drop n behind, (refl, with_bytes text n behind (take n behind) (drop n behind) v (not_below _ _ e) refl refl)))
 
@@ -173,14 +173,14 @@ fields_in (suc fuel) (byte ∷ text) h = elim (some_field (byte ∷ text)) [
   | inr none ↦ inr (λ xs m. not_begun none xs m)
 ]
   where
-    shorter : (field : Field) (rest : List ℕ) → (s : Starts IsField (byte ∷ text) field rest) → length rest ≤ fuel
+    shorter : (field : WireField) (rest : List ℕ) → (s : BeginsSpelled IsField (byte ∷ text) field rest) → length rest ≤ fuel
     shorter field rest s = omega (arith, h, fields_code.some s.0 field s.1, ap length s.2, length-append s.0 rest)
 
-    not_begun : Unbegun IsField (byte ∷ text) → (xs : List Field) → Spells IsField (byte ∷ text) xs → ⊥
+    not_begun : Unbegun IsField (byte ∷ text) → (xs : List WireField) → Spells IsField (byte ∷ text) xs → ⊥
     not_begun none [] m = cc
     not_begun none (x ∷ xs) m = none x m.1 (m.0, m.2, m.4)
 
-    not_so : (field : Field) (rest : List ℕ) → Starts IsField (byte ∷ text) field rest → Unlisted IsField rest → (xs : List Field) → Spells IsField (byte ∷ text) xs → ⊥
+    not_so : (field : WireField) (rest : List ℕ) → BeginsSpelled IsField (byte ∷ text) field rest → Unlisted IsField rest → (xs : List WireField) → Spells IsField (byte ∷ text) xs → ⊥
     not_so field rest s none [] m = cc
     not_so field rest s none (x ∷ xs) m =
         let one = fields_code.one (byte ∷ text) field x rest m.1 s (m.0, m.2, m.4) in
@@ -188,20 +188,20 @@ fields_in (suc fuel) (byte ∷ text) h = elim (some_field (byte ∷ text)) [
 
 -- items
 
-abbrev Meant : Field → Type 0
-Meant field = (item : Item) × Means field item
+abbrev Meant : WireField → Type 0
+Meant field = (item : WireItem) × MeansItem field item
 
-abbrev Unmeant : Field → Type 0
-Unmeant field = (item : Item) → Means field item → ⊥
+abbrev Unmeant : WireField → Type 0
+Unmeant field = (item : WireItem) → MeansItem field item → ⊥
 
 no_entry : (text : List ℕ) → Unlisted IsField text → Unmeant (of_bytes 4 text)
-no_entry text none (encrypted content) m = absurd (omega (arith, ap (λ (f : Field). f.number) m))
-no_entry text none (key_id content) m = absurd (omega (arith, ap (λ (f : Field). f.number) m))
-no_entry text none (source content) m = absurd (omega (arith, ap (λ (f : Field). f.number) m))
+no_entry text none (encrypted content) m = absurd (omega (arith, ap (λ (f : WireField). f.number) m))
+no_entry text none (key_id content) m = absurd (omega (arith, ap (λ (f : WireField). f.number) m))
+no_entry text none (source content) m = absurd (omega (arith, ap (λ (f : WireField). f.number) m))
 no_entry text none (annotation k v) m =
     let same : text ≡ m.0 = one_content (of_bytes 4 text) 4 4 text m.0 refl m.1 in
     none m.2.0 (subst (λ l. Spells IsField l m.2.0) (sym same) m.2.1)
-no_entry text none (kind n) m = absurd (omega (arith, ap (λ (f : Field). f.number) m.1))
+no_entry text none (kind n) m = absurd (omega (arith, ap (λ (f : WireField). f.number) m.1))
 no_entry text none other m = cc
 
 not_own : (n : ℕ) → n ≢ 1 → n ≢ 2 → n ≢ 3 → n ≢ 4 → (nat_le 1 n && nat_le n 4) ≡ false
@@ -233,7 +233,7 @@ some_meaning : (n : ℕ) (p : Payload) → Meant (record { number = n; payload =
 some_meaning n (varint m) = by (n == 5) refl
   where
     by : (b : Bool) → (n == 5) ≡ b → Meant (record { number = n; payload = varint m }) ⊎ Unmeant (record { number = n; payload = varint m })
-    by true e = inl (kind (m % 2 ^ 32), (m, ap (λ k. let field : Field = record { number = k; payload = varint m } in field) (same n 5 e), refl))
+    by true e = inl (kind (m % 2 ^ 32), (m, ap (λ k. let field : WireField = record { number = k; payload = varint m } in field) (same n 5 e), refl))
     by false e = inl (other, e)
 some_meaning n (fixed64 content) = inl (other, refl)
 some_meaning n (bytes content) = some_bytes n content
@@ -255,7 +255,7 @@ is_text content = by (is_utf8 content) refl
     by true e = inl (IsUtf8-from_is_utf8 content e)
     by false e = inr (λ u. let t = is_utf8-from_IsUtf8 content u in cc)
 
-texts : (item : Item) → IsText item ⊎ (IsText item → ⊥)
+texts : (item : WireItem) → IsText item ⊎ (IsText item → ⊥)
 texts (encrypted content) = inl tt
 texts (key_id content) = is_text content
 texts (source content) = inl tt
@@ -266,7 +266,7 @@ texts other = inl tt
 -- messages
 
 abbrev Answered : List ℕ → Type 0
-Answered text = (answer : Result EncryptedObject ObjectNo) × Reads text answer × (answer ≢ Err NoMemory)
+Answered text = (answer : Result EncryptedObject ObjectNo) × ReadsMessage text answer × (answer ≢ Err NoMemory)
 
 kind_of : ℕ → SourceKind
 kind_of zero = Key
@@ -288,7 +288,7 @@ raw_again : (raw : Raw) → raw.kind ≤ 1 → raw ≡ raw_in (object_in raw)
 unfolding object_in
 raw_again raw h = ap (λ k. let r : Raw = record { encrypted = raw.encrypted; key_id = raw.key_id; source = raw.source; annotations = raw.annotations; kind = k } in r) (kind_number raw.kind h)
 
-judged : (text : List ℕ) (items : List Item) → IsMessage text items
+judged : (text : List ℕ) (items : List WireItem) → IsMessage text items
     → (b c d f g : Bool) → nat_le (raw_of items).kind 1 ≡ g
     → breach_of (raw_of items) ≡ (if b
     then (if c
@@ -307,7 +307,7 @@ judged text items m true true true false g k e = (Err Annotations, (items, m, e)
 judged text items m true true true true false k e = (Err SourceType, (items, m, e), (λ q. cc))
 judged text items m true true true true true k e = (Ok (object_in (raw_of items)), (items, m, (e, raw_again (raw_of items) (at_most _ _ k))), (λ q. cc))
 
-walk : (fuel : ℕ) (text front rest : List ℕ) (items : List Item) → text ≡ front ++ rest → IsMessage front items → length rest ≤ fuel → Answered text
+walk : (fuel : ℕ) (text front rest : List ℕ) (items : List WireItem) → text ≡ front ++ rest → IsMessage front items → length rest ≤ fuel → Answered text
 walk fuel text front [] items e m h =
     let raw : Raw = raw_of items in
     judged text items (subst (λ l. IsMessage l items) (sym (e ∙ append-nil front)) m)
@@ -321,10 +321,10 @@ walk (suc fuel) text front (byte ∷ rest) items e m h = elim (some_item (byte �
   | inr none ↦ (Err (Wire (length front)), record { front = front; rest = byte ∷ rest; items = items; parts = e; message = m; place = refl; breach = ((λ q. cc), none) }, (λ q. cc))
 ]
   where
-    further : (item : Item) (tail : List ℕ) → (s : Starts IsItem (byte ∷ rest) item tail) → text ≡ (front ++ s.0) ++ tail
+    further : (item : WireItem) (tail : List ℕ) → (s : BeginsSpelled IsItem (byte ∷ rest) item tail) → text ≡ (front ++ s.0) ++ tail
     further item tail s = e ∙ ap (λ l. front ++ l) s.2 ∙ sym (append_assoc front s.0 tail)
 
-    shorter : (item : Item) (tail : List ℕ) → (s : Starts IsItem (byte ∷ rest) item tail) → length tail ≤ fuel
+    shorter : (item : WireItem) (tail : List ℕ) → (s : BeginsSpelled IsItem (byte ∷ rest) item tail) → length tail ≤ fuel
     shorter item tail s = omega (arith, h, items_code.some s.0 item s.1, ap length s.2, length-append s.0 tail)
 
 pub have_readings : HaveReadings

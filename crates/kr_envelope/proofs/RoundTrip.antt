@@ -11,16 +11,16 @@ use Rattle.std.specs.Map.{keys_of}
 use Rattle.std.proofs.lemmas.List.{append-nil, length-append}
 use Rattle.std.proofs.lemmas.List.Elements.{recursion_from_All}
 use Rattle.std.proofs.lemmas.Bool.Decides.{nat_tests}
-use Rattle.kr_base.specs.Limits.{IsShort, AreFew, size_of, is_short, are_few}
+use Rattle.kr_base.specs.Limits.{IsShort, AreFew, pairs_size, is_short, are_few}
 use Rattle.kr_base.specs.Pairs.{Pairs, with_pair, IsSortedByKey}
 use Rattle.kr_envelope.specs.declared.object.SourceKind.{SourceKind}
 use Rattle.kr_envelope.specs.declared.object.SourceKind.TheVariants.{Key, Seed}
 use Rattle.kr_envelope.specs.declared.object.ObjectNo.{ObjectNo}
 use Rattle.kr_envelope.specs.declared.object.ObjectNo.TheVariants.{Wire, KeyId, Source, Annotations, SourceType, NoData, NotUtf8, NoMemory}
 use Rattle.kr_envelope.specs.declared.object.EncryptedObject.{EncryptedObject}
-use Rattle.kr_envelope.specs.Wire.{Spells, Starts, IsVarint, varint, Field, IsField}
-use Rattle.kr_envelope.specs.Messages.{last_or, last_bytes, of_bytes, Item, encrypted, key_id, source, annotation, kind, IsItem, IsText, IsMessage, encrypted_in, key_id_in, source_in, annotation_in, kind_in, put_all, Raw, raw_of}
-use Rattle.kr_envelope.specs.Limits.{Reads, breach_of, number_of, raw_in}
+use Rattle.kr_envelope.specs.Wire.{Spells, BeginsSpelled, IsVarint, varint, WireField, IsField}
+use Rattle.kr_envelope.specs.Messages.{last_or, last_bytes, of_bytes, WireItem, encrypted, key_id, source, annotation, kind, IsItem, IsText, IsMessage, encrypted_in, key_id_in, source_in, annotation_in, kind_in, put_all, Raw, raw_of}
+use Rattle.kr_envelope.specs.Limits.{ReadsMessage, breach_of, number_of, raw_in}
 use Rattle.kr_envelope.specs.Canonical.{shortest, with_length, content_field, pair_field, kind_field, canonical, IsWritable, IsKept, IsReadBack}
 use Rattle.kr_envelope.proofs.Spellings.{spells_rest, spells_one, spells_none}
 use Rattle.kr_envelope.proofs.Items.{items_code}
@@ -44,23 +44,23 @@ same_object a b e =
     ∙ ap (λ x. object b.encrypted b.key_id x a.annotations a.kind) (ap (λ (r : Raw). r.source) e) ∙ ap (λ x. object b.encrypted b.key_id b.source x a.kind) (ap (λ (r : Raw). r.annotations) e)
     ∙ ap (λ x. object b.encrypted b.key_id b.source b.annotations x) (same_kind a.kind b.kind (ap (λ (r : Raw). r.kind) e))
 
-suffix_texts : (xs zs : List Item) → AllByRecursion IsText (xs ++ zs) → AllByRecursion IsText zs
+suffix_texts : (xs zs : List WireItem) → AllByRecursion IsText (xs ++ zs) → AllByRecursion IsText zs
 suffix_texts [] zs all = all
 suffix_texts (x ∷ xs) zs all = suffix_texts xs zs all.1
 
-first_is : (rest : List ℕ) (zs : List Item) → Spells IsItem rest zs → AllByRecursion IsText zs → (item : Item) (tail : List ℕ) → Starts IsItem rest item tail → IsText item
+first_is : (rest : List ℕ) (zs : List WireItem) → Spells IsItem rest zs → AllByRecursion IsText zs → (item : WireItem) (tail : List ℕ) → BeginsSpelled IsItem rest item tail → IsText item
 first_is rest [] m all item tail s = absurd (omega (arith, items_code.some s.0 item s.1, ap length s.2, length-append s.0 tail, ap length m))
 first_is rest (z ∷ zs) m all item tail s =
     let one = items_code.one rest item z tail m.1 s (m.0, m.2, m.4) in
     subst IsText (sym one.0) all.0
 
-no_breach : (text : List ℕ) (items : List Item) → IsMessage text items → (object : EncryptedObject) → raw_of items ≡ raw_in object → IsWritable object → (others : List Item) → IsMessage text others → (why : ObjectNo) → breach_of (raw_of others) ≡ Some why → ⊥
+no_breach : (text : List ℕ) (items : List WireItem) → IsMessage text items → (object : EncryptedObject) → raw_of items ≡ raw_in object → IsWritable object → (others : List WireItem) → IsMessage text others → (why : ObjectNo) → breach_of (raw_of others) ≡ Some why → ⊥
 no_breach text items m object r w others n why j =
     let same : others ≡ items = spells_one IsItem items_code text others items n.0 m.0 in
     let none : breach_of (raw_of others) ≡ None = ap (λ l. breach_of (raw_of l)) same ∙ ap breach_of r ∙ w in
     cc
 
-pub whole_is : (text : List ℕ) (items : List Item) → IsMessage text items → (object : EncryptedObject) → raw_of items ≡ raw_in object → IsWritable object → (answer : Result EncryptedObject ObjectNo) → Reads text answer → (answer ≡ Ok object) ⊎ (answer ≡ Err NoMemory)
+pub whole_is : (text : List ℕ) (items : List WireItem) → IsMessage text items → (object : EncryptedObject) → raw_of items ≡ raw_in object → IsWritable object → (answer : Result EncryptedObject ObjectNo) → ReadsMessage text answer → (answer ≡ Ok object) ⊎ (answer ≡ Err NoMemory)
 whole_is text items m object r w (Ok found) (others, n, j) =
     let same : items ≡ others = spells_one IsItem items_code text items others m.0 n.0 in
     inl (ap Ok (same_object found object (sym j.1 ∙ ap raw_of (sym same) ∙ r)))
@@ -78,14 +78,14 @@ whole_is text items m object r w (Err NoMemory) j = inr refl
 
 -- the items that are written
 
-abbrev pair_item : List ℕ × List ℕ → Item
+abbrev pair_item : List ℕ × List ℕ → WireItem
 pair_item pair = annotation pair.0 pair.1
 
-abbrev kind_items : SourceKind → List Item
+abbrev kind_items : SourceKind → List WireItem
 kind_items Key = []
 kind_items Seed = kind 1 ∷ []
 
-abbrev items_of : EncryptedObject → List Item
+abbrev items_of : EncryptedObject → List WireItem
 items_of o = encrypted o.encrypted ∷ key_id o.key_id ∷ source o.source ∷ (map pair_item o.annotations ++ kind_items o.kind)
 
 spells_append : {T : Type 0} (Spelling : List ℕ → T → Type 0) (front : List ℕ) (xs : List T) (rest : List ℕ) (ys : List T) → Spells Spelling front xs → Spells Spelling rest ys → Spells Spelling (front ++ rest) (xs ++ ys)
@@ -107,7 +107,7 @@ content_is n (byte ∷ tail) l h s f = record {
 }
 
 -- a key and a value, each where it isn't empty
-some_field : ℕ → List ℕ → List Field
+some_field : ℕ → List ℕ → List WireField
 some_field n [] = []
 some_field n (byte ∷ tail) = of_bytes n (byte ∷ tail) ∷ []
 
@@ -155,7 +155,7 @@ pair_is pair h =
       ),
     )
 
-pairs_spelled : (pairs : Pairs) → size_of pairs ≤ 32768 → Spells IsItem (flat_map pair_field pairs) (map pair_item pairs)
+pairs_spelled : (pairs : Pairs) → pairs_size pairs ≤ 32768 → Spells IsItem (flat_map pair_field pairs) (map pair_item pairs)
 pairs_spelled [] h = refl
 pairs_spelled (pair ∷ pairs) h = (pair_field pair, flat_map pair_field pairs, pair_is pair (omega arith), pairs_spelled pairs (omega arith), refl)
 
@@ -175,7 +175,7 @@ kind_spelled Seed = (
 
 -- the object that these items make
 
-quiet : {T : Type 0} (f : Item → Option T) → ((key value : List ℕ) → f (annotation key value) ≡ None) → f (kind 1) ≡ None → (pairs : Pairs) (n : SourceKind) → filter_map f (map pair_item pairs ++ kind_items n) ≡ []
+quiet : {T : Type 0} (f : WireItem → Option T) → ((key value : List ℕ) → f (annotation key value) ≡ None) → f (kind 1) ≡ None → (pairs : Pairs) (n : SourceKind) → filter_map f (map pair_item pairs ++ kind_items n) ≡ []
 quiet f a k [] Key = refl
 quiet f a k [] Seed = ap (λ o. cons_option o []) k
 quiet f a k (pair ∷ pairs) n = ap (λ o. cons_option o (filter_map f (map pair_item pairs ++ kind_items n))) (a pair.0 pair.1) ∙ quiet f a k pairs n
@@ -229,7 +229,7 @@ raw e k s a n = record { encrypted = e; key_id = k; source = s; annotations = a;
 raw_is : (o : EncryptedObject) → IsSortedByKey o.annotations → raw_of (items_of o) ≡ raw_in o
 unfolding raw
 raw_is o s =
-    let rest : List Item = map pair_item o.annotations ++ kind_items o.kind in
+    let rest : List WireItem = map pair_item o.annotations ++ kind_items o.kind in
     ap (λ x. raw (last_or o.encrypted x) (last_or o.key_id (filter_map key_id_in rest)) (last_or o.source (filter_map source_in rest)) (put_all [] (filter_map annotation_in rest)) (last_or 0 (filter_map kind_in rest))) (quiet encrypted_in (λ k v. refl) refl o.annotations o.kind)
     ∙ ap (λ x. raw o.encrypted (last_or o.key_id x) (last_or o.source (filter_map source_in rest)) (put_all [] (filter_map annotation_in rest)) (last_or 0 (filter_map kind_in rest))) (quiet key_id_in (λ k v. refl) refl o.annotations o.kind)
     ∙ ap (λ x. raw o.encrypted o.key_id (last_or o.source x) (put_all [] (filter_map annotation_in rest)) (last_or 0 (filter_map kind_in rest))) (quiet source_in (λ k v. refl) refl o.annotations o.kind)
@@ -302,7 +302,7 @@ read_back text o e w k =
 kept_limit : (content : List ℕ) → 1 ≤ length content → length content ≤ 1024 → is_short content ≡ true
 kept_limit content l h = grind (arith, nat_tests)
 
-kept_few : (pairs : Pairs) → length pairs ≤ 256 → size_of pairs ≤ 32768 → are_few pairs ≡ true
+kept_few : (pairs : Pairs) → length pairs ≤ 256 → pairs_size pairs ≤ 32768 → are_few pairs ≡ true
 kept_few pairs l h = grind (arith, nat_tests)
 
 kept_data : (content : List ℕ) → 1 ≤ length content → nat_le 1 (length content) ≡ true

@@ -2,7 +2,7 @@
 use Rattle.std.proofs.Common.{◌≡◌, ℕ, suc, ◌+◌, ◌*◌, ◌^◌, ◌<◌, ◌≤◌, List, [], ◌∷◌, ◌++◌, length, refl, ◌∙◌, ap, arith}
 use Rattle.std.specs.List.{flat_map}
 use Rattle.std.proofs.lemmas.List.{length-append}
-use Rattle.kr_base.specs.Limits.{size_of}
+use Rattle.kr_base.specs.Limits.{pairs_size}
 use Rattle.kr_base.specs.Pairs.{Pairs}
 use Rattle.kr_envelope.specs.declared.object.SourceKind.{SourceKind}
 use Rattle.kr_envelope.specs.declared.object.SourceKind.TheVariants.{Key, Seed}
@@ -29,11 +29,11 @@ pair_length pair h =
     let size = shortest_is (length text) long in
     omega (arith, length-append (shortest (length text)) text, size.short)
 
-pairs_length : (pairs : Pairs) → size_of pairs ≤ 32768 → length (flat_map pair_field pairs) ≤ 33 * length pairs + size_of pairs
+pairs_length : (pairs : Pairs) → pairs_size pairs ≤ 32768 → length (flat_map pair_field pairs) ≤ 33 * length pairs + pairs_size pairs
 pairs_length [] h = omega arith
 pairs_length (pair ∷ pairs) h =
     let head : length (pair_field pair) ≤ 33 + (length pair.0 + length pair.1) = pair_length pair (omega arith) in
-    let tail : length (flat_map pair_field pairs) ≤ 33 * length pairs + size_of pairs = pairs_length pairs (omega arith) in
+    let tail : length (flat_map pair_field pairs) ≤ 33 * length pairs + pairs_size pairs = pairs_length pairs (omega arith) in
     omega (arith, length-append (pair_field pair) (flat_map pair_field pairs), head, tail)
 
 kind_length : (n : SourceKind) → length (kind_field n) ≤ 2
@@ -46,7 +46,7 @@ canonical_length o w f =
     let l = limits o w in
     let pairs : List ℕ = flat_map pair_field o.annotations in
     let kinds : List ℕ = kind_field o.kind in
-    let annotated : length pairs ≤ 33 * length o.annotations + size_of o.annotations = pairs_length o.annotations l.3.1 in
+    let annotated : length pairs ≤ 33 * length o.annotations + pairs_size o.annotations = pairs_length o.annotations l.3.1 in
     let last : length (pairs ++ kinds) ≤ 41218 = omega (arith, length-append pairs kinds, annotated, l.3.0, l.3.1, kind_length o.kind) in
     let third : length (content_field 3 o.source ++ (pairs ++ kinds)) ≤ 42253 = omega (arith, length-append (content_field 3 o.source) (pairs ++ kinds), last, content_length 3 o.source (omega (arith, l.2.1)), l.2.1) in
     let second : length (content_field 2 o.key_id ++ (content_field 3 o.source ++ (pairs ++ kinds))) ≤ 43288 = omega (arith, length-append (content_field 2 o.key_id) (content_field 3 o.source ++ (pairs ++ kinds)), third, content_length 2 o.key_id (omega (arith, l.1.1)), l.1.1) in

@@ -2,18 +2,18 @@
 use Rattle.std.proofs.Common.{◌≡◌, ◌≢◌, ℕ, ◌<◌, ◌≤◌, List, [], ◌∷◌, ◌++◌, length, refl, sym, ◌∙◌, ap, subst, arith, append_assoc}
 use Rattle.std.proofs.lemmas.List.{append-nil, length-append}
 use Rattle.std.specs.List.{AllByRecursion}
-use Rattle.kr_envelope.specs.Wire.{Spells, Starts, IsField}
+use Rattle.kr_envelope.specs.Wire.{Spells, BeginsSpelled, IsField}
 use Rattle.kr_envelope.proofs.Fields.{one_field, some_field}
 
 pub record IsCode {T : Type 0} (Spelling : List ℕ → T → Type 0) : Type 0 where
-  pub one : (text : List ℕ) (x y : T) (rest tail : List ℕ) → Starts Spelling text x rest → Starts Spelling text y tail → (x ≡ y) × (rest ≡ tail)
+  pub one : (text : List ℕ) (x y : T) (rest tail : List ℕ) → BeginsSpelled Spelling text x rest → BeginsSpelled Spelling text y tail → (x ≡ y) × (rest ≡ tail)
   pub some : (front : List ℕ) (x : T) → Spelling front x → 1 ≤ length front
 
 pub fields_code : IsCode IsField
 fields_code = record { one = one_field; some = some_field }
 
 -- one more
-pub spells_more : {T : Type 0} (Spelling : List ℕ → T → Type 0) (front : List ℕ) (xs : List T) (rest : List ℕ) (x : T) (tail : List ℕ) → Spells Spelling front xs → (s : Starts Spelling rest x tail)
+pub spells_more : {T : Type 0} (Spelling : List ℕ → T → Type 0) (front : List ℕ) (xs : List T) (rest : List ℕ) (x : T) (tail : List ℕ) → Spells Spelling front xs → (s : BeginsSpelled Spelling rest x tail)
     → Spells Spelling (front ++ s.0) (xs ++ x ∷ [])
 spells_more Spelling front [] rest x tail m s = (s.0, [], s.1, refl, ap (λ l. l ++ s.0) m ∙ sym (append-nil s.0))
 spells_more Spelling front (y ∷ ys) rest x tail m s = (m.0, m.1 ++ s.0, m.2, spells_more Spelling m.1 ys rest x tail m.3 s, ap (λ l. l ++ s.0) m.4 ∙ append_assoc m.0 m.1 s.0)
@@ -39,12 +39,12 @@ spells_one Spelling code text xs ys m n =
     let rest = spells_rest Spelling code text xs m [] ys (subst (λ l. Spells Spelling l ys) (sym (append-nil text)) n) in
     sym (rest.2 ∙ ap (λ l. xs ++ l) (spells_nothing Spelling code rest.0 rest.1) ∙ append-nil xs)
 
-first : {T : Type 0} (Spelling : List ℕ → T → Type 0) (rest : List ℕ) (zs : List T) → Spells Spelling rest zs → rest ≢ [] → (x : T) × ((tail : List ℕ) × Starts Spelling rest x tail)
+first : {T : Type 0} (Spelling : List ℕ → T → Type 0) (rest : List ℕ) (zs : List T) → Spells Spelling rest zs → rest ≢ [] → (x : T) × ((tail : List ℕ) × BeginsSpelled Spelling rest x tail)
 first Spelling rest [] m n = absurd (n m)
 first Spelling rest (z ∷ zs) m n = (z, (m.1, (m.0, m.2, m.4)))
 
 -- where no value begins, the whole isn't spelled
-pub spells_none : {T : Type 0} (Spelling : List ℕ → T → Type 0) → IsCode Spelling → (text front rest : List ℕ) (xs : List T) → Spells Spelling front xs → text ≡ front ++ rest → rest ≢ [] → ((x : T) (tail : List ℕ) → Starts Spelling rest x tail → ⊥)
+pub spells_none : {T : Type 0} (Spelling : List ℕ → T → Type 0) → IsCode Spelling → (text front rest : List ℕ) (xs : List T) → Spells Spelling front xs → text ≡ front ++ rest → rest ≢ [] → ((x : T) (tail : List ℕ) → BeginsSpelled Spelling rest x tail → ⊥)
     → (ys : List T) → Spells Spelling text ys → ⊥
 spells_none Spelling code text front rest xs m e some none ys n =
     let more = spells_rest Spelling code front xs m rest ys (subst (λ l. Spells Spelling l ys) e n) in
@@ -55,5 +55,5 @@ pub all_more : {T : Type 0} (P : T → Type 0) (xs : List T) (x : T) → AllByRe
 all_more P [] x all p = (p, tt)
 all_more P (y ∷ ys) x all p = (all.0, all_more P ys x all.1 p)
 
-pub shorter : {T : Type 0} (Spelling : List ℕ → T → Type 0) → IsCode Spelling → (text : List ℕ) (x : T) (rest : List ℕ) → Starts Spelling text x rest → length rest < length text
+pub shorter : {T : Type 0} (Spelling : List ℕ → T → Type 0) → IsCode Spelling → (text : List ℕ) (x : T) (rest : List ℕ) → BeginsSpelled Spelling text x rest → length rest < length text
 shorter Spelling code text x rest s = omega (arith, code.some s.0 x s.1, ap length s.2, length-append s.0 rest)

@@ -6,7 +6,7 @@ use Rattle.std.proofs.lemmas.List.{length-append, length-take, append_cancel_lef
 use Rattle.std.proofs.lemmas.List.Quantifiers.{position-Some}
 use Rattle.std.proofs.lemmas.Bool.Decides.{nat_tests}
 use Rattle.std.proofs.Math.Seq.{take-append_seam, drop-cons}
-use Rattle.kr_envelope.specs.Wire.{Starts, AreGroups, number, IsVarint}
+use Rattle.kr_envelope.specs.Wire.{BeginsSpelled, AreGroups, number, IsVarint}
 
 -- the number from a group on, by the group and those behind it
 pub number_drop : (bytes : List ℕ) (i : ℕ) → i < length bytes → number (drop i bytes) ≡ get_or bytes i 0 % 128 + 128 * number (drop (suc i) bytes)
@@ -48,7 +48,7 @@ below_some : (i n : ℕ) → i < n → cond (nat_lt i n) (Some i) None ≡ Some 
 below_some i n h = grind (arith, nat_tests)
 
 -- where the varint at the front ends
-pub varint_end : (bytes : List ℕ) (n : ℕ) (rest : List ℕ) → (s : Starts IsVarint bytes n rest) → position (λ byte. nat_lt byte 128) bytes ≡ Some (length s.0 - 1)
+pub varint_end : (bytes : List ℕ) (n : ℕ) (rest : List ℕ) → (s : BeginsSpelled IsVarint bytes n rest) → position (λ byte. nat_lt byte 128) bytes ≡ Some (length s.0 - 1)
 varint_end bytes n rest s =
     let end = groups_end s.0 rest s.1.groups in
     let at : position_or_len (λ byte. nat_lt byte 128) bytes ≡ length s.0 - 1 = ap (position_or_len (λ byte. nat_lt byte 128)) s.2 ∙ omega (arith, end) in
@@ -60,7 +60,7 @@ some_groups [] g = absurd g
 some_groups (byte ∷ bytes) g = omega arith
 
 -- its groups, by their end
-pub varint_groups : (bytes : List ℕ) (n : ℕ) (rest : List ℕ) (last : ℕ) → (s : Starts IsVarint bytes n rest) → position (λ byte. nat_lt byte 128) bytes ≡ Some last → (length s.0 ≡ last + 1) × (s.0 ≡ take (last + 1) bytes)
+pub varint_groups : (bytes : List ℕ) (n : ℕ) (rest : List ℕ) (last : ℕ) → (s : BeginsSpelled IsVarint bytes n rest) → position (λ byte. nat_lt byte 128) bytes ≡ Some last → (length s.0 ≡ last + 1) × (s.0 ≡ take (last + 1) bytes)
 varint_groups bytes n rest last s e =
     let end = varint_end bytes n rest s in
     let same : last ≡ length s.0 - 1 = cc in
@@ -70,7 +70,7 @@ varint_groups bytes n rest last s e =
 
 -- what is found at the front is a varint
 pub varint_found : (bytes front rest : List ℕ) (last value : ℕ) → position (λ byte. nat_lt byte 128) bytes ≡ Some last → last < 10 → front ≡ take (last + 1) bytes → rest ≡ drop (last + 1) bytes → value ≡ number front → value < 2 ^ 64
-    → Starts IsVarint bytes value rest
+    → BeginsSpelled IsVarint bytes value rest
 varint_found bytes front rest last value e l f r v b =
     let found = position-Some (λ byte. nat_lt byte 128) bytes last 0 e in
     let taken : front ≡ take (suc last) bytes = f ∙ ap (λ i. take i bytes) (add-one last) in (
@@ -85,7 +85,7 @@ varint_found bytes front rest last value e l f r v b =
     )
 
 -- and is the only one
-pub one_varint : (bytes : List ℕ) (n m : ℕ) (rest tail : List ℕ) → Starts IsVarint bytes n rest → Starts IsVarint bytes m tail → (n ≡ m) × (rest ≡ tail)
+pub one_varint : (bytes : List ℕ) (n m : ℕ) (rest tail : List ℕ) → BeginsSpelled IsVarint bytes n rest → BeginsSpelled IsVarint bytes m tail → (n ≡ m) × (rest ≡ tail)
 one_varint bytes n m rest tail s t =
     let groups = varint_groups bytes n rest (length t.0 - 1) s (varint_end bytes m tail t) in
     let others = varint_groups bytes m tail (length t.0 - 1) t (varint_end bytes m tail t) in

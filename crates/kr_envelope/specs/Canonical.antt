@@ -8,7 +8,7 @@ use Rattle.kr_envelope.specs.declared.object.SourceKind.TheVariants.{Key, Seed}
 use Rattle.kr_envelope.specs.declared.object.ObjectNo.{ObjectNo}
 use Rattle.kr_envelope.specs.declared.object.ObjectNo.TheVariants.{NoMemory}
 use Rattle.kr_envelope.specs.declared.object.EncryptedObject.{EncryptedObject}
-use Rattle.kr_envelope.specs.Limits.{breach_of, raw_in, Reads}
+use Rattle.kr_envelope.specs.Limits.{breach_of, raw_in, ReadsMessage}
 
 -- groups of seven bits, the lowest first, as long as the number isn't a last one; so many at most
 -- before that
@@ -61,9 +61,9 @@ IsWritable object = breach_of (raw_in object) ≡ None
 -- memory
 abbrev pub IsReadBack : List ℕ → EncryptedObject → Type 0
 IsReadBack bytes object =
-    Reads bytes (Ok object)
+    ReadsMessage bytes (Ok object)
     × ((answer : Result EncryptedObject ObjectNo)
-    → Reads bytes answer → (answer ≡ Ok object) ⊎ (answer ≡ Err NoMemory))
+    → ReadsMessage bytes answer → (answer ≡ Ok object) ⊎ (answer ≡ Err NoMemory))
 
 -- what the types of an object's parts keep, and its values alone don't show
 pub record IsKept (object : EncryptedObject) : Type 0 where

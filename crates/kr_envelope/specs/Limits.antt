@@ -6,8 +6,8 @@ use Rattle.kr_envelope.specs.declared.object.SourceKind.TheVariants.{Key, Seed}
 use Rattle.kr_envelope.specs.declared.object.ObjectNo.{ObjectNo}
 use Rattle.kr_envelope.specs.declared.object.ObjectNo.TheVariants.{Wire, KeyId, Source, Annotations, SourceType, NoData, NotUtf8, NoMemory}
 use Rattle.kr_envelope.specs.declared.object.EncryptedObject.{EncryptedObject}
-use Rattle.kr_envelope.specs.Wire.{Starts}
-use Rattle.kr_envelope.specs.Messages.{Item, IsItem, IsText, IsMessage, Raw, raw_of}
+use Rattle.kr_envelope.specs.Wire.{BeginsSpelled}
+use Rattle.kr_envelope.specs.Messages.{WireItem, IsItem, IsText, IsMessage, Raw, raw_of}
 
 -- the first limit that is passed: data, key id, source, annotations, source type
 abbrev pub breach_of : Raw → Option ObjectNo
@@ -47,17 +47,19 @@ Judges raw (Err NoMemory) = ⊤
 
 -- no field that says something begins there
 abbrev pub IsNoItem : List ℕ → Type 0
-IsNoItem rest = (rest ≢ []) × ((item : Item) (tail : List ℕ) → Starts IsItem rest item tail → ⊥)
+IsNoItem rest = (rest ≢ []) × ((item : WireItem) (tail : List ℕ)
+    → BeginsSpelled IsItem rest item tail → ⊥)
 
 -- the field there isn't text where it is to be
 abbrev pub IsNoText : List ℕ → Type 0
-IsNoText rest = (item : Item) × (tail : List ℕ) × Starts IsItem rest item tail × (IsText item → ⊥)
+IsNoText rest = (item : WireItem) × (tail : List ℕ) × BeginsSpelled IsItem rest item tail
+    × (IsText item → ⊥)
 
 -- before this place the bytes are a message, and what stands there breaches
 pub record BreaksAt (Breach : List ℕ → Type 0) (text : List ℕ) (at : ℕ) : Type 0 where
   pub front : List ℕ
   pub rest : List ℕ
-  pub items : List Item
+  pub items : List WireItem
   pub parts : text ≡ front ++ rest
   pub message : IsMessage front items
   pub place : at ≡ length front
@@ -65,20 +67,21 @@ pub record BreaksAt (Breach : List ℕ → Type 0) (text : List ℕ) (at : ℕ) 
 
 -- the bytes are a message, whose object is judged so
 abbrev pub ReadsJudged : List ℕ → Result EncryptedObject ObjectNo → Type 0
-ReadsJudged text answer = (items : List Item) × IsMessage text items × Judges (raw_of items) answer
+ReadsJudged text answer = (items : List WireItem) × IsMessage text items
+    × Judges (raw_of items) answer
 
 -- what bytes are read as: the object of their items within its limits, or the first breach; want of
 -- memory may take its place
-abbrev pub Reads : List ℕ → Result EncryptedObject ObjectNo → Type 0
-Reads text (Ok object) = ReadsJudged text (Ok object)
-Reads text (Err (Wire at)) = BreaksAt IsNoItem text at
-Reads text (Err KeyId) = ReadsJudged text (Err KeyId)
-Reads text (Err Source) = ReadsJudged text (Err Source)
-Reads text (Err Annotations) = ReadsJudged text (Err Annotations)
-Reads text (Err SourceType) = ReadsJudged text (Err SourceType)
-Reads text (Err NoData) = ReadsJudged text (Err NoData)
-Reads text (Err (NotUtf8 at)) = BreaksAt IsNoText text at
-Reads text (Err NoMemory) = ⊤
+abbrev pub ReadsMessage : List ℕ → Result EncryptedObject ObjectNo → Type 0
+ReadsMessage text (Ok object) = ReadsJudged text (Ok object)
+ReadsMessage text (Err (Wire at)) = BreaksAt IsNoItem text at
+ReadsMessage text (Err KeyId) = ReadsJudged text (Err KeyId)
+ReadsMessage text (Err Source) = ReadsJudged text (Err Source)
+ReadsMessage text (Err Annotations) = ReadsJudged text (Err Annotations)
+ReadsMessage text (Err SourceType) = ReadsJudged text (Err SourceType)
+ReadsMessage text (Err NoData) = ReadsJudged text (Err NoData)
+ReadsMessage text (Err (NotUtf8 at)) = BreaksAt IsNoText text at
+ReadsMessage text (Err NoMemory) = ⊤
 
 -- two answers are one, unless one of them is want of memory
 abbrev pub AreOne : Result EncryptedObject ObjectNo → Result EncryptedObject ObjectNo → Type 0
@@ -88,10 +91,11 @@ AreOne a b = (a ≡ Err NoMemory) ⊎ (b ≡ Err NoMemory) ⊎ (a ≡ b)
 abbrev pub ReadsOneThing : Type 0
 ReadsOneThing =
     (text : List ℕ) (a b : Result EncryptedObject ObjectNo)
-    → Reads text a → Reads text b → AreOne a b
+    → ReadsMessage text a → ReadsMessage text b → AreOne a b
 
 -- and there is always an object, or a first breach that isn't want of memory
 abbrev pub HaveReadings : Type 0
 HaveReadings =
     (text : List ℕ)
-    → (answer : Result EncryptedObject ObjectNo) × Reads text answer × (answer ≢ Err NoMemory)
+    → (answer : Result EncryptedObject ObjectNo) × ReadsMessage text answer
+    × (answer ≢ Err NoMemory)

@@ -9,8 +9,8 @@ Spells Spelling bytes (x ∷ xs) =
     × Spelling front x × Spells Spelling rest xs × (bytes ≡ front ++ rest)
 
 -- bytes begin with a spelling of the value, and go on with the rest
-abbrev pub Starts : {T : Type 0} → (List ℕ → T → Type 0) → List ℕ → T → List ℕ → Type 0
-Starts Spelling bytes x rest = (front : List ℕ) × Spelling front x × (bytes ≡ front ++ rest)
+abbrev pub BeginsSpelled : {T : Type 0} → (List ℕ → T → Type 0) → List ℕ → T → List ℕ → Type 0
+BeginsSpelled Spelling bytes x rest = (front : List ℕ) × Spelling front x × (bytes ≡ front ++ rest)
 
 -- groups of seven bits, each byte but the last with 128 added
 abbrev pub AreGroups : List ℕ → Type 0
@@ -53,12 +53,12 @@ IsPayload spelling (bytes content) =
 IsPayload spelling (fixed32 content) = (spelling ≡ content) × (length content ≡ 4)
 
 -- a payload under a number
-pub record Field : Type 0 where
+pub record WireField : Type 0 where
   pub number : ℕ
   pub payload : Payload
 
 -- a field: a key of number and wire type, and the payload
-pub record IsField (spelling : List ℕ) (field : Field) : Type 0 where
+pub record IsField (spelling : List ℕ) (field : WireField) : Type 0 where
   pub key : List ℕ
   pub content : List ℕ
   pub parts : spelling ≡ key ++ content

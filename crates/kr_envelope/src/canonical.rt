@@ -2,7 +2,7 @@
 ghost use Rattle.std.specs.Prelude.{◌≡◌, ◌≤◌, ◌<◌, ◌+◌, ◌^◌, ◌++◌, ◌∷◌, length, OnOk};
 ghost use Rattle.std.specs.List.{flat_map, All};
 ghost use Rattle.std.specs.Str.{IsUtf8};
-ghost use Rattle.kr_base.specs.Limits.{size_of, annotations_size_limit};
+ghost use Rattle.kr_base.specs.Limits.{pairs_size, annotations_size_limit};
 ghost use Rattle.kr_envelope.specs.Canonical.{shortest, content_field, fields_behind, pair_field, kind_field};
 
 use crate::object::SourceKind;
@@ -23,7 +23,7 @@ fn push_number(out: &mut Vec<u8>, n: u64) -> Result<(), AllocError>
 }
 
 /// How many groups a number of a small size needs.
-fn groups_of(n: usize) -> usize
+fn group_count(n: usize) -> usize
     requires { n < 2097152 }
     ensures exact { result ≡ length (shortest n) }
     ensures few { result ≤ 3 }
@@ -63,7 +63,7 @@ fn content_size(content: &[u8]) -> usize
     if content.is_empty() {
         return 0;
     }
-    1 + groups_of(content.len()) + content.len()
+    1 + group_count(content.len()) + content.len()
 }
 
 /// Writes an annotation.
@@ -90,14 +90,14 @@ pub fn push_data_size(out: &mut Vec<u8>, size: usize) -> Result<(), AllocError>
 }
 
 /// Writes the fields behind an object's data.
-pub fn push_behind(
+pub fn push_last_fields(
     out: &mut Vec<u8>,
     key_id: &str,
     source: &[u8],
     annotations: &Annotations,
     kind: SourceKind,
 ) -> Result<(), AllocError>
-    requires { size_of annotations.now ≤ annotations_size_limit }
+    requires { pairs_size annotations.now ≤ annotations_size_limit }
     ensures { OnOk result (out.new.items
         ≡ out.old.items ++ fields_behind key_id.now source.now annotations.now kind) }
 {
@@ -110,7 +110,7 @@ pub fn push_behind(
 
 /// Writes annotations in their order.
 pub fn push_pairs(out: &mut Vec<u8>, pairs: &[(Text, Bytes)]) -> Result<(), AllocError>
-    requires { size_of pairs.now ≤ annotations_size_limit }
+    requires { pairs_size pairs.now ≤ annotations_size_limit }
     ensures written { OnOk result (out.new.items ≡ out.old.items ++ flat_map pair_field pairs.now) }
     // A text is UTF-8, which its type keeps and its bytes alone don't show.
     ensures texts { OnOk result (All (λ pair. IsUtf8 pair.0) pairs.now) }

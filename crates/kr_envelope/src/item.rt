@@ -5,12 +5,12 @@ ghost use Rattle.kr_envelope.specs.Messages.{bytes_at, of_bytes};
 ghost use Rattle.kr_envelope.specs.inner.Taking.{field_of};
 ghost use Rattle.kr_envelope.specs.inner.Reading.{Says, TakesItem, later};
 
-use crate::wire::{Field, Payload, take_field};
+use crate::wire::{Payload, WireField, take_field};
 use std::str::from_utf8;
 
 /// What a field says of the object.
 #[derive(Clone, Copy, Debug)]
-pub enum Item<'a> {
+pub enum WireItem<'a> {
     Encrypted(&'a [u8]),
     KeyId(&'a str),
     Source(&'a [u8]),
@@ -30,7 +30,7 @@ pub enum ItemNo {
 }
 
 /// The item at the front, and what follows it.
-pub fn take_item<'a>(text: &'a [u8]) -> Result<(Item<'a>, &'a [u8]), ItemNo>
+pub fn take_item<'a>(text: &'a [u8]) -> Result<(WireItem<'a>, &'a [u8]), ItemNo>
     ensures { TakesItem text.now result }
 {
     let Some((field, rest)) = take_field(text) else {
@@ -43,40 +43,40 @@ pub fn take_item<'a>(text: &'a [u8]) -> Result<(Item<'a>, &'a [u8]), ItemNo>
 }
 
 /// What the field says.
-fn meaning<'a>(field: Field<'a>) -> Result<Item<'a>, ItemNo>
+fn meaning<'a>(field: WireField<'a>) -> Result<WireItem<'a>, ItemNo>
     ensures { Says (field_of field.entry) result }
 {
     match field.payload {
         Payload::Bytes(content) => meaning_of_bytes(field.number, content),
         Payload::Varint(n) => {
             if field.number == 5 {
-                return Ok(Item::Kind((n % (1 << 32)) as u32));
+                return Ok(WireItem::Kind((n % (1 << 32)) as u32));
             }
-            Ok(Item::Other)
+            Ok(WireItem::Other)
         }
-        Payload::Fixed64(_) => Ok(Item::Other),
-        Payload::Fixed32(_) => Ok(Item::Other),
+        Payload::Fixed64(_) => Ok(WireItem::Other),
+        Payload::Fixed32(_) => Ok(WireItem::Other),
     }
 }
 
 /// What the bytes under this number say.
-fn meaning_of_bytes<'a>(number: u64, content: &'a [u8]) -> Result<Item<'a>, ItemNo>
+fn meaning_of_bytes<'a>(number: u64, content: &'a [u8]) -> Result<WireItem<'a>, ItemNo>
     ensures { Says (of_bytes number content.now) result }
 {
     match number {
-        1 => Ok(Item::Encrypted(content)),
+        1 => Ok(WireItem::Encrypted(content)),
         2 => match from_utf8(content) {
-            Ok(text) => Ok(Item::KeyId(text)),
+            Ok(text) => Ok(WireItem::KeyId(text)),
             Err(_) => Err(ItemNo::NotUtf8),
         },
-        3 => Ok(Item::Source(content)),
+        3 => Ok(WireItem::Source(content)),
         4 => entry(content),
-        _ => Ok(Item::Other),
+        _ => Ok(WireItem::Other),
     }
 }
 
 /// The annotation that these bytes are.
-fn entry<'a>(text: &'a [u8]) -> Result<Item<'a>, ItemNo>
+fn entry<'a>(text: &'a [u8]) -> Result<WireItem<'a>, ItemNo>
     ensures { Says (of_bytes 4 text.now) result }
 {
     let mut key: &[u8] = &[];
@@ -91,13 +91,13 @@ fn entry<'a>(text: &'a [u8]) -> Result<Item<'a>, ItemNo>
         rest = behind;
     }
     match from_utf8(key) {
-        Ok(key) => Ok(Item::Annotation(key, value)),
+        Ok(key) => Ok(WireItem::Annotation(key, value)),
         Err(_) => Err(ItemNo::NotUtf8),
     }
 }
 
 /// The bytes of the field, where they are of this number, or else those before.
-fn latest<'a>(number: u64, field: &Field<'a>, before: &'a [u8]) -> &'a [u8]
+fn latest<'a>(number: u64, field: &WireField<'a>, before: &'a [u8]) -> &'a [u8]
     ensures { result.now ≡ later before.now (bytes_at number (field_of field.now)) }
 {
     match field.payload {

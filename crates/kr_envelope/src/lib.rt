@@ -10,7 +10,7 @@ mod partial;
 mod prefix;
 mod wire;
 
-pub use canonical::{push_behind, push_data_size};
+pub use canonical::{push_data_size, push_last_fields};
 pub use laws::{canonical_length, one_reading, round_trip};
 pub use object::{EncryptedObject, ObjectNo, SourceKind};
-pub use prefix::{Kind, MARK, Tagged, prefix_of, push_prefix, split};
+pub use prefix::{Kind, MARK, Tagged, provider_prefix, push_prefix, split};

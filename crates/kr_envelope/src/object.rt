@@ -1,6 +1,6 @@
 //! The encrypted object of a KMS plugin's value.
 ghost use Rattle.std.specs.Prelude.{◌≡◌, IfOk, OnOk};
-ghost use Rattle.kr_envelope.specs.Limits.{Reads};
+ghost use Rattle.kr_envelope.specs.Limits.{ReadsMessage};
 ghost use Rattle.kr_envelope.specs.Canonical.{IsWritable, IsReadBack, IsKept, canonical};
 
 use crate::canonical::{push_content, push_kind, push_pairs};
@@ -60,7 +60,7 @@ impl EncryptedObject {
     /// or of UTF-8, by its place, and then of the limits, in the order data, key id, source,
     /// annotations, source type.
     pub fn read(alloc: Global, bytes: &[u8]) -> Result<EncryptedObject, ObjectNo>
-        ensures { Reads bytes.now result }
+        ensures { ReadsMessage bytes.now result }
     {
         let mut partial = PartialObject::new(alloc);
         let mut rest = bytes;

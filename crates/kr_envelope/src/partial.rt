@@ -5,7 +5,7 @@ ghost use Rattle.kr_envelope.specs.Messages.{Raw, raw_of};
 ghost use Rattle.kr_envelope.specs.Limits.{Judges};
 ghost use Rattle.kr_envelope.specs.inner.Reading.{item_of, with_item, with_annotation, Sees};
 
-use crate::item::Item;
+use crate::item::WireItem;
 use crate::object::{EncryptedObject, ObjectNo, SourceKind};
 use kr_base::{ANNOTATIONS_LIMIT, Annotations, Bytes, NoMemory, Text, are_few, is_short};
 use std::alloc::Global;
@@ -38,17 +38,17 @@ impl<'a> PartialObject<'a> {
     }
 
     /// Merges one more item over those before it.
-    pub fn merge(&mut self, alloc: Global, item: Item<'a>) -> Result<(), NoMemory>
+    pub fn merge(&mut self, alloc: Global, item: WireItem<'a>) -> Result<(), NoMemory>
         ensures { (raw : Raw) → Sees self.old raw
             → OnOk result (Sees self.new (with_item raw (item_of item.entry))) }
     {
         match item {
-            Item::Encrypted(content) => self.encrypted = content,
-            Item::KeyId(text) => self.key_id = text,
-            Item::Source(content) => self.source = content,
-            Item::Annotation(key, value) => return self.merge_annotation(alloc, key, value),
-            Item::Kind(n) => self.kind = n,
-            Item::Other => {}
+            WireItem::Encrypted(content) => self.encrypted = content,
+            WireItem::KeyId(text) => self.key_id = text,
+            WireItem::Source(content) => self.source = content,
+            WireItem::Annotation(key, value) => return self.merge_annotation(alloc, key, value),
+            WireItem::Kind(n) => self.kind = n,
+            WireItem::Other => {}
         }
         Ok(())
     }

@@ -51,17 +51,17 @@ pub enum Tagged<'a> {
 }
 
 /// The prefix that the provider of this kind and name writes.
-pub fn prefix_of(alloc: Global, kind: Kind, name: &str) -> Result<Bytes, NoMemory>
+pub fn provider_prefix(alloc: Global, kind: Kind, name: &str) -> Result<Bytes, NoMemory>
     requires { IsName name.now }
     ensures { IfOk result (λ bytes. bytes ≡ prefix kind name.now) }
 {
-    match prefix_in(alloc, kind, name) {
+    match make_prefix(alloc, kind, name) {
         Ok(bytes) => Ok(Bytes::from_vec(bytes)),
         Err(_) => Err(NoMemory),
     }
 }
 
-fn prefix_in(alloc: Global, kind: Kind, name: &str) -> Result<Vec<u8>, AllocError>
+fn make_prefix(alloc: Global, kind: Kind, name: &str) -> Result<Vec<u8>, AllocError>
     requires { IsName name.now }
     ensures { IfOk result (λ bytes. bytes.items ≡ prefix kind name.now) }
 {
@@ -121,7 +121,7 @@ fn parted<'a>(kind: Kind, bytes: &'a [u8]) -> Option<(&'a str, &'a [u8])>
     let Some(rest) = bytes.strip_prefix(kind.head()) else {
         return None;
     };
-    let Some(at) = colon_in(rest) else {
+    let Some(at) = first_colon(rest) else {
         return None;
     };
     let Ok(name) = from_utf8(&rest[..at]) else {
@@ -134,7 +134,7 @@ fn parted<'a>(kind: Kind, bytes: &'a [u8]) -> Option<(&'a str, &'a [u8])>
 }
 
 /// Where the first colon stands.
-fn colon_in(bytes: &[u8]) -> Option<usize>
+fn first_colon(bytes: &[u8]) -> Option<usize>
     ensures { result ≡ position (λ byte. byte == 0x3A) bytes.now }
 {
     bytes.iter().position(|byte| *byte == b':')

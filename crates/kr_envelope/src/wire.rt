@@ -14,7 +14,7 @@ pub enum Payload<'a> {
 
 /// A field of a message, its bytes lent.
 #[derive(Clone, Copy, Debug)]
-pub struct Field<'a> {
+pub struct WireField<'a> {
     pub number: u64,
     pub payload: Payload<'a>,
 }
@@ -23,7 +23,7 @@ pub struct Field<'a> {
 const NUMBERS: u64 = 536_870_911;
 
 /// The field at the front, and what follows it.
-pub fn take_field<'a>(bytes: &'a [u8]) -> Option<(Field<'a>, &'a [u8])>
+pub fn take_field<'a>(bytes: &'a [u8]) -> Option<(WireField<'a>, &'a [u8])>
     ensures { TakesField bytes.now result }
 {
     let Some((key, rest)) = take_varint(bytes) else {
@@ -36,7 +36,7 @@ pub fn take_field<'a>(bytes: &'a [u8]) -> Option<(Field<'a>, &'a [u8])>
     let Some((payload, rest)) = take_payload(key % 8, rest) else {
         return None;
     };
-    Some((Field { number, payload }, rest))
+    Some((WireField { number, payload }, rest))
 }
 
 /// The payload of this wire type at the front, and what follows it.
@@ -89,7 +89,7 @@ pub fn take_varint<'a>(bytes: &'a [u8]) -> Option<(u64, &'a [u8])>
         return None;
     }
     let (groups, rest) = bytes.split_at(last + 1);
-    let Some(value) = value_of(groups) else {
+    let Some(value) = groups_value(groups) else {
         return None;
     };
     Some((value, rest))
@@ -103,7 +103,7 @@ fn last_group(bytes: &[u8]) -> Option<usize>
 }
 
 /// The number of the groups, where it is below 2^64.
-fn value_of(groups: &[u8]) -> Option<u64>
+fn groups_value(groups: &[u8]) -> Option<u64>
     ensures { MatchOption result (2 ^ 64 ≤ number groups.now)
         (λ value. (value ≡ number groups.now) × (value < 2 ^ 64)) }
 {

@@ -1,6 +1,6 @@
 -- By what agrees with its exchanges, a load keeps honest what its caller sees.
 use Rattle.std.proofs.Common.{◌≡◌, inl, inr, ℕ, List, [], Option, None, Some, Result, Ok, Err, subst}
-use Rattle.kr_config.specs.Kept.{Row, plugins_in}
+use Rattle.kr_config.specs.Kept.{ConfigEntry, plugins_in}
 use Rattle.kr_kms.specs.Exchanges.{AgreeAll, Exchange}
 use Rattle.kr_kms.specs.Truth.{Opens}
 use Rattle.kr_kms.proofs.Opening.{agree_parts}
@@ -97,12 +97,12 @@ module _ (opens : Opens) (Publishes : Result Publication PublishNo → Type 0)
 -- ---- by exchanges
 
 module _ (opens : Opens) {D : Type 0} (left : D → Option (List ℕ)) (count : D → ℕ) where
-  published_open : (rows : List Row) (dice after : D) (es : List Exchange) → AgreeAll opens es
+  published_open : (rows : List ConfigEntry) (dice after : D) (es : List Exchange) → AgreeAll opens es
       → (p : Publication) → PublishesBy left count rows dice (Ok p) after es → SeedsOpen opens p
   published_open rows dice after es agree p w =
       seeds_open opens left count (plugins_in rows) [] dice (Ok p.seeds) after es w.1 agree
 
-  pub reloads_agree : (rows : List Row) (replica : ℕ) (old : Caller) (dice : D)
+  pub reloads_agree : (rows : List ConfigEntry) (replica : ℕ) (old : Caller) (dice : D)
       (result : Result Loaded CallNo) (new : Caller) (after : D) (es : List Exchange)
       → IsReloadBy left count rows replica old dice result new after es → AgreeAll opens es
       → KeepsHonestBy opens old new
@@ -110,7 +110,7 @@ module _ (opens : Opens) {D : Type 0} (left : D → Option (List ℕ)) (count : 
       reload_keeps opens (λ made. PublishesBy left count rows dice made after es)
       (published_open rows dice after es agree) old new replica result is
 
-  pub joins_agree : (rows : List Row) (replica : ℕ) (old : Caller) (dice : D)
+  pub joins_agree : (rows : List ConfigEntry) (replica : ℕ) (old : Caller) (dice : D)
       (result : Result Joining CallNo) (new : Caller) (after : D) (es : List Exchange)
       → IsJoinBy left count rows replica old dice result new after es → AgreeAll opens es
       → KeepsHonestBy opens old new

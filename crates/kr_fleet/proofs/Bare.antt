@@ -4,7 +4,7 @@ use Rattle.std.specs.Prelude.{All}
 use Rattle.std.specs.List.{slice_get}
 use Rattle.std.specs.Option.{option_map}
 use Rattle.std.proofs.lemmas.Option.{none-some, same_Some}
-use Rattle.kr_config.specs.Kept.{Row as settings_row}
+use Rattle.kr_config.specs.Kept.{ConfigEntry as settings_row}
 use Rattle.kr_config.specs.Lists.{list_of}
 use Rattle.kr_kms.specs.Truth.{Opens}
 use Rattle.kr_provider.specs.Publication.{Publication, names_plugin}

@@ -1,6 +1,6 @@
 -- What `reload`, `join` and `refresh` publish and bring.
 use Rattle.std.proofs.Common.{◌≡◌, inl, inr, ℕ, true, List, Option, None, Result, Ok, Err, sym, subst}
-use Rattle.kr_config.specs.Kept.{Row}
+use Rattle.kr_config.specs.Kept.{ConfigEntry}
 use Rattle.kr_kms.specs.Calls.{Link}
 use Rattle.kr_kms.specs.Truth.{Opens, Truth}
 use Rattle.kr_provider.specs.Publication.{Publication}
@@ -34,7 +34,7 @@ use Rattle.kr_history.proofs.KeptByEvents.{holds_still}
 -- ---- the seeds that are brought open
 
 module _ {L D : Type 0} (truth : Truth) (link : L → Link) (left : D → Option (List ℕ))
-    (count : D → ℕ) (rows : List Row) where
+    (count : D → ℕ) (rows : List ConfigEntry) where
   pub seeds_tell : (p : Publication) (olds news : List L) (dice after : D)
       → Publishes truth link left count rows olds dice (Ok p) news after → truth.told ≡ true
       → SeedsOpen truth.opens p

@@ -39,7 +39,7 @@ use Rattle.kr_history.specs.Calls.{LetsGo}
 use Rattle.kr_fleet.specs.CallForms.{FindsWhere}
 use Rattle.kr_fleet.specs.ReadCalls.{FindsRow, Finds, IsContentOf, IsKnownContent, IsOfValue, IsRead, IsReadByAny}
 use Rattle.kr_fleet.specs.inner.Answering.{FetchesBy}
-use Rattle.kr_fleet.specs.inner.Stages.{Fetches, HoldsAdopted, value_of}
+use Rattle.kr_fleet.specs.inner.Stages.{Fetches, HoldsAdopted, row_value}
 use Rattle.kr_fleet.proofs.Allowed.{refused_allowed}
 use Rattle.kr_fleet.proofs.Bare.{reads_bare}
 use Rattle.kr_history.proofs.Nexts.{front_own, found_row, legal_now}
@@ -49,7 +49,7 @@ use Rattle.kr_history.proofs.Nexts.{front_own, found_row, legal_now}
 module _ (path : List ℕ) (old new : Caller) (Reads : Row → Result Opened UnsealNo → Type 0)
     (AsksNone : Type 0) where
   pub value_found : (row : Row) (opened : Result Opened UnsealNo) → Reads row opened
-      → FindsWhere path old new Reads AsksNone (value_of row.revision opened)
+      → FindsWhere path old new Reads AsksNone (row_value row.revision opened)
   value_found row (Ok opened) f = (row, f, refl)
   value_found row (Err (unsealing.Refused why)) f = (row, f)
   value_found row (Err (unsealing.PluginFailed name)) f = (row, f)
@@ -237,7 +237,7 @@ module _ {L : Type 0} (truth : Truth) (link : L → Link) (path : List ℕ) (old
       → Fetches path old (Ok found) new → found ≡ Some row → IsAt path row → lent ≡ row
       → IfSome published (λ p. UnsealsBy truth link p.seeds (list_at p lent.resource) lent.path
       lent.stored olds opened news)
-      → result ≡ value_of lent.revision opened
+      → result ≡ row_value lent.revision opened
       → IfSome published (λ p. Finds truth link path p old olds result new news)
   find_done published found row lent opened result k h fetched is at same unsealed e =
       let p = h.p in
@@ -253,7 +253,7 @@ module _ {L : Type 0} (truth : Truth) (link : L → Link) (path : List ℕ) (old
       lent.stored olds opened news)) h.adopted unsealed)) in
       subst (λ o. IfSome o (λ p. Finds truth link path p old olds result new news)) (sym h.adopted)
       (subst (λ r. Finds truth link path p old olds r new news)
-      (sym (e ∙ ap (λ (r : Row). value_of r.revision opened) same))
+      (sym (e ∙ ap (λ (r : Row). row_value r.revision opened) same))
       (value_found path old new
       (λ row opened. FindsRow truth link path p old olds row opened new news)
       (news ≡ olds) row opened (record {

@@ -9,6 +9,7 @@ pub mod Bringing
 pub mod Closing
 pub mod Finding
 pub mod Putting
+mod Quiet
 pub mod ReadTalks
 pub mod RenewTalks
 pub mod Renewed

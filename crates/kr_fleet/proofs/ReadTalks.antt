@@ -19,7 +19,7 @@ use Rattle.kr_history.proofs.HeldFacts.{held_is_named}
 use Rattle.kr_fleet.specs.CallExchanges.{AsksNone, FindsBy, FindsRowBy, IsReadBy}
 use Rattle.kr_fleet.specs.declared.outcome.Read.{Read}
 use Rattle.kr_fleet.specs.declared.outcome.Read.TheVariants.{Absent}
-use Rattle.kr_fleet.specs.inner.Stages.{Fetches, HoldsAdopted, value_of}
+use Rattle.kr_fleet.specs.inner.Stages.{Fetches, HoldsAdopted, row_value}
 use Rattle.kr_fleet.proofs.Finding.{IsAt, absent_fetched, none_fetched, value_found}
 
 module _ {S : Type 0} (step : S → Exchange → S → Type 0) (path : List ℕ) (old new : Caller)
@@ -47,7 +47,7 @@ module _ {S : Type 0} (step : S → Exchange → S → Type 0) (path : List ℕ)
       → Fetches path old (Ok found) new → found ≡ Some row → IsAt path row → lent ≡ row
       → IfSome published (λ p. Talk step links news (ReadsBy p.seeds (list_at p lent.resource)
       lent.path lent.stored cache opened after))
-      → result ≡ value_of lent.revision opened
+      → result ≡ row_value lent.revision opened
       → IfSome published (λ p. Talk step links news (FindsBy path p old cache result new after))
   found_talk published found row lent opened result k h fetched is at same unsealed e =
       let p = h.p in
@@ -64,9 +64,9 @@ module _ {S : Type 0} (step : S → Exchange → S → Type 0) (path : List ℕ)
       subst (λ o. IfSome o (λ p. Talk step links news (FindsBy path p old cache result new after)))
       (sym h.adopted)
       (subst (λ r. Talk step links news (FindsBy path p old cache r new after))
-      (sym (e ∙ ap (λ (r : Row). value_of r.revision opened) same))
+      (sym (e ∙ ap (λ (r : Row). row_value r.revision opened) same))
       (talk_so step (ReadsBy p.seeds (list_at p row.resource) path row.stored cache opened after)
-      (FindsBy path p old cache (value_of row.revision opened) new after) links news u
+      (FindsBy path p old cache (row_value row.revision opened) new after) links news u
       (λ es reads. value_found path old new
       (λ row opened. FindsRowBy path p old cache row opened new after es) (AsksNone cache after es)
       row opened (record {

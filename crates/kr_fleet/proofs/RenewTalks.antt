@@ -7,7 +7,7 @@ use Rattle.std.proofs.lemmas.List.{drop_all}
 use Rattle.std.proofs.lemmas.Slice.Eq.{bytes_eq-Decides}
 use Rattle.kr_base.specs.Walks.{Talk}
 use Rattle.kr_base.proofs.Walks.{talk_none, talk_so, talk_then}
-use Rattle.kr_config.specs.Kept.{Row}
+use Rattle.kr_config.specs.Kept.{ConfigEntry}
 use Rattle.kr_kms.specs.Exchanges.{Exchange}
 use Rattle.kr_kms.specs.declared.seeds.SeedRow.{SeedRow}
 use Rattle.kr_provider.specs.Exchanges.{PublishesBy, TellsKeyIdAt}
@@ -155,9 +155,9 @@ module _ {S D : Type 0} (step : S → Exchange → S → Type 0) (left : D → O
           mids compares (λ es c. inr (inl (has_changed es c, refl, refl, dice_is)))
 
       -- the settings are published anew
-      module _ (rows : List Row) (rows_are : rows ≡ p.rows) (new : Caller) (news : S) (after : D)
+      module _ (rows : List ConfigEntry) (rows_are : rows ≡ p.rows) (new : Caller) (news : S) (after : D)
         where
-          abbrev Anew : List Row → D → Result Loaded CallNo → List Exchange → Type 0
+          abbrev Anew : List ConfigEntry → D → Result Loaded CallNo → List Exchange → Type 0
           Anew published first result fs = Renewed
               (λ made. PublishesBy left count published first made after fs) replica number p old
               new result

@@ -2,7 +2,7 @@
 use Rattle.std.specs.Prelude.{Contains}
 use Rattle.std.proofs.Common.{◌≡◌, inr, ℕ, Bool, true, List, ◌++◌, Option, None, Some, Result, Ok, Err, refl, sym, ap, subst, ◌∙◌}
 use Rattle.std.proofs.lemmas.Option.{none-some}
-use Rattle.kr_config.specs.Kept.{Row, plugins_in}
+use Rattle.kr_config.specs.Kept.{ConfigEntry, plugins_in}
 use Rattle.kr_kms.specs.Calls.{Link}
 use Rattle.kr_kms.specs.Truth.{Truth}
 use Rattle.kr_kms.specs.declared.seeds.SeedRow.{SeedRow}
@@ -159,7 +159,7 @@ compared_asks link p seeds olds mids same a =
     subst (λ s. AskedOnly link (plugin_names s) olds mids) same a
 
 pub renewed_asks : {L : Type 0} (link : L → Link) (p : Publication) (seeds : List SeedRow)
-    (rows : List Row) (olds mids news : List L) → IsPublished p → seeds ≡ p.seeds
+    (rows : List ConfigEntry) (olds mids news : List L) → IsPublished p → seeds ≡ p.seeds
     → rows ≡ p.rows → AskedOnly link (plugin_names seeds) olds mids
     → AskedOnly link (plugins_in rows) mids news → AskedOnly link (plugin_names p.seeds) olds news
 renewed_asks link p seeds rows olds mids news k same rows_are a b =
@@ -171,7 +171,7 @@ renewed_asks link p seeds rows olds mids news k same rows_are a b =
 -- a key has changed, of the seeds of a configuration whose settings are then published
 module _ {L D : Type 0} (truth : Truth) (link : L → Link) (left : D → Option (List ℕ))
     (count : D → ℕ) (replica number : ℕ) (p : Publication) (old new : Caller)
-    (olds mids news : List L) (dice between after : D) (seeds : List SeedRow) (rows : List Row)
+    (olds mids news : List L) (dice between after : D) (seeds : List SeedRow) (rows : List ConfigEntry)
     (seeds_are : seeds ≡ p.seeds) (rows_are : rows ≡ p.rows) (dice_is : between ≡ dice)
     (asked : AskedOnly link (plugin_names seeds) olds mids) (changed : Bool)
     (is : changed ≡ true) (compares : ComparesKeys link seeds olds (Ok changed) mids) where

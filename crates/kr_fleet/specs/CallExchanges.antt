@@ -1,7 +1,7 @@
 -- By which exchanges with plugins, exactly, the calls end that ask any: the last argument is their
 -- list.
 use Rattle.std.specs.Prelude.{◌≡◌, ◌≢◌, ◌⊎◌, ℕ, Bool, true, false, List, [], ◌∷◌, ◌++◌, Option, Some, Result, Ok, Err}
-use Rattle.kr_config.specs.Kept.{Row as settings_row}
+use Rattle.kr_config.specs.Kept.{ConfigEntry as settings_row}
 use Rattle.kr_kms.specs.Cache.{CacheState}
 use Rattle.kr_kms.specs.Exchanges.{Exchange}
 use Rattle.kr_kms.specs.declared.seeds.SeedRow.{SeedRow}

@@ -1,6 +1,6 @@
 -- What calls promise by whatever agrees with their exchanges with plugins.
 use Rattle.std.specs.Prelude.{◌≡◌, ℕ, List, ◌∷◌, ◌++◌, Option, None, Some, Result, Ok, Err, ⊤}
-use Rattle.kr_config.specs.Kept.{Row}
+use Rattle.kr_config.specs.Kept.{ConfigEntry}
 use Rattle.kr_kms.specs.Cache.{AreOpenBy, CacheState}
 use Rattle.kr_kms.specs.Exchanges.{AgreeAll, Exchange}
 use Rattle.kr_kms.specs.Truth.{Opens}
@@ -23,13 +23,13 @@ use Rattle.kr_fleet.specs.declared.outcome.Read.TheVariants.{Absent, Value}
 
 module _ {D : Type 0} (left : D → Option (List ℕ)) (count : D → ℕ) where
   abbrev pub ReloadsAgree : Type 0
-  ReloadsAgree = (opens : Opens) (rows : List Row) (replica : ℕ) (old : Caller) (dice : D)
+  ReloadsAgree = (opens : Opens) (rows : List ConfigEntry) (replica : ℕ) (old : Caller) (dice : D)
       (result : Result Loaded CallNo) (new : Caller) (after : D) (exchanges : List Exchange)
       → IsReloadBy left count rows replica old dice result new after exchanges
       → AgreeAll opens exchanges → KeepsHonestBy opens old new
 
   abbrev pub JoinsAgree : Type 0
-  JoinsAgree = (opens : Opens) (rows : List Row) (replica : ℕ) (old : Caller) (dice : D)
+  JoinsAgree = (opens : Opens) (rows : List ConfigEntry) (replica : ℕ) (old : Caller) (dice : D)
       (result : Result Joining CallNo) (new : Caller) (after : D) (exchanges : List Exchange)
       → IsJoinBy left count rows replica old dice result new after exchanges
       → AgreeAll opens exchanges → KeepsHonestBy opens old new

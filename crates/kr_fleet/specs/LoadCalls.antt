@@ -1,7 +1,7 @@
 -- `reload`, `join` and `refresh`: a configuration is published, and then brought.
 use Rattle.std.specs.Prelude.{◌≡◌, ◌≢◌, ◌⊎◌, ℕ, List, ◌∷◌, ◌++◌, map, All, Contains, Option, None, Some, Result, Ok, Err, ⊤}
 use Rattle.kr_base.specs.Told.{Agrees}
-use Rattle.kr_config.specs.Kept.{Row}
+use Rattle.kr_config.specs.Kept.{ConfigEntry}
 use Rattle.kr_kms.specs.Calls.{Link}
 use Rattle.kr_kms.specs.Health.{breach_in}
 use Rattle.kr_kms.specs.Truth.{Truth}
@@ -26,7 +26,7 @@ use Rattle.kr_fleet.specs.declared.outcome.Loaded.TheVariants as loaded
 use Rattle.kr_history.specs.Calls.{EndsEarly, HoldsMeanwhile}
 
 module _ {L D : Type 0} (truth : Truth) (link : L → Link) (left : D → Option (List ℕ))
-    (count : D → ℕ) (rows : List Row) where
+    (count : D → ℕ) (rows : List ConfigEntry) where
   -- the settings were published, and the event that brings them was answered so
   abbrev pub Brings : (Publication → Event) → Caller → List L → D → Answer → Caller → List L → D
       → Type 0

@@ -66,7 +66,7 @@ impl<T: Tape> Fleet<T> {
     }
 
     /// A caller of the core, which acts as this seat and waits by `rt` for its turns.
-    pub fn at<'a, R>(&'a self, rt: &'a R, seat: Seat<T>) -> At<'a, T, R>
+    pub fn seat_caller<'a, R>(&'a self, rt: &'a R, seat: Seat<T>) -> At<'a, T, R>
         requires { IsFleetSeat self.now seat }
         ensures { result ≡ record { home = self.now; seat = seat } }
     {

@@ -2,22 +2,23 @@
 ghost use Rattle.std.specs.Prelude.{◌≡◌, ◌<◌, ◌≤◌, [], length, None, Some, IfSome, IfOk, IsSome};
 ghost use Rattle.kr_base.specs.Rules.{IsPath};
 ghost use Rattle.kr_base.specs.Limits.{value_limit};
-ghost use Rattle.kr_base.specs.Walks.{Talk};
+ghost use Rattle.kr_base.specs.Walks.{Talk, Walk};
 ghost use Rattle.kr_provider.specs.AskedLinks.{Among, AskedOnly};
-ghost use Rattle.kr_provider.specs.BenchKeys.{LeavesKeys};
+ghost use Rattle.kr_provider.specs.BenchKeys.{LeavesKeys, adoption_of};
 ghost use Rattle.kr_provider.specs.KeyPages.{size_of};
 ghost use Rattle.kr_provider.specs.Names.{names_of};
 ghost use Rattle.kr_rollout.specs.Callers.{holding};
 ghost use Rattle.kr_history.specs.Calls.{AreServed, IsIdle, KeepsHonesty};
+ghost use Rattle.kr_history.specs.KeyMoments.{Happens, call_moments, has_adopted};
 ghost use Rattle.kr_history.specs.Parts.{AddsWithin};
 ghost use Rattle.kr_fleet.specs.CallExchanges.{FindsBy, IsReadBy};
 ghost use Rattle.kr_fleet.specs.ReadCalls.{Finds, IsRead};
 ghost use Rattle.kr_fleet.specs.inner.Answering.{AnswersFetch, FetchesBy};
-ghost use Rattle.kr_fleet.specs.inner.Stages.{Fetches, HoldsAdopted, value_of};
+ghost use Rattle.kr_fleet.specs.inner.Stages.{Fetches, HoldsAdopted, row_value};
 
 use crate::outcome::Read;
 use kr_base::{Dice, Shared, Spent, Text};
-use kr_history::{Acts, CallNo, adopt, lay_down, let_go, take_up, unseal};
+use kr_history::{Acts, CallNo, adopt, adopt_configuration, hand_back, unseal};
 use kr_kms::Kms;
 use kr_provider::{Bench, Opened, UnsealNo};
 use kr_rollout::{Answer, Event};
@@ -49,7 +50,10 @@ pub fn read<A: Acts, L: Kms, D: Dice>(
     ensures asked { AskedOnly L.link (names_of L.link bench.old.links) bench.old.links
         bench.new.links }
     ensures dice { bench.new.dice ≡ bench.old.dice }
-    ensures keys { LeavesKeys bench.old bench.new }
+    ensures keys { LeavesKeys (has_adopted (A.caller acts.old) (A.caller acts.new))
+        (adoption_of bench.old) (adoption_of bench.new) }
+    ensures moments { Walk Happens (adoption_of bench.old)
+        (call_moments (A.caller acts.old) (A.caller acts.new)) (adoption_of bench.new) }
     ensures pages { size_of bench.new.pages ≡ size_of bench.old.pages }
     ensures place { A.place acts.new ≡ A.place acts.old }
 {
@@ -60,10 +64,9 @@ pub fn read<A: Acts, L: Kms, D: Dice>(
         Ok(held) => held,
         Err(why) => return Err(why),
     };
-    take_up(bench, held.1);
+    adopt_configuration(bench, held.1);
     let found = find(alloc, acts, bench, copy);
-    lay_down(bench);
-    let_go(acts, found)
+    hand_back(acts, bench, found)
 }
 
 /// What the path's live row holds, by the configuration that the bench adopted.
@@ -99,7 +102,7 @@ fn find<A: Acts, L: Kms, D: Dice>(
     };
     let lent = row.get();
     let opened = unseal(alloc, bench, lent);
-    value_of(lent.revision, opened)
+    row_value(lent.revision, opened)
 }
 
 /// The path's live row.
@@ -135,8 +138,8 @@ fn fetched(answer: Answer) -> Result<Option<Shared<Row>>, CallNo>
 }
 
 /// What a row of this revision holds.
-fn value_of(revision: u64, opened: Result<Opened, UnsealNo>) -> Result<Read, CallNo>
-    ensures { result ≡ value_of revision opened }
+fn row_value(revision: u64, opened: Result<Opened, UnsealNo>) -> Result<Read, CallNo>
+    ensures { result ≡ row_value revision opened }
 {
     match opened {
         Ok(Opened { plain, stale }) => Ok(Read::Value {

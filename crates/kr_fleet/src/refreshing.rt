@@ -3,7 +3,7 @@ ghost use Rattle.std.specs.Prelude.{◌≡◌, ◌<◌, ◌≤◌, length, get_o
 ghost use Rattle.kr_base.specs.Walks.{Talk};
 ghost use Rattle.kr_config.specs.Kept.{rows_of};
 ghost use Rattle.kr_provider.specs.AskedLinks.{Among, AskedOnly};
-ghost use Rattle.kr_provider.specs.BenchKeys.{LeavesKeys};
+ghost use Rattle.kr_provider.specs.BenchKeys.{adoption_of};
 ghost use Rattle.kr_provider.specs.Names.{HasLinks, names_of};
 ghost use Rattle.kr_rollout.specs.Callers.{holding, reloads_in};
 ghost use Rattle.kr_rollout.specs.Openings.{NamesAmong};
@@ -50,7 +50,7 @@ pub fn refresh<A: Acts, L: Kms, D: Dice>(
     ensures later { D.count bench.old.dice ≤ D.count bench.new.dice }
     ensures kept { bench.new
         ≡ record bench.old { links = bench.new.links; dice = bench.new.dice } }
-    ensures keys { LeavesKeys bench.old bench.new }
+    ensures keys { adoption_of bench.new ≡ adoption_of bench.old }
     ensures adds { AddsWithin 3 1 [] (A.caller acts.old) (A.caller acts.new) }
     ensures place { A.place acts.new ≡ A.place acts.old }
 {
@@ -94,14 +94,14 @@ fn renew<A: Acts, L: Kms, D: Dice>(
     ensures place { A.place acts.new ≡ A.place acts.old }
 {
     published.known();
-    let changed = match has_changed(alloc, bench, seeds_of(published)) {
+    let changed = match has_changed(alloc, bench, published_seeds(published)) {
         Ok(changed) => changed,
         Err(why) => return Err(why),
     };
     if !changed {
         return Ok(Loaded::Unchanged(generation));
     }
-    let Ok(settings) = settings_of(published) else {
+    let Ok(settings) = share_published_settings(published) else {
         return Err(CallNo::NoMemory);
     };
     let published = match publish(alloc, bench, settings) {
@@ -120,14 +120,14 @@ fn renew<A: Acts, L: Kms, D: Dice>(
 }
 
 /// The seeds of the configuration.
-fn seeds_of(published: &Published) -> &[SeedRow]
+fn published_seeds(published: &Published) -> &[SeedRow]
     ensures { result.now ≡ published.now.seeds }
 {
     published.seeds.as_slice()
 }
 
 /// One more owner of the configuration's settings.
-fn settings_of(published: &Published) -> Result<Shared<Settings>, NoMemory>
+fn share_published_settings(published: &Published) -> Result<Shared<Settings>, NoMemory>
     ensures { IfOk result (λ settings. rows_of settings.entries.0 ≡ published.now.rows) }
 {
     published.settings.share()

@@ -1,19 +1,21 @@
 //! Data that are put under a path.
 ghost use Rattle.std.specs.Prelude.{◌≡◌, ◌<◌, ◌≤◌, [], ◌∷◌, length, None, IfSome};
 ghost use Rattle.kr_base.specs.Rules.{IsPath, IsResource};
-ghost use Rattle.kr_provider.specs.BenchKeys.{LeavesKeys};
+ghost use Rattle.kr_base.specs.Walks.{Walk};
+ghost use Rattle.kr_provider.specs.BenchKeys.{LeavesKeys, adoption_of};
 ghost use Rattle.kr_provider.specs.KeyPages.{size_of};
 ghost use Rattle.kr_provider.specs.Names.{names_of};
 ghost use Rattle.kr_rollout.specs.declared.line.Did.TheVariants.{Put};
 ghost use Rattle.kr_rollout.specs.Callers.{holding};
 ghost use Rattle.kr_history.specs.Calls.{AreServed, IsIdle, KeepsHonesty};
+ghost use Rattle.kr_history.specs.KeyMoments.{Happens, call_moments, has_adopted};
 ghost use Rattle.kr_history.specs.Parts.{AddsWithin};
 ghost use Rattle.kr_fleet.specs.WriteCalls.{IsWrite, Puts};
 ghost use Rattle.kr_fleet.specs.inner.Answering.{AnswersPut, PutsBy};
 ghost use Rattle.kr_fleet.specs.inner.Stages.{HoldsAdopted, seal_refusal};
 
 use kr_base::{Bytes, Dice, Spent, Text};
-use kr_history::{Acts, CallNo, adopt, lay_down, let_go, seal, take_up};
+use kr_history::{Acts, CallNo, adopt, adopt_configuration, hand_back, seal};
 use kr_kms::Kms;
 use kr_provider::{Bench, SealNo, ValueNo};
 use kr_rollout::{Answer, Event};
@@ -45,7 +47,10 @@ pub fn write<A: Acts, L: Kms, D: Dice>(
     ensures links { bench.new.links ≡ bench.old.links }
     ensures cache { bench.new.cache ≡ bench.old.cache }
     ensures later { D.count bench.old.dice ≤ D.count bench.new.dice }
-    ensures keys { LeavesKeys bench.old bench.new }
+    ensures keys { LeavesKeys (has_adopted (A.caller acts.old) (A.caller acts.new))
+        (adoption_of bench.old) (adoption_of bench.new) }
+    ensures moments { Walk Happens (adoption_of bench.old)
+        (call_moments (A.caller acts.old) (A.caller acts.new)) (adoption_of bench.new) }
     ensures pages { size_of bench.new.pages ≡ size_of bench.old.pages }
     ensures place { A.place acts.new ≡ A.place acts.old }
 {
@@ -59,10 +64,9 @@ pub fn write<A: Acts, L: Kms, D: Dice>(
         Ok(held) => held,
         Err(why) => return Err(why),
     };
-    take_up(bench, held.1);
+    adopt_configuration(bench, held.1);
     let written = put(alloc, acts, bench, resource, path, plain);
-    lay_down(bench);
-    let_go(acts, written)
+    hand_back(acts, bench, written)
 }
 
 /// Seals the data by the configuration that the bench adopted, and puts them.

@@ -16,6 +16,7 @@ use Rattle.kr_workers.specs.declared.files.SettingsFile.{SettingsFile}
 use Rattle.kr_workers.specs.declared.worker.Worker.{Worker}
 use Rattle.kr_headline.specs.Consequences.{SeedsAloneSupposed, LinksAgree}
 use Rattle.kr_headline.specs.Fleets.{FleetHeadline}
+use Rattle.kr_headline.specs.Values.{sealed_values}
 use Rattle.kr_headline.proofs.Seats.{first_in}
 
 module _ {L : Type 0} (step : L → Exchange → L → Type 0) (opens : Opens)
@@ -29,7 +30,7 @@ module _ {L : Type 0} (step : L → Exchange → L → Type 0) (opens : Opens)
 module _ {T L D : Type 0} (link : L → Link) (step : L → Exchange → L → Type 0) (count : D → ℕ)
     (old new : List (Worker T L D)) (files : List SettingsFile) (o : Opening)
     (parts : List Part) (history : List Entry)
-    (h : FleetHeadline link step count old new files o parts history) (opens : Opens)
+    (h : FleetHeadline sealed_values link step count old new files o parts history) (opens : Opens)
     (agree : LinksAgree step opens)
     (kept : (worker : ℕ) → AreOpenBy opens (h.heard worker).kept) where
   pub all_agree : (worker : ℕ) → AgreesWithHeard opens (h.heard worker)

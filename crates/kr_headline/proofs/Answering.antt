@@ -10,7 +10,7 @@ use Rattle.kr_store.specs.Rows.{live}
 use Rattle.kr_store.proofs.Places.{live_at_revision}
 use Rattle.kr_rollout.specs.Answers.{IsExpected}
 use Rattle.kr_rollout.specs.Fits.{IsFit}
-use Rattle.kr_rollout.specs.Judgements.{AnswersFit, IsJudged, judged_state}
+use Rattle.kr_rollout.specs.Judgements.{AnswersFit, MayBeJudged, judged_state}
 use Rattle.kr_rollout.specs.declared.line.Did.{Did}
 use Rattle.kr_rollout.specs.declared.line.Did.TheVariants as did
 use Rattle.kr_rollout.specs.declared.line.Gave.{Gave}
@@ -28,8 +28,9 @@ use Rattle.kr_script.specs.Fleets.{Worker}
 use Rattle.kr_script.specs.declared.told.Told.{Told}
 use Rattle.kr_workers.specs.declared.files.SettingsFile.{SettingsFile}
 use Rattle.kr_workers.specs.Heard.{Heard}
-use Rattle.kr_headline.specs.Fleets.{Outside, Readings, run_of}
+use Rattle.kr_headline.specs.Fleets.{FleetOutside, Readings, run_of}
 use Rattle.kr_headline.specs.Headline.{IsAt, MayAnswer, Object, Run, has_at, stands_at}
+use Rattle.kr_headline.specs.Values.{sealed_values}
 use Rattle.kr_headline.proofs.Contents.{object_of}
 use Rattle.kr_headline.proofs.Folds.{HasExpected, faults_from, revision_from}
 use Rattle.kr_headline.proofs.Standing.{faults_are, had_is, latest_is, object_revision, published_last, published_stays, row_revision, stands_alike, state_split}
@@ -66,11 +67,11 @@ row_of_revision (Some it) revision is = (it, refl, same_Some it.revision revisio
 -- ---- an entry behind a front
 
 module _ (heard : (worker : ℕ) → Heard) (o : Opening) (files : List SettingsFile)
-    (workers : List Worker) (replies : List (List Told)) (history : List Entry) (outside : Outside)
-    (readings : Readings heard o files workers replies history) (front : List Entry)
+    (workers : List Worker) (replies : List (List Told)) (history : List Entry) (outside : FleetOutside)
+    (readings : Readings sealed_values heard o files workers replies history) (front : List Entry)
     (legal : IsLegal o front) where
   abbrev run : Run
-  run = run_of heard o files workers replies history outside readings
+  run = run_of sealed_values heard o files workers replies history outside readings
 
   abbrev st : State
   st = state_of o front
@@ -108,7 +109,7 @@ module _ (heard : (worker : ℕ) → Heard) (o : Opening) (files : List Settings
 
     abbrev Answered : Did → Gave → Type 0
     Answered d g = IsStep o st (entry d g)
-        → (IsJudged d st → AnswersFit g (IsFit (judged_state d st)))
+        → (MayBeJudged d st → AnswersFit g (IsFit (judged_state d st)))
         → history ≡ front ++ entry d g ∷ rest → MayAnswer run front (entry d g) d g
 
     -- the configuration of a number that is there behind the entry
@@ -220,6 +221,7 @@ module _ (heard : (worker : ℕ) → Heard) (o : Opening) (files : List Settings
       given_is (did.Reload replica p expect) (gave.Reloaded number)
           (record { replica = replica; published = p }) number w refl s.answer.1.1,
       fits s.answer.0,
+      s.answer.1.1,
     )
     answered (did.Reload replica p expect) (gave.Refused verdict) s fits w = (
       is_in replica s.answer.0.0 s.answer.0.1,
@@ -239,6 +241,7 @@ module _ (heard : (worker : ℕ) → Heard) (o : Opening) (files : List Settings
       given_is (did.Join replica p) (gave.Joined number)
           (record { replica = replica; published = p }) number w refl s.answer.1.1,
       fits s.answer.0,
+      s.answer.1.1,
     )
     answered (did.Join replica p) (gave.Refused verdict) s fits w =
         (had replica ∙ s.answer.0, fits s.answer.0)
@@ -250,7 +253,7 @@ module _ (heard : (worker : ℕ) → Heard) (o : Opening) (files : List Settings
     answered d g s fits w = absurd s.answer
 
   pub may_answer : (e : Entry) (rest : List Entry) → history ≡ front ++ e ∷ rest → IsStep o st e
-      → (IsJudged e.line.did st → AnswersFit e.line.gave (IsFit (judged_state e.line.did st)))
+      → (MayBeJudged e.line.did st → AnswersFit e.line.gave (IsFit (judged_state e.line.did st)))
       → MayAnswer run front e e.line.did e.line.gave
   may_answer e rest w s fits = answered rest e.line.seat e.line.held e.line.faults e.published e.row
       e.replaced e.line.did e.line.gave s fits w

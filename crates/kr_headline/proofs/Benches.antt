@@ -1,18 +1,33 @@
--- The links and the random source of a worker, behind each of its lines.
-use Rattle.std.specs.Prelude.{slice_get}
+-- The links and the random source of a worker, behind each of its lines, and the exchanges of each.
+use Rattle.std.specs.Prelude.{flat_map, map, slice_get, Ok}
 use Rattle.std.proofs.Common.{◌≡◌, ℕ, zero, suc, ◌≤◌, List, [], ◌∷◌, ◌++◌, length, Option, Some, refl, ap, sym, subst, ◌∙◌, append-nil}
 use Rattle.std.proofs.lemmas.List.{append_assoc}
 use Rattle.std.proofs.lemmas.Option.{none-some, same_Some}
+use Rattle.kr_base.specs.Walks.{Walk}
 use Rattle.kr_kms.specs.Calls.{Link}
 use Rattle.kr_kms.specs.Exchanges.{Exchange}
 use Rattle.kr_kms.specs.Truth.{Truth}
-use Rattle.kr_provider.specs.AskedLinks.{AskedOnly}
+use Rattle.kr_provider.specs.AskedLinks.{Among, AskedOnly}
 use Rattle.kr_provider.specs.Names.{names_of}
 use Rattle.kr_rollout.specs.declared.opening.Entry.{Entry}
 use Rattle.kr_history.specs.Acting.{Caller}
-use Rattle.kr_workers.specs.Runs.{DoesAll, IsDone, LineDone, entries_in}
+use Rattle.kr_script.specs.declared.script.ScriptLine.{ScriptLine}
+use Rattle.kr_workers.specs.Runs.{DoesAll, IsDone, LineDone, entries_in, exchanges_in, lines_in}
 use Rattle.kr_workers.specs.ScriptLines.{Workplace}
 use Rattle.kr_workers.specs.declared.files.SettingsFile.{SettingsFile}
+use Rattle.kr_headline.specs.Outside.{AsksOf}
+use Rattle.kr_headline.proofs.LineAsks.{line_asks}
+
+-- the exchanges of each line
+abbrev pub exchanges_of : List LineDone → List (List Exchange)
+exchanges_of run = map (λ (done : LineDone). done.exchanges) run
+
+-- one behind another
+pub exchanges_joined : (run : List LineDone)
+    → exchanges_in run ≡ flat_map (λ (asked : List Exchange). asked) (exchanges_of run)
+exchanges_joined [] = refl
+exchanges_joined (done ∷ run) =
+    ap (λ (l : List Exchange). done.exchanges ++ l) (exchanges_joined run)
 
 module _ {L D : Type 0} (truth : Truth) (link : L → Link) (step : L → Exchange → L → Type 0)
     (left : D → Option (List ℕ))
@@ -74,6 +89,7 @@ module _ {L D : Type 0} (truth : Truth) (link : L → Link) (step : L → Exchan
     pub more : List Entry
     pub seen_is : last.caller.seen ≡ after.caller.seen ++ more
     pub is : IsDone truth link step left count files replica before done after
+    pub does_ahead : Chain first ahead before
 
   pub done_there : (first : Workplace L D) (ahead : List LineDone) (done : LineDone)
       (behind : List LineDone) (last : Workplace L D)
@@ -91,6 +107,7 @@ module _ {L D : Type 0} (truth : Truth) (link : L → Link) (step : L → Exchan
         more = later.0;
         seen_is = later.1;
         is = all.1;
+        does_ahead = refl;
       }
   done_there first (other ∷ ahead) done behind last all =
       let d = done_there all.0 ahead done behind last all.2 in record {
@@ -106,6 +123,7 @@ module _ {L D : Type 0} (truth : Truth) (link : L → Link) (step : L → Exchan
         more = d.more;
         seen_is = d.seen_is;
         is = d.is;
+        does_ahead = (all.0, all.1, d.does_ahead);
       }
 
   pub done_in_run : (first : Workplace L D) (run : List LineDone) (last : Workplace L D)
@@ -116,21 +134,37 @@ module _ {L D : Type 0} (truth : Truth) (link : L → Link) (step : L → Exchan
       (all : Chain first r last) → DoneThere first last (benches_of first r last all) ahead done)
       (sym is) (done_there first ahead done behind last)
 
-  -- each link stays the same plugin's, and no count falls
-  abbrev Stays : (before after : List L × D) → Type 0
-  Stays before after = AskedOnly link (names_of link before.0) before.0 after.0
-      × (count before.1 ≤ count after.1)
+  -- each line asked what lines of its kind ask
+  pub lines_ask : (first : Workplace L D) (run : List LineDone) (last : Workplace L D)
+      → Chain first run last → (at : ℕ) (asked : ScriptLine) (its : List Exchange)
+      → slice_get (lines_in run) at ≡ Some asked → slice_get (exchanges_of run) at ≡ Some its
+      → AsksOf asked its
+  lines_ask first [] last all at asked its l e = absurd (none-some its e)
+  lines_ask first (done ∷ run) last all zero asked its l e =
+      subst (λ (a : ScriptLine). AsksOf a its) (same_Some done.line asked l)
+      (subst (AsksOf done.line) (same_Some done.exchanges its e)
+      (line_asks left count files replica first all.0 (Ok done.reply) done.exchanges done.line
+      all.1.asks))
+  lines_ask first (done ∷ run) last all (suc at) asked its l e =
+      lines_ask all.0 run last all.2 at asked its l e
+
+  -- each link stays the same plugin's, by these exchanges, and no count falls
+  abbrev Stays : (before : List L × D) → List Exchange → (after : List L × D) → Type 0
+  Stays before asked after = AskedOnly link (names_of link before.0) before.0 after.0
+      × Walk (Among step) before.0 asked after.0 × (count before.1 ≤ count after.1)
 
   pub benches_stay : (first : Workplace L D) (run : List LineDone) (last : Workplace L D)
-      → (all : Chain first run last) (at : ℕ) (before after : List L × D)
+      → (all : Chain first run last) (at : ℕ) (before after : List L × D) (asked : List Exchange)
       → slice_get (benches_of first run last all) at ≡ Some before
-      → slice_get (benches_of first run last all) (suc at) ≡ Some after → Stays before after
-  benches_stay first [] last all zero before after b a = absurd (none-some after a)
-  benches_stay first [] last all (suc at) before after b a = absurd (none-some before b)
-  benches_stay first (done ∷ run) last all zero before after b a =
-      subst (λ (x : List L × D). Stays x after) (same_Some (bench_of first) before b)
-      (subst (λ (x : List L × D). Stays (bench_of first) x)
+      → slice_get (exchanges_of run) at ≡ Some asked
+      → slice_get (benches_of first run last all) (suc at) ≡ Some after → Stays before asked after
+  benches_stay first [] last all at before after asked b e a = absurd (none-some asked e)
+  benches_stay first (done ∷ run) last all zero before after asked b e a =
+      subst (λ (x : List L × D). Stays x asked after) (same_Some (bench_of first) before b)
+      (subst (λ (l : List Exchange). Stays (bench_of first) l after)
+      (same_Some done.exchanges asked e)
+      (subst (λ (x : List L × D). Stays (bench_of first) done.exchanges x)
       (same_Some (bench_of all.0) after (sym (first_bench all.0 run last all.2) ∙ a))
-      (all.1.asked_only, all.1.later))
-  benches_stay first (done ∷ run) last all (suc at) before after b a =
-      benches_stay all.0 run last all.2 at before after b a
+      (all.1.asked_only, all.1.walk, all.1.later)))
+  benches_stay first (done ∷ run) last all (suc at) before after asked b e a =
+      benches_stay all.0 run last all.2 at before after asked b e a

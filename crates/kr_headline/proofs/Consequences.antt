@@ -24,6 +24,7 @@ use Rattle.kr_workers.specs.Changes.{AllowsChange, MayChange}
 use Rattle.kr_headline.specs.Consequences.{GotIsPut, GotWasPut, RefusedStood, RefusedStoodThere, WasPut}
 use Rattle.kr_headline.specs.Fleets.{run_in}
 use Rattle.kr_headline.specs.Headline.{Headline, IsTold, Object, Run, Step, entries_of, object_after}
+use Rattle.kr_headline.specs.Values.{sealed_values}
 use Rattle.kr_headline.proofs.Folds.{object_from, reading_of}
 
 abbrev bytes_in : Option Reading → List ℕ
@@ -147,7 +148,7 @@ pub there_in : (run : Run) (h : Headline run) (front : List Step) (step : Step) 
 there_in run h front step rest is =
     sym h.entries_are ∙ ap entries_of is ∙ entries_split front step rest
 
-got_is_put : (run : Run) → (h : Headline run) → All (HasLine run) h.steps → GotIsPut run h
+pub got_is_put : (run : Run) → (h : Headline run) → All (HasLine run) h.steps → GotIsPut run h
 got_is_put run h made worker at revision path bytes r truth supposed =
     let f = h.gets worker at path bytes revision r in
     by f.object.data_put refl (f.is truth (supposed f.front f.fetch f.rest f.there f.own f.fetches
@@ -195,9 +196,9 @@ module _ (T : Type 0) {L D : Type 0} (link : L → Link) (step : L → Exchange 
     (count : D → ℕ) where
   pub got_was_put : GotWasPut T link step count
   got_was_put old new files o parts history h =
-      got_is_put (run_in link step count old new files o parts history h) h.has.headline
+      got_is_put (run_in sealed_values link step count old new files o parts history h) h.has.headline
       h.has.made
 
   pub refused_stood_there : RefusedStoodThere T link step count
   refused_stood_there old new files o parts history h =
-      refused_stood (run_in link step count old new files o parts history h) h.has.headline
+      refused_stood (run_in sealed_values link step count old new files o parts history h) h.has.headline

@@ -7,7 +7,7 @@ use Rattle.kr_kms.specs.Truth.{Opens}
 use Rattle.kr_provider.specs.Reading.{Reading}
 use Rattle.kr_store.specs.Rows.{later, live}
 use Rattle.kr_store.specs.declared.rows.Row.{Row}
-use Rattle.kr_config.specs.Kept.{Row as setting}
+use Rattle.kr_config.specs.Kept.{ConfigEntry as setting}
 use Rattle.kr_history.specs.Contents.{ContentBy, ContentChange, IsContent, OpeningContent, change_at, deletes, last_change, puts}
 use Rattle.kr_rollout.specs.Openings.{first_of}
 use Rattle.kr_rollout.specs.declared.line.Did.{Did}
@@ -25,7 +25,7 @@ use Rattle.kr_headline.proofs.Folds.{object_from, reading_of}
 abbrev pub data_in : Option Object → Option (Option (List ℕ))
 data_in now = option_map (λ (it : Object). it.data_put) now
 
-abbrev by_change : Option ContentChange → Option (Option (List ℕ)) → Option (Option (List ℕ))
+abbrev pub by_change : Option ContentChange → Option (Option (List ℕ)) → Option (Option (List ℕ))
 by_change None now = now
 by_change (Some (puts plain)) now = Some (Some plain)
 by_change (Some deletes) now = None
@@ -70,7 +70,7 @@ changed_is (gave.Written revision) (did.Replace own from) path now =
     replace_changed revision now (bytes_eq own path)
 changed_is given done path now = refl
 
-data_from : (path : List ℕ) (front : List Entry) (now : Option Object)
+pub data_from : (path : List ℕ) (front : List Entry) (now : Option Object)
     → data_in (object_from path now front) ≡ by_change (last_change front path) (data_in now)
 data_from path [] now = refl
 data_from path (e ∷ front) now =

@@ -9,7 +9,7 @@ use Rattle.kr_rollout.specs.declared.opening.Entry.{Entry}
 use Rattle.kr_script.specs.declared.script.ScriptLine.{ScriptLine}
 use Rattle.kr_script.specs.declared.told.Told.{Told}
 use Rattle.kr_workers.specs.Shapes.{PartIs}
-use Rattle.kr_headline.specs.Headline.{IsOwn, Object, Run, Step, entries_of, had_after, has_at, object_after, own_entries, revision_after, stands_at}
+use Rattle.kr_headline.specs.Headline.{IsOwn, Object, Run, Step, entries_of, had_after, has_at, object_after, own_entries, latest_revision, stands_at}
 
 abbrev pub object_from : (path : List ℕ) → Option Object → List Entry → Option Object
 object_from path start front = fold
@@ -21,7 +21,7 @@ had_from replica start front = fold
 
 abbrev pub revision_from : ℕ → List Entry → ℕ
 revision_from start front =
-    fold (λ (now : ℕ) (e : Entry). revision_after e.line.gave now) start front
+    fold (λ (now : ℕ) (e : Entry). latest_revision e.line.gave now) start front
 
 abbrev pub faults_from : ℕ → List Entry → ℕ
 faults_from start front = fold (λ (now : ℕ) (e : Entry). e.line.faults) start front
@@ -49,6 +49,6 @@ module _ (run : Run) where
 
     abbrev pub HasSteps : ScriptLine → Told → Type 0
     HasSteps asked reply = PartIs (run.PluginFailed worker at) (run.SourceFailed worker at)
-        (run.BreaksRule worker at) (run.KeysAreSame worker at) run.NamesPlugin run.CannotBeSealed
-        run.ReadBy (run.RewriteDone worker at StoodThere (own_entries steps worker at)) worker
+        (run.BreaksRule worker at) (run.KeysAreSame worker at) (run.KeyChanged worker at)
+        run.NamesPlugin run.CannotBeSealed run.ReadBy (run.RewriteDone worker at StoodThere (own_entries steps worker at)) worker
         (run.replica_of worker) (own_entries steps worker at) run.settings_in asked reply

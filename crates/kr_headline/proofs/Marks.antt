@@ -8,7 +8,7 @@ use Rattle.kr_base.specs.Lines.{of_seat}
 use Rattle.kr_rollout.specs.declared.opening.Entry.{Entry}
 use Rattle.kr_rollout.specs.Entries.{seat_of}
 use Rattle.kr_workers.specs.Runs.{LineDone, entries_in}
-use Rattle.kr_headline.specs.Headline.{AreInOrder, Step, entries_of}
+use Rattle.kr_headline.specs.Headline.{KeepLineOrder, Step, entries_of}
 use Rattle.kr_headline.proofs.Places.{ascend_at, places, places_ascend, places_many}
 
 module _ (runs : ℕ → List LineDone) where
@@ -100,7 +100,7 @@ module _ (runs : ℕ → List LineDone) where
         (omega (arith, counts, those)) (omega (arith, all, its, many, some)))
 
     pub marks_in_order : (front rest : List Entry) → history ≡ front ++ rest
-        → AreInOrder (marks front rest)
+        → KeepLineOrder (marks front rest)
     marks_in_order front [] is = tt
     marks_in_order front (e ∷ rest) is = (
       all_marks (λ (next : Step). next.entry.line.seat ≡ e.line.seat → place_of front e ≤ next.at)

@@ -28,6 +28,7 @@ use Rattle.kr_workers.specs.Heard.{Heard}
 use Rattle.kr_headline.specs.Consequences.{NothingSupposed, UsesNoPlugin}
 use Rattle.kr_headline.specs.Fleets.{Readings, SealedBy, Unwraps, run_in}
 use Rattle.kr_headline.specs.Headline.{entries_of}
+use Rattle.kr_headline.specs.Values.{sealed_values}
 use Rattle.kr_headline.proofs.Consequences.{there_in}
 use Rattle.kr_headline.proofs.ReadBack.{at_middle}
 
@@ -67,7 +68,7 @@ sealed_by_none opens path e given done u = tt
 
 module _ (heard : (worker : ℕ) → Heard) (o : Opening) (files : List SettingsFile)
     (workers : List Worker) (replies : List (List Told)) (history : List Entry)
-    (readings : Readings heard o files workers replies history) (path : List ℕ)
+    (readings : Readings sealed_values heard o files workers replies history) (path : List ℕ)
     (none : All (λ e. UsesNoPlugin path e e.line.gave e.line.did) history) (opens : Opens)
     (worker at : ℕ) where
   uses_none : (front : List Entry) (e : Entry) (rest : List Entry) → history ≡ front ++ e ∷ rest
@@ -80,7 +81,7 @@ module _ (heard : (worker : ℕ) → Heard) (o : Opening) (files : List Settings
   unwraps_none : (front : List Entry) (e : Entry) (rest : List Entry) (revision : ℕ)
       → history ≡ front ++ e ∷ rest → e.line.did ≡ did.Fetch path
       → e.line.gave ≡ gave.Found revision
-      → Unwraps heard o files workers replies history readings opens path worker at e
+      → Unwraps sealed_values heard o files workers replies history readings opens path worker at e
   unwraps_none front e rest revision is fetches found = record {
     sealed = λ before x since behind there last. sealed_by_none opens path x x.line.gave
         x.line.did (uses_none before x (since ++ e ∷ behind) there);
@@ -104,5 +105,5 @@ module _ (T : Type 0) {L D : Type 0} (link : L → Link) (step : L → Exchange 
       is own fetches revision found = inr (unwraps_none h.heard o files (map worker_of parts)
       (map (λ (worker : fleet_worker.Worker T L D). worker.told.0) new) history h.has.readings path
       none opens worker at (entries_of front) taken.entry (entries_of rest) revision
-      (there_in (run_in link step count old new files o parts history h) h.has.headline front taken
+      (there_in (run_in sealed_values link step count old new files o parts history h) h.has.headline front taken
       rest is) fetches found)

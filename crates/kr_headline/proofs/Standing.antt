@@ -27,7 +27,7 @@ use Rattle.kr_opening.specs.declared.generation.Generation.{Generation}
 use Rattle.kr_history.proofs.ContentSteps.{live_deleted, live_elsewhere, live_put, one_path}
 use Rattle.kr_history.proofs.Effects.{entry_with}
 use Rattle.kr_opening.specs.Replicas.{current_from}
-use Rattle.kr_headline.specs.Headline.{Object, had_after, object_after, revision_after}
+use Rattle.kr_headline.specs.Headline.{Object, had_after, object_after, latest_revision}
 use Rattle.kr_headline.proofs.Folds.{faults_from, had_from, object_from, revision_from}
 
 -- ---- revisions
@@ -127,7 +127,7 @@ module _ (o : Opening) (st : State) (seat : ℕ) (held : Option ℕ) (faults : �
       ∙ ap (λ (l : List LogRow). length (st.rows ++ l)) (sym is)
 
   latest_after : (now : ℕ) → now ≡ length st.rows → (d : Did) (g : Gave)
-      → IsStep o st (entry d g) → revision_after g now ≡ length (after st (entry d g)).rows
+      → IsStep o st (entry d g) → latest_revision g now ≡ length (after st (entry d g)).rows
   latest_after now is (did.Put own resource plain) (gave.Written revision) s =
       let w = s.writes in added_one (put_row row)
       (put_of own resource w.1.2.stored _) revision
@@ -207,7 +207,7 @@ module _ (o : Opening) where
       → now ≡ length st.rows → revision_from now front ≡ length (state_from st front).rows
   latest_run now st [] runs is = is
   latest_run now st (e ∷ front) runs is =
-      latest_run (revision_after e.line.gave now) (after st e) front runs.1
+      latest_run (latest_revision e.line.gave now) (after st e) front runs.1
       (latest_after o st e.line.seat e.line.held e.line.faults e.published e.row e.replaced now is
       e.line.did e.line.gave runs.0)
 

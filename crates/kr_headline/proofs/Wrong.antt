@@ -1,9 +1,10 @@
 -- What no run with the headline prints.
-use Rattle.std.specs.Prelude.{◌≢◌, All, Contains, map}
+use Rattle.std.specs.Prelude.{◌≢◌, All, Contains, map, ⊤}
 use Rattle.std.specs.Option.{option_map}
-use Rattle.std.proofs.Common.{◌≡◌, ℕ, ◌+◌, ◌≤◌, List, [], ◌∷◌, ◌++◌, length, Option, None, Some, refl, ap, sym, subst, ◌∙◌, arith, append-nil}
+use Rattle.std.proofs.Common.{◌≡◌, ℕ, ◌+◌, ◌≤◌, List, [], ◌∷◌, ◌++◌, length, Option, None, Some, ◌⊎◌, inl, inr, refl, ap, sym, subst, ◌∙◌, arith, append-nil}
 use Rattle.std.proofs.lemmas.List.{append_assoc}
 use Rattle.std.proofs.lemmas.Option.{none-some, same_Some}
+use Rattle.kr_base.specs.Faults.{Rose}
 use Rattle.kr_kms.specs.Calls.{Link}
 use Rattle.kr_kms.specs.Exchanges.{Exchange}
 use Rattle.kr_provider.specs.Reading.{Reading, data_of, refused, unopened}
@@ -12,19 +13,24 @@ use Rattle.kr_rollout.specs.declared.line.Did.TheVariants as did
 use Rattle.kr_rollout.specs.declared.line.Gave.{Gave}
 use Rattle.kr_rollout.specs.declared.line.Gave.TheVariants as gave
 use Rattle.kr_rollout.specs.declared.opening.Entry.{Entry}
+use Rattle.kr_history.specs.Contents.{deletes, last_change, puts}
 use Rattle.kr_script.specs.Fleets.{worker_of}
 use Rattle.kr_script.specs.declared.script.ScriptLine.{ScriptLine}
 use Rattle.kr_script.specs.declared.script.ScriptLine.TheVariants as line
 use Rattle.kr_script.specs.declared.told.Told.{Told}
 use Rattle.kr_script.specs.declared.told.Told.TheVariants as told
 use Rattle.kr_workers.specs.Changes.{AllowsChange}
-use Rattle.kr_workers.specs.Shapes.{HoldsOne}
+use Rattle.kr_workers.specs.Shapes.{HoldsOne, IsAlone}
 use Rattle.kr_workers.specs.declared.worker.Worker as fleet_worker
-use Rattle.kr_headline.specs.Headline.{Headline, IsOwn, IsTold, MayAnswer, Object, Run, Step, entries_of, own_entries, revision_after, stands_at}
+use Rattle.kr_headline.specs.Consequences.{IsSupposed, WasPut}
+use Rattle.kr_headline.specs.Headline.{Headline, IsOwn, IsTold, MayAnswer, Object, Run, Step, entries_of, own_entries, latest_revision, stands_at, store_faults}
 use Rattle.kr_headline.specs.Fleets.{outside_of, run_in}
-use Rattle.kr_headline.specs.WrongPages.{EachIsWrong, Stands, WrongPages}
-use Rattle.kr_headline.proofs.Consequences.{HasLine}
+use Rattle.kr_headline.specs.WrongPages.{EachIsWrong, StandsInRun, WrongPages}
+use Rattle.kr_headline.specs.Values.{sealed_values}
+use Rattle.kr_headline.proofs.Consequences.{HasLine, got_is_put}
+use Rattle.kr_headline.proofs.Contents.{by_change, data_from, data_in}
 use Rattle.kr_headline.proofs.Folds.{reading_of, revision_from}
+use Rattle.kr_headline.proofs.WrongFaults.{held_adopted, wrong_faults}
 use Rattle.kr_headline.proofs.WrongRewrites.{wrong_rewrites}
 
 abbrev bytes_in : Option Reading → List ℕ
@@ -39,7 +45,7 @@ holds_of P xs x all there = subst P there.2 (all there.0 x there.1)
 
 module _ (run : Run) (h : Headline run) (made : All (HasLine run) h.steps) where
   answered : (front : List Entry) (done : Did) (given : Gave)
-      → (s : Stands run front done given) → MayAnswer run front s.entry done given
+      → (s : StandsInRun run front done given) → MayAnswer run front s.entry done given
   answered front done given s = subst (λ d. MayAnswer run front s.entry d given) s.did_is
       (subst (λ g. MayAnswer run front s.entry s.entry.line.did g) s.gave_is
       (h.answers front s.entry s.rest s.there))
@@ -71,6 +77,32 @@ module _ (run : Run) (h : Headline run) (made : All (HasLine run) h.steps) where
   three part own done given o =
       ap length (o.part_is ∙ ap (λ (m : List Entry). o.adopt ∷ (m ++ o.let_go ∷ [])) o.is.mids_are)
 
+  -- ---- want of memory
+
+  abbrev first_gave : List Entry → Gave
+  first_gave [] = gave.Nothing
+  first_gave (e ∷ rest) = e.line.gave
+
+  abbrev IsNothing : Gave → Type 0
+  IsNothing gave.Nothing = ⊤
+  IsNothing given = ⊥
+
+  never_kept : (own number : ℕ) (path : List ℕ) (part : List Entry) (e : Entry) → part ≡ e ∷ []
+      → e.line.gave ≡ gave.Adopted number
+      → (part ≡ []) ⊎ IsAlone (did.Adopt own) gave.Nothing part
+      ⊎ HoldsOne own part (did.Fetch path) gave.Nothing
+      ⊎ ((revision : ℕ) × HoldsOne own part (did.Fetch path) (gave.Found revision)) → ⊥
+  never_kept own number path part e one adopted (inl none) =
+      let l = ap length (sym none ∙ one) in omega (arith, l)
+  never_kept own number path part e one adopted (inr (inl a)) = subst IsNothing
+      (sym (ap first_gave a.part_is ∙ a.is.gave_is) ∙ ap first_gave one ∙ adopted) tt
+  never_kept own number path part e one adopted (inr (inr (inl o))) =
+      let l = ap length one in let t = three part own (did.Fetch path) gave.Nothing o in
+      omega (arith, l, t)
+  never_kept own number path part e one adopted (inr (inr (inr o))) =
+      let l = ap length one in let t = three part own (did.Fetch path) (gave.Found o.0) o.1 in
+      omega (arith, l, t)
+
   -- ---- revisions rise
 
   answered_there : (front : List Entry) (e : Entry) (rest : List Entry)
@@ -78,14 +110,14 @@ module _ (run : Run) (h : Headline run) (made : All (HasLine run) h.steps) where
   answered_there front e rest is = h.answers front e rest is
 
   latest_more : (now : ℕ) (front : List Entry) (e : Entry)
-      → revision_from now (front ++ e ∷ []) ≡ revision_after e.line.gave (revision_from now front)
+      → revision_from now (front ++ e ∷ []) ≡ latest_revision e.line.gave (revision_from now front)
   latest_more now [] e = refl
-  latest_more now (x ∷ front) e = latest_more (revision_after x.line.gave now) front e
+  latest_more now (x ∷ front) e = latest_more (latest_revision x.line.gave now) front e
 
   rises : (front : List Entry) (e : Entry) (done : Did) (given : Gave)
       → MayAnswer run front e done given
       → revision_from run.revision_at_start front
-      ≤ revision_after given (revision_from run.revision_at_start front)
+      ≤ latest_revision given (revision_from run.revision_at_start front)
   rises front e (did.Put path resource plain) (gave.Written revision) m = omega (arith, m)
   rises front e (did.Delete path) (gave.Written revision) m = let is = m.1 in omega (arith, is)
   rises front e (did.Replace path from) (gave.Written revision) m =
@@ -128,8 +160,17 @@ module _ (run : Run) (h : Headline run) (made : All (HasLine run) h.steps) where
       (answered_there ((front ++ e ∷ []) ++ mid) again rest
       (split ∙ sym (append_assoc (front ++ e ∷ []) mid (again ∷ rest))))) in
       let here = latest_more run.revision_at_start front e
-      ∙ ap (λ g. revision_after g (revision_from run.revision_at_start front)) first in
+      ∙ ap (λ g. latest_revision g (revision_from run.revision_at_start front)) first in
       omega (arith, more, last, here)
+
+  -- ---- faults
+
+  store_failed : (front : List Entry) (e : Entry) (done : Did)
+      → MayAnswer run front e done gave.StoreFailed → Rose (store_faults run front) e.line.faults
+  store_failed front e (did.Put path resource plain) m = m
+  store_failed front e (did.Delete path) m = m
+  store_failed front e (did.Replace path from) m = m
+  store_failed front e done m = absurd m
 
   -- ---- the sentence
 
@@ -149,9 +190,56 @@ module _ (run : Run) (h : Headline run) (made : All (HasLine run) h.steps) where
       differ (ap bytes_in (ap (λ those. reading_of those (run.read_at_start truth path)) (sym put)
       ∙ f.is truth here.0))
 
+  never_unwritten : (worker at revision : ℕ) (path bytes : List ℕ) (truth : run.Truths)
+      → IsTold run worker at (line.Get path) (told.Got revision bytes)
+      → IsSupposed run h truth path worker at
+      → run.read_at_start truth path ≢ Some (data_of bytes)
+      → (WasPut run path bytes → ⊥) → ⊥
+  never_unwritten worker at revision path bytes truth told_is supposed unread unput =
+      by (got_is_put run h made worker at revision path bytes told_is truth supposed)
+    where
+      by : (run.read_at_start truth path ≡ Some (data_of bytes)) ⊎ WasPut run path bytes → ⊥
+      by (inl read) = unread read
+      by (inr put) = unput put
+
+  -- what stands there has the data of the last change
+  abbrev begun : (path : List ℕ) → Option Object
+  begun path = option_map (λ revision. record { revision = revision; data_put = None })
+      (run.stood_at_start path)
+
+  never_older : (worker at revision : ℕ) (path bytes last : List ℕ) (truth : run.Truths)
+      → IsTold run worker at (line.Get path) (told.Got revision bytes)
+      → ((front : List Step) (fetch : Step) (rest : List Step)
+      → h.steps ≡ front ++ fetch ∷ rest → IsOwn worker at fetch
+      → fetch.entry.line.did ≡ did.Fetch path
+      → run.PluginsUnwrapped truth path worker at fetch.entry
+      × (last_change (entries_of front) path ≡ Some (puts last))) → last ≢ bytes → ⊥
+  never_older worker at revision path bytes last truth told_is each differ =
+      never_other worker at revision path bytes last truth told_is
+      (λ front fetch rest there own fetches.
+      let here = each front fetch rest there own fetches in (
+        here.0,
+        data_from path (entries_of front) (begun path)
+            ∙ ap (λ c. by_change c (data_in (begun path))) here.1,
+      )) differ
+
+  never_deleted : (worker at revision : ℕ) (path bytes : List ℕ)
+      → IsTold run worker at (line.Get path) (told.Got revision bytes)
+      → ((front : List Step) (fetch : Step) (rest : List Step)
+      → h.steps ≡ front ++ fetch ∷ rest → IsOwn worker at fetch
+      → last_change (entries_of front) path ≡ Some deletes) → ⊥
+  never_deleted worker at revision path bytes told_is each =
+      let f = h.gets worker at path bytes revision told_is in
+      none-some f.object.data_put (sym (data_from path (entries_of f.front) (begun path)
+      ∙ ap (λ c. by_change c (data_in (begun path))) (each f.front f.fetch f.rest f.there f.own))
+      ∙ ap data_in f.stands)
+
   pub wrong : WrongPages run h
   wrong = record {
     got_other = never_other;
+    got_unwritten = never_unwritten;
+    got_older = never_older;
+    got_deleted = never_deleted;
     found_nothing = λ front path revision s none. none-some revision
         (ap (option_map (λ (it : Object). it.revision)) (sym none)
         ∙ (answered front (did.Fetch path) (gave.Found revision) s).4);
@@ -179,6 +267,8 @@ module _ (run : Run) (h : Headline run) (made : All (HasLine run) h.steps) where
         omega (arith, room, past);
     full_for_less = λ front path resource plain needed s less.
         less (answered front (did.Put path resource plain) (gave.StoreFull needed) s).1;
+    no_store_failed = λ front done s none.
+        none (store_failed front s.entry done (answered front done gave.StoreFailed s));
     no_plugin_failed = λ worker at path name told_is none. none
         (h.tells worker at (line.Get path) (told.FaultPlugin name) told_is).0;
     no_source_failed = λ worker at seat path resource plain told_is none. none
@@ -190,10 +280,18 @@ module _ (run : Run) (h : Headline run) (made : All (HasLine run) h.steps) where
     refused_fit = λ front replica p verdict s fits.
         (answered front (did.Reload replica p None) (gave.Refused verdict) s).2
         (subst (run.WouldStayReadable front) (sym s.did_is) fits);
+    old_number = λ front replica number p s other. other
+        (answered front (did.Reload replica p None) (gave.Reloaded number) s).4;
+    joined_old_number = λ front replica number p s other. other
+        (answered front (did.Join replica p) (gave.Joined number) s).3;
     moved_to_own = λ front replica number p s.
         (answered front (did.Reload replica p (Some number)) (gave.Moved number) s).1 refl;
     unchanged_other = λ worker at told_is none.
-        let t = h.tells worker at line.Refresh told.Unchanged told_is in none t.p t.is.1;
+        let t = h.tells worker at line.Refresh told.Unchanged told_is in
+        none t.p (held_adopted h.steps worker at (run.replica_of worker) _ t) t.is.1;
+    kept_hold = λ worker at number path e told_is one adopted. never_kept (run.replica_of worker)
+        number path (own_entries h.steps worker at) e one adopted
+        (h.tells worker at (line.Get path) told.Memory told_is);
     leave_memory = λ worker at replica told_is.
         h.tells worker at (line.Leave replica) told.Memory told_is;
     refresh_refused = λ worker at verdict told_is.
@@ -203,8 +301,9 @@ module _ (run : Run) (h : Headline run) (made : All (HasLine run) h.steps) where
 pub each_is_wrong : (T : Type 0) → {L D : Type 0} → (link : L → Link)
     (step : L → Exchange → L → Type 0) (count : D → ℕ) → EachIsWrong T link step count
 each_is_wrong T {L} {D} link step count old new files o parts history h = (
-  wrong (run_in link step count old new files o parts history h) h.has.headline h.has.made,
+  wrong (run_in sealed_values link step count old new files o parts history h) h.has.headline h.has.made,
   wrong_rewrites h.heard o files (map worker_of parts)
       (map (λ (worker : fleet_worker.Worker T L D). worker.told.0) new) history
-      (outside_of link count h.benches) h.has.readings h.has.headline,
+      (outside_of link count h.benches h.exchanges) h.has.readings h.has.headline,
+  wrong_faults link step count old new files o parts history h,
 )

@@ -3,9 +3,10 @@ use Rattle.std.specs.Prelude.{◌≢◌, All, cond, count_by}
 use Rattle.std.proofs.Common.{◌≡◌, ℕ, List, [], ◌∷◌, ◌++◌, Some, refl, subst, arith}
 use Rattle.std.proofs.lemmas.List.Elements.{All-cons, All-head, All-nil, All-tail}
 use Rattle.std.proofs.lemmas.List.Sums.{sum_by-cons}
+use Rattle.kr_provider.specs.Envelopes.{Envelope}
 use Rattle.kr_provider.specs.Publication.{Publication}
 use Rattle.kr_store.specs.declared.rows.Row.{Row}
-use Rattle.kr_rewrite.specs.Drives.{count_of, is_fresh, is_rewritten, path_of}
+use Rattle.kr_rewrite.specs.Drives.{capped_count, is_fresh, is_left, is_rewritten, path_of}
 use Rattle.kr_rewrite.specs.declared.outcome.Step as met_row
 use Rattle.kr_rewrite.specs.declared.outcome.Step.TheVariants as met
 use Rattle.kr_rollout.specs.declared.line.Gave.TheVariants as gave
@@ -15,33 +16,36 @@ use Rattle.kr_script.specs.Fleets.{Worker}
 use Rattle.kr_script.specs.declared.script.ScriptLine.TheVariants as line
 use Rattle.kr_script.specs.declared.told.Told.{Told}
 use Rattle.kr_script.specs.declared.told.Told.TheVariants as told
-use Rattle.kr_workers.specs.Configurations.{IsFresh}
+use Rattle.kr_workers.specs.Configurations.{IsFresh, IsFreshWith, IsLeftWith, IsStaleWith}
 use Rattle.kr_workers.specs.RewriteParts.{FindsNone, Passes, Reseals, Walks}
 use Rattle.kr_workers.specs.Shapes.{HoldsPart}
 use Rattle.kr_workers.specs.declared.files.SettingsFile.{SettingsFile}
 use Rattle.kr_workers.specs.Heard.{Heard}
-use Rattle.kr_headline.specs.Fleets.{Outside, Readings, run_of}
+use Rattle.kr_headline.specs.Fleets.{FleetOutside, Readings, run_of}
 use Rattle.kr_headline.specs.Headline.{Headline, Run, own_entries}
+use Rattle.kr_headline.specs.Sources.{HasSource}
 use Rattle.kr_headline.specs.WrongPages.{WrongRewrites}
+use Rattle.kr_headline.specs.WrongSeals.{FindsNone as FoundNone}
+use Rattle.kr_headline.specs.Values.{sealed_values}
 
 -- nothing counts as nothing
-none_by : (m n : ℕ) → m ≡ count_of n → n ≡ 0 → m ≡ 0
+pub none_by : (m n : ℕ) → m ≡ capped_count n → n ≡ 0 → m ≡ 0
 none_by m n is none = grind arith
 
 -- ---- parts of a list
 
 module _ (P : Entry → Type 0) where
-  all_front : (xs ys : List Entry) → All P (xs ++ ys) → All P xs
+  pub all_front : (xs ys : List Entry) → All P (xs ++ ys) → All P xs
   all_front [] ys all = All-nil P
   all_front (x ∷ xs) ys all = All-cons P x xs (All-head P x (xs ++ ys) all)
       (all_front xs ys (All-tail P x (xs ++ ys) all))
 
-  all_behind : (xs ys : List Entry) → All P (xs ++ ys) → All P ys
+  pub all_behind : (xs ys : List Entry) → All P (xs ++ ys) → All P ys
   all_behind [] ys all = all
   all_behind (x ∷ xs) ys all = all_behind xs ys (All-tail P x (xs ++ ys) all)
 
   -- those between an Adopt and a LetGo
-  all_mids : (own : ℕ) (part : List Entry)
+  pub all_mids : (own : ℕ) (part : List Entry)
       (Is : (p : Publication) → (number : ℕ) → List Entry → Type 0)
       → (o : HoldsPart own part Is) → All P part → All P o.mids
   all_mids own part Is o all = all_front o.mids (o.let_go ∷ []) (All-tail P o.adopt
@@ -52,83 +56,117 @@ module _ (P : Entry → Type 0) where
 abbrev Unwritten : Entry → Type 0
 Unwritten e = (revision : ℕ) → e.line.gave ≢ gave.Written revision
 
-no_reseal : (p : Publication) (above path : List ℕ) (to : ℕ) (mids : List Entry)
-    → Reseals p above path (gave.Written to) mids → All Unwritten mids → ⊥
-no_reseal p above path to mids r all =
-    let both = subst (λ (l : List Entry). All Unwritten l) r.mids_are all in
-    All-head Unwritten r.replace [] (All-tail Unwritten r.find (r.replace ∷ []) both) to
-    r.replaces.gave_is
+-- by what is fresh, stale or left
+module _ (F S O : Publication → Row → Type 0) where
+  no_reseal : (p : Publication) (above path : List ℕ) (to : ℕ) (mids : List Entry)
+      → Reseals F S O p above path (gave.Written to) mids → All Unwritten mids → ⊥
+  no_reseal p above path to mids r all =
+      let both = subst (λ (l : List Entry). All Unwritten l) r.mids_are all in
+      All-head Unwritten r.replace [] (All-tail Unwritten r.find (r.replace ∷ []) both) to
+      r.replaces.gave_is
 
-none_counted : (own : ℕ) (above : List ℕ) (met : List met_row.Step)
-    (Ends : (above : List ℕ) → List Entry → Type 0) (part : List Entry)
-    → Walks own above met Ends part → All Unwritten part → count_by is_rewritten met ≡ 0
-none_counted own above [] Ends part w all = refl
-none_counted own above (met.Rewritten path ∷ more) Ends part w all =
-    let first = all_front Unwritten w.0 w.1
-    (subst (λ (l : List Entry). All Unwritten l) w.2 all) in
-    absurd (no_reseal w.3.p above path w.3.is.0 w.3.mids w.3.is.1
-    (all_mids Unwritten own w.0 _ w.3 first))
-none_counted own above (taken ∷ more) Ends part w all =
-    let rest = none_counted own (path_of above taken) more Ends w.1 w.4
-    (all_behind Unwritten w.0 w.1 (subst (λ (l : List Entry). All Unwritten l) w.2 all)) in
-    omega (arith, rest, sum_by-cons (λ x. cond (is_rewritten x) 1 0) taken more)
+  none_counted : (own : ℕ) (above : List ℕ) (met : List met_row.Step)
+      (Ends : (above : List ℕ) → List Entry → Type 0) (part : List Entry)
+      → Walks F S O own above met Ends part → All Unwritten part
+      → count_by is_rewritten met ≡ 0
+  none_counted own above [] Ends part w all = refl
+  none_counted own above (met.Rewritten path ∷ more) Ends part w all =
+      let first = all_front Unwritten w.0 w.1
+      (subst (λ (l : List Entry). All Unwritten l) w.2 all) in
+      absurd (no_reseal w.3.p above path w.3.is.0 w.3.mids w.3.is.1
+      (all_mids Unwritten own w.0 _ w.3 first))
+  none_counted own above (taken ∷ more) Ends part w all =
+      let rest = none_counted own (path_of above taken) more Ends w.1 w.4
+      (all_behind Unwritten w.0 w.1 (subst (λ (l : List Entry). All Unwritten l) w.2 all)) in
+      omega (arith, rest, sum_by-cons (λ x. cond (is_rewritten x) 1 0) taken more)
 
--- ---- what it found fresh
+  -- ---- what it passed by
 
-abbrev FoundStale : Entry → Type 0
-FoundStale e = (p : Publication) (row : Row) → e.published ≡ Some p → e.row ≡ Some row
-    → IsFresh p row → ⊥
+  abbrev Holds : ℕ → Publication → Entry → Type 0
+  Holds number p e = (e.line.held ≡ Some number) × (e.published ≡ Some p)
 
-abbrev Holds : ℕ → Publication → Entry → Type 0
-Holds number p e = (e.line.held ≡ Some number) × (e.published ≡ Some p)
+  no_pass : (Is : Publication → Row → Type 0) (number : ℕ) (p : Publication)
+      (above path : List ℕ) (mids : List Entry) → All (Holds number p) mids
+      → Passes above path (Is p) mids → All (FoundNone Is) mids → ⊥
+  no_pass Is number p above path mids hold r all =
+      let held = All-head (Holds number p) r.find []
+      (subst (λ (l : List Entry). All (Holds number p) l) r.mids_are hold) in
+      All-head (FoundNone Is) r.find []
+      (subst (λ (l : List Entry). All (FoundNone Is) l) r.mids_are all) p r.finds.row held.1
+      r.finds.row_is r.finds.is
 
-no_fresh : (number : ℕ) (p : Publication) (above path : List ℕ) (mids : List Entry)
-    → All (Holds number p) mids → Passes above path (IsFresh p) mids → All FoundStale mids → ⊥
-no_fresh number p above path mids hold r all =
-    let held = All-head (Holds number p) r.find []
-    (subst (λ (l : List Entry). All (Holds number p) l) r.mids_are hold) in
-    All-head FoundStale r.find [] (subst (λ (l : List Entry). All FoundStale l) r.mids_are all) p
-    r.finds.row held.1 r.finds.row_is r.finds.is
+  pub none_fresh : (own : ℕ) (above : List ℕ) (met : List met_row.Step)
+      (Ends : (above : List ℕ) → List Entry → Type 0) (part : List Entry)
+      → Walks F S O own above met Ends part → All (FoundNone F) part → count_by is_fresh met ≡ 0
+  none_fresh own above [] Ends part w all = refl
+  none_fresh own above (met.Fresh path ∷ more) Ends part w all =
+      let first = all_front (FoundNone F) w.0 w.1
+      (subst (λ (l : List Entry). All (FoundNone F) l) w.2 all) in
+      absurd (no_pass F w.3.number w.3.p above path w.3.mids w.3.hold w.3.is
+      (all_mids (FoundNone F) own w.0 _ w.3 first))
+  none_fresh own above (taken ∷ more) Ends part w all =
+      let rest = none_fresh own (path_of above taken) more Ends w.1 w.4
+      (all_behind (FoundNone F) w.0 w.1
+      (subst (λ (l : List Entry). All (FoundNone F) l) w.2 all)) in
+      omega (arith, rest, sum_by-cons (λ x. cond (is_fresh x) 1 0) taken more)
 
-none_fresh : (own : ℕ) (above : List ℕ) (met : List met_row.Step)
-    (Ends : (above : List ℕ) → List Entry → Type 0) (part : List Entry)
-    → Walks own above met Ends part → All FoundStale part → count_by is_fresh met ≡ 0
-none_fresh own above [] Ends part w all = refl
-none_fresh own above (met.Fresh path ∷ more) Ends part w all =
-    let first = all_front FoundStale w.0 w.1
-    (subst (λ (l : List Entry). All FoundStale l) w.2 all) in
-    absurd (no_fresh w.3.number w.3.p above path w.3.mids w.3.hold w.3.is
-    (all_mids FoundStale own w.0 _ w.3 first))
-none_fresh own above (taken ∷ more) Ends part w all =
-    let rest = none_fresh own (path_of above taken) more Ends w.1 w.4
-    (all_behind FoundStale w.0 w.1 (subst (λ (l : List Entry). All FoundStale l) w.2 all)) in
-    omega (arith, rest, sum_by-cons (λ x. cond (is_fresh x) 1 0) taken more)
+  pub none_left : (own : ℕ) (above : List ℕ) (met : List met_row.Step)
+      (Ends : (above : List ℕ) → List Entry → Type 0) (part : List Entry)
+      → Walks F S O own above met Ends part → All (FoundNone O) part → count_by is_left met ≡ 0
+  none_left own above [] Ends part w all = refl
+  none_left own above (met.Left path ∷ more) Ends part w all =
+      let first = all_front (FoundNone O) w.0 w.1
+      (subst (λ (l : List Entry). All (FoundNone O) l) w.2 all) in
+      absurd (no_pass O w.3.number w.3.p above path w.3.mids w.3.hold w.3.is
+      (all_mids (FoundNone O) own w.0 _ w.3 first))
+  none_left own above (taken ∷ more) Ends part w all =
+      let rest = none_left own (path_of above taken) more Ends w.1 w.4
+      (all_behind (FoundNone O) w.0 w.1
+      (subst (λ (l : List Entry). All (FoundNone O) l) w.2 all)) in
+      omega (arith, rest, sum_by-cons (λ x. cond (is_left x) 1 0) taken more)
+
+-- with a source that was had it is so with any
+any_fresh : (HadSource : Envelope → Publication → Row → Type 0) (p : Publication) (row : Row)
+    → IsFreshWith HadSource p row → IsFresh p row
+any_fresh HadSource p row f = (f.0, (f.1.0, f.1.1, f.1.2, tt))
 
 module _ (heard : (worker : ℕ) → Heard) (o : Opening) (files : List SettingsFile)
-    (workers : List Worker) (replies : List (List Told)) (history : List Entry) (outside : Outside)
-    (readings : Readings heard o files workers replies history)
-    (h : Headline (run_of heard o files workers replies history outside readings)) where
-  abbrev run : Run
-  run = run_of heard o files workers replies history outside readings
+    (workers : List Worker) (replies : List (List Told)) (history : List Entry)
+    (outside : FleetOutside)
+    (readings : Readings sealed_values heard o files workers replies history)
+    (h : Headline (run_of sealed_values heard o files workers replies history outside readings))
+  where
+    abbrev run : Run
+    run = run_of sealed_values heard o files workers replies history outside readings
 
-  abbrev Ended : ℕ → (above : List ℕ) → List Entry → Type 0
-  Ended worker above rest =
-      HoldsPart (run.replica_of worker) rest (λ p number. FindsNone above)
+    abbrev Fresh : (worker : ℕ) → Publication → Row → Type 0
+    Fresh worker = IsFreshWith (HasSource (heard worker))
 
-  pub wrong_rewrites : WrongRewrites run h
-  wrong_rewrites = record {
-    counted_unwritten = λ worker at rewritten fresh changed left told_is all some.
-        let s = h.tells worker at line.Rewrite (told.Rewritten rewritten fresh changed left)
-        told_is in
-        some (none_by rewritten (count_by is_rewritten s.0) s.3
-        (none_counted (run.replica_of worker) [] s.0 (Ended worker)
-        (own_entries h.steps worker at) s.1 all));
-    counted_stale = λ worker at rewritten fresh changed left told_is all some.
-        let s = h.tells worker at line.Rewrite (told.Rewritten rewritten fresh changed left)
-        told_is in
-        some (none_by fresh (count_by is_fresh s.0) s.4
-        (none_fresh (run.replica_of worker) [] s.0 (Ended worker)
-        (own_entries h.steps worker at) s.1 all));
-    rewrite_got = λ worker at revision bytes told_is.
-        h.tells worker at line.Rewrite (told.Got revision bytes) told_is;
-  }
+    abbrev Stale : (worker : ℕ) → Publication → Row → Type 0
+    Stale worker = IsStaleWith (HasSource (heard worker))
+
+    abbrev Leaves : (worker : ℕ) → Publication → Row → Type 0
+    Leaves worker = IsLeftWith (HasSource (heard worker))
+
+    abbrev Ended : ℕ → (above : List ℕ) → List Entry → Type 0
+    Ended worker above rest =
+        HoldsPart (run.replica_of worker) rest (λ p number. FindsNone above)
+
+    pub wrong_rewrites : WrongRewrites run h
+    wrong_rewrites = record {
+      counted_unwritten = λ worker at rewritten fresh changed left told_is all some.
+          let s = h.tells worker at line.Rewrite (told.Rewritten rewritten fresh changed left)
+          told_is in
+          some (none_by rewritten (count_by is_rewritten s.0) s.3
+          (none_counted (Fresh worker) (Stale worker) (Leaves worker) (run.replica_of worker) [] s.0
+          (Ended worker) (own_entries h.steps worker at) s.1 all));
+      counted_stale = λ worker at rewritten fresh changed left told_is all some.
+          let s = h.tells worker at line.Rewrite (told.Rewritten rewritten fresh changed left)
+          told_is in
+          some (none_by fresh (count_by is_fresh s.0) s.4
+          (none_fresh (Fresh worker) (Stale worker) (Leaves worker) (run.replica_of worker) [] s.0
+          (Ended worker) (own_entries h.steps worker at) s.1 (λ k e below p row held is f.
+          all k e below p row held is (any_fresh (HasSource (heard worker)) p row f))));
+      rewrite_got = λ worker at revision bytes told_is.
+          h.tells worker at line.Rewrite (told.Got revision bytes) told_is;
+    }

@@ -24,6 +24,7 @@ use Rattle.kr_workers.specs.declared.files.SettingsFile.{SettingsFile}
 use Rattle.kr_workers.specs.declared.worker.Worker.{Worker}
 use Rattle.kr_headline.specs.Fleets.{FleetHeadline, run_in}
 use Rattle.kr_headline.specs.Headline.{Headline, IsOwn, IsTold, Run, Step}
+use Rattle.kr_headline.specs.Values.{sealed_values}
 
 -- some worker's `put` of these bytes under the path was done
 pub record WasPut (run : Run) (path bytes : List ℕ) : Type 0 where
@@ -85,33 +86,36 @@ module _ (T : Type 0) {L D : Type 0} (link : L → Link) (step : L → Exchange 
   abbrev pub GotWasPut : Type 0
   GotWasPut = (old new : List (Worker T L D)) (files : List SettingsFile)
       (o : Opening) (parts : List Part) (history : List Entry)
-      → (h : FleetHeadline link step count old new files o parts history)
-      → GotIsPut (run_in link step count old new files o parts history h) h.has.headline
+      → (h : FleetHeadline sealed_values link step count old new files o parts history)
+      → GotIsPut (run_in sealed_values link step count old new files o parts history h)
+      h.has.headline
 
   abbrev pub RefusedStoodThere : Type 0
   RefusedStoodThere = (old new : List (Worker T L D)) (files : List SettingsFile)
       (o : Opening) (parts : List Part) (history : List Entry)
-      → (h : FleetHeadline link step count old new files o parts history)
-      → RefusedStood (run_in link step count old new files o parts history h) h.has.headline
+      → (h : FleetHeadline sealed_values link step count old new files o parts history)
+      → RefusedStood (run_in sealed_values link step count old new files o parts history h)
+      h.has.headline
 
   -- of a path that needs no plugin nothing has to be supposed, whatever plugins do elsewhere
   abbrev pub NothingSupposed : Type 0
   NothingSupposed = (old new : List (Worker T L D)) (files : List SettingsFile)
       (o : Opening) (parts : List Part) (history : List Entry)
-      → (h : FleetHeadline link step count old new files o parts history)
+      → (h : FleetHeadline sealed_values link step count old new files o parts history)
       → (path : List ℕ) → All (λ e. UsesNoPlugin path e e.line.gave e.line.did) history
       → (opens : Opens) (worker at : ℕ)
-      → IsSupposed (run_in link step count old new files o parts history h) h.has.headline opens
-      path worker at
+      → IsSupposed (run_in sealed_values link step count old new files o parts history h)
+      h.has.headline opens path worker at
 
   -- nor more of any than that the seeds at the start open, and those that benches had kept, where
   -- each step of the links is answered as this truth has it
   abbrev pub SeedsAloneSupposed : Type 0
   SeedsAloneSupposed = (old new : List (Worker T L D)) (files : List SettingsFile) (o : Opening)
       (parts : List Part) (history : List Entry)
-      → (h : FleetHeadline link step count old new files o parts history) → (opens : Opens)
+      → (h : FleetHeadline sealed_values link step count old new files o parts history)
+      → (opens : Opens)
       → LinksAgree step opens → ((worker : ℕ) → AreOpenBy opens (h.heard worker).kept)
       → All (λ replica. IfSome replica (SeedsOpen opens)) o.replicas
       → (path : List ℕ) (worker at : ℕ)
-      → IsSupposed (run_in link step count old new files o parts history h) h.has.headline opens
-      path worker at
+      → IsSupposed (run_in sealed_values link step count old new files o parts history h)
+      h.has.headline opens path worker at

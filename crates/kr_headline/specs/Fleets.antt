@@ -1,75 +1,149 @@
 -- A fleet's run, as the headline sees it: by the opening that its workers began with, its history,
--- and what is known of the outside.
-use Rattle.std.specs.Prelude.{◌≡◌, ◌≢◌, ◌⊎◌, ◌≤◌, ◌+◌, ℕ, List, [], ◌∷◌, ◌++◌, length, map, get_or, slice_get, All, Contains, Option, None, Some, IfSome, ⊤}
+-- and what is known of the outside. What stored values are is a parameter (page Values), so this
+-- page reaches no cipher.
+use Rattle.std.specs.Prelude.{◌≡◌, ◌≢◌, ◌⊎◌, ◌≤◌, ◌+◌, ℕ, List, [], ◌∷◌, ◌++◌, flat_map, length, map, get_or, slice_get, All, Contains, Option, None, Some, IfSome, ⊤}
 use Rattle.std.specs.Option.{option_map}
 use Rattle.kr_base.specs.Faults.{Rose}
-use Rattle.kr_config.specs.Kept.{Row as setting}
+use Rattle.kr_base.specs.Walks.{Walk}
+use Rattle.kr_config.specs.Kept.{ConfigEntry as setting, plugins_in}
 use Rattle.kr_config.specs.Lists.{list_of}
 use Rattle.kr_config.specs.declared.who.Who.{Who}
 use Rattle.kr_kms.specs.Calls.{Link}
 use Rattle.kr_kms.specs.Health.{HasBreach}
 use Rattle.kr_kms.specs.Exchanges.{Exchange}
+use Rattle.kr_kms.specs.Seeds.{IsSeedRow}
 use Rattle.kr_kms.specs.Truth.{Opens}
 use Rattle.kr_kms.specs.declared.health.Field.{Field}
-use Rattle.kr_provider.specs.AskedLinks.{AskedOnly, FaultRose, HasLinkWith}
+use Rattle.kr_provider.specs.AskedLinks.{Among, AskedOnly, FaultRose, HasLinkWith}
 use Rattle.kr_provider.specs.BenchState.{BenchState}
-use Rattle.kr_provider.specs.Envelopes.{Envelope, IsEnvelopeOf}
+use Rattle.kr_provider.specs.Envelopes.{Envelope}
 use Rattle.kr_provider.specs.Names.{names_of}
-use Rattle.kr_provider.specs.Publication.{Publication, list_at}
+use Rattle.kr_provider.specs.Publication.{Publication}
 use Rattle.kr_provider.specs.Readers.{reader_in}
-use Rattle.kr_provider.specs.Reading.{Reading}
+use Rattle.kr_provider.specs.Reading.{Reading, data_of}
 use Rattle.kr_store.specs.Rows.{live}
-use Rattle.kr_store.specs.declared.rows.LogRow.{LogRow}
+use Rattle.kr_store.specs.declared.format.Format.{Format}
 use Rattle.kr_store.specs.declared.rows.Row.{Row}
-use Rattle.kr_rollout.specs.Entries.{published_at}
+use Rattle.kr_rollout.specs.Entries.{entry_of, published_at}
 use Rattle.kr_rollout.specs.Fits.{IsFit}
-use Rattle.kr_rollout.specs.Histories.{IsLegal, state_of}
+use Rattle.kr_rollout.specs.Histories.{state_of}
 use Rattle.kr_rollout.specs.Judgements.{judged_state}
 use Rattle.kr_rollout.specs.Openings.{first_of, start_of}
-use Rattle.kr_rollout.specs.States.{IsLive, current_of}
-use Rattle.kr_rollout.specs.Writes.{WouldWrite, file_size}
+use Rattle.kr_rollout.specs.States.{IsLive, State, current_of, held_by}
+use Rattle.kr_rollout.specs.Steps.{HidesNoFault, after}
 use Rattle.kr_rollout.specs.declared.line.Did.{Did}
 use Rattle.kr_rollout.specs.declared.line.Did.TheVariants as did
 use Rattle.kr_rollout.specs.declared.line.Gave.{Gave}
 use Rattle.kr_rollout.specs.declared.line.Gave.TheVariants as gave
 use Rattle.kr_rollout.specs.declared.opening.Entry.{Entry}
 use Rattle.kr_rollout.specs.declared.opening.Opening.{Opening}
-use Rattle.kr_history.specs.Contents.{OpeningContent, last_change}
+use Rattle.kr_history.specs.Contents.{last_change}
 use Rattle.kr_history.specs.Honesty.{SeedsOpen, WriterOpens}
-use Rattle.kr_fleet.specs.LoadCalls.{AreKeysSame}
+use Rattle.kr_fleet.specs.LoadCalls.{AreKeysSame, IsKeyChanged}
 use Rattle.kr_script.specs.Fleets.{Worker, worker_of}
 use Rattle.kr_script.specs.declared.script.Part.{Part}
 use Rattle.kr_script.specs.declared.told.Told.{Told}
 use Rattle.kr_rewrite.specs.Drives.{path_of}
 use Rattle.kr_script.specs.declared.script.ScriptLine.{ScriptLine}
 use Rattle.kr_workers.specs.Changes.{MayChange}
-use Rattle.kr_workers.specs.Configurations.{CannotBeSealed, NamesPlugin, ReadBy, RowReads}
+use Rattle.kr_workers.specs.Configurations.{CannotBeSealed, NamesPlugin, ReadBy}
 use Rattle.kr_workers.specs.Files.{rows_at}
 use Rattle.kr_workers.specs.Heard.{AgreesWithHeard, Heard, WasHeard, unheard}
-use Rattle.kr_workers.specs.Plugins.{IsReplaced, Reseals}
+use Rattle.kr_workers.specs.Plugins.{IsReplaced}
 use Rattle.kr_workers.specs.RewriteParts.{RewritePart}
 use Rattle.kr_workers.specs.declared.files.SettingsFile.{SettingsFile}
 use Rattle.kr_workers.specs.declared.worker.Worker as fleet_worker
 use Rattle.kr_headline.specs.Headline.{Headline, IsTold, Run, Step}
+use Rattle.kr_headline.specs.Outside.{AsksOf, HasBroken, HasFailed, HasOtherKey, HaveSeedKeys}
+use Rattle.kr_headline.specs.Sources.{HasSource}
+use Rattle.kr_headline.specs.Values.{Values}
 
--- ---- what a get read
+-- ---- rows that were read, and sealed anew
 
--- the row that the entry found reads so, by the configuration that was held, with this source
-pub record ReadsWith (envelope : Envelope) (e : Entry) (reading : Reading) : Type 0 where
-  pub p : Publication
-  pub row : Row
-  pub held : e.published ≡ Some p
-  pub found : e.row ≡ Some row
-  pub is : RowReads envelope p row reading
+module _ (values : Values) where
+  -- the row that the entry found reads so, by the configuration that was held, with this source,
+  -- which the worker had that heard this
+  pub record ReadsWith (heard : Heard) (envelope : Envelope) (e : Entry) (reading : Reading)
+      : Type 0 where
+    pub p : Publication
+    pub row : Row
+    pub held : e.published ≡ Some p
+    pub found : e.row ≡ Some row
+    pub is : values.Reads envelope p row reading
+    pub source : HasSource heard envelope p row
+
+  -- a row of the path was sealed anew: it read as these data, with a source that the worker had
+  -- that heard this; and what stands in its place is a sealing of them, at its path and for its
+  -- resource, with the check that a store of the format keeps beside it
+  pub record Reseals (format : Format) (heard : Heard) (path : List ℕ) (e : Entry) : Type 0 where
+    pub p : Publication
+    pub old : Row
+    pub new : Row
+    pub plain : List ℕ
+    pub envelope : Envelope
+    pub held : e.published ≡ Some p
+    pub replaced : e.replaced ≡ Some old
+    pub written : e.row ≡ Some new
+    pub path_is : old.path ≡ path
+    pub stays : new.path ≡ path
+    pub resource_is : new.resource ≡ old.resource
+    pub reads : values.Reads envelope p old (data_of plain)
+    pub source : HasSource heard envelope p old
+    pub sealing : values.Seals p old.resource path plain new.stored
+    pub check_is : new.check ≡ values.check_of format p old.resource
+
+  -- a row was put: a sealing of these data at their path and for their resource, with its check
+  pub record Seals (format : Format) (resource path plain : List ℕ) (e : Entry) : Type 0 where
+    pub p : Publication
+    pub row : Row
+    pub held : e.published ≡ Some p
+    pub written : e.row ≡ Some row
+    pub path_is : row.path ≡ path
+    pub resource_is : row.resource ≡ resource
+    pub sealing : values.Seals p resource path plain row.stored
+    pub check_is : row.check ≡ values.check_of format p resource
+
+  -- What the line of an entry doesn't show: what its seat held before; the row and the
+  -- configurations, which are those of the numbers that the line names; that no fault of the store
+  -- is hidden; and what a put wrote, within the store's limit
+  pub record Follows (o : Opening) (st : State) (e : Entry) : Type 0 where
+    pub held : e.line.held ≡ held_by st e.line.seat
+    pub named : e ≡ entry_of (after st e).rows (after st e).generations e.line
+    pub faults : HidesNoFault e.line.gave st.count e.line.faults
+    pub sealed : (path resource plain : List ℕ) (revision : ℕ)
+        → e.line.did ≡ did.Put path resource plain → e.line.gave ≡ gave.Written revision
+        → Seals o.format resource path plain e
+    pub fits : (revision : ℕ) → e.line.gave ≡ gave.Written revision → (bytes : ℕ)
+        × values.NeedsBytes o.format e.line.did st.rows e.published bytes × (bytes ≤ o.limit)
 
 -- ---- what is supposed of plugins
 
--- there are none; or this truth agrees with all that the workers' plugins answered in this run, and
--- by it the seeds of the configurations at the start open
+-- this truth agrees with all that the workers' plugins answered in this run, and by it the seeds of
+-- the configurations at the start open
+abbrev pub AgreesWithAll : ((worker : ℕ) → Heard) → Opens → Opening → Type 0
+AgreesWithAll heard opens o = ((worker : ℕ) → AgreesWithHeard opens (heard worker))
+    × All (λ replica. IfSome replica (SeedsOpen opens)) o.replicas
+
+-- there are none, or it does
 abbrev pub AreKnown : ((worker : ℕ) → Heard) → Opens → Opening → Type 0
-AreKnown heard opens o = (o.names ≡ [])
-    ⊎ (((worker : ℕ) → AgreesWithHeard opens (heard worker))
-    × All (λ replica. IfSome replica (SeedsOpen opens)) o.replicas)
+AreKnown heard opens o = (o.names ≡ []) ⊎ AgreesWithAll heard opens o
+
+-- the seeds open of the configuration that a replica was given
+abbrev pub BroughtOpens : Opens → Gave → Did → Type 0
+BroughtOpens opens (gave.Reloaded generation) (did.Reload replica p expect) = SeedsOpen opens p
+BroughtOpens opens (gave.Joined generation) (did.Join replica p) = SeedsOpen opens p
+BroughtOpens opens given done = ⊤
+
+-- each plugin that a configuration names has a seed in it, and each seed has 32 bytes
+abbrev pub HasSeeds : Publication → Type 0
+HasSeeds p = ((name : List ℕ) → Contains (plugins_in p.rows) name
+    → Contains (map (λ row. row.name) p.seeds) name) × All IsSeedRow p.seeds
+
+-- so it is with the configuration that a replica was given
+abbrev pub BroughtSeeds : Gave → Did → Type 0
+BroughtSeeds (gave.Reloaded generation) (did.Reload replica p expect) = HasSeeds p
+BroughtSeeds (gave.Joined generation) (did.Join replica p) = HasSeeds p
+BroughtSeeds given done = ⊤
 
 -- the seed opens with which an entry sealed what it wrote at the path
 abbrev pub SealedBy : Opens → (path : List ℕ) → Entry → Gave → Did → Type 0
@@ -79,36 +153,33 @@ SealedBy opens path e (gave.Written revision) (did.Replace own from) =
     own ≡ path → (old : Row) → e.replaced ≡ Some old → WriterOpens opens old.resource e
 SealedBy opens path e given done = ⊤
 
--- a row that was sealed anew was read with what its source opens to
-abbrev pub UnwrapsOld : {path : List ℕ} → {e : Entry} → Opens → Reseals path e → Type 0
-UnwrapsOld opens r = IsEnvelopeOf opens (list_at r.p r.old.resource) r.old.stored r.envelope
-
--- the row that the entry found was read with what its source opens to; this asks something only of
--- a row that a plugin reads
-abbrev pub UnwrapsRow : Opens → Envelope → Entry → Type 0
-UnwrapsRow opens envelope e = (p : Publication) (row : Row) → e.published ≡ Some p
-    → e.row ≡ Some row → IsEnvelopeOf opens (list_at p row.resource) row.stored envelope
-
 -- ---- the run
 
 -- what is known of the outside while the workers worked
-pub record Outside : Type 1 where
+pub record FleetOutside : Type 1 where
   pub PluginFailed : (worker at : ℕ) → (name : List ℕ) → Type 0
   pub SourceFailed : (worker at : ℕ) → Type 0
   pub BreaksRule : (worker at : ℕ) → (name : List ℕ) → Field → (text : List ℕ) → Type 0
   pub KeysAreSame : (worker at : ℕ) → Publication → Type 0
+  pub KeyChanged : (worker at : ℕ) → Publication → Type 0
 
-module _ (heard : (worker : ℕ) → Heard) (o : Opening) (files : List SettingsFile)
+module _ (values : Values) (heard : (worker : ℕ) → Heard) (o : Opening) (files : List SettingsFile)
     (workers : List Worker) (replies : List (List Told)) (history : List Entry) where
   -- how rows read at the start, by each truth; the source with which each `get` was read; and that
-  -- each row that was rewritten was read, with a source
+  -- each row that was sealed anew was read, with one that its worker had
   pub record Readings : Type 0 where
     pub at_start : Opens → (path : List ℕ) → Option Reading
     pub start_is : (opens : Opens) (path : List ℕ)
-        → OpeningContent opens (first_of o) path (live o.rows path) (at_start opens path)
+        → values.ReadsAtStart opens (first_of o) path (live o.rows path) (at_start opens path)
     pub envelope_of : (worker at : ℕ) → Envelope
     pub reseals : (front : List Entry) (e : Entry) (rest : List Entry) (path : List ℕ)
-        → history ≡ front ++ e ∷ rest → IsReplaced path e → Reseals path e
+        → history ≡ front ++ e ∷ rest → IsReplaced path e
+        → Reseals values o.format (heard e.line.seat) path e
+
+  -- a row that was sealed anew was read with what its wrapped key opens to
+  abbrev pub OpensOld : {path : List ℕ} → {e : Entry} → Opens
+      → Reseals values o.format (heard e.line.seat) path e → Type 0
+  OpensOld opens r = values.OpensTo opens r.envelope r.p r.old
 
   -- by this truth plugins unwrapped what they had wrapped, as far as it concerns what a `get` read
   -- at this path: the seeds with which rows of the path were sealed are what their sources open
@@ -122,9 +193,10 @@ module _ (heard : (worker : ℕ) → Heard) (o : Opening) (files : List Settings
         → SealedBy opens path e e.line.gave e.line.did
     pub resealed : (front : List Entry) (e : Entry) (since rest : List Entry)
         → (is : history ≡ front ++ e ∷ (since ++ fetch ∷ rest)) → last_change since path ≡ None
-        → (replaced : IsReplaced path e) → UnwrapsOld opens
-        (readings.reseals front e (since ++ fetch ∷ rest) path is replaced)
-    pub read : UnwrapsRow opens (readings.envelope_of worker at) fetch
+        → (replaced : IsReplaced path e)
+        → OpensOld opens (readings.reseals front e (since ++ fetch ∷ rest) path is replaced)
+    pub read : (p : Publication) (row : Row) → fetch.published ≡ Some p → fetch.row ≡ Some row
+        → values.OpensTo opens (readings.envelope_of worker at) p row
 
   -- the replica of each worker, and its lines
   abbrev pub replica_at : (worker : ℕ) → ℕ
@@ -133,9 +205,9 @@ module _ (heard : (worker : ℕ) → Heard) (o : Opening) (files : List Settings
   abbrev pub lines_at : (worker : ℕ) → List ScriptLine
   lines_at worker = get_or (map (λ (it : Worker). it.lines) workers) worker []
 
-  -- what a rewrite did is its part, by the second page; it met each path at which something stood
-  -- before each of its steps
-  abbrev pub run_of : Outside → Readings → Run
+  -- what a rewrite did is its part, by the second page, with sources that its worker had; it met
+  -- each path at which something stood before each of its steps
+  abbrev pub run_of : FleetOutside → Readings → Run
   run_of outside readings = record {
     replica_of = replica_at;
     lines_of = lines_at;
@@ -146,24 +218,26 @@ module _ (heard : (worker : ℕ) → Heard) (o : Opening) (files : List Settings
     had_at_start = current_of (start_of o);
     store_faults_at_start = o.count;
     limit = o.limit;
-    NeedsBytes = λ front e bytes. (row : LogRow)
-        × WouldWrite o.format e.line.did (state_of o front).rows e.published row
-        × (bytes ≡ file_size o.format (state_of o front).rows row);
+    NeedsBytes = λ front e.
+        values.NeedsBytes o.format e.line.did (state_of o front).rows e.published;
     settings_in = rows_at files;
     published_of = λ generation. published_at (state_of o history).generations (Some generation);
+    configurations_after = λ front. length (state_of o front).generations;
     PluginFailed = outside.PluginFailed;
     SourceFailed = outside.SourceFailed;
     BreaksRule = outside.BreaksRule;
     KeysAreSame = outside.KeysAreSame;
+    KeyChanged = outside.KeyChanged;
     NamesPlugin = NamesPlugin;
     CannotBeSealed = CannotBeSealed;
     ReadBy = ReadBy;
-    RewriteDone = λ worker at StoodThere. RewritePart (outside.PluginFailed worker at)
-        (outside.SourceFailed worker at)
+    RewriteDone = λ worker at StoodThere. RewritePart (values.IsFresh (HasSource (heard worker)))
+        (values.IsStale (HasSource (heard worker))) (values.IsLeft (HasSource (heard worker)))
+        (outside.PluginFailed worker at) (outside.SourceFailed worker at)
         (λ met. (path : List ℕ) → path ≢ [] → StoodThere path
         → Contains (map (path_of []) met) path) worker (replica_at worker);
     WouldStayReadable = λ front done. IsFit (judged_state done (state_of o front));
-    Reads = λ worker at. ReadsWith (readings.envelope_of worker at);
+    Reads = λ worker at. ReadsWith values (heard worker) (readings.envelope_of worker at);
     Truths = Opens;
     read_at_start = readings.at_start;
     PluginsUnwrapped = λ opens path worker at e. AreKnown heard opens o
@@ -178,11 +252,18 @@ module _ (heard : (worker : ℕ) → Heard) (o : Opening) (files : List Settings
       → IsLive (state_of o front) rows
       → (who : Who) × (reader_in (list_of rows row.resource) row.stored ≡ Some who)
 
-  -- the history is legal from the opening on, and the run has the headline. What changed something
-  -- was done for a line that tells it
-  pub record HasHeadline (outside : Outside) : Type 0 where
-    pub legal : IsLegal o history
+  -- The run has the headline, each entry follows on the state that those before it left, and what
+  -- changed something was done for a line that tells it. Each truth that agrees with all that was
+  -- heard opens the published seeds: so where there is one, plugins told what these open to. Where
+  -- a plugin contradicted itself there is none, and only the ties say so
+  pub record HasHeadline (outside : FleetOutside) : Type 0 where
+    pub follows : (front : List Entry) (e : Entry) (rest : List Entry)
+        → history ≡ front ++ e ∷ rest → Follows values o (state_of o front) e
     pub listed : StaysListed
+    pub seeds : (opens : Opens) → AgreesWithAll heard opens o
+        → All (λ (e : Entry). BroughtOpens opens e.line.gave e.line.did) history
+    -- whatever plugins answered, a configuration has its seeds
+    pub published : All (λ (e : Entry). BroughtSeeds e.line.gave e.line.did) history
     pub readings : Readings
     pub headline : Headline (run_of outside readings)
     pub made : All (λ (step : Step). (asked : ScriptLine) × (reply : Told)
@@ -192,68 +273,87 @@ module _ (heard : (worker : ℕ) → Heard) (o : Opening) (files : List Settings
 
 -- ---- the workers
 
+-- the links and the random source of a worker: as they were, and after each of its lines. By just
+-- the exchanges of a line, which are such as it asks, its links came to be those behind it. Each
+-- stays the same plugin's, and no count of faults falls
+pub record AreBenches {L D : Type 0} (link : L → Link) (step : L → Exchange → L → Type 0)
+    (count : D → ℕ) (benches : List (List L × D)) (exchanges : List (List Exchange))
+    (lines : List ScriptLine) (old new : BenchState L D) : Type 0 where
+  pub many : length benches ≡ length lines + 1
+  pub each : length exchanges ≡ length lines
+  pub asks : (at : ℕ) (asked : ScriptLine) (its : List Exchange) → slice_get lines at ≡ Some asked
+      → slice_get exchanges at ≡ Some its → AsksOf asked its
+  pub first : slice_get benches 0 ≡ Some (old.links, old.dice)
+  pub last : slice_get benches (length lines) ≡ Some (new.links, new.dice)
+  pub stay : (at : ℕ) (before after : List L × D) (asked : List Exchange)
+      → slice_get benches at ≡ Some before → slice_get exchanges at ≡ Some asked
+      → slice_get benches (at + 1) ≡ Some after
+      → AskedOnly link (names_of link before.0) before.0 after.0
+      × Walk (Among step) before.0 asked after.0 × (count before.1 ≤ count after.1)
+
+-- before and after the line at this place, and the exchanges between
+pub record AtLine {L D : Type 0} (benches : List (List L × D)) (exchanges : List (List Exchange))
+    (at : ℕ) (Has : (before : List L × D) → List Exchange → (after : List L × D) → Type 0)
+    : Type 0 where
+  pub before : List L × D
+  pub asked : List Exchange
+  pub after : List L × D
+  pub before_is : slice_get benches at ≡ Some before
+  pub asked_is : slice_get exchanges at ≡ Some asked
+  pub after_is : slice_get benches (at + 1) ≡ Some after
+  pub has : Has before asked after
+
 module _ {L D : Type 0} (link : L → Link) (count : D → ℕ) where
-  -- the links and the random source of a worker: as they were, and after each of its lines. Each
-  -- link stays the same plugin's, and no count of faults falls
-  pub record AreBenches (benches : List (List L × D)) (lines : ℕ) (old new : BenchState L D)
-      : Type 0 where
-    pub many : length benches ≡ lines + 1
-    pub first : slice_get benches 0 ≡ Some (old.links, old.dice)
-    pub last : slice_get benches lines ≡ Some (new.links, new.dice)
-    pub stay : (at : ℕ) (before after : List L × D) → slice_get benches at ≡ Some before
-        → slice_get benches (at + 1) ≡ Some after
-        → AskedOnly link (names_of link before.0) before.0 after.0
-        × (count before.1 ≤ count after.1)
-
-  -- before and after the line at this place
-  pub record AtLine (benches : List (List L × D)) (at : ℕ)
-      (Has : (before after : List L × D) → Type 0) : Type 0 where
-    pub before : List L × D
-    pub after : List L × D
-    pub before_is : slice_get benches at ≡ Some before
-    pub after_is : slice_get benches (at + 1) ≡ Some after
-    pub has : Has before after
-
-  -- a count of faults rose while the line was done; and by its links, as they were before, a
-  -- plugin's status breaks that rule, and no plugin tells another key than that of its seed
-  abbrev pub outside_of : ((worker : ℕ) → List (List L × D)) → Outside
-  outside_of benches = record {
-    PluginFailed = λ worker at name. AtLine (benches worker) at
-        (λ before after. FaultRose link name before.0 after.0);
-    SourceFailed = λ worker at. AtLine (benches worker) at
-        (λ before after. Rose (count before.1) (count after.1));
-    BreaksRule = λ worker at name field text. AtLine (benches worker) at
-        (λ before after. HasLinkWith link name (λ it. HasBreach it (Some (field, text))) before.0);
-    KeysAreSame = λ worker at p. AtLine (benches worker) at
-        (λ before after. AreKeysSame link before.0 p.seeds);
+  -- A count of faults rose while the line was done, and of a plugin by an exchange of the line that
+  -- failed. A status that was told in the line breaks that rule; those that were told in it have
+  -- the keys of the seeds, or one has another. Where the links tell their plugins' statuses, these
+  -- are so too
+  abbrev pub outside_of : (benches : (worker : ℕ) → List (List L × D))
+      → (exchanges : (worker : ℕ) → List (List Exchange)) → FleetOutside
+  outside_of benches exchanges = record {
+    PluginFailed = λ worker at name. AtLine (benches worker) (exchanges worker) at
+        (λ before asked after. FaultRose link name before.0 after.0 × HasFailed asked name);
+    SourceFailed = λ worker at. AtLine (benches worker) (exchanges worker) at
+        (λ before asked after. Rose (count before.1) (count after.1));
+    BreaksRule = λ worker at name field text. AtLine (benches worker) (exchanges worker) at
+        (λ before asked after. HasLinkWith link name (λ it. HasBreach it (Some (field, text)))
+        before.0 × HasBroken asked name field text);
+    KeysAreSame = λ worker at p. AtLine (benches worker) (exchanges worker) at
+        (λ before asked after. AreKeysSame link before.0 p.seeds × HaveSeedKeys asked p.seeds);
+    KeyChanged = λ worker at p. AtLine (benches worker) (exchanges worker) at
+        (λ before asked after. IsKeyChanged link before.0 p.seeds × HasOtherKey asked p.seeds);
   }
 
-module _ {T L D : Type 0} (link : L → Link) (step : L → Exchange → L → Type 0) (count : D → ℕ)
-    (old new : List (fleet_worker.Worker T L D)) where
+module _ {T L D : Type 0} (values : Values) (link : L → Link) (step : L → Exchange → L → Type 0)
+    (count : D → ℕ) (old new : List (fleet_worker.Worker T L D)) where
   -- the headline of workers, as they were and as they are, at these parts; what each worker's
-  -- plugins were asked and answered, by which its links came to be what they are; of no other
-  -- number was anything heard
+  -- plugins were asked and answered, line by line, by which its links came to be what they are; of
+  -- no other number was anything heard
   pub record FleetHeadline (files : List SettingsFile) (o : Opening) (parts : List Part)
       (history : List Entry) : Type 0 where
     pub whole : length old ≡ length parts
     pub many : length new ≡ length parts
     pub benches : (worker : ℕ) → List (List L × D)
+    pub exchanges : (worker : ℕ) → List (List Exchange)
     pub benches_are : (worker : ℕ) (part : Part) (before after : fleet_worker.Worker T L D)
         → slice_get parts worker ≡ Some part → slice_get old worker ≡ Some before
         → slice_get new worker ≡ Some after
-        → AreBenches link count (benches worker) (length part.lines.0) before.bench after.bench
+        → AreBenches link step count (benches worker) (exchanges worker) part.lines.0 before.bench
+        after.bench
     pub heard : (worker : ℕ) → Heard
     pub was_heard : (worker : ℕ) (before after : fleet_worker.Worker T L D)
         → slice_get old worker ≡ Some before → slice_get new worker ≡ Some after
         → WasHeard step (heard worker) before.bench after.bench
+    pub by_line : (worker : ℕ)
+        → (heard worker).exchanges ≡ flat_map (λ asked. asked) (exchanges worker)
     pub no_more : (worker : ℕ) → length parts ≤ worker → heard worker ≡ unheard
-    pub has : HasHeadline heard o files (map worker_of parts)
+    pub has : HasHeadline values heard o files (map worker_of parts)
         (map (λ (worker : fleet_worker.Worker T L D). worker.told.0) new) history
-        (outside_of link count benches)
+        (outside_of link count benches exchanges)
 
   -- the run that has it
   abbrev pub run_in : (files : List SettingsFile) (o : Opening) (parts : List Part)
       (history : List Entry) → FleetHeadline files o parts history → Run
-  run_in files o parts history h = run_of h.heard o files (map worker_of parts)
+  run_in files o parts history h = run_of values h.heard o files (map worker_of parts)
       (map (λ (worker : fleet_worker.Worker T L D). worker.told.0) new) history
-      (outside_of link count h.benches) h.has.readings
+      (outside_of link count h.benches h.exchanges) h.has.readings

@@ -1,4 +1,4 @@
--- The headline follows from one history.
+-- The headline follows from one history, and is tied to it.
 use Rattle.std.specs.Prelude.{ℕ, List, Option}
 use Rattle.kr_kms.specs.Calls.{Link}
 use Rattle.kr_kms.specs.Exchanges.{Exchange}
@@ -10,6 +10,8 @@ use Rattle.kr_workers.specs.declared.files.SettingsFile.{SettingsFile}
 use Rattle.kr_workers.specs.declared.worker.Worker.{Worker}
 use Rattle.kr_workers.specs.Histories.{IsOneHistory}
 use Rattle.kr_headline.specs.Fleets.{FleetHeadline}
+use Rattle.kr_headline.specs.Ties.{IsTied}
+use Rattle.kr_headline.specs.Values.{sealed_values}
 
 abbrev pub HeadlineHolds : (T : Type 0) → {L D : Type 0} → Truth → (L → Link)
     → (L → Exchange → L → Type 0)
@@ -18,4 +20,5 @@ HeadlineHolds T {L} {D} truth link step left count = (files : List SettingsFile)
     (history : List Entry) (o : Opening) (parts : List Part) (budgets : List ℕ)
     (old new : List (Worker T L D))
     → IsOneHistory truth link step left count files history o parts budgets old new
-    → FleetHeadline link step count old new files o parts history
+    → (h : FleetHeadline sealed_values link step count old new files o parts history)
+    × IsTied truth link step left count files o parts budgets history old new h

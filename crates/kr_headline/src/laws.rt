@@ -2,6 +2,8 @@
 ghost use Rattle.kr_headline.specs.Consequences.{GotWasPut, NothingSupposed, RefusedStoodThere, SeedsAloneSupposed};
 ghost use Rattle.kr_headline.specs.Laws.{HeadlineHolds};
 ghost use Rattle.kr_headline.specs.WrongPages.{EachIsWrong};
+ghost use Rattle.kr_headline.specs.WrongSeals.{EachSealIsWrong};
+ghost use Rattle.kr_headline.specs.WrongSteps.{EachStepIsWrong};
 
 use kr_base::{Dice, Tape};
 use kr_kms::Kms;
@@ -27,6 +29,20 @@ pub fn refused_stood_there<T: Tape, L: Kms, D: Dice>()
 /// isn't that of the write, a fault that no count bears out, a replica that is in and gone.
 pub fn each_is_wrong<T: Tape, L: Kms, D: Dice>()
     ensures { EachIsWrong T L.link L.step D.count }
+{}
+
+/// Nor does it leave rows and seeds that the next call could not read: a published seed that no
+/// plugin told of, where some truth agrees with all that they answered; a check that isn't the
+/// provider's, other data than were read in a row's place.
+pub fn each_seal_is_wrong<T: Tape, L: Kms, D: Dice>()
+    ensures { EachSealIsWrong T L.link L.step D.count }
+{}
+
+/// Nor does a line take other steps than it tells: a `put` sealed or a `get` read by another
+/// configuration than the one adopted, other settings than those of the file that is named, a
+/// rewrite that passes by what stands.
+pub fn each_step_is_wrong<T: Tape, L: Kms, D: Dice>()
+    ensures { EachStepIsWrong T L.link L.step D.count }
 {}
 
 /// Of a path that needs no plugin nothing has to be supposed, whatever plugins do elsewhere: two

@@ -9,7 +9,7 @@ use Rattle.std.proofs.lemmas.Cmp.{nat_list_cmp_total}
 use Rattle.std.proofs.lemmas.Option.{same_Some}
 use Rattle.kr_store.specs.declared.rows.LogRow.{LogRow}
 use Rattle.kr_config.specs.declared.who.Who.{Who}
-use Rattle.kr_config.specs.Kept.{Row}
+use Rattle.kr_config.specs.Kept.{ConfigEntry}
 use Rattle.kr_config.specs.Nexts.{name_cmp}
 use Rattle.kr_judge.specs.declared.need.Need.{Need}
 use Rattle.kr_judge.specs.declared.verdict.Verdict.{Verdict}
@@ -38,7 +38,7 @@ least_path P p q a b below_p below_q = by (name_cmp p q) refl
 no_provider : IsSome {T = Who} None → ⊥
 no_provider e = cc
 
-not_stray : (first : List Row) (rows : List LogRow) (path : List ℕ) → IsStray first rows path
+not_stray : (first : List ConfigEntry) (rows : List LogRow) (path : List ℕ) → IsStray first rows path
     → HasNoStray first rows → ⊥
 not_stray first rows path s none =
     no_provider (subst (λ who. IsSome who) s.2 (none path s.0 s.1))
@@ -59,7 +59,7 @@ got_front [] i (suc j) l = refl
 got_front (x ∷ xs) zero (suc j) l = refl
 got_front (x ∷ xs) (suc i) (suc j) l = got_front xs i j (omega (arith, l))
 
-module _ (replicas : List (Option (List Row))) (needs : List Need) where
+module _ (replicas : List (Option (List ConfigEntry))) (needs : List Need) where
   -- one that doesn't fit with those before it is in no front that fits
   none_before : (i j : ℕ) (v w : Verdict) → IsUnfit replicas needs i v
       → IsUnfit replicas needs j w → i < j → ⊥

@@ -16,7 +16,7 @@ use Rattle.kr_store.specs.Rows.{latest, live, live_row, row_of, put_of, delete_o
 use Rattle.kr_store.proofs.Places.{live_at_revision}
 use Rattle.kr_config.specs.declared.who.Who.{Who}
 use Rattle.kr_config.specs.declared.who.Who.TheVariants.{Identity, Aescbc, Aesgcm, Kms}
-use Rattle.kr_config.specs.Kept.{Row, keeps, keeps_providers}
+use Rattle.kr_config.specs.Kept.{ConfigEntry, keeps, keeps_providers}
 use Rattle.kr_config.specs.Lists.{list_of}
 use Rattle.kr_kms.specs.declared.seeds.SeedRow.{SeedRow}
 use Rattle.kr_kms.specs.Truth.{Opens, OpenAll, key_of}
@@ -53,7 +53,7 @@ use Rattle.kr_history.proofs.ContentSteps.{change_kept, change_made, live_elsewh
 at_least : (n : ℕ) → 1 ≤ n → nat_le 1 n ≡ true
 at_least n l = grind (arith, nat_tests)
 
-pub list_keeps : (rows : List Row) → IsTrue (keeps rows) → (resource : List ℕ)
+pub list_keeps : (rows : List ConfigEntry) → IsTrue (keeps rows) → (resource : List ℕ)
     → IsTrue (keeps_providers (list_of rows resource))
 list_keeps rows k resource =
     let l = listed rows resource k in
@@ -162,7 +162,7 @@ same_needs (need ∷ needs) path =
     ap (λ rest. if bytes_eq need.path path then Some need else rest) (same_needs needs path)
 
 -- what a live row of the opening needs
-pub row_needed : (first : List Row) (rows : List LogRow) (path : List ℕ) (row : stored_row.Row)
+pub row_needed : (first : List ConfigEntry) (rows : List LogRow) (path : List ℕ) (row : stored_row.Row)
     (who : Who) → live rows path ≡ Some row
     → provider_of first row.resource row.stored ≡ Some who
     → needing.needed first (needing.last_row rows path)

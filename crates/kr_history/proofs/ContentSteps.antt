@@ -9,7 +9,7 @@ use Rattle.kr_store.specs.declared.format.Check.{Check}
 use Rattle.kr_store.specs.declared.rows.LogRow.{LogRow}
 use Rattle.kr_store.specs.declared.rows.Row as stored_row
 use Rattle.kr_store.specs.Rows.{later, latest_from, latest, live, live_row, put_of, delete_of}
-use Rattle.kr_config.specs.Kept.{Row}
+use Rattle.kr_config.specs.Kept.{ConfigEntry}
 use Rattle.kr_kms.specs.Truth.{Opens}
 use Rattle.kr_provider.specs.Reading.{Reading, data_of}
 use Rattle.kr_provider.proofs.OneReading as readings
@@ -115,7 +115,7 @@ one_path a b e = (bytes_eq-Decides a b).0 e
 
 -- ---- one content
 
-opening_once : (opens : Opens) (first : List Row) (path : List ℕ) (row : Option stored_row.Row)
+opening_once : (opens : Opens) (first : List ConfigEntry) (path : List ℕ) (row : Option stored_row.Row)
     (a b : Option Reading)
     → OpeningContent opens first path row a → OpeningContent opens first path row b → a ≡ b
 opening_once opens first path None a b x y = x ∙ sym y
@@ -140,7 +140,7 @@ one_content opens o history path a b x y = content_once (last_change history pat
 abbrev IsAlike : Opens → Opening → List LogRow → List Entry → List ℕ → Type 0
 IsAlike opens o rows history path = IsContent opens o history path None ↔ (live rows path ≡ None)
 
-alike_opening : (opens : Opens) (first : List Row) (path : List ℕ) (row : Option stored_row.Row)
+alike_opening : (opens : Opens) (first : List ConfigEntry) (path : List ℕ) (row : Option stored_row.Row)
     → OpeningContent opens first path row None ↔ (row ≡ None)
 alike_opening opens first path None = ((λ x. refl), (λ x. refl))
 alike_opening opens first path (Some row) = (

@@ -15,7 +15,7 @@ use Rattle.kr_store.specs.declared.rows.LogRow.{LogRow}
 use Rattle.kr_store.specs.Rows.{delete_of}
 use Rattle.kr_config.specs.declared.class.Class.TheVariants.{Exact}
 use Rattle.kr_config.specs.declared.who.Who.{Who}
-use Rattle.kr_config.specs.Kept.{Row, keeps}
+use Rattle.kr_config.specs.Kept.{ConfigEntry, keeps}
 use Rattle.kr_config.specs.Nexts.{name_cmp}
 use Rattle.kr_config.specs.Lists.{list_of}
 use Rattle.kr_provider.specs.Publication.{Publication, IsPublished, writer_at}
@@ -42,8 +42,8 @@ use Rattle.kr_history.proofs.Sound.{contains_at, set_there, there_at, IsOwn, IsS
 
 -- ---- what is live
 
-pub live_less : (Live More : List Row → Type 0) (needs : List Need)
-    → ((rows : List Row) → Live rows → More rows) → AreFit More needs → AreFit Live needs
+pub live_less : (Live More : List ConfigEntry → Type 0) (needs : List Need)
+    → ((rows : List ConfigEntry) → Live rows → More rows) → AreFit More needs → AreFit Live needs
 live_less Live More needs to f = record {
   writers = λ rows other class a b. f.writers rows other class (to rows a) (to other b);
   stored = λ rows need a there. f.stored rows need (to rows a) there;
@@ -106,7 +106,7 @@ value_fits st p path resource kept own f = record {
       (set_needs st.needs (need_by p path resource) need there);
 }
   where
-    by : (rows : List Row) (need : Need) → IsLive st rows
+    by : (rows : List ConfigEntry) (need : Need) → IsLive st rows
         → Contains st.needs need ⊎ (need_by p path resource ≡ need)
         → Contains (list_of rows need.resource) need.who
     by rows need l (inl there) = f.stored rows need l there

@@ -20,7 +20,7 @@ use Rattle.kr_store.specs.Rows.{AllFollow, HasCheck, IsPut, IsRow, MayChange, pu
 use Rattle.kr_store.proofs.Places.{live_at_revision}
 use Rattle.kr_config.specs.declared.who.Who.{Who}
 use Rattle.kr_config.specs.declared.who.Who.TheVariants.{Identity, Aescbc, Aesgcm, Kms}
-use Rattle.kr_provider.specs.Checks.{check_of}
+use Rattle.kr_provider.specs.Checks.{provider_check}
 use Rattle.kr_provider.specs.Publication.{Publication, IsPublished, writer_at}
 use Rattle.kr_provider.proofs.SealedSizes.{sealing_is_sized}
 use Rattle.kr_rollout.specs.declared.line.Did.{Did}
@@ -74,7 +74,7 @@ code_is_bytes key text = hash_is_bytes _
 zero_is_byte : 0 < 256
 zero_is_byte = omega arith
 
-check_is_bytes : (who : Who) → All IsByte (check_of who)
+check_is_bytes : (who : Who) → All IsByte (provider_check who)
 check_is_bytes Identity = All-replicate IsByte 8 0 zero_is_byte
 check_is_bytes (Aescbc name secret) =
     All-take IsByte 8 (hmac secret name) (code_is_bytes secret name)
@@ -92,7 +92,7 @@ fits_64 : (b : List ℕ) → ((i : ℕ) → get_or b i 0 < 256) → from_be_byte
 fits_64 b k = omega (arith, k 0, k 1, k 2, k 3, k 4, k 5, k 6, k 7)
 
 check_fits : (who : Who) → (store_check who).value < 2 ^ 64
-check_fits who = fits_64 (check_of who) (byte_there (check_of who) (check_is_bytes who))
+check_fits who = fits_64 (provider_check who) (byte_there (provider_check who) (check_is_bytes who))
 
 has_check : (format : Format) (p : Publication) (resource : List ℕ)
     → HasCheck format (written_check format p resource)

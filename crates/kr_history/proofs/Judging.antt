@@ -4,7 +4,7 @@ use Rattle.std.proofs.Common.{◌≡◌, ℕ, zero, suc, ◌+◌, List, [], ◌�
 use Rattle.std.specs.Option.{option_map}
 use Rattle.std.proofs.lemmas.Option.{none-some, same_Some}
 use Rattle.kr_config.specs.declared.who.Who.{Who}
-use Rattle.kr_config.specs.Kept.{Row}
+use Rattle.kr_config.specs.Kept.{ConfigEntry}
 use Rattle.kr_provider.specs.Publication.{Publication}
 use Rattle.kr_rollout.specs.declared.line.Did.{Did}
 use Rattle.kr_rollout.specs.declared.line.Did.TheVariants.{Adopt, Fetch, After, Put, Delete, Replace, LetGo, Reload, Join, Leave}
@@ -27,7 +27,7 @@ use Rattle.kr_rollout.specs.Fits.{IsFit}
 use Rattle.kr_rollout.specs.Answers.{IsAnswer, IsExpected}
 use Rattle.kr_rollout.specs.Steps.{IsStep, after, KeepsRules}
 use Rattle.kr_rollout.specs.Histories.{state_from, state_of, IsRun, IsLegal}
-use Rattle.kr_rollout.specs.Judgements.{IsJudged, judged_state, IsDone, AnswersFit}
+use Rattle.kr_rollout.specs.Judgements.{MayBeJudged, judged_state, IsDone, AnswersFit}
 use Rattle.kr_history.specs.FitLaws.{VerdictIsExact, JudgedByFit, JudgedStateFollows, RefreshIsNotRefused, OpeningFits, StartsWhereItFits, RefusalIsExact, HoldingIsLive}
 use Rattle.kr_history.proofs.Sound.{contains_at, IsSound, next_fits, next_passes, same_passes}
 use Rattle.kr_history.proofs.Fitting.{live_less, legal_sound, held_live}
@@ -70,7 +70,7 @@ is_expected : (expect : Option ℕ) (a b : ℕ) → a ≡ b → IsExpected expec
 is_expected expect a b e i = subst (IsExpected expect) e i
 
 module _ (o : Opening) (st : State) (sound : IsSound o st) (held : Option ℕ) where
-  judged_by : (did : Did) (gave : Gave) → IsJudged did st → IsAnswer did gave st held
+  judged_by : (did : Did) (gave : Gave) → MayBeJudged did st → IsAnswer did gave st held
       → KeepsRules did o → AnswersFit gave (IsFit (judged_state did st))
   judged_by (Adopt replica) gave j a k = absurd j
   judged_by (Fetch path) gave j a k = absurd j
@@ -140,7 +140,7 @@ refresh_is_not_refused o history e replica number p old expect verdict l did_is 
 
 -- ---- the opening
 
-opening_rows : (k : ℕ) (rs : List (Option Publication)) (n : ℕ) (rows : List Row)
+opening_rows : (k : ℕ) (rs : List (Option Publication)) (n : ℕ) (rows : List ConfigEntry)
     → option_map (λ (p : Publication). p.rows) (published_at (generations_from k rs) (Some n))
     ≡ Some rows
     → Contains (settings_of rs) (Some rows)
@@ -151,13 +151,13 @@ opening_rows k (Some p ∷ rs) zero rows e = (0, omega arith, e)
 opening_rows k (Some p ∷ rs) (suc n) rows e =
     let c = opening_rows (k + 1) rs n rows e in (suc c.0, omega (arith, c.1), c.2)
 
-record IsInOpening (k m : ℕ) (rs : List (Option Publication)) (rows : List Row) : Type 0 where
+record IsInOpening (k m : ℕ) (rs : List (Option Publication)) (rows : List ConfigEntry) : Type 0 where
   number : ℕ
   current : Contains (current_from m rs) (Some (m + number))
   rows_are : option_map (λ (p : Publication). p.rows)
       (published_at (generations_from k rs) (Some number)) ≡ Some rows
 
-in_opening : (k m : ℕ) (rs : List (Option Publication)) (rows : List Row)
+in_opening : (k m : ℕ) (rs : List (Option Publication)) (rows : List ConfigEntry)
     → Contains (settings_of rs) (Some rows) → IsInOpening k m rs rows
 in_opening k m [] rows c = absurd (omega (arith, c.1))
 in_opening k m (None ∷ rs) rows (zero, l, e) = absurd (none-some rows e)
@@ -191,7 +191,7 @@ opening_fits o = (
       (needs_of (first_of o) o.rows) live,
 )
   where
-    live : (rows : List Row) → Contains (settings_of o.replicas) (Some rows)
+    live : (rows : List ConfigEntry) → Contains (settings_of o.replicas) (Some rows)
         → IsLive (start_of o) rows
     live rows c =
         let r = in_opening 0 0 o.replicas rows c in
@@ -212,7 +212,7 @@ starts_where_it_fits o = (
 )
 
 -- a stray row has no provider
-stray_is_stray : (first : List Row) (rows : List LogRow) (path : List ℕ)
+stray_is_stray : (first : List ConfigEntry) (rows : List LogRow) (path : List ℕ)
     → IsStray first rows path → HasNoStray first rows → ⊥
 stray_is_stray first rows path (row, live_is, none) readable = none_is
     (subst (λ w. IsSome w) none (readable path row live_is))

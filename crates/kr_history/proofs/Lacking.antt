@@ -11,7 +11,7 @@ use Rattle.std.proofs.lemmas.Option.{none-some, same_Some}
 use Rattle.kr_store.specs.declared.rows.Row as stored_row
 use Rattle.kr_store.specs.Rows.{live}
 use Rattle.kr_config.specs.declared.who.Who.{Who}
-use Rattle.kr_config.specs.Kept.{Row}
+use Rattle.kr_config.specs.Kept.{ConfigEntry}
 use Rattle.kr_config.specs.Nexts.{name_cmp}
 use Rattle.kr_provider.specs.Publication.{Publication, IsPublished}
 use Rattle.kr_judge.specs.declared.need.Need.{Need}
@@ -30,9 +30,9 @@ use Rattle.kr_rollout.specs.States.{State, board_generations}
 use Rattle.kr_rollout.specs.Fits.{IsFit}
 use Rattle.kr_rollout.specs.Steps.{KeepsRules}
 use Rattle.kr_rollout.specs.Histories.{state_of, IsLegal}
-use Rattle.kr_rollout.specs.Judgements.{IsJudged, judged_state, AnswersFit, with_configuration}
+use Rattle.kr_rollout.specs.Judgements.{MayBeJudged, judged_state, AnswersFit, with_configuration}
 use Rattle.kr_history.specs.FitLaws.{IsNeedOf}
-use Rattle.kr_history.specs.LackLaws.{IsStoredAt, IsStored, AreBeside, OneLacks, VerdictRefusesExactly, LeavesLack, AnswersExactly, RefusedExactly}
+use Rattle.kr_history.specs.LackLaws.{IsStoredAt, IsStoredUnder, AreBeside, OneLacks, VerdictRefusesExactly, LeavesLack, AnswersExactly, RefusedExactly}
 use Rattle.kr_history.proofs.Fitting.{legal_sound}
 use Rattle.kr_history.proofs.ContentReads.{need_there}
 use Rattle.kr_history.proofs.Judging.{next_step, judged_by_fit, verdict_exact}
@@ -84,7 +84,7 @@ needed_stored st n need m = by (live st.rows need.path) refl (n.each need.path)
         (sym at ∙ own.1) in (row, is, sym (ap (λ (x : Need). x.resource) same), at)
 
 needed_somewhere : (st : State) → AreNeeded st → (resource : List ℕ) (who : Who)
-    → IsNeeded st.needs resource who → IsStored st resource who
+    → IsNeeded st.needs resource who → IsStoredUnder st resource who
 needed_somewhere st n resource who (need, m, r, w) = (
   need.path,
   subst (λ (x : Who). IsStoredAt st need.path resource x) w
@@ -92,7 +92,7 @@ needed_somewhere st n resource who (need, m, r, w) = (
 )
 
 -- and what is stored is needed
-stored_needed : (st : State) (resource : List ℕ) (who : Who) → IsStored st resource who
+stored_needed : (st : State) (resource : List ℕ) (who : Who) → IsStoredUnder st resource who
     → IsNeeded st.needs resource who
 stored_needed st resource who (path, (row, is, r, at)) = (
   record { path = path; resource = resource; who = who },
@@ -104,7 +104,7 @@ stored_needed st resource who (path, (row, is, r, at)) = (
 -- ---- the generations beside
 
 module _ (o : Opening) (st : State) (sound : IsSound o st) (replica : ℕ) where
-  judged_beside : (rows : List Row) → IsLiveBeside replica (board_generations st) rows
+  judged_beside : (rows : List ConfigEntry) → IsLiveBeside replica (board_generations st) rows
       → AreBeside st replica rows
   judged_beside rows live =
       let n = lives_other replica (board_generations st) rows live in
@@ -114,7 +114,7 @@ module _ (o : Opening) (st : State) (sound : IsSound o st) (replica : ℕ) where
         number_rows st.generations a.number a.generation a.there ∙ ap Some (a.rows_are ∙ n.2),
       )
 
-  beside_judged : (rows : List Row) → AreBeside st replica rows
+  beside_judged : (rows : List ConfigEntry) → AreBeside st replica rows
       → IsLiveBeside replica (board_generations st) rows
   beside_judged rows (number, live, is) =
       let g = rows_of_number st.generations number rows is in
@@ -133,7 +133,7 @@ module _ (o : Opening) (st : State) (sound : IsSound o st) (replica : ℕ) where
 
 -- ---- the verdict
 
-module _ (o : Opening) (history : List Entry) (replica : ℕ) (rows : List Row)
+module _ (o : Opening) (history : List Entry) (replica : ℕ) (rows : List ConfigEntry)
     (l : IsLegal o history) where
   abbrev st : State
   st = state_of o history
@@ -203,7 +203,7 @@ module _ (o : Opening) (history : List Entry) (l : IsLegal o history) where
       (λ unfit. r.0 (λ pass. unfit (v.0 pass)))
       (λ fit lacks. r.1 lacks (v.1 fit)) a
 
-  by_did : (did : Did) (gave : Gave) → IsJudged did (state_of o history) → KeepsRules did o
+  by_did : (did : Did) (gave : Gave) → MayBeJudged did (state_of o history) → KeepsRules did o
       → AnswersFit gave (IsFit (judged_state did (state_of o history)))
       → AnswersExactly gave (LeavesLack did (state_of o history))
       (IsFit (judged_state did (state_of o history)))

@@ -21,6 +21,7 @@ pub mod HonestSeats
 pub mod Judging
 pub mod KeptByEvents
 pub mod KeptHonest
+pub mod KeyMoments
 pub mod Lacking
 pub mod LineChanges
 pub mod KeptSeeds

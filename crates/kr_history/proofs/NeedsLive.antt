@@ -11,7 +11,7 @@ use Rattle.kr_store.specs.declared.rows.Change.TheVariants as change
 use Rattle.kr_store.specs.declared.rows.Row as stored_row
 use Rattle.kr_store.specs.Rows.{latest, live, live_row, row_of, put_of, delete_of}
 use Rattle.kr_store.proofs.Places.{live_at_revision}
-use Rattle.kr_config.specs.Kept.{Row, keeps}
+use Rattle.kr_config.specs.Kept.{ConfigEntry, keeps}
 use Rattle.kr_config.specs.Lists.{list_of}
 use Rattle.kr_provider.specs.Publication.{Publication, writer_at}
 use Rattle.kr_provider.specs.Readers.{is_reader}
@@ -43,7 +43,7 @@ pub record AreNeeded (st : State) : Type 0 where
 
 -- ---- the opening
 
-none_needed : (first : List Row) (rows : List LogRow) (path : List ℕ) → live rows path ≡ None
+none_needed : (first : List ConfigEntry) (rows : List LogRow) (path : List ℕ) → live rows path ≡ None
     → needing.needed first (needing.last_row rows path) ≡ None
 none_needed first rows path is = by (latest rows path) is
   where

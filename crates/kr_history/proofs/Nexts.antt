@@ -6,7 +6,7 @@ use Rattle.std.proofs.lemmas.List.Elements.{filter-append, All-contains}
 use Rattle.std.proofs.lemmas.Option.{same_Some}
 use Rattle.kr_base.specs.Limits.{value_limit}
 use Rattle.kr_base.specs.Lines.{of_seat}
-use Rattle.kr_config.specs.Kept.{Row as settings_row, plugins_in}
+use Rattle.kr_config.specs.Kept.{ConfigEntry as settings_row, plugins_in}
 use Rattle.kr_provider.specs.Names.{HasLinks}
 use Rattle.kr_provider.specs.Publication.{Publication}
 use Rattle.kr_store.specs.declared.rows.Row.{Row}

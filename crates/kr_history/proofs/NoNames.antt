@@ -1,7 +1,7 @@
 -- Where configurations may name no plugin, none does.
 use Rattle.std.proofs.Common.{◌≡◌, ℕ, ◌||◌, false, List, [], ◌∷◌, ◌++◌, get_or, length, All, Contains, refl, ap, subst, arith}
 use Rattle.std.specs.List.{list_any}
-use Rattle.kr_config.specs.Kept.{Row, plugins_in}
+use Rattle.kr_config.specs.Kept.{ConfigEntry, plugins_in}
 use Rattle.kr_config.specs.Providers.{is_kms, plugins_among}
 use Rattle.kr_config.specs.declared.who.Who.{Who}
 use Rattle.kr_config.specs.declared.who.Who.TheVariants.{Identity, Aescbc, Aesgcm, Kms}
@@ -28,7 +28,7 @@ no_kms (Aesgcm name secret ∷ list) e = no_kms list e
 no_kms (Kms name ∷ list) e =
     absurd (omega (arith, ap (λ (l : List (List ℕ)). length l) e))
 
-no_plugin : (rows : List Row) → plugins_in rows ≡ [] → names_plugin rows ≡ false
+no_plugin : (rows : List ConfigEntry) → plugins_in rows ≡ [] → names_plugin rows ≡ false
 no_plugin [] e = refl
 no_plugin (row ∷ rows) e =
     let first = no_kms row.providers

@@ -14,7 +14,7 @@ use Rattle.kr_history.specs.Acting.{Caller, AddsEntry}
 use Rattle.kr_rollout.specs.Callers.{brings_settings, did_of, reloads_in}
 use Rattle.kr_rollout.specs.Entries.{seat_of}
 use Rattle.kr_history.specs.PartLaws.{BoundsFollow, PartsAddUp, PartsFollow}
-use Rattle.kr_history.specs.Parts.{Adds, AddsWithin, IsWithin, put_by, written_put, written_puts}
+use Rattle.kr_history.specs.Parts.{Adds, AddsWithin, IsPartWithin, put_by, written_put, written_puts}
 use Rattle.kr_rollout.proofs.Budgets.{reloads_more}
 
 -- ---- parts
@@ -94,12 +94,12 @@ puts_more (e ∷ first) second =
     ∙ sym (append_assoc (written_put e.line.gave e.line.did) (written_puts first)
     (written_puts second))
 
-pub parts_add_up : PartsAddUp
-parts_add_up = record { reloads = reloads_more; puts = puts_more }
+pub parts_sum_to_whole : PartsAddUp
+parts_sum_to_whole = record { reloads = reloads_more; puts = puts_more }
 
 -- ---- bounds
 
-none_within : (entries reloads : ℕ) (puts : List Did) → IsWithin entries reloads puts []
+none_within : (entries reloads : ℕ) (puts : List Did) → IsPartWithin entries reloads puts []
 none_within entries reloads puts = record {
   few = omega arith;
   brings_few = omega arith;

@@ -11,7 +11,7 @@ use Rattle.std.proofs.lemmas.List.Folds.{list_any_at}
 use Rattle.std.proofs.lemmas.List.Sums.{sum_by-cons}
 use Rattle.std.proofs.lemmas.Option.{none-some, same_Some, slice_get_within}
 use Rattle.kr_config.specs.declared.class.Class.{Class}
-use Rattle.kr_config.specs.Kept.{Row}
+use Rattle.kr_config.specs.Kept.{ConfigEntry}
 use Rattle.kr_config.specs.Lists.{list_of, class_list}
 use Rattle.kr_provider.specs.Publication.{Publication, IsPublished}
 use Rattle.kr_judge.specs.declared.need.Need.{Need}
@@ -260,14 +260,14 @@ judged_at current held k (g ∷ gs) t (suc i, l, e) =
 -- ---- what is live with a new configuration
 
 -- the settings of a generation that is live beside it
-pub record AreOther (st : State) (replica : ℕ) (rows : List Row) : Type 0 where
+pub record AreOther (st : State) (replica : ℕ) (rows : List ConfigEntry) : Type 0 where
   pub number : ℕ
   pub generation : Generation
   pub there : slice_get st.generations number ≡ Some generation
   pub live : IsBeside st replica number
   pub rows_are : generation.published.rows ≡ rows
 
-pub rows_of_number : (generations : List Generation) (n : ℕ) (rows : List Row)
+pub rows_of_number : (generations : List Generation) (n : ℕ) (rows : List ConfigEntry)
     → option_map (λ (p : Publication). p.rows) (published_at generations (Some n)) ≡ Some rows
     → (g : Generation) × (slice_get generations n ≡ Some g) × (g.published.rows ≡ rows)
 rows_of_number generations n rows e = by (slice_get generations n) refl e
@@ -290,7 +290,7 @@ module _ (o : Opening) (st : State) (sound : IsSound o st) (replica : ℕ) (p : 
   abbrev next : State
   next = with_configuration st replica p
 
-  was_live : (rows : List Row) → AreOther st replica rows → IsLive st rows
+  was_live : (rows : List ConfigEntry) → AreOther st replica rows → IsLive st rows
   was_live rows a = (
     a.number,
     elim a.live [
@@ -300,7 +300,7 @@ module _ (o : Opening) (st : State) (sound : IsSound o st) (replica : ℕ) (p : 
     number_rows st.generations a.number a.generation a.there ∙ ap Some a.rows_are,
   )
 
-  stays_live : (rows : List Row) → AreOther st replica rows → IsLive next rows
+  stays_live : (rows : List ConfigEntry) → AreOther st replica rows → IsLive next rows
   stays_live rows a = (
     a.number,
     elim a.live [
@@ -332,7 +332,7 @@ module _ (o : Opening) (st : State) (sound : IsSound o st) (replica : ℕ) (p : 
   other_within n (inr held) = sound.held n held
 
   -- its own number is that of its settings
-  own_rows : (n : ℕ) (rows : List Row) → length st.generations ≡ n
+  own_rows : (n : ℕ) (rows : List ConfigEntry) → length st.generations ≡ n
       → option_map (λ (q : Publication). q.rows) (published_at next.generations (Some n))
       ≡ Some rows → p.rows ≡ rows
   own_rows n rows same e =
@@ -343,7 +343,7 @@ module _ (o : Opening) (st : State) (sound : IsSound o st) (replica : ℕ) (p : 
       ∙ ap (slice_get next.generations) same ∙ r.1))
       ∙ r.2
 
-  other_rows : (n : ℕ) (rows : List Row) → IsBeside st replica n
+  other_rows : (n : ℕ) (rows : List ConfigEntry) → IsBeside st replica n
       → option_map (λ (q : Publication). q.rows) (published_at next.generations (Some n))
       ≡ Some rows → AreOther st replica rows
   other_rows n rows live e =
@@ -357,7 +357,7 @@ module _ (o : Opening) (st : State) (sound : IsSound o st) (replica : ℕ) (p : 
         rows_are = r.2;
       }
 
-  new_live : (rows : List Row) → IsLive next rows → AreOther st replica rows ⊎ (p.rows ≡ rows)
+  new_live : (rows : List ConfigEntry) → IsLive next rows → AreOther st replica rows ⊎ (p.rows ≡ rows)
   new_live rows (n, inr held, e) = inl (other_rows n rows (inr held) e)
   new_live rows (n, inl at, e) =
       elim (set_there st.current replica (Some (length st.generations)) (Some n) at) [
@@ -368,7 +368,7 @@ module _ (o : Opening) (st : State) (sound : IsSound o st) (replica : ℕ) (p : 
 
   -- ---- where the verdict passes it fits
 
-  pub other_state : (rows : List Row) (a : AreOther st replica rows)
+  pub other_state : (rows : List ConfigEntry) (a : AreOther st replica rows)
       → (t : GenerationState) × Contains (board_generations st) t
       × (is_other replica t ≡ true) × (t.rows ≡ rows)
   other_state rows a =
@@ -391,27 +391,27 @@ module _ (o : Opening) (st : State) (sound : IsSound o st) (replica : ℕ) (p : 
         r : AreReadable st.needs (board_generations st) replica p.rows
         r = passed st.needs (board_generations st) replica p.rows pass
 
-        by : (a b : List Row) (class : Class) → AreOther st replica a ⊎ (p.rows ≡ a)
+        by : (a b : List ConfigEntry) (class : Class) → AreOther st replica a ⊎ (p.rows ≡ a)
             → AreOther st replica b ⊎ (p.rows ≡ b)
             → ReadsWriter (class_list b class) (class_list a class)
         by a b class (inl oa) (inl ob) =
             sound.fit.writers a b class (was_live a oa) (was_live b ob)
         by a b class (inl oa) (inr eb) =
             let t = other_state a oa in
-            subst (λ (x : List Row). ReadsWriter (class_list x class) (class_list a class)) eb
-            (subst (λ (x : List Row). ReadsWriter (class_list p.rows class) (class_list x class))
+            subst (λ (x : List ConfigEntry). ReadsWriter (class_list x class) (class_list a class)) eb
+            (subst (λ (x : List ConfigEntry). ReadsWriter (class_list p.rows class) (class_list x class))
             t.3 (r.is_read t.0 t.1 t.2 class))
         by a b class (inr ea) (inl ob) =
             let t = other_state b ob in
-            subst (λ (x : List Row). ReadsWriter (class_list b class) (class_list x class)) ea
-            (subst (λ (x : List Row). ReadsWriter (class_list x class) (class_list p.rows class))
+            subst (λ (x : List ConfigEntry). ReadsWriter (class_list b class) (class_list x class)) ea
+            (subst (λ (x : List ConfigEntry). ReadsWriter (class_list x class) (class_list p.rows class))
             t.3 (r.reads t.0 t.1 t.2 class))
         by a b class (inr ea) (inr eb) =
-            subst (λ (x : List Row). ReadsWriter (class_list b class) (class_list x class)) ea
-            (subst (λ (x : List Row). ReadsWriter (class_list x class) (class_list p.rows class))
+            subst (λ (x : List ConfigEntry). ReadsWriter (class_list b class) (class_list x class)) ea
+            (subst (λ (x : List ConfigEntry). ReadsWriter (class_list x class) (class_list p.rows class))
             eb (reads_own (class_list p.rows class)))
 
-        kept : (a : List Row) (need : Need) → Contains st.needs need
+        kept : (a : List ConfigEntry) (need : Need) → Contains st.needs need
             → AreOther st replica a ⊎ (p.rows ≡ a)
             → Contains (list_of a need.resource) need.who
         kept a need there (inl oa) = sound.fit.stored a need (was_live a oa) there
@@ -471,11 +471,11 @@ other_at o st sound replica other there =
     }
 
 -- it is enough that the others fit with the new settings
-pub others_pass : (o : Opening) (st : State) → IsSound o st → (replica : ℕ) (rows : List Row)
+pub others_pass : (o : Opening) (st : State) → IsSound o st → (replica : ℕ) (rows : List ConfigEntry)
     → ((need : Need) → Contains st.needs need → Contains (list_of rows need.resource) need.who)
-    → ((other : List Row) → AreOther st replica other → (class : Class)
+    → ((other : List ConfigEntry) → AreOther st replica other → (class : Class)
     → ReadsWriter (class_list other class) (class_list rows class))
-    → ((other : List Row) → AreOther st replica other → (class : Class)
+    → ((other : List ConfigEntry) → AreOther st replica other → (class : Class)
     → ReadsWriter (class_list rows class) (class_list other class))
     → verdict_on st replica rows ≡ Pass
 others_pass o st sound replica rows stored writers readers =
@@ -498,7 +498,7 @@ next_passes o st sound replica p l f =
     (λ other a class. f.writers other p.rows class (stays_live o st sound replica p other a) own)
 
 -- settings of which some live generation is are no news
-pub same_passes : (o : Opening) (st : State) → IsSound o st → (replica : ℕ) (rows : List Row)
+pub same_passes : (o : Opening) (st : State) → IsSound o st → (replica : ℕ) (rows : List ConfigEntry)
     → IsLive st rows → verdict_on st replica rows ≡ Pass
 same_passes o st sound replica rows own =
     others_pass o st sound replica rows

@@ -10,7 +10,7 @@ use Rattle.kr_store.specs.declared.rows.LogRow.{LogRow}
 use Rattle.kr_store.specs.declared.rows.Row as stored_row
 use Rattle.kr_store.specs.Rows.{live, row_of}
 use Rattle.kr_config.specs.declared.who.Who.{Who}
-use Rattle.kr_config.specs.Kept.{Row}
+use Rattle.kr_config.specs.Kept.{ConfigEntry}
 use Rattle.kr_config.specs.Lists.{list_of}
 use Rattle.kr_config.specs.Providers.{is_kms}
 use Rattle.kr_kms.specs.declared.seeds.SeedRow.{SeedRow}
@@ -247,7 +247,7 @@ first_without [] f n = absurd f
 first_without (None ∷ rs) f n = refl
 first_without (Some p ∷ rs) f n = n 0 (record { replica = 0; published = p }) refl
 
-opening_by_any : (opens others : Opens) (first : List Row) (path : List ℕ)
+opening_by_any : (opens others : Opens) (first : List ConfigEntry) (path : List ℕ)
     (row : Option stored_row.Row) (content : Option Reading) → names_plugin first ≡ false
     → OpeningContent opens first path row content → OpeningContent others first path row content
 opening_by_any opens others first path None content none c = c

@@ -4,7 +4,7 @@ use Rattle.kr_store.specs.declared.rows.Row as stored_row
 use Rattle.kr_store.specs.declared.rows.LogRow.{LogRow}
 use Rattle.kr_store.specs.Rows.{live}
 use Rattle.kr_store.specs.Stores.{IsNext}
-use Rattle.kr_config.specs.Kept.{Row}
+use Rattle.kr_config.specs.Kept.{ConfigEntry}
 use Rattle.kr_config.specs.Lists.{list_of}
 use Rattle.kr_kms.specs.Truth.{Opens}
 use Rattle.kr_provider.specs.Publication.{Publication, names_plugin}
@@ -48,7 +48,7 @@ LiveWasPut = (o : Opening) (history : List Entry) (path : List ℕ) (row : store
 -- where what stands at a path is honest, its live row reads by each live generation as the content
 abbrev pub LiveReads : Type 0
 LiveReads = (opens : Opens) (o : Opening) (history : List Entry) (path : List ℕ)
-    (row : stored_row.Row) (rows : List Row) (reading : Reading)
+    (row : stored_row.Row) (rows : List ConfigEntry) (reading : Reading)
     → IsLegal o history → IsHonestAt opens path history
     → live (state_of o history).rows path ≡ Some row → IsLive (state_of o history) rows
     → HasReading opens (list_of rows row.resource) path row.stored reading
@@ -71,7 +71,7 @@ FoundIsLive = (o : Opening) (history : List Entry) (e : Entry) (revision : ℕ)
 -- content of its path before the entry
 abbrev pub FoundReads : Type 0
 FoundReads = (opens : Opens) (o : Opening) (history : List Entry) (e : Entry) (revision : ℕ)
-    (row : stored_row.Row) (rows : List Row) (reading : Reading)
+    (row : stored_row.Row) (rows : List ConfigEntry) (reading : Reading)
     → IsLegal o (history ++ e ∷ []) → IsHonestAt opens row.path history
     → e.line.gave ≡ Found revision → e.row ≡ Some row → IsLive (state_of o history) rows
     → HasReading opens (list_of rows row.resource) row.path row.stored reading

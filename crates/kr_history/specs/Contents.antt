@@ -3,7 +3,7 @@ use Rattle.std.specs.Prelude.{◌≡◌, ℕ, List, [], ◌∷◌, if◌then◌e
 use Rattle.std.specs.Str.{bytes_eq}
 use Rattle.kr_store.specs.declared.rows.Row as stored_row
 use Rattle.kr_store.specs.Rows.{later, live}
-use Rattle.kr_config.specs.Kept.{Row}
+use Rattle.kr_config.specs.Kept.{ConfigEntry}
 use Rattle.kr_config.specs.Lists.{list_of}
 use Rattle.kr_kms.specs.Truth.{Opens}
 use Rattle.kr_provider.specs.Reading.{Reading, data_of, HasReading}
@@ -39,7 +39,7 @@ last_change (e ∷ history) path =
 
 -- how the opening's live row of a path reads by the first replica's settings; nothing where there
 -- is none
-abbrev pub OpeningContent : Opens → (first : List Row) → (path : List ℕ)
+abbrev pub OpeningContent : Opens → (first : List ConfigEntry) → (path : List ℕ)
     → Option stored_row.Row → Option Reading → Type 0
 OpeningContent opens first path None content = content ≡ None
 OpeningContent opens first path (Some row) content = (reading : Reading)

@@ -8,7 +8,7 @@ use Rattle.kr_config.specs.Lists.{list_of}
 use Rattle.kr_provider.specs.Readers.{is_reader, reader_in}
 use Rattle.kr_judge.specs.declared.need.Need.{Need}
 use Rattle.kr_judge.specs.Boards.{need_at}
-use Rattle.kr_config.specs.Kept.{Row}
+use Rattle.kr_config.specs.Kept.{ConfigEntry}
 use Rattle.kr_provider.specs.Publication.{Publication, IsPublished}
 use Rattle.kr_judge.specs.declared.verdict.Verdict.{Verdict}
 use Rattle.kr_judge.specs.declared.verdict.Verdict.TheVariants.{Pass}
@@ -28,7 +28,7 @@ use Rattle.kr_rollout.specs.Fits.{IsFit}
 use Rattle.kr_rollout.specs.Histories.{state_of, IsLegal}
 use Rattle.kr_rollout.specs.Callers.{holding}
 use Rattle.kr_opening.specs.Starts.{AllFit, MayStart, IsNoStart}
-use Rattle.kr_rollout.specs.Judgements.{with_configuration, IsJudged, judged_state, IsDone, AnswersFit}
+use Rattle.kr_rollout.specs.Judgements.{with_configuration, MayBeJudged, judged_state, IsDone, AnswersFit}
 
 -- in a legal history the state fits
 abbrev pub LegalFits : Type 0
@@ -58,7 +58,7 @@ NeedsAreLive = (o : Opening) (history : List Entry) (path : List ℕ) → IsLega
 -- so each live generation reads each live row by the provider that it needs
 abbrev pub LiveIsReadable : Type 0
 LiveIsReadable = (o : Opening) (history : List Entry) (path : List ℕ) (row : stored_row.Row)
-    (rows : List Row) → IsLegal o history → live (state_of o history).rows path ≡ Some row
+    (rows : List ConfigEntry) → IsLegal o history → live (state_of o history).rows path ≡ Some row
     → IsLive (state_of o history) rows
     → (who : Who)
     × (need_at (state_of o history).needs path
@@ -75,7 +75,7 @@ VerdictIsExact = (o : Opening) (history : List Entry) (replica : ℕ) (p : Publi
 -- so what is judged is refused exactly where the state that it would leave doesn't fit
 abbrev pub JudgedByFit : Type 0
 JudgedByFit = (o : Opening) (history : List Entry) (e : Entry) → IsLegal o (history ++ e ∷ [])
-    → IsJudged e.line.did (state_of o history)
+    → MayBeJudged e.line.did (state_of o history)
     → AnswersFit e.line.gave (IsFit (judged_state e.line.did (state_of o history)))
 
 -- the state that was judged is the one that is left, but for the count of the tape's faults
@@ -107,10 +107,10 @@ StartsWhereItFits = (o : Opening) → MayStart o.rows (settings_of o.replicas)
 
 -- and is refused for want of memory alone where it may
 abbrev pub RefusalIsExact : Type 0
-RefusalIsExact = (rows : List LogRow) (replicas : List (Option (List Row))) (why : StartNo)
+RefusalIsExact = (rows : List LogRow) (replicas : List (Option (List ConfigEntry))) (why : StartNo)
     → IsNoStart rows replicas why → MayStart rows replicas → why ≡ NoMemory
 
 -- the cause of a refused start is one alone, want of memory aside
 abbrev pub OneCause : Type 0
-OneCause = (rows : List LogRow) (replicas : List (Option (List Row))) (a b : StartNo)
+OneCause = (rows : List LogRow) (replicas : List (Option (List ConfigEntry))) (a b : StartNo)
     → a ≢ NoMemory → b ≢ NoMemory → IsNoStart rows replicas a → IsNoStart rows replicas b → a ≡ b

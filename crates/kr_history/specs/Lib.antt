@@ -9,6 +9,7 @@ pub mod CountLaws
 pub mod ExchangeLaws
 pub mod FitLaws
 pub mod Honesty
+pub mod KeyMoments
 pub mod LackLaws
 pub mod LineLaws
 pub mod PartLaws

@@ -38,7 +38,7 @@ written_puts (e ∷ part) = written_put e.line.gave e.line.did ++ written_puts p
 
 -- a part of at most so many entries, of which at most so many bring a configuration, and which
 -- write no Put, or just these
-pub record IsWithin (entries reloads : ℕ) (puts : List Did) (part : List Entry) : Type 0 where
+pub record IsPartWithin (entries reloads : ℕ) (puts : List Did) (part : List Entry) : Type 0 where
   pub few : length part ≤ entries
   pub brings_few : reloads_in part ≤ reloads
   pub puts_are : (written_puts part ≡ []) ⊎ (written_puts part ≡ puts)
@@ -46,4 +46,4 @@ pub record IsWithin (entries reloads : ℕ) (puts : List Did) (part : List Entry
 -- what a caller adds is such a part
 abbrev pub AddsWithin : (entries reloads : ℕ) → (puts : List Did) → (old new : Caller) → Type 0
 AddsWithin entries reloads puts old new =
-    (part : List Entry) × Adds old part new × IsWithin entries reloads puts part
+    (part : List Entry) × Adds old part new × IsPartWithin entries reloads puts part

@@ -1,6 +1,6 @@
 //! What calls do that hold a generation meanwhile.
 ghost use Rattle.std.specs.Prelude.{◌≡◌, ◌<◌, ◌≤◌, [], length, None, Some, IfOk, IfErr, IsSome};
-ghost use Rattle.kr_provider.specs.BenchKeys.{ClearsKeys};
+ghost use Rattle.kr_provider.specs.BenchKeys.{ClearsKeys, adoption_of};
 ghost use Rattle.kr_provider.specs.KeyPages.{HoldKeys, adopted_secrets, size_of};
 ghost use Rattle.kr_provider.specs.Names.{HasLinks, names_of};
 ghost use Rattle.kr_rollout.specs.Callers.{holding};
@@ -18,7 +18,7 @@ use kr_rollout::{Answer, Event};
 
 /// Adopts the replica's current generation, with its configuration, which the seat then holds. The
 /// configuration is one that a bench with a link to each of the opening's plugins may take up. A
-/// call that holds it lets it go again by `let_go`, whatever it did.
+/// call that holds it lets it go again by `hand_back` or `let_go`, whatever it did.
 pub fn adopt<A: Acts>(acts: &mut A, replica: u32) -> Result<(u32, Shared<Published>), CallNo>
     requires replica { replica < length (A.caller acts.old).opening.replicas }
     requires idle { holding (A.caller acts.old).mine ≡ None }
@@ -55,7 +55,7 @@ fn adopted(answer: Answer) -> Result<(u32, Shared<Published>), CallNo>
 
 /// Gives the bench an adopted configuration, in place of the one that it had. 64 pages are enough
 /// for each, so it takes no memory and is never refused.
-pub fn take_up<L: Kms, D: Dice>(bench: &mut Bench<L, D>, published: Shared<Published>)
+pub fn adopt_configuration<L: Kms, D: Dice>(bench: &mut Bench<L, D>, published: Shared<Published>)
     requires links { HasLinks (names_of L.link bench.old.links) published.rows }
     requires pages { 64 ≤ size_of bench.old.pages }
     ensures taken { bench.new
@@ -69,13 +69,41 @@ pub fn take_up<L: Kms, D: Dice>(bench: &mut Bench<L, D>, published: Shared<Publi
     };
 }
 
-/// Takes the configuration of the bench away: each page is zero then. A call that gave it one does
-/// so before `let_go`, which may wait for others' turns.
-pub fn lay_down<L: Kms, D: Dice>(bench: &mut Bench<L, D>)
+/// Takes the configuration of the bench away, so that each page is zero, and then lets the
+/// generation go: no key stands while the LetGo waits for others' turns. It answers as `let_go`.
+pub fn hand_back<A: Acts, L: Kms, D: Dice, T: Drop>(
+    acts: &mut A,
+    bench: &mut Bench<L, D>,
+    done: Result<T, CallNo>,
+) -> Result<T, CallNo>
+    requires holds { IsSome (holding (A.caller acts.old).mine) }
     ensures kept { bench.new ≡ record bench.old { published = None; pages = bench.new.pages } }
-    ensures cleared { ClearsKeys bench.old bench.new }
+    ensures cleared { ClearsKeys (adoption_of bench.old) (adoption_of bench.new) }
+    ensures lets_go { LetsGo (A.caller acts.old) done result (A.caller acts.new) }
+    ensures adds { AddsWithin 1 0 [] (A.caller acts.old) (A.caller acts.new) }
+    ensures honest { KeepsHonesty (A.caller acts.old) (A.caller acts.new) }
+    ensures idle { IsIdle result (A.caller acts.new) }
+    ensures place { A.place acts.new ≡ A.place acts.old }
 {
     bench.let_go();
+    let_go_bare(acts, bench, done)
+}
+
+/// Lets the generation go by a call whose bench has no key in a page.
+fn let_go_bare<A: Acts, L: Kms, D: Dice, T: Drop>(
+    acts: &mut A,
+    bench: &Bench<L, D>,
+    done: Result<T, CallNo>,
+) -> Result<T, CallNo>
+    requires holds { IsSome (holding (A.caller acts.old).mine) }
+    requires bare { HoldKeys [] bench.now.pages }
+    ensures lets_go { LetsGo (A.caller acts.old) done result (A.caller acts.new) }
+    ensures adds { AddsWithin 1 0 [] (A.caller acts.old) (A.caller acts.new) }
+    ensures honest { KeepsHonesty (A.caller acts.old) (A.caller acts.new) }
+    ensures idle { IsIdle result (A.caller acts.new) }
+    ensures place { A.place acts.new ≡ A.place acts.old }
+{
+    let_go(acts, done)
 }
 
 /// Lets the generation go that the seat holds, whatever was done meanwhile, and answers what was

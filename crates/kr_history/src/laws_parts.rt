@@ -7,7 +7,7 @@ pub fn parts_follow()
 {}
 
 /// The configurations and the written Puts of two parts are those of the whole.
-pub fn parts_add_up()
+pub fn parts_sum_to_whole()
     ensures { PartsAddUp }
 {}
 

@@ -11,6 +11,7 @@ mod laws_content;
 mod laws_count;
 mod laws_exchange;
 mod laws_fit;
+mod laws_keys;
 mod laws_lack;
 mod laws_line;
 mod laws_parts;
@@ -20,7 +21,7 @@ mod solo;
 
 pub use acts::Acts;
 pub use call::CallNo;
-pub use holding::{adopt, lay_down, let_go, take_up};
+pub use holding::{adopt, adopt_configuration, hand_back, let_go};
 pub use laws_caller::{found_follows, holding_follows};
 pub use laws_calls::{
     budget_follows, caller_follows, found_is_known, held_is_known, honesty_follows,
@@ -39,9 +40,10 @@ pub use laws_fit::{
     needs_are_live, one_cause, opening_fits, refresh_is_not_refused, refusal_is_exact,
     starts_where_it_fits, verdict_is_exact,
 };
+pub use laws_keys::keys_at_each_moment;
 pub use laws_lack::{refused_exactly, verdict_refuses_exactly};
 pub use laws_line::{faults_are_told, line_changes_content, line_changes_live};
-pub use laws_parts::{bounds_follow, parts_add_up, parts_follow};
+pub use laws_parts::{bounds_follow, parts_follow, parts_sum_to_whole};
 pub use laws_size::full_is_exact;
 pub use sealing::{seal, seal_in_place, unseal};
 pub use solo::Solo;

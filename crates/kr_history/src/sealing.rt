@@ -11,6 +11,7 @@ ghost use Rattle.kr_provider.specs.Unsealing.{UnsealsBy};
 
 use kr_base::{Bytes, Dice, Text};
 use kr_kms::Kms;
+use kr_paths::Path;
 use kr_provider::{Bench, Opened, SealNo, UnsealNo};
 use kr_store::Row;
 use std::alloc::Global;
@@ -68,7 +69,7 @@ pub fn seal_in_place<L: Kms, D: Dice>(
     alloc: Global,
     bench: &mut Bench<L, D>,
     resource: &Text,
-    path: &Text,
+    path: &Path,
     plain: Bytes,
 ) -> Result<Bytes, SealNo>
     requires adopted { IsSome bench.old.published }

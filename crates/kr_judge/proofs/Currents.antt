@@ -5,11 +5,11 @@ use Rattle.std.specs.List.{filter}
 use Rattle.std.proofs.lemmas.Bool.Decides.{Decides-eqb}
 use Rattle.std.proofs.lemmas.List.{length-append}
 use Rattle.std.proofs.lemmas.List.Elements.{filter-append}
-use Rattle.kr_config.specs.Kept.{Row}
-use Rattle.kr_judge.specs.Boards.{GenerationState, left_by, without_current, is_current_of, held_more, held_less, changed_at, HasOneCurrent}
+use Rattle.kr_config.specs.Kept.{ConfigEntry}
+use Rattle.kr_judge.specs.Boards.{GenerationState, left_by, without_current, is_replica_current, held_more, held_less, changed_at, HasOneCurrent}
 
 abbrev currents : ℕ → List GenerationState → ℕ
-currents replica generations = length (filter (is_current_of replica) generations)
+currents replica generations = length (filter (is_replica_current replica) generations)
 
 pub one_nil : HasOneCurrent []
 unfolding HasOneCurrent
@@ -20,20 +20,20 @@ fewer replica gone [] = omega arith
 fewer replica gone (g ∷ gs) = by g.current (g.replica == gone) (g.replica == replica) (fewer replica gone gs)
   where
     by : (current left own : Bool) → currents replica (without_current gone gs) ≤ currents replica gs
-        → length (cond ((current && not left) && own) (left_by gone g ∷ filter (is_current_of replica) (without_current gone gs)) (filter (is_current_of replica) (without_current gone gs)))
-        ≤ length (cond (current && own) (g ∷ filter (is_current_of replica) gs) (filter (is_current_of replica) gs))
+        → length (cond ((current && not left) && own) (left_by gone g ∷ filter (is_replica_current replica) (without_current gone gs)) (filter (is_replica_current replica) (without_current gone gs)))
+        ≤ length (cond (current && own) (g ∷ filter (is_replica_current replica) gs) (filter (is_replica_current replica) gs))
     by true true true h = omega (arith, h)
     by true true false h = h
     by true false true h = omega (arith, h)
     by true false false h = h
     by false left own h = h
 
-none : (gone : ℕ) (generations : List GenerationState) → filter (is_current_of gone) (without_current gone generations) ≡ []
+none : (gone : ℕ) (generations : List GenerationState) → filter (is_replica_current gone) (without_current gone generations) ≡ []
 none gone [] = refl
 none gone (g ∷ gs) = by g.current (g.replica == gone) (none gone gs)
   where
-    by : (current left : Bool) → filter (is_current_of gone) (without_current gone gs) ≡ []
-        → cond ((current && not left) && left) (left_by gone g ∷ filter (is_current_of gone) (without_current gone gs)) (filter (is_current_of gone) (without_current gone gs)) ≡ []
+    by : (current left : Bool) → filter (is_replica_current gone) (without_current gone gs) ≡ []
+        → cond ((current && not left) && left) (left_by gone g ∷ filter (is_replica_current gone) (without_current gone gs)) (filter (is_replica_current gone) (without_current gone gs)) ≡ []
     by true true h = h
     by true false h = h
     by false left h = h
@@ -42,27 +42,27 @@ pub one_left : (gone : ℕ) (generations : List GenerationState) → HasOneCurre
 unfolding HasOneCurrent
 one_left gone generations one replica = omega (arith, fewer replica gone generations, one replica)
 
-with_new : (replica : ℕ) (generations : List GenerationState) (new : GenerationState) (other : ℕ) (v : Bool) → is_current_of other new ≡ v
+with_new : (replica : ℕ) (generations : List GenerationState) (new : GenerationState) (other : ℕ) (v : Bool) → is_replica_current other new ≡ v
     → currents other (without_current replica generations ++ new ∷ []) ≡ currents other (without_current replica generations) + length (cond v (new ∷ []) [])
-with_new replica generations new other v e = ap length (filter-append (is_current_of other) (without_current replica generations) (new ∷ []))
-    ∙ length-append (filter (is_current_of other) (without_current replica generations)) (filter (is_current_of other) (new ∷ []))
+with_new replica generations new other v e = ap length (filter-append (is_replica_current other) (without_current replica generations) (new ∷ []))
+    ∙ length-append (filter (is_replica_current other) (without_current replica generations)) (filter (is_replica_current other) (new ∷ []))
     ∙ ap (λ t. currents other (without_current replica generations) + length (cond t (new ∷ []) [])) e
 
 still_one : (replica : ℕ) (generations : List GenerationState) (new : GenerationState) → new.current ≡ true → new.replica ≡ replica → currents replica generations ≤ 1 → (other : ℕ) → currents other generations ≤ 1
     → currents other (without_current replica generations ++ new ∷ []) ≤ 1
 still_one replica generations new current own one other less = by (new.replica == other) refl
   where
-    is : is_current_of other new ≡ (new.replica == other)
+    is : is_replica_current other new ≡ (new.replica == other)
     is = ap (λ v. v && (new.replica == other)) current
 
     by : (v : Bool) → (new.replica == other) ≡ v → currents other (without_current replica generations ++ new ∷ []) ≤ 1
     by true e =
         let same : replica ≡ other = sym own ∙ (Decides-eqb new.replica other).0 e in
-        let gone : filter (is_current_of other) (without_current replica generations) ≡ [] = subst (λ r. filter (is_current_of other) (without_current r generations) ≡ []) (sym same) (none other generations) in
+        let gone : filter (is_replica_current other) (without_current replica generations) ≡ [] = subst (λ r. filter (is_replica_current other) (without_current r generations) ≡ []) (sym same) (none other generations) in
         omega (arith, with_new replica generations new other true (is ∙ e), ap length gone)
     by false e = omega (arith, with_new replica generations new other false (is ∙ e), fewer other replica generations, less)
 
-pub one_added : (replica : ℕ) (generations all : List GenerationState) (rows : List Row) → HasOneCurrent generations
+pub one_added : (replica : ℕ) (generations all : List GenerationState) (rows : List ConfigEntry) → HasOneCurrent generations
     → all ≡ without_current replica generations ++ record { replica = replica; rows = rows; current = true; holders = 0 } ∷ [] → HasOneCurrent all
 unfolding HasOneCurrent
 one_added replica generations all rows one is = subst HasOneCurrent (sym is)
@@ -74,11 +74,11 @@ same_end true false x y xs ys e h = cc
 same_end false true x y xs ys e h = cc
 same_end false false x y xs ys e h = h
 
-changed : (change : GenerationState → GenerationState) (replica : ℕ) → ((g : GenerationState) → is_current_of replica (change g) ≡ is_current_of replica g) → (number : ℕ) (generations : List GenerationState)
+changed : (change : GenerationState → GenerationState) (replica : ℕ) → ((g : GenerationState) → is_replica_current replica (change g) ≡ is_replica_current replica g) → (number : ℕ) (generations : List GenerationState)
     → currents replica (changed_at change number generations) ≡ currents replica generations
 changed change replica same number [] = refl
-changed change replica same zero (g ∷ gs) = same_end (is_current_of replica (change g)) (is_current_of replica g) (change g) g (filter (is_current_of replica) gs) (filter (is_current_of replica) gs) (same g) refl
-changed change replica same (suc number) (g ∷ gs) = same_end (is_current_of replica g) (is_current_of replica g) g g (filter (is_current_of replica) (changed_at change number gs)) (filter (is_current_of replica) gs) refl (changed change replica same number gs)
+changed change replica same zero (g ∷ gs) = same_end (is_replica_current replica (change g)) (is_replica_current replica g) (change g) g (filter (is_replica_current replica) gs) (filter (is_replica_current replica) gs) (same g) refl
+changed change replica same (suc number) (g ∷ gs) = same_end (is_replica_current replica g) (is_replica_current replica g) g g (filter (is_replica_current replica) (changed_at change number gs)) (filter (is_replica_current replica) gs) refl (changed change replica same number gs)
 
 pub one_held : (number : ℕ) (generations : List GenerationState) → HasOneCurrent generations → HasOneCurrent (changed_at held_more number generations)
 unfolding HasOneCurrent

@@ -10,7 +10,7 @@ use Rattle.std.proofs.lemmas.Bool.Decides.{Decides-eqb}
 use Rattle.std.proofs.lemmas.Cmp.{nat_list_cmp_total}
 use Rattle.kr_config.specs.declared.who.Who.{Who}
 use Rattle.kr_config.specs.declared.who.Who.TheVariants.{Identity}
-use Rattle.kr_config.specs.Kept.{Row}
+use Rattle.kr_config.specs.Kept.{ConfigEntry}
 use Rattle.kr_config.specs.Lists.{list_of}
 use Rattle.kr_config.specs.Nexts.{name_cmp, earlier}
 use Rattle.kr_judge.specs.declared.pair.Pair.{Pair}
@@ -63,10 +63,10 @@ first_either t u (e ∷ es) s = by (t e) (u e) (first_either t u es s.1)
 abbrev label : List (List ℕ × Who) → ℕ → List ℕ × Who
 label labels i = get_or labels i ([], Identity)
 
-abbrev lost_label : List Row → List ℕ × Who → Bool
+abbrev lost_label : List ConfigEntry → List ℕ × Who → Bool
 lost_label rows own = not (has (list_of rows own.0) own.1)
 
-abbrev lost : List Row → List (List ℕ × Who) → List ℕ × ℕ → Bool
+abbrev lost : List ConfigEntry → List (List ℕ × Who) → List ℕ × ℕ → Bool
 lost rows labels e = lost_label rows (label labels e.1)
 
 abbrev named : List (List ℕ × Who) → List ℕ × ℕ → List ℕ × Who
@@ -85,7 +85,7 @@ shown_earlier labels (Some x) (Some y) = by (is_lt (name_cmp y.0 x.0))
     by false = refl
 
 -- the first of one pair
-at_pair : (rows : List Row) (labels : List (List ℕ × Who)) (k : ℕ) (es : Entries) → shown labels (first (filter (λ e. (e.1 == k) && lost rows labels e) es))
+at_pair : (rows : List ConfigEntry) (labels : List (List ℕ × Who)) (k : ℕ) (es : Entries) → shown labels (first (filter (λ e. (e.1 == k) && lost rows labels e) es))
     ≡ (if lost_label rows (label labels k) then option_map (at_path (label labels k).1) (first (paths_of k es)) else None)
 at_pair rows labels k [] = by (lost_label rows (label labels k))
   where
@@ -124,10 +124,10 @@ parted true true false = refl
 parted true false false = refl
 parted false v w = refl
 
-abbrev among : List Row → List (List ℕ × Who) → ℕ → List ℕ × ℕ → Bool
+abbrev among : List ConfigEntry → List (List ℕ × Who) → ℕ → List ℕ × ℕ → Bool
 among rows labels k e = nat_lt e.1 k && lost rows labels e
 
-one_more : (rows : List Row) (labels : List (List ℕ × Who)) (k : ℕ) (es : Entries) → AreSorted es
+one_more : (rows : List ConfigEntry) (labels : List (List ℕ × Who)) (k : ℕ) (es : Entries) → AreSorted es
     → first (filter (among rows labels (k + 1)) es) ≡ earlier by_entry (first (filter (among rows labels k) es)) (first (filter (λ e. (e.1 == k) && lost rows labels e) es))
 one_more rows labels k es s =
     ap (first {X = List ℕ × ℕ}) (same_tests (among rows labels (k + 1)) (λ e. among rows labels k e || ((e.1 == k) && lost rows labels e)) es
@@ -139,7 +139,7 @@ turned true x y = refl
 turned false x y = refl
 
 -- what the pair at a place loses
-pair_lost : (rows : List Row) (labels : List (List ℕ × Who)) (k : ℕ) (es : Entries) (pair : Pair) → (pair.resource, pair.who) ≡ label labels k → pair.paths ≡ paths_of k es
+pair_lost : (rows : List ConfigEntry) (labels : List (List ℕ × Who)) (k : ℕ) (es : Entries) (pair : Pair) → (pair.resource, pair.who) ≡ label labels k → pair.paths ≡ paths_of k es
     → lost_path rows pair ≡ shown labels (first (filter (λ e. (e.1 == k) && lost rows labels e) es))
 pair_lost rows labels k es pair own paths =
     sym (turned (has (list_of rows pair.resource) pair.who) (option_map (at_path pair.who) (first pair.paths)) None)
@@ -147,7 +147,7 @@ pair_lost rows labels k es pair own paths =
     ∙ ap (λ ps. if lost_label rows (label labels k) then option_map (at_path (label labels k).1) (first ps) else None) paths
     ∙ sym (at_pair rows labels k es)
 
-go : (rows : List Row) (labels : List (List ℕ × Who)) (es : Entries) → AreSorted es → (k n : ℕ) (rest : List Pair) (best : Option (List ℕ × Who)) → n ≡ k + length rest
+go : (rows : List ConfigEntry) (labels : List (List ℕ × Who)) (es : Entries) → AreSorted es → (k n : ℕ) (rest : List Pair) (best : Option (List ℕ × Who)) → n ≡ k + length rest
     → ((i : ℕ) → i < length rest → get_or (kept_paths rest) i [] ≡ paths_of (k + i) es) → ((i : ℕ) → i < length rest → label (labels_of rest) i ≡ label labels (k + i))
     → best ≡ shown labels (first (filter (among rows labels k) es)) → earliest rows best rest ≡ shown labels (first (filter (among rows labels n) es))
 go rows labels es s k n [] best e paths own is = is ∙ ap (λ m. shown labels (first (filter (among rows labels m) es))) (omega (arith, e))
@@ -159,17 +159,17 @@ go rows labels es s k n (p ∷ ps) best e paths own is = go rows labels es s (k 
     ∙ sym (shown_earlier labels (first (filter (among rows labels k) es)) (first (filter (λ x. (x.1 == k) && lost rows labels x) es)))
     ∙ ap (shown labels) (sym (one_more rows labels k es s)))
 
-nothing_below : (rows : List Row) (labels : List (List ℕ × Who)) (es : Entries) → filter (among rows labels 0) es ≡ []
+nothing_below : (rows : List ConfigEntry) (labels : List (List ℕ × Who)) (es : Entries) → filter (among rows labels 0) es ≡ []
 nothing_below rows labels [] = refl
 nothing_below rows labels (e ∷ es) = ap (λ v. cond (v && lost rows labels e) (e ∷ filter (among rows labels 0) es) (filter (among rows labels 0) es)) (none_below e.1) ∙ nothing_below rows labels es
   where
     none_below : (n : ℕ) → nat_lt n 0 ≡ false
     none_below n = grind arith
 
-all_lost : (rows : List Row) (labels : List (List ℕ × Who)) (es : Entries) (n : ℕ) → ((e : List ℕ × ℕ) → Contains es e → e.1 < n) → filter (among rows labels n) es ≡ filter (lost rows labels) es
+all_lost : (rows : List ConfigEntry) (labels : List (List ℕ × Who)) (es : Entries) (n : ℕ) → ((e : List ℕ × ℕ) → Contains es e → e.1 < n) → filter (among rows labels n) es ≡ filter (lost rows labels) es
 all_lost rows labels es n h = same_tests (among rows labels n) (lost rows labels) es (λ e m. ap (λ v. v && lost rows labels e) (lt-ltb e.1 n (h e m)))
 
-lost_needs : (rows : List Row) (labels : List (List ℕ × Who)) (es : Entries) → dropped_needs rows (needs_of labels es) ≡ needs_of labels (filter (lost rows labels) es)
+lost_needs : (rows : List ConfigEntry) (labels : List (List ℕ × Who)) (es : Entries) → dropped_needs rows (needs_of labels es) ≡ needs_of labels (filter (lost rows labels) es)
 lost_needs rows labels [] = refl
 lost_needs rows labels (e ∷ es) = by (lost rows labels e) (lost_needs rows labels es)
   where
@@ -182,7 +182,7 @@ first_shown : (labels : List (List ℕ × Who)) (es : Entries) → shown labels 
 first_shown labels [] = refl
 first_shown labels (e ∷ es) = refl
 
-pub earliest_first : (rows : List Row) (es : Entries) (pairs : List Pair) → IsIndexed es pairs None
+pub earliest_first : (rows : List ConfigEntry) (es : Entries) (pairs : List Pair) → IsIndexed es pairs None
     → earliest rows None pairs ≡ option_map stored_by (first (dropped_needs rows (needs_of (labels_of pairs) es)))
 earliest_first rows es pairs ix =
     let labels : List (List ℕ × Who) = labels_of pairs in
@@ -193,17 +193,17 @@ earliest_first rows es pairs ix =
     ∙ ap (λ l. option_map stored_by (first l)) (sym (lost_needs rows labels es))
 
 -- the loop over the pairs
-pub record AreEarliest (rows : List Row) (pairs : List Pair) (j : ℕ) (best : Option (List ℕ × Who)) : Type 0 where
+pub record AreEarliest (rows : List ConfigEntry) (pairs : List Pair) (j : ℕ) (best : Option (List ℕ × Who)) : Type 0 where
   pub same : earliest rows best (drop j pairs) ≡ earliest rows None pairs
 
-pub earliest_begin : (rows : List Row) (pairs : List Pair) → AreEarliest rows pairs 0 None
+pub earliest_begin : (rows : List ConfigEntry) (pairs : List Pair) → AreEarliest rows pairs 0 None
 earliest_begin rows pairs = record { same = refl }
 
-pub earliest_more : (rows : List Row) (pairs : List Pair) (j : ℕ) (pair : Pair) (best next : Option (List ℕ × Who)) → AreEarliest rows pairs j best → j < length pairs → pair ≡ get_or pairs j pair
+pub earliest_more : (rows : List ConfigEntry) (pairs : List Pair) (j : ℕ) (pair : Pair) (best next : Option (List ℕ × Who)) → AreEarliest rows pairs j best → j < length pairs → pair ≡ get_or pairs j pair
     → next ≡ earlier path_cmp best (lost_path rows pair) → AreEarliest rows pairs (j + 1) next
 earliest_more rows pairs j pair best next before h is e = record {
   same = ap (λ b. earliest rows b (drop (j + 1) pairs)) e ∙ ap (earliest rows best) (sym (drop_at pairs j pair h is)) ∙ before.same;
 }
 
-pub earliest_end : (rows : List Row) (pairs : List Pair) (j : ℕ) (best : Option (List ℕ × Who)) → AreEarliest rows pairs j best → length pairs ≤ j → best ≡ earliest rows None pairs
+pub earliest_end : (rows : List ConfigEntry) (pairs : List Pair) (j : ℕ) (best : Option (List ℕ × Who)) → AreEarliest rows pairs j best → length pairs ≤ j → best ≡ earliest rows None pairs
 earliest_end rows pairs j best before h = ap (earliest rows best) (sym (drop_end pairs j h)) ∙ before.same

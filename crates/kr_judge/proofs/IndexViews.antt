@@ -15,7 +15,7 @@ use Rattle.kr_judge.specs.declared.proposal.Proposal.{Proposal}
 use Rattle.kr_judge.specs.Boards.{drop_need, settle_need}
 use Rattle.kr_judge.specs.inner.Indexes.{NeedsState, AreApart, AreSoManyApart, GrowsWith, need_of, needs_of, paths_of, labels_of, without_proposed, IsIndexed, AreAsBefore, AreSorted, needs_view}
 use Rattle.std.specs.Option.{option_map}
-use Rattle.kr_config.specs.Kept.{Row}
+use Rattle.kr_config.specs.Kept.{ConfigEntry}
 use Rattle.kr_judge.specs.Verdicts.{dropped_needs, first}
 use Rattle.kr_judge.specs.inner.Earliest.{stored_by, earliest}
 use Rattle.kr_judge.specs.inner.Places.{label_at, paths_at, AreNeeded, GrowsFor}
@@ -155,7 +155,7 @@ grown es old mid new p s e n ix apart labels grows = by p (no_proposal es old p 
     ]
     by (Some q) h f i = cc
 
-pub dropped_first : (rows : List Row) (es : Entries) (pairs : List Pair) (p : Option Proposal) (s : NeedsState) → needs_view es pairs p ≡ s → s.proposal ≡ None → IsIndexed es pairs p
+pub dropped_first : (rows : List ConfigEntry) (es : Entries) (pairs : List Pair) (p : Option Proposal) (s : NeedsState) → needs_view es pairs p ≡ s → s.proposal ≡ None → IsIndexed es pairs p
     → earliest rows None pairs ≡ option_map stored_by (first (dropped_needs rows s.needs))
 dropped_first rows es pairs p s e n ix = by p (no_proposal es pairs p s e n) e ix
   where

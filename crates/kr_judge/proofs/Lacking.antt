@@ -9,7 +9,7 @@ use Rattle.std.proofs.lemmas.List.Elements.{Contains-append_cases, Contains-appe
 use Rattle.std.proofs.lemmas.Option.{none-some, same_Some}
 use Rattle.kr_config.specs.declared.class.Class.{Class}
 use Rattle.kr_config.specs.declared.who.Who.{Who}
-use Rattle.kr_config.specs.Kept.{Row}
+use Rattle.kr_config.specs.Kept.{ConfigEntry}
 use Rattle.kr_config.specs.Lists.{list_of, class_list}
 use Rattle.kr_config.proofs.Narrowing.{each_class_narrows}
 use Rattle.kr_judge.specs.declared.need.Need.{Need}
@@ -177,7 +177,7 @@ module _ (replica : ℕ) (generations : List GenerationState) where
       )
 
   -- and what is live beside them is of the others
-  pub lives_other : (rows : List Row) → IsLiveBeside replica generations rows
+  pub lives_other : (rows : List ConfigEntry) → IsLiveBeside replica generations rows
       → (other : ℕ × GenerationState) × Contains (others replica generations) other
       × (other.1.rows ≡ rows)
   unfolding others
@@ -201,7 +201,7 @@ not_true : (v : Bool) → not v ≡ true → v ≡ false
 not_true true e = cc
 not_true false e = refl
 
-stored_lacks : (needs : List Need) (rows : List Row) (need : Need)
+stored_lacks : (needs : List Need) (rows : List ConfigEntry) (need : Need)
     → Contains (dropped_needs rows needs) need → LacksStored (IsNeeded needs) rows
 stored_lacks needs rows need m =
     let f = filtered (λ (own : Need). not (has (list_of rows own.resource) own.who)) needs need m in
@@ -229,7 +229,7 @@ unread_is (writer ∷ writers) readers who e = by (has readers writer) refl e
           (subst (Contains readers) (sym (same_Some writer who e)) listed)),
     )
 
-unread_lacks : (classes : List Class) (writing reading : List Row) (lost : Class × Who)
+unread_lacks : (classes : List Class) (writing reading : List ConfigEntry) (lost : Class × Who)
     → Contains (unread_classes classes writing reading) lost → LacksWriter writing reading
 unread_lacks classes writing reading lost m =
     let r = filter_mapped (λ class. option_map (λ who. (class, who))
@@ -240,7 +240,7 @@ unread_lacks classes writing reading lost m =
     record { class = r.from; who = s.0; writes = u.0; lacks = u.1 }
 
 module _ (needs : List Need) (generations : List GenerationState) (replica : ℕ)
-    (rows : List Row) where
+    (rows : List ConfigEntry) where
   abbrev Lacks : Type 0
   Lacks = LacksProvider (IsNeeded needs) (IsLiveBeside replica generations) rows
 
@@ -291,7 +291,7 @@ module _ (needs : List Need) (generations : List GenerationState) (replica : ℕ
 
 -- ---- what is read at each class that is judged is so at every class
 
-pub everywhere : (added : List (List Row)) (writing reading : List Row) (class : Class)
+pub everywhere : (added : List (List ConfigEntry)) (writing reading : List ConfigEntry) (class : Class)
     → ((class : Class) → Contains (table_of added) class
     → ReadsWriter (class_list writing class) (class_list reading class))
     → Contains added writing → Contains added reading
@@ -318,8 +318,8 @@ other_is_live replica own e = by (is_live own) e
     by false e = e
 
 module _ (needs : List Need) (generations : List GenerationState) (replica : ℕ)
-    (rows : List Row) (f : FitsBoard needs generations replica rows) where
-  abbrev added : List (List Row)
+    (rows : List ConfigEntry) (f : FitsBoard needs generations replica rows) where
+  abbrev added : List (List ConfigEntry)
   added = rows ∷ map (λ (g : GenerationState). g.rows) (filter is_live generations)
 
   other_added : (other : ℕ × GenerationState) → Contains (others replica generations) other
@@ -333,20 +333,20 @@ module _ (needs : List Need) (generations : List GenerationState) (replica : ℕ
       (other_is_live replica other.1 g.1))
 
   -- the new settings read what another writes
-  reads_beside : (other : List Row) (class : Class) → IsLiveBeside replica generations other
+  reads_beside : (other : List ConfigEntry) (class : Class) → IsLiveBeside replica generations other
       → ReadsWriter (class_list other class) (class_list rows class)
   reads_beside other class live =
       let o = lives_other replica generations other live in
-      subst (λ (r : List Row). ReadsWriter (class_list r class) (class_list rows class)) o.2
+      subst (λ (r : List ConfigEntry). ReadsWriter (class_list r class) (class_list rows class)) o.2
       (everywhere added o.0.1.rows rows class (λ c judged. f.writers o.0 c o.1 judged)
       (other_added o.0 o.1) (here rows _))
 
   -- and another reads what they write
-  read_beside : (other : List Row) (class : Class) → IsLiveBeside replica generations other
+  read_beside : (other : List ConfigEntry) (class : Class) → IsLiveBeside replica generations other
       → ReadsWriter (class_list rows class) (class_list other class)
   read_beside other class live =
       let o = lives_other replica generations other live in
-      subst (λ (r : List Row). ReadsWriter (class_list rows class) (class_list r class)) o.2
+      subst (λ (r : List ConfigEntry). ReadsWriter (class_list rows class) (class_list r class)) o.2
       (everywhere added rows o.0.1.rows class (λ c judged. f.readers o.0 c o.1 judged)
       (here rows _) (other_added o.0 o.1))
 
@@ -373,7 +373,7 @@ reads_own [] who e = absurd (none-some who e)
 reads_own (own ∷ list) who e = head_is own who list (same_Some own who e)
 
 module _ (needs : List Need) (generations : List GenerationState) (replica : ℕ)
-    (rows : List Row) where
+    (rows : List ConfigEntry) where
   abbrev new_one : GenerationState
   new_one = record { replica = replica; rows = rows; current = true; holders = 0 }
 
@@ -386,7 +386,7 @@ module _ (needs : List Need) (generations : List GenerationState) (replica : ℕ
     refl,
   )
 
-  beside_lives : (other : List Row) → IsLiveBeside replica generations other
+  beside_lives : (other : List ConfigEntry) → IsLiveBeside replica generations other
       → IsLiveIn (given_to replica rows generations) other
   beside_lives other (own, m, live, is) = (
     own,
@@ -395,7 +395,7 @@ module _ (needs : List Need) (generations : List GenerationState) (replica : ℕ
     is,
   )
 
-  lives_then : (other : List Row) → IsLiveIn (given_to replica rows generations) other
+  lives_then : (other : List ConfigEntry) → IsLiveIn (given_to replica rows generations) other
       → IsLiveBeside replica generations other ⊎ (rows ≡ other)
   lives_then other (own, m, live, is) =
       elim (Contains-append_cases (without_current replica generations) (new_one ∷ []) own m) [
@@ -414,28 +414,28 @@ module _ (needs : List Need) (generations : List GenerationState) (replica : ℕ
       writers = λ own other class a b. read own other class (lives_then own a) (lives_then other b);
     }
       where
-        kept : (own : List Row) (need : Need)
+        kept : (own : List ConfigEntry) (need : Need)
             → IsLiveBeside replica generations own ⊎ (rows ≡ own) → Contains needs need
             → Contains (list_of own need.resource) need.who
         kept own need (inl live) m = before.stored own need live m
         kept own need (inr e) m =
-            subst (λ (x : List Row). Contains (list_of x need.resource) need.who) e
+            subst (λ (x : List ConfigEntry). Contains (list_of x need.resource) need.who) e
             (f.stored need m)
 
-        read : (own other : List Row) (class : Class)
+        read : (own other : List ConfigEntry) (class : Class)
             → IsLiveBeside replica generations own ⊎ (rows ≡ own)
             → IsLiveBeside replica generations other ⊎ (rows ≡ other)
             → ReadsWriter (class_list other class) (class_list own class)
         read own other class (inl a) (inl b) = before.writers own other class a b
         read own other class (inl a) (inr e) =
-            subst (λ (x : List Row). ReadsWriter (class_list x class) (class_list own class)) e
+            subst (λ (x : List ConfigEntry). ReadsWriter (class_list x class) (class_list own class)) e
             (read_beside needs generations replica rows f own class a)
         read own other class (inr e) (inl b) =
-            subst (λ (x : List Row). ReadsWriter (class_list other class) (class_list x class)) e
+            subst (λ (x : List ConfigEntry). ReadsWriter (class_list other class) (class_list x class)) e
             (reads_beside needs generations replica rows f other class b)
         read own other class (inr d) (inr e) =
-            subst (λ (x : List Row). ReadsWriter (class_list x class) (class_list own class)) e
-            (subst (λ (x : List Row). ReadsWriter (class_list rows class) (class_list x class)) d
+            subst (λ (x : List ConfigEntry). ReadsWriter (class_list x class) (class_list own class)) e
+            (subst (λ (x : List ConfigEntry). ReadsWriter (class_list rows class) (class_list x class)) d
             (reads_own (class_list rows class)))
 
     fits_board : AreFit (IsLiveIn (given_to replica rows generations)) needs

@@ -8,7 +8,7 @@ use Rattle.std.proofs.lemmas.Bool.{lt-ltb}
 use Rattle.std.proofs.lemmas.List.Elements.{Contains-get_or}
 use Rattle.std.proofs.lemmas.Option.{slice_get_within}
 use Rattle.std.proofs.lemmas.Bool.Decides.{Decides-eqb}
-use Rattle.kr_judge.specs.Boards.{GenerationState, is_live, left_by, without_current, is_current_of, changed_at, held_more, held_less, MayHold, IsHeld, HasOneCurrent}
+use Rattle.kr_judge.specs.Boards.{GenerationState, is_live, left_by, without_current, is_replica_current, changed_at, held_more, held_less, MayHold, IsHeld, HasOneCurrent}
 use Rattle.kr_judge.specs.Verdicts.{with_numbers, is_other, others}
 use Rattle.kr_judge.specs.inner.Lives.{uncurrent}
 use Rattle.kr_judge.specs.Scans.{live_from, live_numbers}
@@ -135,7 +135,7 @@ pub added_live : (gs : List GenerationState) (new : GenerationState) → is_live
 added_live gs new h = added_from 0 gs new h ∙ ap (λ n. live_numbers gs ++ n ∷ []) (omega arith)
 
 -- the current generation of a replica
-left_same : (replica : ℕ) (g : GenerationState) → is_current_of replica g ≡ false → left_by replica g ≡ g
+left_same : (replica : ℕ) (g : GenerationState) → is_replica_current replica g ≡ false → left_by replica g ≡ g
 left_same replica g h = ap (λ v. record g { current = v }) (by g.current (g.replica == replica) h)
   where
     by : (c own : Bool) → (c && own) ≡ false → (c && not own) ≡ c
@@ -143,7 +143,7 @@ left_same replica g h = ap (λ v. record g { current = v }) (by g.current (g.rep
     by true false k = refl
     by false own k = refl
 
-left_own : (replica : ℕ) (g : GenerationState) → is_current_of replica g ≡ true → left_by replica g ≡ uncurrent g
+left_own : (replica : ℕ) (g : GenerationState) → is_replica_current replica g ≡ true → left_by replica g ≡ uncurrent g
 left_own replica g h = ap (λ v. record g { current = v }) (by g.current (g.replica == replica) h)
   where
     by : (c own : Bool) → (c && own) ≡ true → (c && not own) ≡ false
@@ -151,11 +151,11 @@ left_own replica g h = ap (λ v. record g { current = v }) (by g.current (g.repl
     by true false k = cc
     by false own k = cc
 
-pub left_none : (replica : ℕ) (gs : List GenerationState) → filter (is_current_of replica) gs ≡ [] → without_current replica gs ≡ gs
+pub left_none : (replica : ℕ) (gs : List GenerationState) → filter (is_replica_current replica) gs ≡ [] → without_current replica gs ≡ gs
 left_none replica [] h = refl
-left_none replica (g ∷ gs) h = by (is_current_of replica g) refl h (left_none replica gs)
+left_none replica (g ∷ gs) h = by (is_replica_current replica g) refl h (left_none replica gs)
   where
-    by : (v : Bool) → is_current_of replica g ≡ v → cond v (g ∷ filter (is_current_of replica) gs) (filter (is_current_of replica) gs) ≡ [] → (filter (is_current_of replica) gs ≡ [] → without_current replica gs ≡ gs)
+    by : (v : Bool) → is_replica_current replica g ≡ v → cond v (g ∷ filter (is_replica_current replica) gs) (filter (is_replica_current replica) gs) ≡ [] → (filter (is_replica_current replica) gs ≡ [] → without_current replica gs ≡ gs)
         → left_by replica g ∷ without_current replica gs ≡ g ∷ gs
     by true e k rest = cc
     by false e k rest = ap (λ x. x ∷ without_current replica gs) (left_same replica g e) ∙ ap (λ l. g ∷ l) (rest k)
@@ -164,22 +164,22 @@ empty : {X : Type 0} (xs : List X) → length xs ≤ 0 → xs ≡ []
 empty [] h = refl
 empty (x ∷ xs) h = absurd (omega (arith, h))
 
-some_current : (replica i : ℕ) (gs : List GenerationState) → IsSomeAnd (slice_get gs i) (λ g. is_current_of replica g ≡ true) → 1 ≤ length (filter (is_current_of replica) gs)
+some_current : (replica i : ℕ) (gs : List GenerationState) → IsSomeAnd (slice_get gs i) (λ g. is_replica_current replica g ≡ true) → 1 ≤ length (filter (is_replica_current replica) gs)
 some_current replica i [] h = absurd h
-some_current replica zero (g ∷ gs) h = omega (arith, ap (λ t. length (cond t (g ∷ filter (is_current_of replica) gs) (filter (is_current_of replica) gs))) h)
-some_current replica (suc i) (g ∷ gs) h = by (is_current_of replica g) (some_current replica i gs h)
+some_current replica zero (g ∷ gs) h = omega (arith, ap (λ t. length (cond t (g ∷ filter (is_replica_current replica) gs) (filter (is_replica_current replica) gs))) h)
+some_current replica (suc i) (g ∷ gs) h = by (is_replica_current replica g) (some_current replica i gs h)
   where
-    by : (v : Bool) → 1 ≤ length (filter (is_current_of replica) gs) → 1 ≤ length (cond v (g ∷ filter (is_current_of replica) gs) (filter (is_current_of replica) gs))
+    by : (v : Bool) → 1 ≤ length (filter (is_replica_current replica) gs) → 1 ≤ length (cond v (g ∷ filter (is_replica_current replica) gs) (filter (is_replica_current replica) gs))
     by true k = omega arith
     by false k = k
 
-pub left_alone : (replica i : ℕ) (gs : List GenerationState) → IsSomeAnd (slice_get gs i) (λ g. is_current_of replica g ≡ true) → length (filter (is_current_of replica) gs) ≤ 1 → without_current replica gs ≡ changed_at uncurrent i gs
+pub left_alone : (replica i : ℕ) (gs : List GenerationState) → IsSomeAnd (slice_get gs i) (λ g. is_replica_current replica g ≡ true) → length (filter (is_replica_current replica) gs) ≤ 1 → without_current replica gs ≡ changed_at uncurrent i gs
 left_alone replica i [] h one = refl
 left_alone replica zero (g ∷ gs) h one = ap (λ x. x ∷ without_current replica gs) (left_own replica g h)
-    ∙ ap (λ l. uncurrent g ∷ l) (left_none replica gs (empty (filter (is_current_of replica) gs) (omega (arith, one, ap (λ t. length (cond t (g ∷ filter (is_current_of replica) gs) (filter (is_current_of replica) gs))) h))))
-left_alone replica (suc i) (g ∷ gs) h one = by (is_current_of replica g) refl one (left_alone replica i gs h)
+    ∙ ap (λ l. uncurrent g ∷ l) (left_none replica gs (empty (filter (is_replica_current replica) gs) (omega (arith, one, ap (λ t. length (cond t (g ∷ filter (is_replica_current replica) gs) (filter (is_replica_current replica) gs))) h))))
+left_alone replica (suc i) (g ∷ gs) h one = by (is_replica_current replica g) refl one (left_alone replica i gs h)
   where
-    by : (v : Bool) → is_current_of replica g ≡ v → length (cond v (g ∷ filter (is_current_of replica) gs) (filter (is_current_of replica) gs)) ≤ 1 → (length (filter (is_current_of replica) gs) ≤ 1 → without_current replica gs ≡ changed_at uncurrent i gs)
+    by : (v : Bool) → is_replica_current replica g ≡ v → length (cond v (g ∷ filter (is_replica_current replica) gs) (filter (is_replica_current replica) gs)) ≤ 1 → (length (filter (is_replica_current replica) gs) ≤ 1 → without_current replica gs ≡ changed_at uncurrent i gs)
         → left_by replica g ∷ without_current replica gs ≡ g ∷ changed_at uncurrent i gs
     by true e k rest = absurd (omega (arith, k, some_current replica i gs h))
     by false e k rest = ap (λ x. x ∷ without_current replica gs) (left_same replica g e) ∙ ap (λ l. g ∷ l) (rest k)
@@ -216,9 +216,9 @@ without_numbers test k (g ∷ gs) h = by (test g) h (without_numbers test (k + 1
     by true k rest = cc
     by false k rest = rest k
 
-pub none_current : (replica : ℕ) (gs : List GenerationState) → filter (λ n. is_current_of replica n.1) (live_from 0 gs) ≡ [] → filter (is_current_of replica) gs ≡ []
-none_current replica gs h = without_numbers (is_current_of replica) 0 gs
-    (sym (passed_from (is_current_of replica) (λ g e. or_first g.current (nat_lt 0 g.holders) (g.replica == replica) e) 0 gs) ∙ h)
+pub none_current : (replica : ℕ) (gs : List GenerationState) → filter (λ n. is_replica_current replica n.1) (live_from 0 gs) ≡ [] → filter (is_replica_current replica) gs ≡ []
+none_current replica gs h = without_numbers (is_replica_current replica) 0 gs
+    (sym (passed_from (is_replica_current replica) (λ g e. or_first g.current (nat_lt 0 g.holders) (g.replica == replica) e) 0 gs) ∙ h)
 
 -- what is kept of the numbers after a change
 pub live_after : (change : GenerationState → GenerationState) (i : ℕ) (gs : List GenerationState) (still : Bool) (live : List ℕ) → IsSomeAnd (slice_get gs i) (λ g. (is_live g ≡ true) × (still ≡ is_live (change g)))
@@ -246,7 +246,7 @@ weaker P Q [] i w h = absurd h
 weaker P Q (g ∷ gs) zero w h = w g h
 weaker P Q (g ∷ gs) (suc i) w h = weaker P Q gs i w h
 
-pub current_lives : (replica : ℕ) (g : GenerationState) → is_current_of replica g ≡ true → is_live g ≡ true
+pub current_lives : (replica : ℕ) (g : GenerationState) → is_replica_current replica g ≡ true → is_live g ≡ true
 current_lives replica g h = or_first g.current (nat_lt 0 g.holders) (g.replica == replica) h
 
 held_lives : (gs : List GenerationState) (i : ℕ) → IsHeld i gs → IsSomeAnd (slice_get gs i) (λ g. is_live g ≡ true)
@@ -262,17 +262,17 @@ released_live gs all old live n still held is e l a =
     live_after held_less n gs still live (both_parts (λ g. is_live g ≡ true) (λ g. still ≡ is_live (held_less g)) gs n (held_lives gs n held) is) (l ∙ ap (λ x. if still then x else filter (λ y. not (y == n)) x) e)
     ∙ ap live_numbers (sym a)
 
-pub left_live : (replica : ℕ) (gs all : List GenerationState) (old live : List ℕ) (n : ℕ) (still : Bool) → IsSomeAnd (slice_get gs n) (λ g. is_current_of replica g ≡ true) → IsSomeAnd (slice_get gs n) (λ g. still ≡ is_live (uncurrent g))
+pub left_live : (replica : ℕ) (gs all : List GenerationState) (old live : List ℕ) (n : ℕ) (still : Bool) → IsSomeAnd (slice_get gs n) (λ g. is_replica_current replica g ≡ true) → IsSomeAnd (slice_get gs n) (λ g. still ≡ is_live (uncurrent g))
     → old ≡ live_numbers gs → live ≡ (if still then old else filter (λ x. not (x == n)) old) → all ≡ changed_at uncurrent n gs → live ≡ live_numbers all
 left_live replica gs all old live n still own is e l a =
-    live_after uncurrent n gs still live (both_parts (λ g. is_live g ≡ true) (λ g. still ≡ is_live (uncurrent g)) gs n (weaker (λ g. is_current_of replica g ≡ true) (λ g. is_live g ≡ true) gs n (current_lives replica) own) is)
+    live_after uncurrent n gs still live (both_parts (λ g. is_live g ≡ true) (λ g. still ≡ is_live (uncurrent g)) gs n (weaker (λ g. is_replica_current replica g ≡ true) (λ g. is_live g ≡ true) gs n (current_lives replica) own) is)
     (l ∙ ap (λ x. if still then x else filter (λ y. not (y == n)) x) e) ∙ ap live_numbers (sym a)
 
-pub left_all : (replica : ℕ) (gs all : List GenerationState) (n : ℕ) → HasOneCurrent gs → IsSomeAnd (slice_get gs n) (λ g. is_current_of replica g ≡ true) → all ≡ changed_at uncurrent n gs → all ≡ without_current replica gs
+pub left_all : (replica : ℕ) (gs all : List GenerationState) (n : ℕ) → HasOneCurrent gs → IsSomeAnd (slice_get gs n) (λ g. is_replica_current replica g ≡ true) → all ≡ changed_at uncurrent n gs → all ≡ without_current replica gs
 unfolding HasOneCurrent
 left_all replica gs all n one own a = a ∙ sym (left_alone replica n gs own (one replica))
 
-pub left_nothing : (replica : ℕ) (gs : List GenerationState) → filter (is_current_of replica) gs ≡ [] → gs ≡ without_current replica gs
+pub left_nothing : (replica : ℕ) (gs : List GenerationState) → filter (is_replica_current replica) gs ≡ [] → gs ≡ without_current replica gs
 left_nothing replica gs h = sym (left_none replica gs h)
 
 pub live_more : (gs : List GenerationState) (j n : ℕ) (g : GenerationState) → j < length (live_numbers gs) → n ≡ get_or (live_numbers gs) j 0 → Some g ≡ slice_get gs n → take (j + 1) (live_from 0 gs) ≡ take j (live_from 0 gs) ++ (n, g) ∷ []

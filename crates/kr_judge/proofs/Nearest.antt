@@ -6,7 +6,7 @@ use Rattle.std.specs.Option.{option_map}
 use Rattle.std.proofs.lemmas.Bool.{lt-ltb}
 use Rattle.kr_config.specs.declared.class.Class.{Class}
 use Rattle.kr_config.specs.declared.who.Who.{Who}
-use Rattle.kr_config.specs.Kept.{Row}
+use Rattle.kr_config.specs.Kept.{ConfigEntry}
 use Rattle.kr_config.specs.Lists.{class_list}
 use Rattle.kr_config.specs.Nexts.{IsNextClass}
 use Rattle.kr_judge.specs.declared.judging.Writer.{Writer}
@@ -71,15 +71,15 @@ nearer_joined (Some x) (Some y) (Some z) = by (nat_lt y.0 x.0) refl (nat_lt z.0 
     by false e false f false g = ap (λ (v : Bool). if v then Some z else Some x) g ∙ sym (ap (λ (v : Bool). if v then Some y else Some x) e)
 
 -- the losses at one class, and at those after it
-abbrev on : Writer → List Class → List Row → Others → List Loss
+abbrev on : Writer → List Class → List ConfigEntry → Others → List Loss
 on writer classes rows all = flat_map (losses_by writer classes rows) all
 
 -- what one generation loses at a class
-abbrev at_one : Writer → Class → List Row → List Row → Option Who
+abbrev at_one : Writer → Class → List ConfigEntry → List ConfigEntry → Option Who
 at_one Other class own new = unread_writer (class_list own class) (class_list new class)
 at_one New class own new = unread_writer (class_list new class) (class_list own class)
 
-by_class : (writer : Writer) (class : Class) (classes : List Class) (rows : List Row) (other : ℕ × GenerationState)
+by_class : (writer : Writer) (class : Class) (classes : List Class) (rows : List ConfigEntry) (other : ℕ × GenerationState)
     → losses_by writer (class ∷ classes) rows other ≡ cons_option (option_map (λ who. (other.0, class, who)) (at_one writer class other.1.rows rows)) (losses_by writer classes rows other)
 by_class Other class classes rows other = by (at_one Other class other.1.rows rows)
   where
@@ -92,11 +92,11 @@ by_class New class classes rows other = by (at_one New class other.1.rows rows)
     by None = refl
     by (Some who) = refl
 
-nothing_by : (writer : Writer) (rows : List Row) (other : ℕ × GenerationState) → losses_by writer [] rows other ≡ []
+nothing_by : (writer : Writer) (rows : List ConfigEntry) (other : ℕ × GenerationState) → losses_by writer [] rows other ≡ []
 nothing_by Other rows other = refl
 nothing_by New rows other = refl
 
-nothing_on : (writer : Writer) (rows : List Row) (all : Others) → on writer [] rows all ≡ []
+nothing_on : (writer : Writer) (rows : List ConfigEntry) (all : Others) → on writer [] rows all ≡ []
 nothing_on writer rows [] = refl
 nothing_on writer rows (other ∷ all) = ap (λ l. l ++ on writer [] rows all) (nothing_by writer rows other) ∙ nothing_on writer rows all
 
@@ -105,7 +105,7 @@ own_first : (number : ℕ) (found : List (Class × Who)) (rest : List Loss) (los
 own_first number [] rest loss e later = (let h : number < loss.0 = later loss e in omega (arith, h))
 own_first number (f ∷ fs) rest loss e later = (let same : (number, f.0, f.1) ≡ loss = cc in omega (arith, ap (λ (l : Loss). l.0) same))
 
-later_first : (writer : Writer) (classes : List Class) (rows : List Row) (number : ℕ) (all : Others) → AreLater number all → (x : Loss) → first (on writer classes rows all) ≡ Some x → number < x.0
+later_first : (writer : Writer) (classes : List Class) (rows : List ConfigEntry) (number : ℕ) (all : Others) → AreLater number all → (x : Loss) → first (on writer classes rows all) ≡ Some x → number < x.0
 later_first writer classes rows number [] later x e = cc
 later_first writer classes rows number (other ∷ all) later x e = by (losses_at writer classes other.1.rows rows) e (later_first writer classes rows number all later.1 x)
   where
@@ -114,7 +114,7 @@ later_first writer classes rows number (other ∷ all) later x e = by (losses_at
     by (f ∷ fs) k rest = (let same : (other.0, f.0, f.1) ≡ x = cc in omega (arith, ap (λ (l : Loss). l.0) same, later.0))
 
 -- the first at a class and those after it is the nearer of both
-one_class : (writer : Writer) (class : Class) (classes : List Class) (rows : List Row) (all : Others) → Ascend all
+one_class : (writer : Writer) (class : Class) (classes : List Class) (rows : List ConfigEntry) (all : Others) → Ascend all
     → first (on writer (class ∷ classes) rows all) ≡ nearer (first (on writer (class ∷ []) rows all)) (first (on writer classes rows all))
 one_class writer class classes rows [] ascend = refl
 one_class writer class classes rows (other ∷ all) ascend =
@@ -140,19 +140,19 @@ one_class writer class classes rows (other ∷ all) ascend =
         comes None e = refl
         comes (Some x) e = sym (ap (λ (v : Bool). if v then Some (other.0, f.0, f.1) else Some x) (lt-ltb other.0 x.0 (later_first writer (class ∷ []) rows other.0 all ascend.0 x e)))
 
-all_losses : (writer : Writer) (replica : ℕ) (rows : List Row) (generations : List GenerationState) → losses writer replica rows generations ≡ losses_on writer (judged_classes rows generations) replica rows generations
+all_losses : (writer : Writer) (replica : ℕ) (rows : List ConfigEntry) (generations : List GenerationState) → losses writer replica rows generations ≡ losses_on writer (judged_classes rows generations) replica rows generations
 unfolding lost_writers unread_writers
 all_losses Other replica rows generations = refl
 all_losses New replica rows generations = refl
 
 -- the nearest so far and what is left of the classes decide
-pub record AreNearest (writer : Writer) (replica : ℕ) (rows : List Row) (generations : List GenerationState) (after : Option Class) (best : Option Loss) : Type 0 where
+pub record AreNearest (writer : Writer) (replica : ℕ) (rows : List ConfigEntry) (generations : List GenerationState) (after : Option Class) (best : Option Loss) : Type 0 where
   pub first_is : first (losses writer replica rows generations) ≡ nearer best (first (losses_on writer (rest_after after (judged_classes rows generations)) replica rows generations))
 
-pub nearest_begin : (writer : Writer) (replica : ℕ) (rows : List Row) (generations : List GenerationState) → AreNearest writer replica rows generations None None
+pub nearest_begin : (writer : Writer) (replica : ℕ) (rows : List ConfigEntry) (generations : List GenerationState) → AreNearest writer replica rows generations None None
 nearest_begin writer replica rows generations = record { first_is = ap (first {X = Loss}) (all_losses writer replica rows generations) }
 
-pub nearest_more : (writer : Writer) (replica : ℕ) (rows : List Row) (generations : List GenerationState) (after : Option Class) (class : Class) (best found new : Option Loss) → AreNearest writer replica rows generations after best
+pub nearest_more : (writer : Writer) (replica : ℕ) (rows : List ConfigEntry) (generations : List GenerationState) (after : Option Class) (class : Class) (best found new : Option Loss) → AreNearest writer replica rows generations after best
     → IsNextClass (judged_classes rows generations) after (Some class) → found ≡ first (losses_on writer (class ∷ []) replica rows generations) → new ≡ nearer best found → AreNearest writer replica rows generations (Some class) new
 nearest_more writer replica rows generations after class best found new before next at e =
     let classes : List Class = judged_classes rows generations in
@@ -163,13 +163,13 @@ nearest_more writer replica rows generations after class best found new before n
           ∙ ap (λ f. nearer (nearer best f) left) (sym at) ∙ ap (λ b. nearer b left) (sym e);
     }
 
-pub nearest_end : (writer : Writer) (replica : ℕ) (rows : List Row) (generations : List GenerationState) (after : Option Class) (best : Option Loss) → AreNearest writer replica rows generations after best
+pub nearest_end : (writer : Writer) (replica : ℕ) (rows : List ConfigEntry) (generations : List GenerationState) (after : Option Class) (best : Option Loss) → AreNearest writer replica rows generations after best
     → IsNextClass (judged_classes rows generations) after None → best ≡ first (losses writer replica rows generations)
 nearest_end writer replica rows generations after best before next =
     sym (before.first_is ∙ ap (λ l. nearer best (first (losses_on writer l replica rows generations))) (next_none (judged_classes rows generations) after next)
     ∙ ap (λ l. nearer best (first l)) (nothing_on writer rows (others replica generations)) ∙ nearer_none best)
 
-pub left_smaller : (rows : List Row) (generations : List GenerationState) (after : Option Class) (class : Class) → IsNextClass (judged_classes rows generations) after (Some class)
+pub left_smaller : (rows : List ConfigEntry) (generations : List GenerationState) (after : Option Class) (class : Class) → IsNextClass (judged_classes rows generations) after (Some class)
     → length (rest_after (Some class) (judged_classes rows generations)) < length (rest_after after (judged_classes rows generations))
 left_smaller rows generations after class next =
     let e : length (rest_after after (judged_classes rows generations)) ≡ length (class ∷ rest_after (Some class) (judged_classes rows generations))

@@ -5,7 +5,7 @@ use Rattle.std.specs.List.{flat_map}
 use Rattle.std.specs.Option.{option_map}
 use Rattle.kr_config.specs.declared.class.Class.{Class}
 use Rattle.kr_config.specs.declared.who.Who.{Who}
-use Rattle.kr_config.specs.Kept.{Row}
+use Rattle.kr_config.specs.Kept.{ConfigEntry}
 use Rattle.kr_config.specs.Lists.{list_of, class_list}
 use Rattle.kr_judge.specs.declared.need.Need.{Need}
 use Rattle.kr_judge.specs.declared.verdict.Verdict.{Verdict}
@@ -33,18 +33,18 @@ is_read [] readers h = refl
 is_read (writer ∷ writers) readers h = ap (λ (v : Bool). if v then None else Some writer) ((has_members readers writer).1 (h writer refl))
 
 -- at all classes
-abbrev AllRead : List Class → (writing reading : List Row) → Type 0
+abbrev AllRead : List Class → (writing reading : List ConfigEntry) → Type 0
 AllRead classes writing reading = (class : Class) → Contains classes class → ReadsWriter (class_list writing class) (class_list reading class)
 
-abbrev unread_at : (writing reading : List Row) → Class → Option (Class × Who)
-unread_at writing reading class = option_map (λ who. (class, who)) (unread_writer (class_list writing class) (class_list reading class))
+abbrev unread_provider : (writing reading : List ConfigEntry) → Class → Option (Class × Who)
+unread_provider writing reading class = option_map (λ who. (class, who)) (unread_writer (class_list writing class) (class_list reading class))
 
-all_read : (classes : List Class) (writing reading : List Row) → unread_classes classes writing reading ≡ [] → AllRead classes writing reading
+all_read : (classes : List Class) (writing reading : List ConfigEntry) → unread_classes classes writing reading ≡ [] → AllRead classes writing reading
 all_read classes writing reading h class there = reads (class_list writing class) (class_list reading class)
-    (option_none (λ who. (class, who)) (unread_writer (class_list writing class) (class_list reading class)) (mapped_none (unread_at writing reading) classes h class there))
+    (option_none (λ who. (class, who)) (unread_writer (class_list writing class) (class_list reading class)) (mapped_none (unread_provider writing reading) classes h class there))
 
-none_unread : (classes : List Class) (writing reading : List Row) → AllRead classes writing reading → unread_classes classes writing reading ≡ []
-none_unread classes writing reading h = none_mapped (unread_at writing reading) classes
+none_unread : (classes : List Class) (writing reading : List ConfigEntry) → AllRead classes writing reading → unread_classes classes writing reading ≡ []
+none_unread classes writing reading h = none_mapped (unread_provider writing reading) classes
     (λ class there. ap (option_map (λ who. (class, who))) (is_read (class_list writing class) (class_list reading class) (h class there)))
 
 -- among all others
@@ -59,28 +59,28 @@ no_others : (says : ℕ × GenerationState → List (Class × Who)) (those : Lis
     → flat_map (λ other. map (numbering other.0) (says other)) those ≡ []
 no_others says those h = none_flattened (λ other. map (numbering other.0) (says other)) those (λ other there. ap (map (numbering other.0)) (h other there))
 
-writers_read : (replica : ℕ) (rows : List Row) (generations : List GenerationState) → lost_writers replica rows generations ≡ []
+writers_read : (replica : ℕ) (rows : List ConfigEntry) (generations : List GenerationState) → lost_writers replica rows generations ≡ []
     → (other : ℕ × GenerationState) → Contains (others replica generations) other → AllRead (judged_classes rows generations) other.1.rows rows
 unfolding lost_writers
 writers_read replica rows generations h other there =
     let classes : List Class = judged_classes rows generations in
     all_read classes other.1.rows rows (all_others (λ one. unread_classes classes one.1.rows rows) (others replica generations) h other there)
 
-no_writers : (replica : ℕ) (rows : List Row) (generations : List GenerationState) → ((other : ℕ × GenerationState) → Contains (others replica generations) other → AllRead (judged_classes rows generations) other.1.rows rows)
+no_writers : (replica : ℕ) (rows : List ConfigEntry) (generations : List GenerationState) → ((other : ℕ × GenerationState) → Contains (others replica generations) other → AllRead (judged_classes rows generations) other.1.rows rows)
     → lost_writers replica rows generations ≡ []
 unfolding lost_writers
 no_writers replica rows generations h =
     let classes : List Class = judged_classes rows generations in
     no_others (λ one. unread_classes classes one.1.rows rows) (others replica generations) (λ other there. none_unread classes other.1.rows rows (h other there))
 
-readers_read : (replica : ℕ) (rows : List Row) (generations : List GenerationState) → unread_writers replica rows generations ≡ []
+readers_read : (replica : ℕ) (rows : List ConfigEntry) (generations : List GenerationState) → unread_writers replica rows generations ≡ []
     → (other : ℕ × GenerationState) → Contains (others replica generations) other → AllRead (judged_classes rows generations) rows other.1.rows
 unfolding unread_writers
 readers_read replica rows generations h other there =
     let classes : List Class = judged_classes rows generations in
     all_read classes rows other.1.rows (all_others (λ one. unread_classes classes rows one.1.rows) (others replica generations) h other there)
 
-no_readers : (replica : ℕ) (rows : List Row) (generations : List GenerationState) → ((other : ℕ × GenerationState) → Contains (others replica generations) other → AllRead (judged_classes rows generations) rows other.1.rows)
+no_readers : (replica : ℕ) (rows : List ConfigEntry) (generations : List GenerationState) → ((other : ℕ × GenerationState) → Contains (others replica generations) other → AllRead (judged_classes rows generations) rows other.1.rows)
     → unread_writers replica rows generations ≡ []
 unfolding unread_writers
 no_readers replica rows generations h =
@@ -92,11 +92,11 @@ not_false : (v : Bool) → not v ≡ false → v ≡ true
 not_false true h = refl
 not_false false h = cc
 
-stored_read : (rows : List Row) (needs : List Need) → dropped_needs rows needs ≡ [] → (need : Need) → Contains needs need → Contains (list_of rows need.resource) need.who
+stored_read : (rows : List ConfigEntry) (needs : List Need) → dropped_needs rows needs ≡ [] → (need : Need) → Contains needs need → Contains (list_of rows need.resource) need.who
 stored_read rows needs h need there = (has_members (list_of rows need.resource) need.who).0
     (not_false (has (list_of rows need.resource) need.who) (filtered_none (λ own. not (has (list_of rows own.resource) own.who)) needs h need there))
 
-none_dropped : (rows : List Row) (needs : List Need) → ((need : Need) → Contains needs need → Contains (list_of rows need.resource) need.who) → dropped_needs rows needs ≡ []
+none_dropped : (rows : List ConfigEntry) (needs : List Need) → ((need : Need) → Contains needs need → Contains (list_of rows need.resource) need.who) → dropped_needs rows needs ≡ []
 none_dropped rows needs h = none_filtered (λ own. not (has (list_of rows own.resource) own.who)) needs
     (λ need there. ap not ((has_members (list_of rows need.resource) need.who).1 (h need there)))
 
@@ -109,7 +109,7 @@ none_last : {X : Type 0} (says : X → Verdict) → ((x : X) → says x ≢ Pass
 none_last says apart [] h = refl
 none_last says apart (x ∷ xs) h = absurd (apart x h)
 
-nothing_said : (needs : List Need) (generations : List GenerationState) (replica : ℕ) (rows : List Row) → verdict_of needs generations replica rows ≡ Pass
+nothing_said : (needs : List Need) (generations : List GenerationState) (replica : ℕ) (rows : List ConfigEntry) → verdict_of needs generations replica rows ≡ Pass
     → (dropped_needs rows needs ≡ []) × (lost_writers replica rows generations ≡ []) × (unread_writers replica rows generations ≡ [])
 unfolding verdict_of
 nothing_said needs generations replica rows h =

@@ -15,7 +15,7 @@ use Rattle.std.proofs.lemmas.Map.Views.{btree_set_contains_iff}
 use Rattle.std.proofs.lemmas.List.Elements.{All-head, All-tail}
 use Rattle.kr_config.specs.declared.class.Class.{Class}
 use Rattle.kr_config.specs.declared.class.Class.TheVariants.{Exact, Group, Rest}
-use Rattle.kr_config.specs.Kept.{Row}
+use Rattle.kr_config.specs.Kept.{ConfigEntry}
 use Rattle.kr_config.specs.Classes.{class_cmp, classes_in, IsTableOf}
 use Rattle.kr_config.specs.Nexts.{comes_after, IsNextClass}
 use Rattle.kr_config.proofs.Orders.{class_total}
@@ -99,7 +99,7 @@ unfolding IsStrictlySortedBy
 order_sorted [] = tt
 order_sorted (c ∷ cs) = put_sorted c (in_order cs) (order_sorted cs)
 
-pub is_table : (added : List (List Row)) → IsTableOf added (table_of added)
+pub is_table : (added : List (List ConfigEntry)) → IsTableOf added (table_of added)
 unfolding table_of
 is_table added = record {
   ascends = order_sorted (Rest ∷ flat_map classes_in added);
@@ -107,7 +107,7 @@ is_table added = record {
 }
 
 -- two tables of the same settings have the same members in the same order
-one_table : (added : List (List Row)) (one other : List Class) → IsTableOf added one → IsTableOf added other → one ≡ other
+one_table : (added : List (List ConfigEntry)) (one other : List Class) → IsTableOf added one → IsTableOf added other → one ≡ other
 one_table added one other a b =
     let s : BTreeSet Class = record { keys = one } in
     let t : BTreeSet Class = record { keys = other } in
@@ -125,7 +125,7 @@ table_computes added classes = (
   λ e. subst (IsTableOf added) (sym e) (is_table added),
 )
 
-pub table_sorted : (added : List (List Row)) → IsStrictlySortedBy class_cmp (table_of added)
+pub table_sorted : (added : List (List ConfigEntry)) → IsStrictlySortedBy class_cmp (table_of added)
 table_sorted added = (is_table added).ascends
 
 -- what comes after a class

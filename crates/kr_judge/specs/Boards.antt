@@ -5,7 +5,7 @@ use Rattle.std.specs.List.Sorted.{IsStrictlySortedBy}
 use Rattle.std.specs.Option.{IsSomeAnd}
 use Rattle.std.specs.Ordering.{match_ordering}
 use Rattle.std.specs.Str.{bytes_eq}
-use Rattle.kr_config.specs.Kept.{Row}
+use Rattle.kr_config.specs.Kept.{ConfigEntry}
 use Rattle.kr_config.specs.Nexts.{name_cmp}
 use Rattle.kr_judge.specs.declared.need.Need.{Need}
 
@@ -13,7 +13,7 @@ use Rattle.kr_judge.specs.declared.need.Need.{Need}
 -- hold them
 pub record GenerationState : Type 0 where
   pub replica : ℕ
-  pub rows : List Row
+  pub rows : List ConfigEntry
   pub current : Bool
   pub holders : ℕ
 
@@ -37,8 +37,8 @@ abbrev pub without_current : ℕ → List GenerationState → List GenerationSta
 without_current replica generations = map (left_by replica) generations
 
 -- it is the replica's current one
-abbrev pub is_current_of : ℕ → GenerationState → Bool
-is_current_of replica generation = generation.current && (generation.replica == replica)
+abbrev pub is_replica_current : ℕ → GenerationState → Bool
+is_replica_current replica generation = generation.current && (generation.replica == replica)
 
 abbrev pub held_more : GenerationState → GenerationState
 held_more generation = record generation { holders = generation.holders + 1 }
@@ -67,7 +67,7 @@ IsHeld number generations =
 -- a replica has at most one current generation
 unfoldable pub HasOneCurrent : List GenerationState → Type 0
 HasOneCurrent generations =
-    (replica : ℕ) → length (filter (is_current_of replica) generations) ≤ 1
+    (replica : ℕ) → length (filter (is_replica_current replica) generations) ≤ 1
 
 -- needs stand in the order of their paths, one a path
 abbrev pub AreByPath : List Need → Type 0

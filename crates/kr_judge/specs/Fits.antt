@@ -2,7 +2,7 @@
 use Rattle.std.specs.Prelude.{◌≡◌, ℕ, List, Contains, Some}
 use Rattle.kr_config.specs.declared.class.Class.{Class}
 use Rattle.kr_config.specs.declared.who.Who.{Who}
-use Rattle.kr_config.specs.Kept.{Row}
+use Rattle.kr_config.specs.Kept.{ConfigEntry}
 use Rattle.kr_config.specs.Lists.{list_of, class_list}
 use Rattle.kr_judge.specs.declared.need.Need.{Need}
 use Rattle.kr_judge.specs.Boards.{GenerationState}
@@ -15,7 +15,7 @@ ReadsWriter writers readers = (who : Who) → first writers ≡ Some who → Con
 -- the new settings read all that is stored; at each class they read what each other live generation
 -- writes, and that reads what they write
 pub record FitsBoard (needs : List Need) (generations : List GenerationState) (replica : ℕ)
-    (rows : List Row) : Type 0 where
+    (rows : List ConfigEntry) : Type 0 where
   pub stored : (need : Need) → Contains needs need → Contains (list_of rows need.resource) need.who
   pub writers : (other : ℕ × GenerationState) (class : Class)
       → Contains (others replica generations) other

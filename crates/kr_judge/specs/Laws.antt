@@ -7,7 +7,7 @@ use Rattle.std.specs.Ordering.{nat_cmp}
 use Rattle.std.specs.Str.{bytes_eq}
 use Rattle.kr_config.specs.declared.class.Class.{Class}
 use Rattle.kr_config.specs.declared.who.Who.{Who}
-use Rattle.kr_config.specs.Kept.{Row}
+use Rattle.kr_config.specs.Kept.{ConfigEntry}
 use Rattle.kr_config.specs.Classes.{IsTableOf}
 use Rattle.kr_config.specs.Nexts.{name_cmp}
 use Rattle.kr_judge.specs.declared.need.Need.{Need}
@@ -22,12 +22,12 @@ use Rattle.kr_judge.specs.Verdicts.{verdict_of}
 -- the verdict is `Pass` exactly where the new settings and the others read all that they must
 abbrev pub PassesExactly : Type 0
 PassesExactly = (needs : List Need) (generations : List GenerationState) (replica : ℕ)
-    (rows : List Row)
+    (rows : List ConfigEntry)
     → (verdict_of needs generations replica rows ≡ Pass) ↔ FitsBoard needs generations replica rows
 
 -- the classes of some settings are their table, and no other classes are
 abbrev pub TableComputes : Type 0
-TableComputes = (added : List (List Row)) (classes : List Class)
+TableComputes = (added : List (List ConfigEntry)) (classes : List Class)
     → IsTableOf added classes ↔ (classes ≡ table_of added)
 
 -- a list has a provider where it is one of its members, its secret included

@@ -2,7 +2,7 @@
 ghost use Rattle.std.specs.Prelude.{◌≡◌, ◌<◌, ◌≤◌, ◌+◌, ◌^◌, [], ◌∷◌, ◌++◌, length, true, IsTrue, None, Some, IsSome, IfSome, IfNone, IfOk, OnOk, OnErr, MatchResult, ◌≢◌};
 ghost use Rattle.std.specs.List.{list_any};
 ghost use Rattle.kr_config.specs.Kept.{rows_of};
-ghost use Rattle.kr_judge.specs.Boards.{without_current, is_current_of, held_more, held_less, changed_at, MayHold, IsHeld, HasOneCurrent, AreByPath, set_need, drop_need, settle_need};
+ghost use Rattle.kr_judge.specs.Boards.{without_current, is_replica_current, held_more, held_less, changed_at, MayHold, IsHeld, HasOneCurrent, AreByPath, set_need, drop_need, settle_need};
 ghost use Rattle.kr_judge.specs.Scans.{live_numbers, paths_with};
 ghost use Rattle.kr_judge.specs.Verdicts.{verdict};
 ghost use Rattle.kr_judge.specs.declared.verdict.Verdict.TheVariants.{Pass};
@@ -14,6 +14,7 @@ use crate::path_set::PathSet;
 use crate::verdict::Verdict;
 use kr_base::{NoMemory, Shared};
 use kr_config::{Settings, Who};
+use kr_paths::Path;
 use std::alloc::Global;
 use std::marker::Model;
 
@@ -56,8 +57,9 @@ impl Board {
         })
     }
 
-    /// What stands at the path needs the provider in the list of the resource.
-    pub fn set_need(&mut self, path: &str, resource: &str, who: &Who) -> Result<(), NoMemory>
+    /// What stands at the path needs the provider in the list of the resource. The path is shared,
+    /// not copied.
+    pub fn set_need(&mut self, path: &Path, resource: &str, who: &Who) -> Result<(), NoMemory>
         requires { self.old.proposal ≡ None }
         ensures ok { OnOk result (self.new ≡ record self.old {
           needs = set_need self.old.needs
@@ -78,8 +80,8 @@ impl Board {
         self.needs.drop_need(path);
     }
 
-    /// Proposes a need, so that it can be settled without memory.
-    pub fn propose(&mut self, path: &str, resource: &str, who: &Who) -> Result<(), NoMemory>
+    /// Proposes a need, so that it can be settled without memory. The path is shared, not copied.
+    pub fn propose(&mut self, path: &Path, resource: &str, who: &Who) -> Result<(), NoMemory>
         requires { self.old.proposal ≡ None }
         ensures ok { OnOk result (self.new ≡ record self.old {
           proposal = Some (record { path = path.now; resource = resource.now; who = who.now });
@@ -139,7 +141,7 @@ impl Board {
 
     /// The replica, which has a current generation, has none any more.
     pub fn leave(&mut self, replica: u32)
-        requires { IsTrue (list_any (is_current_of replica) self.old.generations) }
+        requires { IsTrue (list_any (is_replica_current replica) self.old.generations) }
         ensures { self.new ≡ record self.old {
           generations = without_current replica self.old.generations;
         } }

@@ -17,14 +17,17 @@ fn first_lost<'a>(pair: &'a Pair, settings: &Settings) -> Option<(&'a str, &'a W
     let Some(path) = pair.paths.first() else {
         return None;
     };
-    if has(settings.list_for(pair.resource.as_str()), &pair.who) {
+    if has(
+        settings.resource_list(pair.resource.as_str()),
+        pair.who.get(),
+    ) {
         return None;
     }
-    Some((path, &pair.who))
+    Some((path, pair.who.get()))
 }
 
 /// The one whose path comes first.
-fn earlier_of<'a>(
+fn earlier_loss<'a>(
     one: Option<(&'a str, &'a Who)>,
     other: Option<(&'a str, &'a Who)>,
 ) -> Option<(&'a str, &'a Who)>
@@ -51,7 +54,7 @@ pub fn first_dropped<'a>(pairs: &'a [Pair], settings: &Settings) -> Option<(&'a 
 {
     let mut best = None;
     for pair in pairs {
-        best = earlier_of(best, first_lost(pair, settings));
+        best = earlier_loss(best, first_lost(pair, settings));
     }
     best
 }

@@ -1,6 +1,6 @@
 //! Generations of settings.
 ghost use Rattle.std.specs.Prelude.{◌≡◌, ◌<◌};
-ghost use Rattle.kr_judge.specs.Boards.{is_live, is_current_of, held_less};
+ghost use Rattle.kr_judge.specs.Boards.{is_live, is_replica_current, held_less};
 ghost use Rattle.kr_judge.specs.inner.Lives.{uncurrent};
 ghost use Rattle.kr_judge.specs.inner.Views.{generation_of};
 ghost use Rattle.kr_judge.specs.Verdicts.{is_other};
@@ -10,7 +10,7 @@ use kr_config::Settings;
 
 /// The settings that a replica took up at one time.
 #[derive(Drop)]
-pub struct Generation {
+pub struct JudgedGeneration {
     pub replica: u32,
     pub settings: Shared<Settings>,
     /// Whether they are its replica's current ones.
@@ -19,7 +19,7 @@ pub struct Generation {
     pub holders: u32,
 }
 
-impl Generation {
+impl JudgedGeneration {
     /// Whether something may still read or write by it.
     pub fn is_live(&self) -> bool
         ensures { result ≡ is_live (generation_of self.now) }
@@ -35,8 +35,8 @@ impl Generation {
     }
 
     /// Whether it is the replica's current one.
-    pub fn is_current_of(&self, replica: u32) -> bool
-        ensures { result ≡ is_current_of replica (generation_of self.now) }
+    pub fn is_replica_current(&self, replica: u32) -> bool
+        ensures { result ≡ is_replica_current replica (generation_of self.now) }
     {
         self.current && self.replica == replica
     }

@@ -6,7 +6,7 @@ ghost use Rattle.kr_judge.specs.Boards.{HasOneCurrent, without_current, held_mor
 ghost use Rattle.kr_judge.specs.Scans.{live_numbers};
 ghost use Rattle.kr_judge.specs.inner.Views.{generation_of};
 
-use crate::generation::Generation;
+use crate::generation::JudgedGeneration;
 use crate::holding;
 use kr_base::{NoMemory, Shared};
 use kr_config::Settings;
@@ -17,7 +17,7 @@ use std::marker::Model;
 /// in order.
 #[derive(Drop)]
 pub struct GenerationList {
-    all: Vec<Generation>,
+    all: Vec<JudgedGeneration>,
     live: Vec<u32>,
     room: u32,
 }
@@ -75,7 +75,7 @@ impl GenerationList {
 
     /// The generation of the number.
     #[tactic(auto, using(crate::proofs::Searches::shown_at))]
-    pub fn at(&self, number: u32) -> &Generation
+    pub fn get_numbered(&self, number: u32) -> &JudgedGeneration
         requires { number < length self.now.generations }
         ensures { Some (generation_of result.now) ≡ slice_get self.now.generations number }
     {

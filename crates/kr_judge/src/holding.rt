@@ -3,19 +3,19 @@ ghost use Rattle.std.specs.Prelude.{◌≡◌, ◌<◌, ◌≤◌, ◌+◌, ◌^
 ghost use Rattle.std.specs.List.{filter, slice_get};
 ghost use Rattle.std.specs.Option.{IsSomeAnd};
 ghost use Rattle.kr_config.specs.Kept.{rows_of};
-ghost use Rattle.kr_judge.specs.Boards.{HasOneCurrent, is_live, without_current, is_current_of, held_more, held_less, changed_at, MayHold, IsHeld};
+ghost use Rattle.kr_judge.specs.Boards.{HasOneCurrent, is_live, without_current, is_replica_current, held_more, held_less, changed_at, MayHold, IsHeld};
 ghost use Rattle.kr_judge.specs.inner.Lives.{uncurrent};
 ghost use Rattle.kr_judge.specs.Scans.{live_numbers};
 ghost use Rattle.kr_judge.specs.inner.Views.{generations_of};
 
-use crate::generation::Generation;
+use crate::generation::JudgedGeneration;
 use kr_base::Shared;
 use kr_config::Settings;
 
 /// Makes the next generation, which is live, in room that is there.
 #[tactic(auto, using(crate::proofs::Lives::added_live))]
 pub fn add(
-    generations: &mut Vec<Generation>,
+    generations: &mut Vec<JudgedGeneration>,
     live: &mut Vec<u32>,
     replica: u32,
     settings: Shared<Settings>,
@@ -38,7 +38,7 @@ pub fn add(
     ensures live_room { vec_capacity live.new ≡ vec_capacity live.old }
 {
     live.push_reserved(generations.len() as u32);
-    generations.push_reserved(Generation {
+    generations.push_reserved(JudgedGeneration {
         replica,
         settings,
         current: true,
@@ -48,7 +48,7 @@ pub fn add(
 
 /// One more holds the generation.
 #[tactic(auto, using(crate::proofs::Holders::hold_there, crate::proofs::Holders::hold_fits, crate::proofs::Holders::hold_set))]
-pub fn hold(generations: &mut Vec<Generation>, at: usize)
+pub fn hold(generations: &mut Vec<JudgedGeneration>, at: usize)
     requires { MayHold at (generations_of generations.old.items) }
     ensures held { generations_of generations.new.items
         ≡ changed_at held_more at (generations_of generations.old.items) }
@@ -60,7 +60,7 @@ pub fn hold(generations: &mut Vec<Generation>, at: usize)
 
 /// One fewer holds the generation.
 #[tactic(auto, using(crate::proofs::Lives::released_live))]
-pub fn release(generations: &mut Vec<Generation>, live: &mut Vec<u32>, number: u32)
+pub fn release(generations: &mut Vec<JudgedGeneration>, live: &mut Vec<u32>, number: u32)
     requires held { IsHeld number (generations_of generations.old.items) }
     requires live { live.old.items ≡ live_numbers (generations_of generations.old.items) }
     ensures released { generations_of generations.new.items
@@ -77,7 +77,7 @@ pub fn release(generations: &mut Vec<Generation>, live: &mut Vec<u32>, number: u
 
 /// No generation of the replica is current any more.
 #[tactic(auto, using(crate::proofs::Lives::left_live, crate::proofs::Lives::left_all, crate::proofs::Lives::left_nothing, crate::proofs::Searches::current_there))]
-pub fn leave(generations: &mut Vec<Generation>, live: &mut Vec<u32>, replica: u32)
+pub fn leave(generations: &mut Vec<JudgedGeneration>, live: &mut Vec<u32>, replica: u32)
     requires one { HasOneCurrent (generations_of generations.old.items) }
     requires live { live.old.items ≡ live_numbers (generations_of generations.old.items) }
     ensures left { generations_of generations.new.items
@@ -88,7 +88,7 @@ pub fn leave(generations: &mut Vec<Generation>, live: &mut Vec<u32>, replica: u3
     ensures room { vec_capacity generations.new ≡ vec_capacity generations.old }
     ensures live_room { vec_capacity live.new ≡ vec_capacity live.old }
 {
-    let Some(number) = current_of(generations.as_slice(), live.as_slice(), replica) else {
+    let Some(number) = find_current(generations.as_slice(), live.as_slice(), replica) else {
         return;
     };
     let still = drop_current(generations, number as usize);
@@ -97,7 +97,7 @@ pub fn leave(generations: &mut Vec<Generation>, live: &mut Vec<u32>, replica: u3
 
 /// One fewer holds the generation. Tells whether it is still live.
 #[tactic(auto, using(crate::proofs::Holders::release_there, crate::proofs::Holders::release_some, crate::proofs::Holders::less_set, crate::proofs::Holders::still_held))]
-fn drop_holder(generations: &mut Vec<Generation>, at: usize) -> bool
+fn drop_holder(generations: &mut Vec<JudgedGeneration>, at: usize) -> bool
     requires { IsHeld at (generations_of generations.old.items) }
     ensures dropped { generations_of generations.new.items
         ≡ changed_at held_less at (generations_of generations.old.items) }
@@ -111,7 +111,7 @@ fn drop_holder(generations: &mut Vec<Generation>, at: usize) -> bool
 
 /// The generation is no longer current. Tells whether it is still live.
 #[tactic(auto, using(crate::proofs::Holders::uncurrent_set, crate::proofs::Holders::still_left))]
-fn drop_current(generations: &mut Vec<Generation>, at: usize) -> bool
+fn drop_current(generations: &mut Vec<JudgedGeneration>, at: usize) -> bool
     requires { at < vec_len generations.old }
     ensures dropped { generations_of generations.new.items
         ≡ changed_at uncurrent at (generations_of generations.old.items) }
@@ -147,16 +147,16 @@ fn take_number(live: &mut Vec<u32>, number: u32)
 
 /// The number of the replica's current generation.
 #[tactic(auto, using(crate::proofs::Searches::search_begin, crate::proofs::Searches::search_within, crate::proofs::Searches::search_more, crate::proofs::Searches::search_found, crate::proofs::Searches::search_end))]
-fn current_of(generations: &[Generation], live: &[u32], replica: u32) -> Option<u32>
+fn find_current(generations: &[JudgedGeneration], live: &[u32], replica: u32) -> Option<u32>
     requires { live.now ≡ live_numbers (generations_of generations.now) }
     ensures found { IfSome result (λ number. IsSomeAnd
         (slice_get (generations_of generations.now) number)
-        (λ g. is_current_of replica g ≡ true)) }
+        (λ g. is_replica_current replica g ≡ true)) }
     ensures none { IfNone result
-        (filter (is_current_of replica) (generations_of generations.now) ≡ []) }
+        (filter (is_replica_current replica) (generations_of generations.now) ≡ []) }
 {
     for number in live {
-        if generations[*number as usize].is_current_of(replica) {
+        if generations[*number as usize].is_replica_current(replica) {
             return Some(*number);
         }
     }

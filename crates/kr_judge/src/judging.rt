@@ -28,7 +28,7 @@ pub enum Writer {
 
 /// What the one of a generation's settings and the new ones write at the class, where it isn't in
 /// the list of the other.
-fn unread_at<'a>(
+fn unread_provider<'a>(
     writer: Writer,
     class: BorrowedClass<'_>,
     own: &'a Settings,
@@ -39,7 +39,7 @@ fn unread_at<'a>(
         ≡ first (losses_at writer (lent_class class.entry ∷ []) (rows_of own.now.entries.0)
         (rows_of new.now.entries.0)) }
 {
-    let (own, new) = (own.list_near(class, place), new.list_near(class, place));
+    let (own, new) = (own.hinted_list(class, place), new.hinted_list(class, place));
     match writer {
         Writer::Other => unread_writer(own, new),
         Writer::New => unread_writer(new, own),
@@ -48,7 +48,7 @@ fn unread_at<'a>(
 
 /// The first of the other live generations with which a writer isn't read at the class.
 #[tactic(auto, using(crate::proofs::Walks::loss_begin, crate::proofs::Walks::loss_within, crate::proofs::Walks::loss_skip, crate::proofs::Walks::loss_none, crate::proofs::Walks::loss_found, crate::proofs::Walks::loss_end))]
-fn loss_at<'a>(
+fn earliest_loss<'a>(
     generations: &'a GenerationList,
     writer: Writer,
     replica: u32,
@@ -61,10 +61,10 @@ fn loss_at<'a>(
         (rows_of settings.now.entries.0) generations.now.generations) }
 {
     for number in generations.live() {
-        let generation = generations.at(*number);
+        let generation = generations.get_numbered(*number);
         if generation.is_other(replica) {
             let own = generation.settings.get();
-            let unread = unread_at(writer, class, own, settings, place);
+            let unread = unread_provider(writer, class, own, settings, place);
             if let Some(who) = unread {
                 return Some((*number, class, who));
             }
@@ -74,7 +74,7 @@ fn loss_at<'a>(
 }
 
 /// The one of the lesser generation, and of one generation the first.
-fn nearer_of<'a>(
+fn nearer_loss<'a>(
     best: Option<(u32, BorrowedClass<'a>, &'a Who)>,
     other: Option<(u32, BorrowedClass<'a>, &'a Who)>,
 ) -> Option<(u32, BorrowedClass<'a>, &'a Who)>
@@ -117,10 +117,10 @@ fn first_losses<'a>(
     let mut unread = None;
     let mut place: usize = 0;
     while let Some(class) = next_class(generations, settings, after, place) {
-        let other = loss_at(generations, Writer::Other, replica, settings, class, place);
-        let new = loss_at(generations, Writer::New, replica, settings, class, place);
-        dropped = nearer_of(dropped, other);
-        unread = nearer_of(unread, new);
+        let other = earliest_loss(generations, Writer::Other, replica, settings, class, place);
+        let new = earliest_loss(generations, Writer::New, replica, settings, class, place);
+        dropped = nearer_loss(dropped, other);
+        unread = nearer_loss(unread, new);
         after = Some(class);
         place = place.saturating_add(1);
     }

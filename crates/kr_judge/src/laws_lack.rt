@@ -8,8 +8,8 @@ pub fn refuses_exactly()
     ensures { RefusesExactly }
 {}
 
-/// Where the other live generations fit, the verdict passes exactly where all fit, among each other,
-/// once the replica has the new settings.
+/// Where the other live generations fit, the verdict passes exactly where all fit, among each
+/// other, once the replica has the new settings.
 pub fn passes_where_all_fit()
     ensures { PassesWhereAllFit }
 {}

@@ -14,7 +14,7 @@ use crate::path_set::PathSet;
 use crate::proposal::{Proposal, drop_path, keep_proposal, make_proposal, unmake_proposal};
 use kr_base::NoMemory;
 use kr_config::{Settings, Who};
-use kr_paths::PathMap;
+use kr_paths::{Path, PathMap};
 use std::alloc::Global;
 use std::marker::Model;
 
@@ -26,7 +26,6 @@ pub struct NeedIndex {
     places: PathMap,
     pairs: PairTable,
     proposal: Option<Proposal>,
-    alloc: Global,
 }
 
 impl Model for NeedIndex {
@@ -55,7 +54,6 @@ impl NeedIndex {
             places: PathMap::new(alloc),
             pairs: PairTable::new(alloc),
             proposal: None,
-            alloc,
         }
     }
 
@@ -71,7 +69,7 @@ impl NeedIndex {
     /// Proposes a need. There are never more pairs than were needed at one time and one: one comes
     /// only where all that are there are needed.
     #[tactic(auto, using(crate::proofs::Scans::apart_same))]
-    pub fn propose(&mut self, path: &str, resource: &str, who: &Who) -> Result<(), NoMemory>
+    pub fn propose(&mut self, path: &Path, resource: &str, who: &Who) -> Result<(), NoMemory>
         requires { self.old.proposal ≡ None }
         ensures ok { OnOk result (self.new ≡ record self.old {
           proposal = Some (record { path = path.now; resource = resource.now; who = who.now });
@@ -80,8 +78,8 @@ impl NeedIndex {
         ensures err { OnErr result (self.new ≡ record self.old { pairs = self.new.pairs }) }
         ensures grows { GrowsWith self.old.needs self.old.pairs self.new.pairs }
     {
-        let place = self.pairs.place_of(resource, who)?;
-        let made = make_proposal(&mut self.places, &mut self.pairs, self.alloc, path, place)?;
+        let place = self.pairs.pair_place(resource, who)?;
+        let made = make_proposal(&mut self.places, &mut self.pairs, path, place)?;
         self.proposal = Some(made);
         Ok(())
     }

@@ -1,11 +1,47 @@
-//! A pair in place of one that no path needs, and one more.
-ghost use Rattle.std.specs.Prelude.{◌≡◌, ◌<◌, ◌≤◌, [], ◌∷◌, ◌++◌, true, length, slice_set, OnOk, OnErr, vec_len, vec_capacity};
+//! A new pair: in place of one that no path needs, or one more.
+ghost use Rattle.std.specs.Prelude.{◌≡◌, ◌<◌, ◌≤◌, [], ◌∷◌, ◌++◌, true, length, slice_set, IfOk, OnOk, OnErr, vec_len, vec_capacity};
 ghost use Rattle.kr_judge.specs.inner.Places.{AreGrouped, AreFree};
 
 use crate::pair::Pair;
 use crate::place_map::PlaceMap;
-use kr_base::NoMemory;
+use crate::provider_lists::is_same;
+use kr_base::{NoMemory, Shared};
+use kr_config::Who;
 use std::alloc::Global;
+
+/// Among how many of the last pairs a provider is looked for, at most.
+const LAST: usize = 64;
+
+/// A pair of the resource and the provider, without paths, whose place is listed.
+pub fn new_pair(pairs: &[Pair], alloc: Global, resource: &str, who: &Who) -> Result<Pair, NoMemory>
+    ensures { IfOk result (λ pair. pair ≡ record {
+      resource = resource.now;
+      who = who.now;
+      paths = [];
+      listed = true;
+    }) }
+{
+    let own = shared_provider(pairs, alloc, who)?;
+    Pair::new(alloc, resource, own)
+}
+
+/// The provider as one of the last pairs has it, and else a copy: so a key's secret isn't there
+/// once a pair.
+#[tactic(auto, using(crate::proofs::Members::is_one))]
+fn shared_provider(pairs: &[Pair], alloc: Global, who: &Who) -> Result<Shared<Who>, NoMemory>
+    ensures { IfOk result (λ own. own ≡ who.now) }
+{
+    let begin = pairs.len().saturating_sub(LAST);
+    for pair in &pairs[begin..] {
+        if is_same(pair.who.get(), who) {
+            return pair.who.share();
+        }
+    }
+    match Shared::new(alloc, who.copy(alloc)?) {
+        Ok(own) => Ok(own),
+        Err(_) => Err(NoMemory),
+    }
+}
 
 /// The pair takes the place of the one that stands there.
 pub fn give_place(
@@ -23,7 +59,7 @@ pub fn give_place(
     ensures length { vec_len pairs.new ≡ vec_len pairs.old }
 {
     let from = pairs[place].resource.as_str();
-    groups.take_to(alloc, from, pair.resource.as_str(), place)?;
+    groups.move_place(alloc, from, pair.resource.as_str(), place)?;
     pairs[place] = pair;
     Ok(())
 }

@@ -7,7 +7,7 @@ ghost use Rattle.kr_judge.specs.inner.Indexes.{is_pair};
 
 use crate::path_set::PathSet;
 use crate::provider_lists::is_same;
-use kr_base::{NoMemory, Text};
+use kr_base::{NoMemory, Shared, Text};
 use kr_config::Who;
 use std::alloc::Global;
 
@@ -15,35 +15,36 @@ use std::alloc::Global;
 #[derive(Drop)]
 pub struct Pair {
     pub resource: Text,
-    pub who: Who,
+    /// Shared with other pairs of the provider, since a key's secret is in it.
+    pub who: Shared<Who>,
     pub paths: PathSet,
     /// Whether its place is among those that may be free.
     pub listed: bool,
 }
 
 impl Pair {
-    /// A pair of copies of its parts, without paths, whose place is listed.
-    pub fn new(alloc: Global, resource: &str, who: &Who) -> Result<Pair, NoMemory>
+    /// A pair without paths, whose place is listed.
+    pub fn new(alloc: Global, resource: &str, who: Shared<Who>) -> Result<Pair, NoMemory>
         ensures { IfOk result (λ pair. pair ≡ record {
           resource = resource.now;
-          who = who.now;
+          who = who;
           paths = [];
           listed = true;
         }) }
     {
         Ok(Pair {
             resource: Text::copy(alloc, resource)?,
-            who: who.copy(alloc)?,
+            who,
             paths: PathSet::new(alloc),
             listed: true,
         })
     }
 
     /// Whether it is of this resource and this provider.
-    pub fn is_of(&self, resource: &str, who: &Who) -> bool
+    pub fn matches_labels(&self, resource: &str, who: &Who) -> bool
         ensures { result ≡ is_pair resource.now who.now self.now }
     {
-        self.resource.as_str() == resource && is_same(&self.who, who)
+        self.resource.as_str() == resource && is_same(self.who.get(), who)
     }
 
     /// Whether no path needs it.

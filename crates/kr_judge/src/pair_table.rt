@@ -8,7 +8,7 @@ ghost use Rattle.kr_judge.specs.inner.Indexes.{is_pair, labels_of, AreApart, Are
 ghost use Rattle.kr_judge.specs.inner.Places.{label_at, paths_at, AreWithin, GrowsFor};
 
 use crate::free_places::{find_free, take_path};
-use crate::new_pairs::{add_pair, give_place};
+use crate::new_pairs::{add_pair, give_place, new_pair};
 use crate::pair::Pair;
 use crate::path_set::PathSet;
 use crate::place_map::PlaceMap;
@@ -69,9 +69,9 @@ impl PairTable {
         requires { AreApart (labels_of self.now) }
         ensures { result ≡ position (is_pair resource.now who.now) self.now }
     {
-        find_among(
+        find_pair(
             self.pairs.as_slice(),
-            self.groups.at(resource),
+            self.groups.resource_places(resource),
             resource,
             who,
         )
@@ -79,7 +79,7 @@ impl PairTable {
 
     /// The place of the pair of this resource and this provider. Where there is none, one that no
     /// path needs gives its place to it; only where each has a path there is one pair more.
-    pub fn place_of(&mut self, resource: &str, who: &Who) -> Result<usize, NoMemory>
+    pub fn pair_place(&mut self, resource: &str, who: &Who) -> Result<usize, NoMemory>
         requires { AreApart (labels_of self.old) }
         ensures place { IfOk result (λ place. (place < length self.new)
             × (label_at self.new place ≡ (resource.now, who.now))) }
@@ -90,7 +90,7 @@ impl PairTable {
         if let Some(place) = self.find(resource, who) {
             return Ok(place);
         }
-        let pair = Pair::new(self.alloc, resource, who)?;
+        let pair = new_pair(self.pairs.as_slice(), self.alloc, resource, who)?;
         let free = find_free(&mut self.pairs, &mut self.free);
         match free {
             Some(place) => {
@@ -153,7 +153,7 @@ impl PairTable {
 
 /// Of these places that of the pair of this resource and this provider.
 #[tactic(auto, using(crate::proofs::Groups::among_begin, crate::proofs::Groups::among_within, crate::proofs::Groups::among_more, crate::proofs::Groups::among_found, crate::proofs::Groups::among_end))]
-fn find_among(pairs: &[Pair], places: &[usize], resource: &str, who: &Who) -> Option<usize>
+fn find_pair(pairs: &[Pair], places: &[usize], resource: &str, who: &Who) -> Option<usize>
     requires { AreWithin places.now (length pairs.now) }
     ensures some { IfSome result (λ place. (place < length pairs.now)
         × (label_at pairs.now place ≡ (resource.now, who.now))) }
@@ -161,7 +161,7 @@ fn find_among(pairs: &[Pair], places: &[usize], resource: &str, who: &Who) -> Op
         → label_at pairs.now place ≢ (resource.now, who.now)) }
 {
     for place in places {
-        if pairs[*place].is_of(resource, who) {
+        if pairs[*place].matches_labels(resource, who) {
             return Some(*place);
         }
     }

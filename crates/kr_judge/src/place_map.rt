@@ -36,7 +36,7 @@ impl PlaceMap {
     }
 
     /// The places at the resource.
-    pub fn at(&self, resource: &str) -> &[usize]
+    pub fn resource_places(&self, resource: &str) -> &[usize]
         ensures { result.now ≡ places_at self.now resource.now }
     {
         match self.groups.get(resource) {
@@ -70,13 +70,13 @@ impl PlaceMap {
             (Some (places_at self.old resource.now ++ place ∷ [])) self.old self.new) }
         ensures err { OnErr result (self.new ≡ self.old) }
     {
-        let all = with_place(alloc, self.at(resource), place)?;
+        let all = with_place(alloc, self.resource_places(resource), place)?;
         let key = Text::copy(alloc, resource)?;
         self.put(key, all)
     }
 
     /// The place leaves the one resource and comes to the other.
-    pub fn take_to(
+    pub fn move_place(
         &mut self,
         alloc: Global,
         from: &str,
@@ -90,7 +90,7 @@ impl PlaceMap {
         if from == to {
             return Ok(());
         }
-        let rest = without_place(alloc, self.at(from), place)?;
+        let rest = without_place(alloc, self.resource_places(from), place)?;
         let key = Text::copy(alloc, from)?;
         self.add(alloc, to, place)?;
         self.leave(key, rest);

@@ -8,7 +8,6 @@ ghost use Rattle.kr_judge.specs.inner.Indexes.{IsIndexed, labels_of, without_pro
 use crate::pair_table::PairTable;
 use kr_base::NoMemory;
 use kr_paths::{Path, PathMap};
-use std::alloc::Global;
 
 /// A path that would need the pair at the place.
 #[derive(Drop)]
@@ -24,8 +23,7 @@ pub struct Proposal {
 pub fn make_proposal(
     places: &mut PathMap,
     pairs: &mut PairTable,
-    alloc: Global,
-    path: &str,
+    path: &Path,
     place: usize,
 ) -> Result<Proposal, NoMemory>
     requires indexed { IsIndexed places.old pairs.old None }
@@ -37,10 +35,11 @@ pub fn make_proposal(
     ensures same { OnErr result (places.new ≡ places.old) }
     ensures labels { labels_of pairs.new ≡ labels_of pairs.old }
 {
-    let kept = Path::copy(alloc, path)?;
+    let text = path.as_str();
+    let kept = path.share()?;
     let key = kept.share()?;
     pairs.put_path(place, &kept)?;
-    match places.get(path) {
+    match places.get(text) {
         Some(_own) => Ok(Proposal {
             path: kept,
             place,
@@ -53,7 +52,7 @@ pub fn make_proposal(
                 fresh: true,
             }),
             Err(NoMemory) => {
-                pairs.take_path(place, path);
+                pairs.take_path(place, text);
                 Err(NoMemory)
             }
         },

@@ -4,7 +4,7 @@ use Rattle.std.proofs.lemmas.Bool.{cases_Bool}
 use Rattle.kr_kms_wire.specs.declared.replies.Answered.{Answered}
 use Rattle.kr_kms_wire.specs.declared.replies.Answered.TheVariants.{Reply, Error}
 use Rattle.kr_kms_wire.specs.declared.replies.Reply.TheVariants as reply
-use Rattle.kr_keywrap.specs.Answer.{Plugin, wrap_answer, wrap_by}
+use Rattle.kr_keywrap.specs.Answer.{Plugin, wrap_answer, wrapped_bytes}
 use Rattle.kr_keywrap.specs.KeyWrap.{IsWrappable, is_wrappable}
 use Rattle.kr_keywrap.proofs.Bodies.{wrappable_from, wrappable_true}
 
@@ -19,5 +19,5 @@ wraps_none plugin plain none = elim (cases_Bool (is_wrappable (length plain))) [
   | inr other ↦ rw other refl
 ]
 
-pub wraps_some : (plugin : Plugin) (plain : List ℕ) → IsWrappable (length plain) → Reply (reply.Encrypt (wrap_by plugin plain)) ≡ wrap_answer plugin plain
+pub wraps_some : (plugin : Plugin) (plain : List ℕ) → IsWrappable (length plain) → Reply (reply.Encrypt (wrapped_bytes plugin plain)) ≡ wrap_answer plugin plain
 wraps_some plugin plain size = rw (wrappable_true (length plain) size) refl

@@ -4,12 +4,12 @@ use Rattle.std.specs.Int.{w64, from_be_bytes, to_be_bytes}
 use Rattle.std.proofs.lemmas.List.{drop-drop, length-drop, take_all, take_rest}
 use borrow.Rule.Slice.PartMut.{put_mid}
 use Rattle.kr_base.specs.Tapes.{with_bytes_at}
-use Rattle.kr_keywrap.specs.KeyWrap.{Registers, before_steps, initial_value, key_wrap, place_of, steps_of, unwrap_step, unwrapped_steps, wrap_step, wrapped_steps}
+use Rattle.kr_keywrap.specs.KeyWrap.{Registers, before_steps, initial_value, key_wrap, block_place, steps_of, unwrap_step, unwrapped_steps, wrap_step, wrapped_steps}
 
 put_is : (a k : ℕ) (xs ys : List ℕ) → k ≡ length ys → put_mid a k xs ys ≡ with_bytes_at xs a ys
 put_is a k xs ys e = ap (λ (l : List ℕ). take a xs ++ (ys ++ l)) (drop-drop k a xs ∙ ap (λ (n : ℕ). drop (a + n) xs) e)
 
-place_is : (r : List ℕ) (step : ℕ) → 8 * (step % (length r / 8)) ≡ place_of r (step + 1)
+place_is : (r : List ℕ) (step : ℕ) → 8 * (step % (length r / 8)) ≡ block_place r (step + 1)
 place_is r step =
     let e : step ≡ step + 1 - 1 = omega arith in
     ap (λ (s : ℕ). 8 * (s % (length r / 8))) e
@@ -26,7 +26,7 @@ pub wrap_from : (encipher : List ℕ → List ℕ) (r : List ℕ) (a step k m nu
 unfolding wrap_step
 wrap_from encipher r a step k m number block after second eight le size block_is after_is part_is number_is =
     let at : ℕ = 8 * (step % (length r / 8)) in
-    let place : ℕ = place_of r (step + 1) in
+    let place : ℕ = block_place r (step + 1) in
     let b : List ℕ = encipher (to_be_bytes w64 a ++ take 8 (drop place r)) in
     let same : after ≡ b = after_is ∙ ap encipher (block_is ∙ (λ i. to_be_bytes w64 a ++ take (eight i) (drop (place_is r step i) r))) in
     let half : second ≡ drop 8 after = second_is after second m le size part_is in
@@ -45,7 +45,7 @@ pub unwrap_from : (decipher : List ℕ → List ℕ) (r : List ℕ) (a step k m 
 unfolding unwrap_step
 unwrap_from decipher r a step k m number block after second eight le size block_is after_is part_is number_is =
     let at : ℕ = 8 * (step % (length r / 8)) in
-    let place : ℕ = place_of r (step + 1) in
+    let place : ℕ = block_place r (step + 1) in
     let b : List ℕ = decipher (to_be_bytes w64 (bit_xor a (step + 1)) ++ take 8 (drop place r)) in
     let same : after ≡ b = after_is ∙ ap decipher (block_is ∙ (λ i. to_be_bytes w64 (bit_xor a (step + 1)) ++ take (eight i) (drop (place_is r step i) r))) in
     let half : second ≡ drop 8 after = second_is after second m le size part_is in

@@ -85,12 +85,12 @@ take_filled bytes into filled k n within most =
     ∙ ap (λ (l : List ℕ). take filled bytes ++ l) (take-append-le n into rest most)
 
 -- what a read behind the filled bytes leaves
-pub read_behind : {E : Type 0} (a b : Option (List ℕ)) (bytes into : List ℕ) (filled k : ℕ) (result : Result ℕ E) → filled < length bytes
+pub read_more : {E : Type 0} (a b : Option (List ℕ)) (bytes into : List ℕ) (filled k : ℕ) (result : Result ℕ E) → filled < length bytes
     → k ≡ length bytes - filled → length into ≡ k → ReadsAtMost result into → ReadConsumes a b result into
     → MatchResult result
     (λ count. (filled + count ≤ length bytes) × GrowsBy a b (take filled bytes) (take (filled + count) (put_mid filled k bytes into)) count)
     (λ _. (take filled (put_mid filled k bytes into) ≡ take filled bytes) × Keeps a b)
-read_behind a b bytes into filled k (Ok n) some at long bound reads =
+read_more a b bytes into filled k (Ok n) some at long bound reads =
     let most : n ≤ length into = bound.0 in
     let behind : take (filled + n) (put_mid filled k bytes into) ≡ take filled bytes ++ take n into = take_filled bytes into filled k n (omega arith) most in (
       omega (arith, most),
@@ -100,7 +100,7 @@ read_behind a b bytes into filled k (Ok n) some at long bound reads =
         ends = λ none. reads.1 none (omega (arith, long, at, some));
       },
     )
-read_behind a b bytes into filled k (Err why) some at long bound reads =
+read_more a b bytes into filled k (Err why) some at long bound reads =
     (take-put_mid_below filled k bytes into filled (omega arith) (omega arith), reads)
 
 -- what a copy to the front leaves

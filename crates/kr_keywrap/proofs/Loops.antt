@@ -6,7 +6,7 @@ use Rattle.std.proofs.lemmas.List.{append-nil, append_assoc, flat_map_more, leng
 use Rattle.std.proofs.lemmas.List.Elements.{All-nil, All-push}
 use Rattle.std.proofs.lemmas.Grind.{flat_map-append}
 use Rattle.kr_keywrap.specs.Answer.{Plugin, answer}
-use Rattle.kr_keywrap.specs.Serving.{AreLines, HasNoBreak, Serves, answers, last_line, line_limit, lines_limit, text_of}
+use Rattle.kr_keywrap.specs.Serving.{AreServedLines, HasNoBreak, Serves, answers, last_line, line_limit, lines_limit, served_text}
 use Rattle.kr_keywrap.specs.declared.serving.Served.TheVariants.{Done, Failed, NoMemory, TooLong}
 use Rattle.kr_keywrap.specs.inner.Lines.{Fails, Goes, Grows, Passes, ServesLast, ServesLine, Starves}
 
@@ -23,15 +23,15 @@ goes_none plugin left held = record {
 module _ (plugin : Plugin) (a b c h i j : Option (List ℕ)) (pending all : List ℕ) (count : ℕ)
     (before : Goes plugin a b h i pending count) (grows : Grows b c pending all) where
   -- all that was taken
-  took_all : Consumes a c (text_of before.lines ++ all)
+  took_all : Consumes a c (served_text before.lines ++ all)
   took_all =
-      subst (Consumes a c) (append_assoc (text_of before.lines) pending grows.bytes ∙ ap (λ (l : List ℕ). text_of before.lines ++ l) (sym grows.behind))
-      (Consumes-trans a b c (text_of before.lines ++ pending) grows.bytes before.took grows.took)
+      subst (Consumes a c) (append_assoc (served_text before.lines) pending grows.bytes ∙ ap (λ (l : List ℕ). served_text before.lines ++ l) (sym grows.behind))
+      (Consumes-trans a b c (served_text before.lines ++ pending) grows.bytes before.took grows.took)
 
-  took_parts : (next behind : List ℕ) → all ≡ next ++ behind → Consumes a c (text_of before.lines ++ (next ++ behind))
-  took_parts next behind is = subst (λ (l : List ℕ). Consumes a c (text_of before.lines ++ l)) is took_all
+  took_parts : (next behind : List ℕ) → all ≡ next ++ behind → Consumes a c (served_text before.lines ++ (next ++ behind))
+  took_parts next behind is = subst (λ (l : List ℕ). Consumes a c (served_text before.lines ++ l)) is took_all
 
-  are_lines : count ≤ lines_limit → AreLines before.lines
+  are_lines : count ≤ lines_limit → AreServedLines before.lines
   are_lines few = record { breaks = before.breaks; short = before.short; few = omega (arith, before.size, few) }
 
   -- nothing more was written
@@ -41,8 +41,8 @@ module _ (plugin : Plugin) (a b c h i j : Option (List ℕ)) (pending all : List
   pub goes_more : (new : List ℕ) → ServesLine plugin i j all new → Goes plugin a c h j new (count + 1)
   goes_more new one =
       let lines : List (List ℕ) = before.lines in
-      let text : text_of lines ++ all ≡ text_of (lines ++ one.line ∷ []) ++ new =
-      ap (λ (l : List ℕ). text_of lines ++ l) one.is ∙ sym (append_assoc (text_of lines) (one.line ++ 0x0A ∷ []) new)
+      let text : served_text lines ++ all ≡ served_text (lines ++ one.line ∷ []) ++ new =
+      ap (λ (l : List ℕ). served_text lines ++ l) one.is ∙ sym (append_assoc (served_text lines) (one.line ++ 0x0A ∷ []) new)
       ∙ ap (λ (l : List ℕ). l ++ new) (flat_map_more (λ (line : List ℕ). line ++ 0x0A ∷ []) [] lines one.line) in record {
         lines = lines ++ one.line ∷ [];
         took = subst (Consumes a c) text took_all;
@@ -54,9 +54,9 @@ module _ (plugin : Plugin) (a b c h i j : Option (List ℕ)) (pending all : List
             (Appends-trans h i j (answers plugin lines) (answer plugin one.line) before.wrote one.wrote);
       }
 
-  last_lines : (next : List ℕ) → HasNoBreak next → length next ≤ line_limit → count < lines_limit → AreLines (before.lines ++ last_line next)
+  last_lines : (next : List ℕ) → HasNoBreak next → length next ≤ line_limit → count < lines_limit → AreServedLines (before.lines ++ last_line next)
   last_lines [] unbroken short few =
-      subst AreLines (sym (append-nil before.lines)) (are_lines (omega arith))
+      subst AreServedLines (sym (append-nil before.lines)) (are_lines (omega arith))
   last_lines (byte ∷ bytes) unbroken short few = record {
     breaks = All-push HasNoBreak before.lines (byte ∷ bytes) before.breaks unbroken;
     short = All-push (λ (line : List ℕ). length line ≤ line_limit) before.lines (byte ∷ bytes) before.short short;
@@ -86,13 +86,13 @@ module _ (plugin : Plugin) (a b c h i j : Option (List ℕ)) (pending all : List
     lines = before.lines;
     next = [];
     behind = [];
-    took = subst (λ (l : List ℕ). Consumes a c (text_of before.lines ++ l)) (nil_from_length all none) took_all;
+    took = subst (λ (l : List ℕ). Consumes a c (served_text before.lines ++ l)) (nil_from_length all none) took_all;
     are_lines = are_lines few;
     unbroken = All-nil (λ (byte : ℕ). byte ≡ 0x0A → ⊥);
     ends = (
       refl,
       ends,
-      subst AreLines (sym (append-nil before.lines)) (are_lines few),
+      subst AreServedLines (sym (append-nil before.lines)) (are_lines few),
       subst (λ (l : List (List ℕ)). Appends h j (answers plugin l)) (sym (append-nil before.lines)) (wrote_nothing wrote),
     );
   }

@@ -8,7 +8,7 @@ use Rattle.std.proofs.lemmas.List.Elements.{All-append, All-drop, All-take}
 use Rattle.std.proofs.lemmas.Nat.{xor_lt}
 use Rattle.kr_aes.specs.Cipher.{IsBlock}
 use Rattle.kr_base.specs.Tapes.{with_bytes_at}
-use Rattle.kr_keywrap.specs.KeyWrap.{Registers, place_of, unwrap_step, wrap_step}
+use Rattle.kr_keywrap.specs.KeyWrap.{Registers, block_place, unwrap_step, wrap_step}
 use Rattle.kr_keywrap.proofs.Halves.{AreBytes, IsBlock-joined, bytes_of_number, first_half, number-lt, number_of_bytes, second_half}
 use Rattle.kr_keywrap.proofs.Pieces.{length-piece, length-with_bytes_at, piece_back, piece_put}
 
@@ -33,7 +33,7 @@ place_fits size t some =
     let below : t % (size / 8) < size / 8 = mod-lt t (omega arith) in
     omega arith
 
-same_place : (r q : List ℕ) (t : ℕ) → length q ≡ length r → place_of q t ≡ place_of r t
+same_place : (r q : List ℕ) (t : ℕ) → length q ≡ length r → block_place q t ≡ block_place r t
 same_place r q t e = ap (λ (n : ℕ). 8 * ((t - 1) % (n / 8))) e
 
 xor_twice : (a b : ℕ) → bit_xor (bit_xor a b) b ≡ a
@@ -107,14 +107,14 @@ set_by t place r b = record { a = bit_xor (from_be_bytes w64 (take 8 b)) t; r = 
 abbrev set_back : ℕ → List ℕ → List ℕ → Registers
 set_back place r b = record { a = from_be_bytes w64 (take 8 b); r = with_bytes_at r place (drop 8 b) }
 
-fits_of : (s : Registers) (t : ℕ) → IsSound s → place_of s.r t + 8 ≤ length s.r
+fits_of : (s : Registers) (t : ℕ) → IsSound s → block_place s.r t + 8 ≤ length s.r
 fits_of s t is = place_fits (length s.r) (t - 1) is.some
 
 pub wrap_step-kept : (there back : List ℕ → List ℕ) → Undoes there back → (t : ℕ) (s : Registers) → IsSound s → t < 2 ^ 64
     → Keeps s (wrap_step there t s)
 unfolding wrap_step
 wrap_step-kept there back undoes t s is lt =
-    let place : ℕ = place_of s.r t in
+    let place : ℕ = block_place s.r t in
     let fits : place + 8 ≤ length s.r = fits_of s t is in
     let size = length_put there back undoes s.a s.r place is.number fits is.bytes in record {
       sound = record {
@@ -129,7 +129,7 @@ pub unwrap_step-kept : (there back : List ℕ → List ℕ) → Undoes there bac
     → Keeps s (unwrap_step there t s)
 unfolding unwrap_step
 unwrap_step-kept there back undoes t s is lt =
-    let place : ℕ = place_of s.r t in
+    let place : ℕ = block_place s.r t in
     let fits : place + 8 ≤ length s.r = fits_of s t is in
     let number : bit_xor s.a t < 2 ^ 64 = xor_lt 64 s.a t is.number lt in
     let size = length_put there back undoes (bit_xor s.a t) s.r place number fits is.bytes in record {
@@ -145,7 +145,7 @@ pub unwrap_step-wrap_step : (there back : List ℕ → List ℕ) → Undoes ther
     → unwrap_step back t (wrap_step there t s) ≡ s
 unfolding wrap_step unwrap_step
 unwrap_step-wrap_step there back undoes t s is lt =
-    let place : ℕ = place_of s.r t in
+    let place : ℕ = block_place s.r t in
     let fits : place + 8 ≤ length s.r = fits_of s t is in
     let b : List ℕ = there (to_be_bytes w64 s.a ++ take 8 (drop place s.r)) in
     let x : ℕ = from_be_bytes w64 (take 8 b) in
@@ -163,7 +163,7 @@ pub wrap_step-unwrap_step : (there back : List ℕ → List ℕ) → Undoes ther
     → wrap_step back t (unwrap_step there t s) ≡ s
 unfolding wrap_step unwrap_step
 wrap_step-unwrap_step there back undoes t s is lt =
-    let place : ℕ = place_of s.r t in
+    let place : ℕ = block_place s.r t in
     let fits : place + 8 ≤ length s.r = fits_of s t is in
     let y : ℕ = bit_xor s.a t in
     let number : y < 2 ^ 64 = xor_lt 64 s.a t is.number lt in

@@ -4,13 +4,13 @@ use Rattle.std.specs.Option.{option_and_then}
 use Rattle.std.specs.Result.{result_ok}
 use Rattle.kr_aes.specs.KeyExpansion.{padded_schedule}
 use Rattle.kr_base.specs.InMemory.{after_call}
-use Rattle.kr_kms.specs.Calls.{Asks}
+use Rattle.kr_kms.specs.Calls.{AsksLink}
 use Rattle.kr_kms.specs.Exchanges.{Exchange, StatusCall, WrapCall, UnwrapCall, AgreesWith}
 use Rattle.kr_kms.specs.declared.plugin.Wrapped.{Wrapped}
 use Rattle.kr_keywrap.specs.declared.key_wrap.WrapNo.TheVariants.{Length}
 use Rattle.kr_keywrap.specs.KeyWrap.{IsKeyData, key_unwrap}
 use Rattle.kr_keywrap.specs.Keys.{Keys, opened_by, rounds_of, unwrapped_under, wrapped_under}
-use Rattle.kr_keywrap.specs.KeyLink.{IsWrapBy, KeyLinkState, KeyLinkStep, IsOfBytes, link_of, truth_of}
+use Rattle.kr_keywrap.specs.KeyLink.{IsWrapBy, KeyLinkState, KeyLinkStep, IsOfBytes, link_seen, truth_of}
 use Rattle.kr_keywrap.proofs.Bodies.{not_wrapped, unwrap_of_wrapped}
 
 opened_of : (keys : Keys) (key_id kek plain : List ℕ) → keys key_id ≡ Some kek → IsKeyData plain
@@ -26,9 +26,9 @@ opens_wrapped keys link plain wrapped is (kek, at, same) =
     subst P (sym same) (opened_of keys link.key_id kek plain at is)
 
 pub asks_ok : {T : Type 0} (old new : KeyLinkState) (x : T)
-    → new ≡ record old { calls = after_call old.calls } → Asks (link_of old) (Ok x) (link_of new)
+    → new ≡ record old { calls = after_call old.calls } → AsksLink (link_seen old) (Ok x) (link_seen new)
 asks_ok old new x e =
-    subst (λ s. Asks (link_of old) (Ok x) (link_of s)) (sym e) (record {
+    subst (λ s. AsksLink (link_seen old) (Ok x) (link_seen s)) (sym e) (record {
       same = record { name = refl; status = refl; later = omega arith };
       failed = λ h. absurd (cc);
     })

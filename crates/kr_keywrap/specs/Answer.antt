@@ -35,8 +35,8 @@ plugin_under kek key_id = record {
 }
 
 -- what plain bytes are wrapped into under its key: there are no annotations
-abbrev pub wrap_by : Plugin → List ℕ → Wrapped
-wrap_by plugin plain = record {
+abbrev pub wrapped_bytes : Plugin → List ℕ → Wrapped
+wrapped_bytes plugin plain = record {
   cipher = key_wrap (cipher plugin.words plugin.rounds) plain;
   key_id = plugin.key_id;
   annotations = [];
@@ -44,7 +44,7 @@ wrap_by plugin plain = record {
 
 abbrev pub wrap_answer : Plugin → List ℕ → Answered
 wrap_answer plugin plain =
-    if is_wrappable (length plain) then Reply (reply.Encrypt (wrap_by plugin plain))
+    if is_wrappable (length plain) then Reply (reply.Encrypt (wrapped_bytes plugin plain))
     else Error (codes "length")
 
 -- what was unwrapped, or why nothing was

@@ -4,7 +4,7 @@ use Rattle.std.proofs.Common.{◌∙◌, ap}
 use Rattle.kr_base.specs.Faults.{counted}
 use Rattle.kr_base.specs.InMemory.{Calls, IsListed, after_call, after_fault}
 use Rattle.kr_kms.specs.Calls.{Link}
-use Rattle.kr_kms.specs.Exchanges.{Exchange, StatusCall, WrapCall, UnwrapCall, KeepsLink}
+use Rattle.kr_kms.specs.Exchanges.{Exchange, StatusCall, WrapCall, UnwrapCall, KeepsLink, TellsAnswer}
 use Rattle.kr_kms.specs.Exchanges.{AgreesWith, asked_name, has_failed, is_fault}
 use Rattle.kr_kms.specs.Truth.{Truth}
 use Rattle.kr_kms.specs.declared.plugin.Status.{Status}
@@ -28,8 +28,8 @@ truth_of keys = record { told = true; opens = λ key. opened_by keys key.key_id 
 abbrev pub status_of : List ℕ → Status
 status_of key_id = record { version = codes "v2"; healthz = codes "ok"; key_id = key_id }
 
-abbrev pub link_of : KeyLinkState → Link
-link_of link = record {
+abbrev pub link_seen : KeyLinkState → Link
+link_seen link = record {
   name = link.name;
   count = link.calls.faults;
   status = Some (status_of link.key_id);
@@ -50,34 +50,35 @@ IsWrapBy keys link plain wrapped =
 
 -- a call has a right answer where it can be served, as far as there is memory for it; it fails
 -- exactly where its number is listed or it can't be served
-abbrev pub Answers : {T : Type 0} → KeyLinkState → Type 0 → (T → Type 0) → Result T KmsNo
+abbrev pub AnswersByKeys : {T : Type 0} → KeyLinkState → Type 0 → (T → Type 0) → Result T KmsNo
     → KeyLinkState → Type 0
-Answers old Served IsRight (Ok given) new =
+AnswersByKeys old Served IsRight (Ok given) new =
     (IsListed old.calls → ⊥) × Served × IsRight given
     × (new ≡ record old { calls = after_call old.calls })
-Answers old Served IsRight (Err Failed) new =
+AnswersByKeys old Served IsRight (Err Failed) new =
     (IsListed old.calls ⊎ (Served → ⊥)) × (new ≡ record old { calls = after_fault old.calls })
-Answers old Served IsRight (Err NoMemory) new =
+AnswersByKeys old Served IsRight (Err NoMemory) new =
     (IsListed old.calls → ⊥) × Served
     × (new ≡ record old { calls = after_call old.calls })
 
 -- ---- exchanges
 
 -- what the link answers, by the call
-abbrev pub AnswersCall : Keys → KeyLinkState → Exchange → KeyLinkState → Type 0
-AnswersCall keys old (StatusCall name answer) new =
-    Answers old (Unit {0}) (λ status. status ≡ status_of old.key_id) answer new
-AnswersCall keys old (WrapCall name plain answer) new =
-    Answers old (IsWrappable (length plain)) (IsWrapBy keys old plain) answer new
-AnswersCall keys old (UnwrapCall key answer) new =
-    Answers old (IsSome (opened_by keys key.key_id key.source))
+abbrev pub AnswersKeyCall : Keys → KeyLinkState → Exchange → KeyLinkState → Type 0
+AnswersKeyCall keys old (StatusCall name answer) new =
+    AnswersByKeys old (Unit {0}) (λ status. status ≡ status_of old.key_id) answer new
+AnswersKeyCall keys old (WrapCall name plain answer) new =
+    AnswersByKeys old (IsWrappable (length plain)) (IsWrapBy keys old plain) answer new
+AnswersKeyCall keys old (UnwrapCall key answer) new =
+    AnswersByKeys old (IsSome (opened_by keys key.key_id key.source))
     (λ bytes. opened_by keys key.key_id key.source ≡ Some bytes) answer new
 
--- what one call does
+-- what one call does; what it answers is what is told
 pub record KeyLinkStep (keys : Keys) (old : KeyLinkState) (exchange : Exchange) (new : KeyLinkState)
     : Type 0 where
   pub own : asked_name exchange ≡ old.name
-  pub answers : AnswersCall keys old exchange new
+  pub answers : AnswersKeyCall keys old exchange new
+  pub tells : TellsAnswer (truth_of keys) (link_seen old).status exchange
 
 abbrev calls_after : Bool → Calls → Calls
 calls_after failed calls = if failed then after_fault calls else after_call calls
@@ -88,14 +89,14 @@ faults_after true calls = refl
 faults_after false calls = refl
 
 after_answer : {T : Type 0} (old new : KeyLinkState) (Served : Type 0) (IsRight : T → Type 0)
-    (result : Result T KmsNo) → Answers old Served IsRight result new
+    (result : Result T KmsNo) → AnswersByKeys old Served IsRight result new
     → new ≡ record old { calls = calls_after (has_failed result) old.calls }
 after_answer old new Served IsRight (Ok given) h = h.3
 after_answer old new Served IsRight (Err Failed) h = h.1
 after_answer old new Served IsRight (Err NoMemory) h = h.2
 
 after_exchange : (keys : Keys) (old : KeyLinkState) (exchange : Exchange) (new : KeyLinkState)
-    → AnswersCall keys old exchange new
+    → AnswersKeyCall keys old exchange new
     → new ≡ record old { calls = calls_after (is_fault exchange) old.calls }
 after_exchange keys old (StatusCall name answer) new h =
     after_answer old new (Unit {0}) (λ status. status ≡ status_of old.key_id) answer h
@@ -106,7 +107,7 @@ after_exchange keys old (UnwrapCall key answer) new h =
     (λ bytes. opened_by keys key.key_id key.source ≡ Some bytes) answer h
 
 pub key_link_keeps : (keys : Keys) (old : KeyLinkState) (exchange : Exchange) (new : KeyLinkState)
-    → KeyLinkStep keys old exchange new → KeepsLink (link_of old) exchange (link_of new)
+    → KeyLinkStep keys old exchange new → KeepsLink (link_seen old) exchange (link_seen new)
 key_link_keeps keys old exchange new h =
     let is = after_exchange keys old exchange new h.answers in
     record {
@@ -116,6 +117,11 @@ key_link_keeps keys old exchange new h =
       counts = ap (λ (l : KeyLinkState). l.calls.faults) is
           ∙ faults_after (is_fault exchange) old.calls;
     }
+
+pub key_link_tells : (keys : Keys) (old : KeyLinkState) (exchange : Exchange) (new : KeyLinkState)
+    → KeyLinkStep keys old exchange new
+    → TellsAnswer (truth_of keys) (link_seen old).status exchange
+key_link_tells keys old exchange new h = h.tells
 
 -- what was to be wrapped are bytes
 abbrev pub IsOfBytes : Exchange → Type 0

@@ -32,14 +32,14 @@ abbrev pub steps_of : List ℕ → ℕ
 steps_of r = 6 * (length r / 8)
 
 -- where the block of step t stands: the steps, from 1, take the n blocks in turn
-abbrev pub place_of : List ℕ → ℕ → ℕ
-place_of r t = 8 * ((t - 1) % (length r / 8))
+abbrev pub block_place : List ℕ → ℕ → ℕ
+block_place r t = 8 * ((t - 1) % (length r / 8))
 
 -- step t of wrapping (2.2.1): B is the cipher of A and the block. A becomes the first half of B,
 -- xor t, and the block its second half.
 unfoldable pub wrap_step : (List ℕ → List ℕ) → ℕ → Registers → Registers
 wrap_step encipher t s =
-    let place = place_of s.r t in
+    let place = block_place s.r t in
     let b = encipher (to_be_bytes w64 s.a ++ take 8 (drop place s.r)) in record {
       a = bit_xor (from_be_bytes w64 (take 8 b)) t;
       r = with_bytes_at s.r place (drop 8 b);
@@ -49,7 +49,7 @@ wrap_step encipher t s =
 -- first half of B, and the block its second half.
 unfoldable pub unwrap_step : (List ℕ → List ℕ) → ℕ → Registers → Registers
 unwrap_step decipher t s =
-    let place = place_of s.r t in
+    let place = block_place s.r t in
     let b = decipher (to_be_bytes w64 (bit_xor s.a t) ++ take 8 (drop place s.r)) in record {
       a = from_be_bytes w64 (take 8 b);
       r = with_bytes_at s.r place (drop 8 b);

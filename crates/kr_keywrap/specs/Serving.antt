@@ -19,8 +19,8 @@ abbrev pub HasNoBreak : List ℕ → Type 0
 HasNoBreak bytes = All (λ byte. byte ≢ 0x0A) bytes
 
 -- the lines, each with its LF
-abbrev pub text_of : List (List ℕ) → List ℕ
-text_of lines = flat_map (λ line. line ++ 0x0A ∷ []) lines
+abbrev pub served_text : List (List ℕ) → List ℕ
+served_text lines = flat_map (λ line. line ++ 0x0A ∷ []) lines
 
 -- the answers of the lines, one after another
 abbrev pub answers : Plugin → List (List ℕ) → List ℕ
@@ -32,14 +32,14 @@ last_line [] = []
 last_line (byte ∷ bytes) = (byte ∷ bytes) ∷ []
 
 -- lines that may be answered
-pub record AreLines (lines : List (List ℕ)) : Type 0 where
+pub record AreServedLines (lines : List (List ℕ)) : Type 0 where
   pub breaks : All HasNoBreak lines
   pub short : All (λ line. length line ≤ line_limit) lines
   pub few : length lines ≤ lines_limit
 
 -- the bytes are a whole line: an LF stands behind them, or the source's end
-abbrev pub IsWhole : List ℕ → Option (List ℕ) → Type 0
-IsWhole behind left =
+abbrev pub IsWholeLine : List ℕ → Option (List ℕ) → Type 0
+IsWholeLine behind left =
     ((rest : List ℕ) × (behind ≡ 0x0A ∷ rest)) ⊎ ((behind ≡ []) × IsAtEnd left)
 
 -- nothing was taken behind the bytes, or an LF first
@@ -51,21 +51,21 @@ StopsThere behind = ((rest : List ℕ) × (behind ≡ 0x0A ∷ rest)) ⊎ (behin
 -- then each whole line that was taken is answered; or where the sink's count rose, and then a
 -- prefix of the next line's answer may have been written. Otherwise no part of it was. So a line
 -- that is too long is told before a fault behind it.
-abbrev pub Ends : Plugin → (lines : List (List ℕ)) → (next behind : List ℕ)
+abbrev pub ServingEnds : Plugin → (lines : List (List ℕ)) → (next behind : List ℕ)
     → (left held_old held : Option (List ℕ)) → (source_rises sink_rises : Type 0)
     → Served → Type 0
-Ends plugin lines next behind left held_old held SourceRises SinkRises Done =
-    (behind ≡ []) × IsAtEnd left × AreLines (lines ++ last_line next)
+ServingEnds plugin lines next behind left held_old held SourceRises SinkRises Done =
+    (behind ≡ []) × IsAtEnd left × AreServedLines (lines ++ last_line next)
     × Appends held_old held (answers plugin (lines ++ last_line next))
-Ends plugin lines next behind left held_old held SourceRises SinkRises Failed =
+ServingEnds plugin lines next behind left held_old held SourceRises SinkRises Failed =
     (length next ≤ line_limit)
     × ((SourceRises × (behind ≡ []) × Appends held_old held (answers plugin lines))
-    ⊎ (SinkRises × IsWhole behind left
+    ⊎ (SinkRises × IsWholeLine behind left
     × ((n : ℕ) × Appends held_old held (answers plugin lines ++ take n (answer plugin next)))))
-Ends plugin lines next behind left held_old held SourceRises SinkRises NoMemory =
+ServingEnds plugin lines next behind left held_old held SourceRises SinkRises NoMemory =
     (length next ≤ line_limit) × StopsThere behind
     × Appends held_old held (answers plugin lines)
-Ends plugin lines next behind left held_old held SourceRises SinkRises TooLong =
+ServingEnds plugin lines next behind left held_old held SourceRises SinkRises TooLong =
     ((line_limit < length next)
     ⊎ ((length lines ≡ lines_limit) × (0 < length next + length behind)))
     × Appends held_old held (answers plugin lines)
@@ -77,10 +77,10 @@ pub record Serves (plugin : Plugin) (left_old left held_old held : Option (List 
   pub lines : List (List ℕ)
   pub next : List ℕ
   pub behind : List ℕ
-  pub took : Consumes left_old left (text_of lines ++ (next ++ behind))
-  pub are_lines : AreLines lines
+  pub took : Consumes left_old left (served_text lines ++ (next ++ behind))
+  pub are_lines : AreServedLines lines
   pub unbroken : HasNoBreak next
-  pub ends : Ends plugin lines next behind left held_old held SourceRises SinkRises served
+  pub ends : ServingEnds plugin lines next behind left held_old held SourceRises SinkRises served
 
 -- the exit status
 abbrev pub status_of : Served → ℕ

@@ -6,12 +6,12 @@ ghost use Rattle.kr_aes.specs.InverseCipher.{inverse_cipher};
 ghost use Rattle.kr_aes.specs.KeyExpansion.{IsSchedule};
 ghost use Rattle.kr_kms_wire.specs.Requests.{request_of};
 ghost use Rattle.kr_keywrap.specs.Answer.{answer, line_answer, request_answer, unwrap_answer};
-ghost use Rattle.kr_keywrap.specs.Answer.{wrap_answer, wrap_by};
+ghost use Rattle.kr_keywrap.specs.Answer.{wrap_answer, wrapped_bytes};
 ghost use Rattle.kr_keywrap.specs.KeyWrap.{IsWrappable, key_unwrap};
 
-use crate::key_link::status_with;
+use crate::key_link::healthy_status;
 use crate::key_wrap::{WrapNo, is_wrappable};
-use crate::keys::{ROOM, unwrap_into, wrap_bytes};
+use crate::keys::{ROOM, unwrap_by_words, wrap_bytes};
 use kr_aes::Rounds;
 use kr_base::{Annotations, Bytes, NoMemory, Text};
 use kr_kms::Wrapped;
@@ -52,7 +52,7 @@ fn answer_line(
         (record { words = words.now; rounds = rounds; key_id = key_id.now })
         (result_ok (request_of line.now))) }
 {
-    let found = match request_in(alloc, line) {
+    let found = match line_request(alloc, line) {
         Ok(found) => found,
         Err(_) => return Err(NoMemory),
     };
@@ -63,7 +63,7 @@ fn answer_line(
 }
 
 /// The request of a line, if it is one.
-fn request_in(alloc: Global, line: &[u8]) -> Result<Option<Request>, NoMemory>
+fn line_request(alloc: Global, line: &[u8]) -> Result<Option<Request>, NoMemory>
     ensures { IfOk result (λ found. found ≡ result_ok (request_of line.now)) }
 {
     match read_request(alloc, line) {
@@ -86,7 +86,7 @@ fn answer_request(
         (record { words = words.now; rounds = rounds; key_id = key_id.now }) request.now) }
 {
     match request {
-        Request::Status => Ok(Answered::Reply(Reply::Status(status_with(alloc, key_id)?))),
+        Request::Status => Ok(Answered::Reply(Reply::Status(healthy_status(alloc, key_id)?))),
         Request::Encrypt { plain, .. } => answer_wrap(
             alloc,
             words,
@@ -123,14 +123,14 @@ fn answer_wrap(
     if !is_wrappable(plain.len()) {
         return refuse(alloc, "length");
     }
-    match wrap_by(alloc, words, rounds, key_id, plain) {
+    match wrapped_bytes(alloc, words, rounds, key_id, plain) {
         Ok(wrapped) => return Ok(Answered::Reply(Reply::Encrypt(wrapped))),
         Err(_) => return Err(NoMemory),
     }
 }
 
 /// What plain bytes are wrapped into.
-fn wrap_by(
+fn wrapped_bytes(
     alloc: Global,
     words: &[u32; 60],
     rounds: Rounds,
@@ -139,7 +139,7 @@ fn wrap_by(
 ) -> Result<Wrapped, NoMemory>
     requires schedule { IsSchedule words.now rounds }
     requires wrappable { IsWrappable (length plain.now) }
-    ensures { IfOk result (λ wrapped. wrapped ≡ wrap_by
+    ensures { IfOk result (λ wrapped. wrapped ≡ wrapped_bytes
         (record { words = words.now; rounds = rounds; key_id = key_id.now }) plain.now) }
 {
     Ok(Wrapped {
@@ -179,7 +179,7 @@ fn answer_body(
         ≡ unwrap_answer (key_unwrap (inverse_cipher words.now rounds) source.now)) }
 {
     let mut room = [0; ROOM];
-    let size = match unwrap_into(words, rounds, source, &mut room) {
+    let size = match unwrap_by_words(words, rounds, source, &mut room) {
         Ok(size) => size,
         Err(why) => return refuse_body(alloc, why),
     };

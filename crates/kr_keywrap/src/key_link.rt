@@ -10,11 +10,11 @@ ghost use Rattle.kr_kms.specs.Exchanges.{StatusCall, WrapCall, UnwrapCall};
 ghost use Rattle.kr_kms.specs.Limits.{IsWithinLimits};
 ghost use Rattle.kr_keywrap.specs.KeyWrap.{IsWrappable};
 ghost use Rattle.kr_keywrap.specs.Keys.{opened_by};
-ghost use Rattle.kr_keywrap.specs.KeyLink.{Answers, IsWrapBy, link_of, status_of, truth_of};
-ghost use Rattle.kr_keywrap.specs.KeyLink.{wrapped_by, KeyLinkStep, key_link_keeps};
+ghost use Rattle.kr_keywrap.specs.KeyLink.{AnswersByKeys, IsWrapBy, link_seen, status_of, truth_of};
+ghost use Rattle.kr_keywrap.specs.KeyLink.{wrapped_by, KeyLinkStep, key_link_keeps, key_link_tells};
 
 use crate::key_wrap::is_wrappable;
-use crate::keys::{ROOM, unwrap_under, wrap_under};
+use crate::keys::{ROOM, unwrap_by_key, wrap_by_key};
 use crate::ring::Ring;
 use kr_base::{Annotations, Bytes, CallLog, List, NoMemory, Text};
 use kr_kms::{Kms, KmsNo, Status, Wrapped};
@@ -104,11 +104,13 @@ impl<R: Ring> KeyLink<R> {
 impl<R: Ring> Kms for KeyLink<R> {
     ghost truth = { truth_of R.keys };
 
-    ghost link = { link_of };
+    ghost link = { link_seen };
 
     ghost step = { KeyLinkStep R.keys };
 
     ghost keeps = { key_link_keeps R.keys };
+
+    ghost tells = { key_link_tells R.keys };
 
     fn name(&self) -> &str {
         self.name.as_str()
@@ -119,29 +121,29 @@ impl<R: Ring> Kms for KeyLink<R> {
     }
 
     fn status(&mut self, alloc: Global) -> Result<Status, KmsNo>
-        ensures answers { Answers self.old (Unit {0})
+        ensures answers { AnswersByKeys self.old (Unit {0})
             (λ status. status ≡ status_of self.old.key_id) result self.new }
 
         // As the trait says.
-        ensures says { Says (link_of self.old) result (link_of self.new) }
+        ensures says { Says (link_seen self.old) result (link_seen self.new) }
         ensures asked { KeyLinkStep R.keys self.old (StatusCall self.old.name result) self.new }
     {
         if self.fails(true) {
             return Err(KmsNo::Failed);
         }
-        match status_with(alloc, self.key_id.as_str()) {
+        match healthy_status(alloc, self.key_id.as_str()) {
             Ok(status) => Ok(status),
             Err(NoMemory) => Err(KmsNo::NoMemory),
         }
     }
 
     fn wrap(&mut self, alloc: Global, plain: &[u8]) -> Result<Wrapped, KmsNo>
-        ensures answers { Answers self.old (IsWrappable (length plain.now))
+        ensures answers { AnswersByKeys self.old (IsWrappable (length plain.now))
             (IsWrapBy R.keys self.old plain.now) result self.new }
 
         // As the trait says.
-        ensures wraps { Wraps (truth_of R.keys) (link_of self.old) plain.now result
-            (link_of self.new) }
+        ensures wraps { Wraps (truth_of R.keys) (link_seen self.old) plain.now result
+            (link_seen self.new) }
         ensures asked { KeyLinkStep R.keys self.old
             (WrapCall self.old.name plain.now result) self.new }
     {
@@ -165,12 +167,12 @@ impl<R: Ring> Kms for KeyLink<R> {
         annotations: &Annotations,
         source: &[u8],
     ) -> Result<Bytes, KmsNo>
-        ensures answers { Answers self.old (IsSome (opened_by R.keys key_id.now source.now))
+        ensures answers { AnswersByKeys self.old (IsSome (opened_by R.keys key_id.now source.now))
             (λ bytes. opened_by R.keys key_id.now source.now ≡ Some bytes) result self.new }
 
         // As the trait says.
-        ensures unwraps { Unwraps (truth_of R.keys) (link_of self.old) key_id.now annotations.now
-            source.now result (link_of self.new) }
+        ensures unwraps { Unwraps (truth_of R.keys) (link_seen self.old) key_id.now annotations.now
+            source.now result (link_seen self.new) }
         ensures asked { KeyLinkStep R.keys self.old (UnwrapCall (asked_key self.old.name key_id.now
             annotations.now source.now) result) self.new }
     {
@@ -191,7 +193,7 @@ impl<R: Ring> Kms for KeyLink<R> {
 }
 
 /// The status of a healthy plugin with this key id.
-pub(crate) fn status_with(alloc: Global, key_id: &str) -> Result<Status, NoMemory>
+pub(crate) fn healthy_status(alloc: Global, key_id: &str) -> Result<Status, NoMemory>
     ensures { IfOk result (λ status. status ≡ status_of key_id.now) }
 {
     Ok(Status {
@@ -213,7 +215,7 @@ fn wrap_plain(
     ensures limits { IfOk result (λ wrapped. IsShort key_id.now → IsWithinLimits wrapped) }
 {
     Ok(Wrapped {
-        cipher: wrap_under(alloc, kek, plain)?,
+        cipher: wrap_by_key(alloc, kek, plain)?,
         key_id: Text::copy(alloc, key_id)?,
         annotations: Annotations::new(alloc),
     })
@@ -228,7 +230,7 @@ fn open<R: Ring>(ring: &R, key_id: &str, source: &[u8], room: &mut [u8; ROOM]) -
     let Some(kek) = ring.kek(key_id) else {
         return None;
     };
-    match unwrap_under(&kek, source, room) {
+    match unwrap_by_key(&kek, source, room) {
         Ok(size) => Some(size),
         Err(_) => None,
     }

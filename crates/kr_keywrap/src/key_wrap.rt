@@ -74,7 +74,7 @@ pub fn unwrap_key(
     out.copy_from_slice(&body[HALF..]);
     let mut inverse = [0; 60];
     kr_aes::invert(words, rounds, &mut inverse);
-    if unwrap_blocks(&inverse, rounds, number_of(&body[..HALF]), out) == INITIAL_VALUE {
+    if unwrap_blocks(&inverse, rounds, half_number(&body[..HALF]), out) == INITIAL_VALUE {
         Ok(())
     } else {
         out.fill(0);
@@ -136,7 +136,7 @@ fn wrap_step(words: &[u32; 60], rounds: Rounds, step: usize, a: u64, blocks: &mu
     let mut block = joined(a, &blocks[start..start + HALF]);
     kr_aes::encrypt_block(words, rounds, &mut block);
     blocks[start..start + HALF].copy_from_slice(&block[HALF..]);
-    number_of(&block[..HALF]) ^ (step as u64 + 1)
+    half_number(&block[..HALF]) ^ (step as u64 + 1)
 }
 
 /// One step of unwrapping, the last being step 0. The register is answered.
@@ -153,7 +153,7 @@ fn unwrap_step(inverse: &[u32; 60], rounds: Rounds, step: usize, a: u64, blocks:
     let mut block = joined(a ^ (step as u64 + 1), &blocks[start..start + HALF]);
     kr_aes::decrypt_block_by_inverse(inverse, rounds, &mut block);
     blocks[start..start + HALF].copy_from_slice(&block[HALF..]);
-    number_of(&block[..HALF])
+    half_number(&block[..HALF])
 }
 
 /// The register and half a block behind it.
@@ -170,7 +170,7 @@ fn joined(a: u64, half: &[u8]) -> [u8; 16]
 
 /// The number that half a block stands for, its first byte the highest.
 #[inline(always)]
-fn number_of(half: &[u8]) -> u64
+fn half_number(half: &[u8]) -> u64
     requires { length half.now ≡ 8 }
     ensures { result ≡ from_be_bytes w64 half.now }
 {

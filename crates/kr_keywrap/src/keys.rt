@@ -46,7 +46,7 @@ pub(crate) fn wrap_bytes(
 
 /// Unwraps a body under an expanded key to the front of the room, and answers how many bytes they
 /// are.
-pub(crate) fn unwrap_into(
+pub(crate) fn unwrap_by_words(
     words: &[u32; 60],
     rounds: Rounds,
     body: &[u8],
@@ -69,7 +69,7 @@ pub(crate) fn unwrap_into(
 }
 
 /// The wrap of plain bytes under a key.
-pub(crate) fn wrap_under(alloc: Global, kek: &[u8], plain: &[u8]) -> Result<Bytes, NoMemory>
+pub(crate) fn wrap_by_key(alloc: Global, kek: &[u8], plain: &[u8]) -> Result<Bytes, NoMemory>
     requires key { IsKeyLength (length kek.now) }
     requires wrappable { IsWrappable (length plain.now) }
     ensures wrapped { IfOk result (λ out. out ≡ wrapped_under kek.now plain.now) }
@@ -81,7 +81,7 @@ pub(crate) fn wrap_under(alloc: Global, kek: &[u8], plain: &[u8]) -> Result<Byte
 }
 
 /// Unwraps a body under a key to the front of the room, and answers how many bytes they are.
-pub(crate) fn unwrap_under(kek: &[u8], body: &[u8], room: &mut [u8; ROOM]) -> Result<usize, WrapNo>
+pub(crate) fn unwrap_by_key(kek: &[u8], body: &[u8], room: &mut [u8; ROOM]) -> Result<usize, WrapNo>
     requires { IsKeyLength (length kek.now) }
     ensures within { IfOk result (λ n. n ≤ 1016) }
     ensures unwrapped { MatchResult result
@@ -90,5 +90,5 @@ pub(crate) fn unwrap_under(kek: &[u8], body: &[u8], room: &mut [u8; ROOM]) -> Re
 {
     let mut words = [0; 60];
     let rounds = expand(kek, &mut words);
-    unwrap_into(&words, rounds, body, room)
+    unwrap_by_words(&words, rounds, body, room)
 }

@@ -65,7 +65,7 @@ impl Pending {
             (λ _. (self.new ≡ self.old) × Keeps (S.left source.old) (S.left source.new)) }
         ensures cause { IsCounted (S.count source.old) (S.count source.new) result }
     {
-        match read_behind(&mut self.bytes, self.filled, source) {
+        match read_more(&mut self.bytes, self.filled, source) {
             Ok(count) => {
                 self.filled += count;
                 Ok(count)
@@ -92,7 +92,7 @@ fn front(bytes: &[u8], count: usize) -> &[u8]
 }
 
 /// Reads behind the bytes that are filled, and answers how many were read.
-fn read_behind<S: Source>(bytes: &mut [u8], filled: usize, source: &mut S) -> Result<usize, Failed>
+fn read_more<S: Source>(bytes: &mut [u8], filled: usize, source: &mut S) -> Result<usize, Failed>
     requires { filled < length bytes.old }
     ensures bytes { MatchResult result
         (λ count. (filled + count ≤ length bytes.old)

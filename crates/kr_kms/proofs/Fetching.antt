@@ -6,7 +6,7 @@ use Rattle.std.specs.Option.{option_map_or}
 use Rattle.lru.specs.LruCache.{LruCache, lru_cache, put_entries}
 use Rattle.lru.proofs.CallerLemmas.{Contains-lookup, Contains-put_entries}
 use Rattle.kr_kms.specs.Cache.{CacheState, Fetches, AreOpen, GivesSeed, KeepsAnswer, key_eq, seed_at}
-use Rattle.kr_kms.specs.Calls.{Link, Asks, IsSameLink, Unwraps, asked_key}
+use Rattle.kr_kms.specs.Calls.{Link, AsksLink, IsSameLink, Unwraps, asked_key}
 use Rattle.kr_kms.specs.Truth.{Truth, TellsOf}
 use Rattle.kr_kms.specs.declared.plugin.KmsNo.{KmsNo}
 use Rattle.kr_kms.specs.declared.plugin.KmsNo.TheVariants.{Failed, NoMemory}
@@ -102,7 +102,7 @@ module _ {L : Type 0} (truth : Truth) (link : L → Link) where
   copy_opens rows key seed (Err why) found gives known = tt
 
   copy_asks : (old : L) (seed : List ℕ) (copy : Result (List ℕ) KmsNo) → GivesSeed seed copy
-      → Asks (link old) copy (link old)
+      → AsksLink (link old) copy (link old)
   copy_asks old seed (Ok bytes) gives = record { same = same_link old; failed = λ e. cc }
   copy_asks old seed (Err Failed) gives = absurd gives
   copy_asks old seed (Err NoMemory) gives = record { same = same_link old; failed = λ e. cc }

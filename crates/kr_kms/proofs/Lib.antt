@@ -1,6 +1,7 @@
 -- Lemmas of this crate.
 pub mod Drawn
 pub mod Fetching
+pub mod KeptSeeds
 pub mod Keys
 pub mod Lent
 pub mod Linked

@@ -3,16 +3,16 @@ use Rattle.std.proofs.Common.{◌≡◌, ℕ, List, [], ◌∷◌, ◌++◌, Boo
 use Rattle.std.specs.Prelude.{count_by, IfOk, IfErr}
 use Rattle.kr_base.specs.Faults.{counted}
 use Rattle.kr_base.specs.InMemory.{TapeState, faults_of}
-use Rattle.kr_kms.specs.MemWorld.{TapeShelf, first_tape, place_of, objects_by, name_of, new_tape, GivesTape}
+use Rattle.kr_kms.specs.MemWorld.{TapeShelf, first_tape, place_of, objects_by, tape_name, new_tape, GivesTape}
 use Rattle.kr_kms.specs.Outside.{HandsOut, IsTape, has_failed, same_name}
 use Rattle.kr_kms.specs.declared.world.FileNo.{FileNo}
 use Rattle.kr_kms.specs.declared.world.FileNo.TheVariants.{NoMemory}
 use Rattle.kr_kms.proofs.Lent.{made, names_decide, no_place}
 
 module _ (old new : TapeShelf) (name : List ℕ) (make : Bool) (room faults : ℕ)
-    (place : place_of same_name name_of old.items name ≡ None) where
+    (place : place_of same_name tape_name old.items name ≡ None) where
   none_here : first_tape old.items name ≡ None
-  none_here = no_place (λ entry. same_name (name_of entry) name) old.items place
+  none_here = no_place (λ entry. same_name (tape_name entry) name) old.items place
 
   pub made_gives : (result : Result TapeState FileNo)
       → count_by (λ other. same_name other name) old.out ≡ 0 → make ≡ true
@@ -30,17 +30,17 @@ module _ (old new : TapeShelf) (name : List ℕ) (make : Bool) (room faults : �
       → IfOk result (λ tape. tape ≡ new_tape room)
       → IfOk result (λ tape. new ≡ record { items = old.items; out = old.out ++ name ∷ [] })
       → IfOk result (λ tape. HandsOut same_name
-      (objects_by same_name name_of (λ first. Some (option_map (λ entry. entry.1.bytes) first))
+      (objects_by same_name tape_name (λ first. Some (option_map (λ entry. entry.1.bytes) first))
       (λ entry. faults_of entry.1) old)
-      (objects_by same_name name_of (λ first. Some (option_map (λ entry. entry.1.bytes) first))
+      (objects_by same_name tape_name (λ first. Some (option_map (λ entry. entry.1.bytes) first))
       (λ entry. faults_of entry.1) new) name (faults_of tape))
   made_out (Ok tape) is gone =
       subst (λ t. HandsOut same_name
-      (objects_by same_name name_of (λ first. Some (option_map (λ entry. entry.1.bytes) first))
+      (objects_by same_name tape_name (λ first. Some (option_map (λ entry. entry.1.bytes) first))
       (λ entry. faults_of entry.1) old)
-      (objects_by same_name name_of (λ first. Some (option_map (λ entry. entry.1.bytes) first))
+      (objects_by same_name tape_name (λ first. Some (option_map (λ entry. entry.1.bytes) first))
       (λ entry. faults_of entry.1) new) name (faults_of t)) (sym is)
-      (made same_name name_of (λ first. Some (option_map (λ entry. entry.1.bytes) first))
+      (made same_name tape_name (λ first. Some (option_map (λ entry. entry.1.bytes) first))
       (λ entry. faults_of entry.1) names_decide old new name place gone)
   made_out (Err why) is gone = tt
 

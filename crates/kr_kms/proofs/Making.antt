@@ -3,7 +3,7 @@ use Rattle.std.proofs.Common.{◌≡◌, ℕ, List, [], ◌∷◌, ◌++◌, Opt
 use Rattle.kr_base.specs.Walks.{Talk}
 use Rattle.kr_base.proofs.Walks.{talk_so, talk_then}
 use Rattle.kr_kms.specs.Exchanges.{Exchange, StatusCall}
-use Rattle.kr_kms.specs.Health.{TellsKeyIdBy, no_status as none_told, judged, IsJudged, seed_no}
+use Rattle.kr_kms.specs.Health.{TellsKeyIdBy, no_status as none_told, judged, IsStatusJudged, seed_no}
 use Rattle.kr_kms.specs.Seeds.{MakesSeedBy, Draws, no_status, unhealthy, no_memory, dice_failed, not_wrapped, made}
 use Rattle.kr_kms.specs.declared.plugin.KmsNo.{KmsNo}
 use Rattle.kr_kms.specs.declared.seeds.SeedRow.{SeedRow}
@@ -26,7 +26,7 @@ module _ {D : Type 0} (left : D → Option (List ℕ)) (count : D → ℕ) (name
   not_told why _ (none_told cause is) = let same : why ≡ seed_no cause = cc in no_status cause (ap Err same) refl
   not_told why _ (judged status is) = by why is
     where
-      by : (why : SeedNo) → IsJudged status (Err why) → Makes (Err why) dice (StatusCall name (Ok status) ∷ [])
+      by : (why : SeedNo) → IsStatusJudged status (Err why) → Makes (Err why) dice (StatusCall name (Ok status) ∷ [])
       by Failed is = absurd is
       by DiceFailed is = absurd is
       by (Unhealthy field text) is = unhealthy status field text is refl refl

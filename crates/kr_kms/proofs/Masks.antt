@@ -6,7 +6,7 @@ use Rattle.kr_kms.specs.Calls.{key_in, Wraps}
 use Rattle.kr_base.specs.InMemory.{after_call}
 use Rattle.kr_base.specs.Limits.{IsShort}
 use Rattle.kr_kms.specs.Limits.{IsWithinLimits}
-use Rattle.kr_kms.specs.Table.{Table, xor_of, mask_of, salt_pair, wrapped_by, table_truth, link_of}
+use Rattle.kr_kms.specs.Table.{Table, xor_of, annotations_mask, salt_pair, wrapped_by_table, table_truth, link_of}
 use Rattle.kr_kms.specs.declared.plugin.Wrapped.{Wrapped}
 
 pub xor_twice : (mask : ℕ) (bytes : List ℕ) → xor_of mask (xor_of mask bytes) ≡ bytes
@@ -16,16 +16,16 @@ xor_twice mask (byte ∷ bytes) =
     ap (λ b. b ∷ xor_of mask (xor_of mask bytes)) off ∙ ap (λ l. byte ∷ l) (xor_twice mask bytes)
 
 abbrev current_mask : Table → ℕ
-current_mask table = mask_of table.key_id (salt_pair table.salt)
+current_mask table = annotations_mask table.key_id (salt_pair table.salt)
 
 -- what the plugin wrapped opens to the plain bytes
 pub opens_wrapped : (name : List ℕ) (table : Table) (plain : List ℕ)
-    → table_truth.opens (key_in name (wrapped_by table plain)) ≡ Some plain
+    → table_truth.opens (key_in name (wrapped_by_table table plain)) ≡ Some plain
 opens_wrapped name table plain = ap Some (xor_twice (current_mask table) plain)
 
 -- it is within the limits where the plain bytes and the key id are
 pub within : (table : Table) (plain : List ℕ) → IsShort plain → IsShort table.key_id
-    → IsWithinLimits (wrapped_by table plain)
+    → IsWithinLimits (wrapped_by_table table plain)
 within table plain p k = record {
   key_id = k;
   source = subst (λ n. (1 ≤ n) × (n ≤ 1024))
@@ -33,7 +33,7 @@ within table plain p k = record {
   annotations = (omega arith, omega arith);
 }
 
-pub within_back : (table : Table) (plain : List ℕ) → IsWithinLimits (wrapped_by table plain)
+pub within_back : (table : Table) (plain : List ℕ) → IsWithinLimits (wrapped_by_table table plain)
     → IsShort plain × IsShort table.key_id
 within_back table plain w = (
   subst (λ n. (1 ≤ n) × (n ≤ 1024))
@@ -43,14 +43,14 @@ within_back table plain w = (
 
 -- an answer that it gave is as a link's must be
 pub wraps : (old new : Table) (plain : List ℕ) (wrapped : Wrapped)
-    → IsWithinLimits (wrapped_by old plain) → new ≡ record old { calls = after_call old.calls }
-    → wrapped ≡ wrapped_by new plain
+    → IsWithinLimits (wrapped_by_table old plain) → new ≡ record old { calls = after_call old.calls }
+    → wrapped ≡ wrapped_by_table new plain
     → Wraps table_truth (link_of old) plain (Ok wrapped) (link_of new)
 wraps old new plain wrapped limits after is =
     subst (λ t. Wraps table_truth (link_of old) plain (Ok wrapped) (link_of t)) (sym after)
     (subst (λ w. Wraps table_truth (link_of old) plain (Ok w)
     (link_of (record old { calls = after_call old.calls })))
-    (sym (is ∙ ap (λ t. wrapped_by t plain) after)) (
+    (sym (is ∙ ap (λ t. wrapped_by_table t plain) after)) (
       record {
         same = record { name = refl; status = refl; later = omega arith };
         failed = λ e. cc;

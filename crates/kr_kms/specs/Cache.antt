@@ -4,7 +4,7 @@ use Rattle.std.specs.Map.{lookup}
 use Rattle.std.specs.Str.{bytes_eq}
 use Rattle.lru.specs.LruCache.{promoted}
 use Rattle.kr_base.specs.Pairs.{pairs_eq}
-use Rattle.kr_kms.specs.Calls.{Link, Asks, Unwraps}
+use Rattle.kr_kms.specs.Calls.{Link, AsksLink, Unwraps}
 use Rattle.kr_kms.specs.Exchanges.{Exchange, UnwrapCall}
 use Rattle.kr_kms.specs.Truth.{Opens, Truth, TellsOf}
 use Rattle.kr_kms.specs.declared.plugin.KmsNo.{KmsNo}
@@ -45,7 +45,7 @@ pub record Fetches {L : Type 0} (truth : Truth) (link : L → Link) (old : L) (c
   -- where none is kept, the link unwraps the source, as far as there is memory for the question
   pub asked : seed_at cache.rows key ≡ None
       → Unwraps truth (link old) key.key_id key.annotations key.source result (link new)
-  pub asks : Asks (link old) result (link new)
+  pub asks : AsksLink (link old) result (link new)
   pub opens : AreOpen truth cache.rows → IfOk result (λ seed. TellsOf truth key seed)
   -- what is kept was kept before, or is this answer under this key
   pub rows : (other : SeedKey) (seed : List ℕ) → Contains after.rows (other, seed)

@@ -24,13 +24,13 @@ pub record IsSameLink (old new : Link) : Type 0 where
   pub later : old.count ≤ new.count
 
 -- the link is the same after a call, and the count rose where the call failed
-pub record Asks {T : Type 0} (old : Link) (result : Result T KmsNo) (new : Link) : Type 0 where
+pub record AsksLink {T : Type 0} (old : Link) (result : Result T KmsNo) (new : Link) : Type 0 where
   pub same : IsSameLink old new
   pub failed : IsErrOf result Failed → Rose old.count new.count
 
 -- the status is the told one
 abbrev pub Says : Link → Result Status KmsNo → Link → Type 0
-Says old result new = Asks old result new × IfOk result (λ status. Agrees old.status status)
+Says old result new = AsksLink old result new × IfOk result (λ status. Agrees old.status status)
 
 -- what names the seed that was wrapped
 abbrev pub key_in : List ℕ → Wrapped → SeedKey
@@ -43,7 +43,7 @@ key_in name wrapped = record {
 
 -- what was wrapped opens to the plain bytes, and is within the limits
 abbrev pub Wraps : Truth → Link → List ℕ → Result Wrapped KmsNo → Link → Type 0
-Wraps truth old plain result new = Asks old result new × IfOk result
+Wraps truth old plain result new = AsksLink old result new × IfOk result
     (λ wrapped. TellsOf truth (key_in old.name wrapped) plain × IsWithinLimits wrapped)
 
 -- what names the seed that is asked for
@@ -57,5 +57,5 @@ asked_key name key_id annotations source = record {
 
 -- the bytes are those that the source opens to
 abbrev pub Unwraps : Truth → Link → List ℕ → Pairs → List ℕ → Result (List ℕ) KmsNo → Link → Type 0
-Unwraps truth old key_id annotations source result new = Asks old result new × IfOk result
+Unwraps truth old key_id annotations source result new = AsksLink old result new × IfOk result
     (λ bytes. TellsOf truth (asked_key old.name key_id annotations source) bytes)

@@ -1,9 +1,11 @@
 -- Exchanges with plugins: each is one call on a plugin, with its answer. What plugins are supposed
 -- to do is said of them.
-use Rattle.std.specs.Prelude.{◌≡◌, ℕ, ⊤, Bool, true, false, List, [], ◌∷◌, Some, Result, Ok, Err}
+use Rattle.std.specs.Prelude.{◌≡◌, ℕ, ⊤, Bool, true, false, List, [], ◌∷◌, Option, Some, Result, Ok, Err}
 use Rattle.kr_base.specs.Faults.{counted}
+use Rattle.kr_base.specs.Told.{Agrees}
 use Rattle.kr_kms.specs.Calls.{Link, key_in}
-use Rattle.kr_kms.specs.Truth.{Opens}
+use Rattle.kr_kms.specs.Limits.{IsWithinLimits}
+use Rattle.kr_kms.specs.Truth.{Opens, Truth, TellsOf}
 use Rattle.kr_kms.specs.declared.plugin.Status.{Status}
 use Rattle.kr_kms.specs.declared.plugin.Wrapped.{Wrapped}
 use Rattle.kr_kms.specs.declared.plugin.KmsNo.{KmsNo}
@@ -50,12 +52,24 @@ is_fault (StatusCall name answer) = has_failed answer
 is_fault (WrapCall name plain answer) = has_failed answer
 is_fault (UnwrapCall key answer) = has_failed answer
 
--- the link asked its own plugin; its name and the status that it tells stay, and a fault counts once
+-- the link asked its own plugin; its name and the status that it tells stay, and a fault counts
+-- once
 pub record KeepsLink (old : Link) (exchange : Exchange) (new : Link) : Type 0 where
   pub own : asked_name exchange ≡ old.name
   pub named : new.name ≡ old.name
   pub tells : new.status ≡ old.status
   pub counts : new.count ≡ counted (is_fault exchange) old.count
+
+-- a status is the one that the link tells; what was wrapped is within the limits, and opens to the
+-- plain bytes; what was unwrapped is what the source opens to; all this where it is told
+abbrev pub TellsAnswer : Truth → (status : Option Status) → Exchange → Type 0
+TellsAnswer truth status (StatusCall name (Ok answer)) = Agrees status answer
+TellsAnswer truth status (StatusCall name (Err why)) = ⊤
+TellsAnswer truth status (WrapCall name plain (Ok wrapped)) =
+    TellsOf truth (key_in name wrapped) plain × IsWithinLimits wrapped
+TellsAnswer truth status (WrapCall name plain (Err why)) = ⊤
+TellsAnswer truth status (UnwrapCall key (Ok bytes)) = TellsOf truth key bytes
+TellsAnswer truth status (UnwrapCall key (Err why)) = ⊤
 
 -- a link's count of faults behind these exchanges
 abbrev pub counted_all : List Exchange → ℕ → ℕ

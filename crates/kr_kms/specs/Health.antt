@@ -45,16 +45,17 @@ seed_no link.Failed = Failed
 seed_no link.NoMemory = NoMemory
 
 -- the key id of a status that breaks no rule, and else the first rule that it breaks
-abbrev pub IsJudged : Status → Result (List ℕ) SeedNo → Type 0
-IsJudged status (Ok key_id) = (breach_in status ≡ None) × (status.key_id ≡ key_id)
-IsJudged status (Err (Unhealthy field text)) = breach_in status ≡ Some (field, text)
-IsJudged status (Err Failed) = ⊥
-IsJudged status (Err DiceFailed) = ⊥
-IsJudged status (Err NoMemory) = ⊥
+abbrev pub IsStatusJudged : Status → Result (List ℕ) SeedNo → Type 0
+IsStatusJudged status (Ok key_id) = (breach_in status ≡ None) × (status.key_id ≡ key_id)
+IsStatusJudged status (Err (Unhealthy field text)) = breach_in status ≡ Some (field, text)
+IsStatusJudged status (Err Failed) = ⊥
+IsStatusJudged status (Err DiceFailed) = ⊥
+IsStatusJudged status (Err NoMemory) = ⊥
 
 -- the status was asked once, and its answer decides
-pub data TellsKeyIdBy (name : List ℕ) (result : Result (List ℕ) SeedNo) : List Exchange → Type 0 where
+pub data TellsKeyIdBy (name : List ℕ) (result : Result (List ℕ) SeedNo) : List Exchange
+    → Type 0 where
   no_status : (why : KmsNo) → result ≡ Err (seed_no why)
       → TellsKeyIdBy name result (StatusCall name (Err why) ∷ [])
-  judged : (status : Status) → IsJudged status result
+  judged : (status : Status) → IsStatusJudged status result
       → TellsKeyIdBy name result (StatusCall name (Ok status) ∷ [])

@@ -18,8 +18,8 @@ KeysAreToldApart = ((seat other : ℕ) → Decides (same_seat seat other) (seat 
     × ((name other : List ℕ) → Decides (same_name name other) (name ≡ other))
     × ((link other : ℕ × List ℕ) → Decides (same_link link other) (link ≡ other))
 
--- by whatever agrees with what was asked, a cache whose seeds are what their keys open to stays one,
--- and what is fetched through it is what its key opens to
+-- by whatever agrees with what was asked, a cache whose seeds are what their keys open to stays
+-- one, and what is fetched through it is what its key opens to
 abbrev pub FetchedSeedsOpen : Type 0
 FetchedSeedsOpen = (opens : Opens) (key : SeedKey) (cache : CacheState)
     (result : Result (List ℕ) KmsNo) (after : CacheState) (exchanges : List Exchange)

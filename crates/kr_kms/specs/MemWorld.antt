@@ -24,9 +24,9 @@ pub record ShelfState (K T : Type 0) : Type 0 where
   pub out : List K
 
 -- the first object of the key, its place, and the others without it
-abbrev pub first_of : {K T : Type 0} → (same : K → K → Bool) (key_of : T → K) → List T → K
+abbrev pub first_object : {K T : Type 0} → (same : K → K → Bool) (key_of : T → K) → List T → K
     → Option T
-first_of same key_of items key = find (λ item. same (key_of item) key) items
+first_object same key_of items key = find (λ item. same (key_of item) key) items
 
 abbrev pub place_of : {K T : Type 0} → (same : K → K → Bool) (key_of : T → K) → List T → K
     → Option ℕ
@@ -41,8 +41,8 @@ without_first same key_of items key =
 abbrev pub objects_by : {K T V : Type 0} → (same : K → K → Bool) (key_of : T → K)
     (told : Option T → V) (count : T → ℕ) → ShelfState K T → Objects K V
 objects_by same key_of told count shelf = record {
-  told = λ key. told (first_of same key_of shelf.items key);
-  faults = λ key. option_map_or count (first_of same key_of shelf.items key) 0;
+  told = λ key. told (first_object same key_of shelf.items key);
+  faults = λ key. option_map_or count (first_object same key_of shelf.items key) 0;
   out = λ key. count_by (λ other. same other key) shelf.out;
 }
 
@@ -57,25 +57,25 @@ TapeShelf = ShelfState (List ℕ) (List ℕ × TapeState)
 abbrev pub LinkShelf : Type 0 → Type 0
 LinkShelf L = ShelfState (ℕ × List ℕ) (ℕ × L)
 
-abbrev pub seat_of : ℕ × InputState → ℕ
-seat_of entry = entry.0
+abbrev pub dice_seat : ℕ × InputState → ℕ
+dice_seat entry = entry.0
 
-abbrev pub name_of : List ℕ × TapeState → List ℕ
-name_of entry = entry.0
+abbrev pub tape_name : List ℕ × TapeState → List ℕ
+tape_name entry = entry.0
 
 -- a link's plugin is its own name
 abbrev pub link_key : {L : Type 0} → (L → Link) → ℕ × L → ℕ × List ℕ
 link_key link entry = (entry.0, (link entry.1).name)
 
 abbrev pub first_dice : List (ℕ × InputState) → ℕ → Option (ℕ × InputState)
-first_dice items seat = first_of same_seat seat_of items seat
+first_dice items seat = first_object same_seat dice_seat items seat
 
 abbrev pub first_tape : List (List ℕ × TapeState) → List ℕ → Option (List ℕ × TapeState)
-first_tape items name = first_of same_name name_of items name
+first_tape items name = first_object same_name tape_name items name
 
 abbrev pub first_link : {L : Type 0} → (L → Link) → List (ℕ × L) → (seat : ℕ) (plugin : List ℕ)
     → Option (ℕ × L)
-first_link link items seat plugin = first_of same_link (link_key link) items (seat, plugin)
+first_link link items seat plugin = first_object same_link (link_key link) items (seat, plugin)
 
 -- no load fails; it doesn't tell what it was asked for
 abbrev pub told_by : {L : Type 0} → (link : L → Link) (files : List (List ℕ × List ℕ))
@@ -84,9 +84,9 @@ told_by link files tapes dice links faults = record {
   file = λ name. Some (file_of files name);
   asked = None;
   faults = faults;
-  dice = objects_by same_seat seat_of (option_map (λ entry. entry.1.bytes))
+  dice = objects_by same_seat dice_seat (option_map (λ entry. entry.1.bytes))
       (λ entry. entry.1.calls.faults) dice;
-  tapes = objects_by same_name name_of (λ first. Some (option_map (λ entry. entry.1.bytes) first))
+  tapes = objects_by same_name tape_name (λ first. Some (option_map (λ entry. entry.1.bytes) first))
       (λ entry. faults_of entry.1) tapes;
   links = objects_by same_link (link_key link)
       (option_and_then (λ entry. (link entry.1).status)) (λ entry. (link entry.1).count) links;

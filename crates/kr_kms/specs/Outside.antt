@@ -62,14 +62,14 @@ pub record KeepsObjects (old new : Outside) : Type 0 where
   pub links : new.links ≡ old.links
 
 -- a file within the limit was given, or why not
-abbrev pub Loads : Outside → Outside → List ℕ → ℕ → Result (List ℕ) FileNo → Type 0
-Loads old new name limit (Ok bytes) =
+abbrev pub FetchesFile : Outside → Outside → List ℕ → ℕ → Result (List ℕ) FileNo → Type 0
+FetchesFile old new name limit (Ok bytes) =
     Agrees (old.file name) (Some bytes) × (length bytes ≤ limit)
-Loads old new name limit (Err Absent) = Agrees (old.file name) None
-Loads old new name limit (Err TooLong) =
+FetchesFile old new name limit (Err Absent) = Agrees (old.file name) None
+FetchesFile old new name limit (Err TooLong) =
     (bytes : List ℕ) × (limit < length bytes) × Agrees (old.file name) (Some bytes)
-Loads old new name limit (Err Failed) = Rose old.faults.loads new.faults.loads
-Loads old new name limit (Err NoMemory) = ⊤
+FetchesFile old new name limit (Err Failed) = Rose old.faults.loads new.faults.loads
+FetchesFile old new name limit (Err NoMemory) = ⊤
 
 -- whether a call failed: the count of its kind is one higher then, and else as before
 abbrev pub has_failed : {T : Type 0} → Result T FileNo → Bool
@@ -86,10 +86,10 @@ abbrev pub with_call : WorldCall → Option (List WorldCall) → Option (List Wo
 with_call call asked = option_map (λ calls. calls ++ call ∷ []) asked
 
 -- the call was made, and no other; where there was no memory, perhaps not even this
-abbrev pub Notes : {T : Type 0} → Outside → Outside → WorldCall → Result T FileNo → Type 0
-Notes old new call (Err NoMemory) =
+abbrev pub NotesCall : {T : Type 0} → Outside → Outside → WorldCall → Result T FileNo → Type 0
+NotesCall old new call (Err NoMemory) =
     (new.asked ≡ old.asked) ⊎ (new.asked ≡ with_call call old.asked)
-Notes old new call result = new.asked ≡ with_call call old.asked
+NotesCall old new call result = new.asked ≡ with_call call old.asked
 
 -- ---- objects that are lent
 

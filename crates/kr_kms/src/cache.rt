@@ -65,7 +65,7 @@ impl SeedCache {
         let Ok(key) = SeedKey::new(alloc, link.name(), key_id, annotations, source) else {
             return Err(KmsNo::NoMemory);
         };
-        if let Some(kept) = self.copy_of(alloc, &key) {
+        if let Some(kept) = self.copy_kept_seed(alloc, &key) {
             drop(key);
             return kept;
         }
@@ -82,7 +82,7 @@ impl SeedCache {
     }
 
     /// A copy of the seed that is kept under the key.
-    fn copy_of(&mut self, alloc: Global, key: &SeedKey) -> Option<Result<Bytes, KmsNo>>
+    fn copy_kept_seed(&mut self, alloc: Global, key: &SeedKey) -> Option<Result<Bytes, KmsNo>>
         ensures found { IsCopyAt self.old.rows key.now result }
         ensures none { IfNone result (self.new ≡ self.old) }
         ensures used { IsUsed self.old key.now result self.new }

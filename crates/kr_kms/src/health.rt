@@ -2,7 +2,7 @@
 ghost use Rattle.std.specs.Prelude.{◌≡◌};
 ghost use Rattle.kr_kms.specs.Calls.{IsSameLink};
 ghost use Rattle.kr_base.specs.Walks.{Talk};
-ghost use Rattle.kr_kms.specs.Health.{TellsKeyId, TellsKeyIdBy, IsJudged};
+ghost use Rattle.kr_kms.specs.Health.{TellsKeyId, TellsKeyIdBy, IsStatusJudged};
 
 use crate::plugin::{Kms, KmsNo, Status};
 use kr_base::{Text, is_short};
@@ -34,7 +34,7 @@ pub enum SeedNo {
 
 /// The id of the key that a healthy plugin wraps with, by its status. It never answers
 /// `DiceFailed`.
-pub fn key_id_of<L: Kms>(alloc: Global, link: &mut L) -> Result<Text, SeedNo>
+pub fn healthy_key_id<L: Kms>(alloc: Global, link: &mut L) -> Result<Text, SeedNo>
     ensures same { IsSameLink (L.link link.old) (L.link link.new) }
     ensures told { TellsKeyId (L.link link.old) result (L.link link.new) }
     ensures asked { Talk L.step link.old link.new (TellsKeyIdBy (L.link link.old).name result) }
@@ -48,7 +48,7 @@ pub fn key_id_of<L: Kms>(alloc: Global, link: &mut L) -> Result<Text, SeedNo>
 
 /// The key id of a status, or the first rule that the status breaks.
 fn judge(status: Status) -> Result<Text, SeedNo>
-    ensures { IsJudged status result }
+    ensures { IsStatusJudged status result }
 {
     let Status {
         version,

@@ -16,7 +16,7 @@ mod world;
 
 pub use cache::SeedCache;
 pub use file_faults::FileFaults;
-pub use health::{Field, SeedNo, key_id_of};
+pub use health::{Field, SeedNo, healthy_key_id};
 pub use laws::{fetched_seeds_open, keys_are_told_apart, made_seeds_open, tables_agree};
 pub use mem_world::MemWorld;
 pub use plugin::{Kms, KmsNo, Status, Wrapped, is_within_limits};

@@ -1,14 +1,14 @@
 //! A world in memory, for tests.
 ghost use Rattle.std.specs.Prelude.{◌≡◌, [], ◌∷◌, ◌++◌, ◌<◌, ◌==◌, ◌&&◌, length, position, count_by};
-ghost use Rattle.std.specs.Prelude.{is_ok, if◌then◌else◌, Some, IfOk, IfErr, IfSome, OnErr, IsErrOf};
+ghost use Rattle.std.specs.Prelude.{⊤, is_ok, if◌then◌else◌, Some, IfOk, IfErr, IfSome, OnErr, IsErrOf};
 ghost use Rattle.std.specs.Option.{option_copied, option_map};
 ghost use Rattle.std.specs.Str.{bytes_eq};
 ghost use Rattle.kr_base.specs.Faults.{Rose, counted};
 ghost use Rattle.kr_base.specs.InMemory.{faults_of};
-ghost use Rattle.kr_kms.specs.Outside.{Loads, Notes, KeepsFiles, KeepsObjects, HandsOut, TakesBack};
+ghost use Rattle.kr_kms.specs.Outside.{FetchesFile, NotesCall, KeepsFiles, KeepsObjects, HandsOut, TakesBack};
 ghost use Rattle.kr_kms.specs.Outside.{same_seat, same_name, same_link, with_call};
 ghost use Rattle.kr_kms.specs.Outside.{IsFaultOrMemory, IsTape, RefusesTape, has_failed, link_at, makes};
-ghost use Rattle.kr_kms.specs.MemWorld.{file_of, seat_of, name_of, link_key, without_first};
+ghost use Rattle.kr_kms.specs.MemWorld.{file_of, dice_seat, tape_name, link_key, without_first};
 ghost use Rattle.kr_kms.specs.MemWorld.{first_dice, first_tape, first_link, new_tape, told_by};
 ghost use Rattle.kr_kms.specs.MemWorld.{GivesFile, GivesFirst, GivesTape};
 
@@ -65,7 +65,7 @@ impl<L: Kms + Send> MemWorld<L> {
     }
 
     /// Lends the tape of the name, if it is there.
-    pub fn tape_of(&self, name: &str) -> Option<&MemTape>
+    pub fn named_tape(&self, name: &str) -> Option<&MemTape>
         ensures { option_copied result
             ≡ option_map (λ entry. entry.1) (first_tape self.now.tapes.items name.now) }
     {
@@ -73,7 +73,7 @@ impl<L: Kms + Send> MemWorld<L> {
     }
 
     /// Lends the random source of the seat, if it is there.
-    pub fn dice_of(&self, seat: u32) -> Option<&MemDice>
+    pub fn seat_dice(&self, seat: u32) -> Option<&MemDice>
         ensures { option_copied result
             ≡ option_map (λ entry. entry.1) (first_dice self.now.dice.items seat) }
     {
@@ -81,7 +81,7 @@ impl<L: Kms + Send> MemWorld<L> {
     }
 
     /// Lends the link of the seat to the plugin, if it is there.
-    pub fn link_of(&self, seat: u32, plugin: &str) -> Option<&L>
+    pub fn seat_link(&self, seat: u32, plugin: &str) -> Option<&L>
         ensures { option_copied result
             ≡ option_map (λ entry. entry.1)
             (first_link L.link self.now.links.items seat plugin.now) }
@@ -100,6 +100,11 @@ impl<L: Kms + Send> World for MemWorld<L> {
     ghost told = { λ world. told_by L.link world.files.items world.tapes world.dice world.links
         world.faults };
 
+    // No more is said of its links than that they were handed out and came back.
+    ghost lent = { λ seat link. ⊤ };
+
+    ghost took = { λ seat link. ⊤ };
+
     fn faults(&self) -> u64 {
         self.faults.total()
     }
@@ -109,11 +114,11 @@ impl<L: Kms + Send> World for MemWorld<L> {
         ensures same { self.new ≡ self.old }
 
         // As the trait says.
-        ensures file { Loads (⟦<MemWorld<L> as World>⟧.told self.old)
+        ensures file { FetchesFile (⟦<MemWorld<L> as World>⟧.told self.old)
             (⟦<MemWorld<L> as World>⟧.told self.new) name.now limit result }
         ensures once { (⟦<MemWorld<L> as World>⟧.told self.new).faults.loads
             ≡ counted (has_failed result) (⟦<MemWorld<L> as World>⟧.told self.old).faults.loads }
-        ensures asked { Notes (⟦<MemWorld<L> as World>⟧.told self.old)
+        ensures asked { NotesCall (⟦<MemWorld<L> as World>⟧.told self.old)
             (⟦<MemWorld<L> as World>⟧.told self.new) (WorldCall.File name.now) result }
         ensures kind { (⟦<MemWorld<L> as World>⟧.told self.new).faults ≡ record
             (⟦<MemWorld<L> as World>⟧.told self.old).faults {
@@ -140,10 +145,11 @@ impl<L: Kms + Send> World for MemWorld<L> {
     fn tape(&mut self, alloc: Global, name: &str, access: Access) -> Result<MemTape, FileNo>
         ensures gives { GivesTape
             (option_map (λ entry. entry.1) (first_tape self.old.tapes.items name.now))
-            (count_by (λ other. bytes_eq other name.now) self.old.tapes.out) (makes access) self.old.room
+            (count_by (λ other. bytes_eq other name.now) self.old.tapes.out) (makes access)
+            self.old.room
             self.old.faults.tapes result self.new.faults.tapes }
         ensures gone { self.new.tapes.items ≡ (if is_ok result
-            then without_first same_name name_of self.old.tapes.items name.now
+            then without_first same_name tape_name self.old.tapes.items name.now
             else self.old.tapes.items) }
         ensures others { (self.new.files ≡ self.old.files) × (self.new.dice ≡ self.old.dice)
             × (self.new.links ≡ self.old.links) × (self.new.room ≡ self.old.room) }
@@ -168,7 +174,7 @@ impl<L: Kms + Send> World for MemWorld<L> {
             (⟦<MemWorld<L> as World>⟧.told self.new).faults.tapes }
         ensures once { (⟦<MemWorld<L> as World>⟧.told self.new).faults.tapes
             ≡ counted (has_failed result) (⟦<MemWorld<L> as World>⟧.told self.old).faults.tapes }
-        ensures asked { Notes (⟦<MemWorld<L> as World>⟧.told self.old)
+        ensures asked { NotesCall (⟦<MemWorld<L> as World>⟧.told self.old)
             (⟦<MemWorld<L> as World>⟧.told self.new) (WorldCall.Tape name.now access) result }
         ensures kind { (⟦<MemWorld<L> as World>⟧.told self.new).faults ≡ record
             (⟦<MemWorld<L> as World>⟧.told self.old).faults {
@@ -182,7 +188,7 @@ impl<L: Kms + Send> World for MemWorld<L> {
         ensures links { (⟦<MemWorld<L> as World>⟧.told self.new).links ≡
             (⟦<MemWorld<L> as World>⟧.told self.old).links }
     {
-        if name_place(self.tapes.out(), name).is_some() {
+        if name_place(self.tapes.taken_keys(), name).is_some() {
             self.faults.tapes.rise();
             return Err(FileNo::Failed);
         }
@@ -206,7 +212,7 @@ impl<L: Kms + Send> World for MemWorld<L> {
             (option_map (λ entry. entry.1) (first_dice self.old.dice.items seat))
             self.old.faults.dice result self.new.faults.dice }
         ensures gone { self.new.dice.items ≡ (if is_ok result
-            then without_first same_seat seat_of self.old.dice.items seat
+            then without_first same_seat dice_seat self.old.dice.items seat
             else self.old.dice.items) }
         ensures others { (self.new.files ≡ self.old.files) × (self.new.tapes ≡ self.old.tapes)
             × (self.new.links ≡ self.old.links) × (self.new.room ≡ self.old.room) }
@@ -226,7 +232,7 @@ impl<L: Kms + Send> World for MemWorld<L> {
             (⟦<MemWorld<L> as World>⟧.told self.new).faults.dice }
         ensures once { (⟦<MemWorld<L> as World>⟧.told self.new).faults.dice
             ≡ counted (has_failed result) (⟦<MemWorld<L> as World>⟧.told self.old).faults.dice }
-        ensures asked { Notes (⟦<MemWorld<L> as World>⟧.told self.old)
+        ensures asked { NotesCall (⟦<MemWorld<L> as World>⟧.told self.old)
             (⟦<MemWorld<L> as World>⟧.told self.new) (WorldCall.RandomSource seat) result }
         ensures kind { (⟦<MemWorld<L> as World>⟧.told self.new).faults ≡ record
             (⟦<MemWorld<L> as World>⟧.told self.old).faults {
@@ -275,7 +281,7 @@ impl<L: Kms + Send> World for MemWorld<L> {
             (⟦<MemWorld<L> as World>⟧.told self.new).faults.links }
         ensures once { (⟦<MemWorld<L> as World>⟧.told self.new).faults.links
             ≡ counted (has_failed result) (⟦<MemWorld<L> as World>⟧.told self.old).faults.links }
-        ensures asked { Notes (⟦<MemWorld<L> as World>⟧.told self.old)
+        ensures asked { NotesCall (⟦<MemWorld<L> as World>⟧.told self.old)
             (⟦<MemWorld<L> as World>⟧.told self.new) (WorldCall.Link seat plugin.now _program.now)
             result }
         ensures kind { (⟦<MemWorld<L> as World>⟧.told self.new).faults ≡ record
@@ -326,10 +332,10 @@ impl<L: Kms + Send> World for MemWorld<L> {
         ensures links { (⟦<MemWorld<L> as World>⟧.told self.new).links ≡
             (⟦<MemWorld<L> as World>⟧.told self.old).links }
     {
-        let Some(at) = name_place(self.tapes.out(), name) else {
+        let Some(at) = name_place(self.tapes.taken_keys(), name) else {
             unreachable!();
         };
-        self.tapes.put_back_by(at, tape);
+        self.tapes.return_keyed(at, tape);
     }
 
     fn back_settled(&mut self, name: &str, tape: MemTape)
@@ -345,7 +351,8 @@ impl<L: Kms + Send> World for MemWorld<L> {
         ensures tape { (⟦<MemWorld<L> as World>⟧.told self.new).tapes.told name.now ≡ option_map
             Some (Some tape.bytes) }
         ensures asked { (⟦<MemWorld<L> as World>⟧.told self.new).asked
-            ≡ with_call (WorldCall.Settled name.now) (⟦<MemWorld<L> as World>⟧.told self.old).asked }
+            ≡ with_call (WorldCall.Settled name.now)
+            (⟦<MemWorld<L> as World>⟧.told self.old).asked }
         ensures file { (⟦<MemWorld<L> as World>⟧.told self.new).file ≡
             (⟦<MemWorld<L> as World>⟧.told self.old).file }
         ensures faults { (⟦<MemWorld<L> as World>⟧.told self.new).faults ≡
@@ -380,7 +387,7 @@ impl<L: Kms + Send> World for MemWorld<L> {
         ensures links { (⟦<MemWorld<L> as World>⟧.told self.new).links ≡
             (⟦<MemWorld<L> as World>⟧.told self.old).links }
     {
-        let Some(at) = seat_place(self.dice.out(), seat) else {
+        let Some(at) = seat_place(self.dice.taken_keys(), seat) else {
             unreachable!();
         };
         self.dice.put_back(at, (seat, dice));
@@ -414,7 +421,7 @@ impl<L: Kms + Send> World for MemWorld<L> {
         ensures dice { (⟦<MemWorld<L> as World>⟧.told self.new).dice ≡
             (⟦<MemWorld<L> as World>⟧.told self.old).dice }
     {
-        let Some(at) = plugin_place(self.links.out(), seat, link.name()) else {
+        let Some(at) = plugin_place(self.links.taken_keys(), seat, link.name()) else {
             unreachable!();
         };
         self.links.put_back(at, (seat, link));

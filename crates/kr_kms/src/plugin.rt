@@ -2,7 +2,7 @@
 ghost use Rattle.std.specs.Prelude.{◌≡◌, ◌↔◌, IsTrue};
 ghost use Rattle.kr_kms.specs.Truth.{Truth};
 ghost use Rattle.kr_kms.specs.Calls.{Link, Says, Wraps, Unwraps, asked_key};
-ghost use Rattle.kr_kms.specs.Exchanges.{Exchange, StatusCall, WrapCall, UnwrapCall, KeepsLink};
+ghost use Rattle.kr_kms.specs.Exchanges.{Exchange, StatusCall, WrapCall, UnwrapCall, KeepsLink, TellsAnswer};
 ghost use Rattle.kr_kms.specs.Limits.{IsWithinLimits};
 
 use kr_base::{Annotations, Bytes, Text, are_few, is_short};
@@ -91,4 +91,8 @@ pub trait Kms {
     /// fault once.
     ghost keeps: { (old : Self) (exchange : Exchange) (new : Self) → step old exchange new
         → KeepsLink (link old) exchange (link new) };
+
+    /// Any answer is what is told: the status, and what sources open to.
+    ghost tells: { (old : Self) (exchange : Exchange) (new : Self) → step old exchange new
+        → TellsAnswer truth (link old).status exchange };
 }

@@ -1,12 +1,12 @@
 //! Seeds, what names them, and how they are made.
 ghost use Rattle.std.specs.Prelude.{◌≡◌, ◌≤◌, IfOk, IsUtf8, length, All};
-ghost use Rattle.kr_kms.specs.Calls.{IsSameLink, Asks, asked_key};
+ghost use Rattle.kr_kms.specs.Calls.{IsSameLink, AsksLink, asked_key};
 ghost use Rattle.kr_kms.specs.Limits.{IsWithinLimits};
 ghost use Rattle.kr_base.specs.Walks.{Talk};
 ghost use Rattle.kr_kms.specs.Seeds.{IsSeedRow, MakesSeed, MakesSeedBy, row_with};
 ghost use Rattle.kr_kms.specs.inner.Wrapping.{IsDrawn, IsRowOf, WrapsSeedBy};
 
-use crate::health::{SeedNo, key_id_of};
+use crate::health::{SeedNo, healthy_key_id};
 use crate::plugin::{Kms, KmsNo, Wrapped};
 use kr_base::{Annotations, Bytes, Dice, NoMemory, Text, both};
 use std::alloc::Global;
@@ -87,7 +87,7 @@ pub fn make_seed<L: Kms, D: Dice>(
     ensures asked { Talk L.step link.old link.new
         (MakesSeedBy D.left D.count (L.link link.old).name dice.old result dice.new) }
 {
-    drop(key_id_of(alloc, link)?);
+    drop(healthy_key_id(alloc, link)?);
     let seed = draw_seed(alloc, dice)?;
     match wrap_seed(alloc, link, seed) {
         Ok(row) => Ok(row),
@@ -116,7 +116,7 @@ fn draw_seed<D: Dice>(alloc: Global, dice: &mut D) -> Result<Bytes, SeedNo>
 /// Wraps a seed by the link, and names the link's plugin beside it.
 fn wrap_seed<L: Kms>(alloc: Global, link: &mut L, seed: Bytes) -> Result<SeedRow, KmsNo>
     requires size { length seed ≡ 32 }
-    ensures asks { Asks (L.link link.old) result (L.link link.new) }
+    ensures asks { AsksLink (L.link link.old) result (L.link link.new) }
     ensures row { IfOk result (λ row. IsRowOf L.truth (L.link link.old).name seed row) }
     ensures asked { Talk L.step link.old link.new
         (WrapsSeedBy (L.link link.old).name seed result) }
@@ -126,7 +126,7 @@ fn wrap_seed<L: Kms>(alloc: Global, link: &mut L, seed: Bytes) -> Result<SeedRow
         return Err(KmsNo::NoMemory);
     };
     match link.wrap(alloc, seed.as_slice()) {
-        Ok(wrapped) => Ok(row_of(name, wrapped, seed)),
+        Ok(wrapped) => Ok(wrapped_seed_row(name, wrapped, seed)),
         Err(why) => {
             drop(name);
             drop(seed);
@@ -136,7 +136,7 @@ fn wrap_seed<L: Kms>(alloc: Global, link: &mut L, seed: Bytes) -> Result<SeedRow
 }
 
 /// Puts a seed beside what a plugin made of it.
-fn row_of(name: Text, wrapped: Wrapped, seed: Bytes) -> SeedRow
+fn wrapped_seed_row(name: Text, wrapped: Wrapped, seed: Bytes) -> SeedRow
     requires limits { IsWithinLimits wrapped }
     requires size { length seed ≡ 32 }
     ensures fields { result ≡ row_with name seed wrapped }

@@ -46,7 +46,7 @@ impl<K: Drop, T> Shelf<K, T> {
     }
 
     /// Lends the keys of those that are out.
-    pub fn out(&self) -> &[K]
+    pub fn taken_keys(&self) -> &[K]
         ensures { result.now ≡ self.now.out }
     {
         self.out.as_slice()
@@ -106,7 +106,7 @@ impl<K: Drop, T> Shelf<K, T> {
 
 impl<K: Drop, T> Shelf<K, (K, T)> {
     /// Puts an object to the front, with the key by which it was out.
-    pub fn put_back_by(&mut self, at: usize, item: T)
+    pub fn return_keyed(&mut self, at: usize, item: T)
         requires { at < length self.old.out }
         ensures { (d : K) → self.new ≡ record {
           items = (slice_index_or self.old.out at d, item) ∷ self.old.items;

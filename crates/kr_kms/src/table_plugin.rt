@@ -7,8 +7,9 @@ ghost use Rattle.kr_base.specs.InMemory.{IsListed, after_call, after_fault};
 ghost use Rattle.kr_kms.specs.Calls.{Says, Wraps, Unwraps, asked_key};
 ghost use Rattle.kr_kms.specs.Exchanges.{StatusCall, WrapCall, UnwrapCall};
 ghost use Rattle.kr_kms.specs.Limits.{IsWithinLimits};
-ghost use Rattle.kr_kms.specs.Table.{Answers, salt_in, mask_of, xor_of, salt_pair, wrapped_by};
-ghost use Rattle.kr_kms.specs.Table.{status_of, table_truth, link_of, TableStep, table_keeps};
+ghost use Rattle.kr_kms.specs.Table.{AnswersByTable, annotated_salt, annotations_mask, xor_of, salt_pair, wrapped_by_table};
+ghost use Rattle.kr_kms.specs.Table.{table_status, table_truth, link_of, TableStep, table_keeps};
+ghost use Rattle.kr_kms.specs.Table.{table_tells};
 
 use crate::plugin::{Kms, KmsNo, Status, Wrapped};
 use kr_base::{Annotations, Bytes, CallLog, List, NoMemory, Text, both, is_short};
@@ -104,6 +105,8 @@ impl Kms for TablePlugin {
 
     ghost keeps = { table_keeps };
 
+    ghost tells = { table_tells };
+
     fn name(&self) -> &str {
         self.name.as_str()
     }
@@ -113,7 +116,8 @@ impl Kms for TablePlugin {
     }
 
     fn status(&mut self, alloc: Global) -> Result<Status, KmsNo>
-        ensures answers { Answers self.old (Unit {0}) (status_of self.old) result self.new }
+        ensures answers { AnswersByTable self.old (Unit {0}) (table_status self.old) result
+            self.new }
 
         // As the trait says.
         ensures says { Says (link_of self.old) result (link_of self.new) }
@@ -136,8 +140,9 @@ impl Kms for TablePlugin {
     }
 
     fn wrap(&mut self, alloc: Global, plain: &[u8]) -> Result<Wrapped, KmsNo>
-        ensures answers { Answers self.old (IsWithinLimits (wrapped_by self.old plain.now))
-            (wrapped_by self.old plain.now) result self.new }
+        ensures answers { AnswersByTable self.old
+            (IsWithinLimits (wrapped_by_table self.old plain.now))
+            (wrapped_by_table self.old plain.now) result self.new }
 
         // As the trait says.
         ensures wraps { Wraps table_truth (link_of self.old) plain.now result (link_of self.new) }
@@ -159,8 +164,8 @@ impl Kms for TablePlugin {
         annotations: &Annotations,
         source: &[u8],
     ) -> Result<Bytes, KmsNo>
-        ensures answers { Answers self.old (Unit {0})
-            (xor_of (mask_of key_id.now annotations.now) source.now) result self.new }
+        ensures answers { AnswersByTable self.old (Unit {0})
+            (xor_of (annotations_mask key_id.now annotations.now) source.now) result self.new }
 
         // As the trait says.
         ensures unwraps { Unwraps table_truth (link_of self.old) key_id.now annotations.now
@@ -171,7 +176,7 @@ impl Kms for TablePlugin {
         if self.fails(true) {
             return Err(KmsNo::Failed);
         }
-        match xor_all(alloc, source, mask_of(key_id, annotations)) {
+        match xor_all(alloc, source, annotations_mask(key_id, annotations)) {
             Ok(bytes) => Ok(bytes),
             Err(NoMemory) => Err(KmsNo::NoMemory),
         }
@@ -181,17 +186,17 @@ impl Kms for TablePlugin {
 /// Whether what the plugin makes of the plain bytes is within the limits.
 #[tactic(auto, using(crate::proofs::Masks::within, crate::proofs::Masks::within_back))]
 fn serves(plugin: &TablePlugin, plain: &[u8]) -> bool
-    ensures { IsTrue result ↔ IsWithinLimits (wrapped_by plugin.now plain.now) }
+    ensures { IsTrue result ↔ IsWithinLimits (wrapped_by_table plugin.now plain.now) }
 {
     is_short(plain) && is_short(plugin.key_id.as_str().as_bytes())
 }
 
 /// What the plugin makes of plain bytes.
 fn wrap_plain(alloc: Global, plugin: &TablePlugin, plain: &[u8]) -> Result<Wrapped, NoMemory>
-    ensures { IfOk result (λ wrapped. wrapped ≡ wrapped_by plugin.now plain.now) }
+    ensures { IfOk result (λ wrapped. wrapped ≡ wrapped_by_table plugin.now plain.now) }
 {
     let annotations = salt_pair(alloc, plugin.salt)?;
-    let mask = mask_of(plugin.key_id.as_str(), &annotations);
+    let mask = annotations_mask(plugin.key_id.as_str(), &annotations);
     let made = both(
         Text::copy(alloc, plugin.key_id.as_str()),
         xor_all(alloc, plain, mask),
@@ -225,8 +230,8 @@ fn salt_pair(alloc: Global, salt: u8) -> Result<Annotations, NoMemory>
 }
 
 /// The value of the annotation with the salt; where there is none, no bytes.
-fn salt_in(annotations: &Annotations) -> &[u8]
-    ensures { result.now ≡ salt_in annotations.now }
+fn annotated_salt(annotations: &Annotations) -> &[u8]
+    ensures { result.now ≡ annotated_salt annotations.now }
 {
     for pair in annotations.pairs() {
         if SALT_KEY == pair.0.as_str() {
@@ -237,7 +242,7 @@ fn salt_in(annotations: &Annotations) -> &[u8]
 }
 
 /// The sum of the bytes, modulo 256.
-fn sum_of(bytes: &[u8]) -> u8
+fn byte_sum(bytes: &[u8]) -> u8
     ensures { result ≡ sum bytes.now % 256 }
 {
     let mut sum: u8 = 0;
@@ -248,10 +253,10 @@ fn sum_of(bytes: &[u8]) -> u8
 }
 
 /// The mask under a key id with these annotations.
-fn mask_of(key_id: &str, annotations: &Annotations) -> u8
-    ensures { result ≡ mask_of key_id.now annotations.now }
+fn annotations_mask(key_id: &str, annotations: &Annotations) -> u8
+    ensures { result ≡ annotations_mask key_id.now annotations.now }
 {
-    sum_of(key_id.as_bytes()).wrapping_add(sum_of(salt_in(annotations)))
+    byte_sum(key_id.as_bytes()).wrapping_add(byte_sum(annotated_salt(annotations)))
 }
 
 /// The bytes, each xor the mask.

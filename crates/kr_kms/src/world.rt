@@ -1,8 +1,8 @@
 //! The world that a command runs in: its files, the tapes that it writes, the random source of each
 //! seat, and the links of each seat to plugins.
-ghost use Rattle.std.specs.Prelude.{◌≡◌, ◌<◌, IfOk, IfErr, OnErr, IsErrOf, true, Some, option_map};
+ghost use Rattle.std.specs.Prelude.{◌≡◌, ◌<◌, ℕ, IfOk, IfErr, OnErr, IsErrOf, true, Some, option_map};
 ghost use Rattle.kr_base.specs.Faults.{Rose, counted};
-ghost use Rattle.kr_kms.specs.Outside.{Outside, file_faults, Loads, Notes, KeepsFiles, KeepsObjects, with_call};
+ghost use Rattle.kr_kms.specs.Outside.{Outside, file_faults, FetchesFile, NotesCall, KeepsFiles, KeepsObjects, with_call};
 ghost use Rattle.kr_kms.specs.Outside.{HandsOut, TakesBack, same_seat, same_name, same_link};
 ghost use Rattle.kr_kms.specs.Outside.{IsFaultOrMemory, IsTape, RefusesTape, has_failed, link_at, makes};
 
@@ -86,16 +86,21 @@ pub trait World {
 
     ghost told: { Self → Outside };
 
+    // This link was handed out for the seat, as it is here; and this one came back so.
+    ghost lent: { ℕ → Self.Link → Type 0 };
+
+    ghost took: { ℕ → Self.Link → Type 0 };
+
     /// How often the files failed so far, in calls of every kind, up to the greatest number.
     fn faults(&self) -> u64
         ensures { result ≡ file_faults (told self.now) };
 
     /// A whole file of at most `limit` bytes.
     fn load(&mut self, alloc: Global, name: &str, limit: u64) -> Result<Bytes, FileNo>
-        ensures file { Loads (told self.old) (told self.new) name.now limit result }
+        ensures file { FetchesFile (told self.old) (told self.new) name.now limit result }
         ensures once { (told self.new).faults.loads
             ≡ counted (has_failed result) (told self.old).faults.loads }
-        ensures asked { Notes (told self.old) (told self.new) (WorldCall.File name.now) result }
+        ensures asked { NotesCall (told self.old) (told self.new) (WorldCall.File name.now) result }
         ensures kind { (told self.new).faults
             ≡ record (told self.old).faults { loads = (told self.new).faults.loads } }
         ensures files { KeepsFiles (told self.old) (told self.new) }
@@ -117,7 +122,7 @@ pub trait World {
             → Rose (told self.old).faults.tapes (told self.new).faults.tapes }
         ensures once { (told self.new).faults.tapes
             ≡ counted (has_failed result) (told self.old).faults.tapes }
-        ensures asked { Notes (told self.old) (told self.new)
+        ensures asked { NotesCall (told self.old) (told self.new)
             (WorldCall.Tape name.now access) result }
         ensures kind { (told self.new).faults
             ≡ record (told self.old).faults { tapes = (told self.new).faults.tapes } }
@@ -137,7 +142,8 @@ pub trait World {
             → Rose (told self.old).faults.dice (told self.new).faults.dice }
         ensures once { (told self.new).faults.dice
             ≡ counted (has_failed result) (told self.old).faults.dice }
-        ensures asked { Notes (told self.old) (told self.new) (WorldCall.RandomSource seat) result }
+        ensures asked { NotesCall (told self.old) (told self.new) (WorldCall.RandomSource seat)
+            result }
         ensures kind { (told self.new).faults
             ≡ record (told self.old).faults { dice = (told self.new).faults.dice } }
         ensures files { KeepsFiles (told self.old) (told self.new) }
@@ -157,13 +163,14 @@ pub trait World {
             (told self.new).links (seat, plugin.now) (Self.Link.link link).count) }
         ensures link { IfOk result
             (λ link. Self.Link.link link ≡ link_at (told self.old).links seat plugin.now) }
+        ensures lent { IfOk result (lent seat) }
         ensures err { OnErr result ((told self.new).links ≡ (told self.old).links) }
         ensures refusals { IfErr result IsFaultOrMemory }
         ensures failed { IsErrOf result FileNo.Failed
             → Rose (told self.old).faults.links (told self.new).faults.links }
         ensures once { (told self.new).faults.links
             ≡ counted (has_failed result) (told self.old).faults.links }
-        ensures asked { Notes (told self.old) (told self.new)
+        ensures asked { NotesCall (told self.old) (told self.new)
             (WorldCall.Link seat plugin.now program.now) result }
         ensures kind { (told self.new).faults
             ≡ record (told self.old).faults { links = (told self.new).faults.links } }
@@ -218,6 +225,7 @@ pub trait World {
             (seat, (Self.Link.link link).name) (Self.Link.link link).count }
         ensures status { (told self.new).links.told (seat, (Self.Link.link link).name)
             ≡ (Self.Link.link link).status }
+        ensures took { took seat link }
         ensures asked { (told self.new).asked ≡ (told self.old).asked }
         ensures file { (told self.new).file ≡ (told self.old).file }
         ensures faults { (told self.new).faults ≡ (told self.old).faults }

@@ -15,9 +15,9 @@ use Rattle.base64.specs.GeneralPurpose.{IsBytes}
 use Rattle.base64.proofs.EngineFacts.{decode_of-encode_of}
 use Rattle.serde_json.specs.Data.{Members, object}
 use Rattle.kr_base.specs.Pairs.{Pairs, IsSortedByKey, with_pair}
-use Rattle.kr_kms_wire.specs.Members.{text_of_bytes, pair_members, bytes_in, pairs_with, number_in, value_of}
+use Rattle.kr_kms_wire.specs.Members.{text_of_bytes, pair_members, decoded_bytes, pairs_with, text_number, parsed_line_value}
 use Rattle.kr_kms_wire.specs.Requests.{request_data, request_members, request_in, request_of}
-use Rattle.kr_kms_wire.specs.Replies.{answer_data, answer_members, kind_of, reply_in, IsReadBack}
+use Rattle.kr_kms_wire.specs.Replies.{answer_data, answer_members, reply_kind, reply_in, IsReplyReadBack}
 use Rattle.kr_kms_wire.specs.inner.Written.{ArePairs, IsRequestOfBytes, IsAnswerOfBytes}
 use Rattle.kr_kms_wire.specs.declared.replies.Answered.{Answered}
 use Rattle.kr_kms_wire.specs.declared.replies.Answered.TheVariants as answered
@@ -36,7 +36,7 @@ use Rattle.kr_kms_wire.proofs.Shapes.{whole_status, whole_wrap, whole_encrypt, w
 passes : List ℕ → Bool
 passes text = bytes_eq (decimal (digits_value 10 text)) text && nat_lt (digits_value 10 text) (2 ^ 64)
 
-pub number_back : (text : List ℕ) (n : ℕ) → n < 2 ^ 64 → decimal n ≡ text → number_in text ≡ Some n
+pub number_back : (text : List ℕ) (n : ℕ) → n < 2 ^ 64 → decimal n ≡ text → text_number text ≡ Some n
 number_back text n h is =
     let value : digits_value 10 text ≡ n =
     ap (digits_value 10) (sym is) ∙ (decimal_is_IsNumeral n h).1 in
@@ -49,7 +49,7 @@ number_back text n h is =
     ∙ ap (λ q. cond q (Some (digits_value 10 text)) None) below ∙ ap (λ m. Some m) value
 
 pub no_number : (text : List ℕ) → ((n : ℕ) → n < 2 ^ 64 → text ≡ decimal n → ⊥)
-    → number_in text ≡ None
+    → text_number text ≡ None
 no_number text none =
     by (bytes_eq (decimal (digits_value 10 text)) text) (nat_lt (digits_value 10 text) (2 ^ 64))
     (bytes_eq-Decides (decimal (digits_value 10 text)) text).0 below
@@ -74,7 +74,7 @@ as_bytes bytes h i = by (nat_lt i (length bytes)) refl
     by false f = subst (λ v. v < 256) (sym (get_or_past bytes i 0 (grind (arith, nat_tests))))
         (omega arith)
 
-bytes_back : (bytes : List ℕ) → IsBytes bytes → bytes_in (text_of_bytes bytes) ≡ Some bytes
+bytes_back : (bytes : List ℕ) → IsBytes bytes → decoded_bytes (text_of_bytes bytes) ≡ Some bytes
 bytes_back bytes h = ap result_ok (decode_of-encode_of standard bytes refl h)
 
 pairs_behind : (found pairs : Pairs) → IsSortedByKey (found ++ pairs)
@@ -95,7 +95,7 @@ pairs_back pairs h = pairs_behind [] pairs h.0 (λ k lt d. as_bytes (get_or pair
     (All-get_or (λ pair. All (λ byte. byte < 256) pair.1) pairs k d lt h.1))
 
 known_back : (bytes : List ℕ) → All (λ byte. byte < 256) bytes
-    → bytes_in (text_of_bytes bytes) ≡ Some bytes
+    → decoded_bytes (text_of_bytes bytes) ≡ Some bytes
 known_back bytes h = bytes_back bytes (as_bytes bytes h)
 
 -- ---- requests
@@ -112,14 +112,14 @@ request_back (Decrypt source key_id annotations uid) h =
     (number_back (decimal uid) uid h.2 refl)
 
 pub request_reads : (line : List ℕ) (request : Request) → IsRequestOfBytes request
-    → value_of line ≡ Some (request_data request) → request_of line ≡ Ok request
+    → parsed_line_value line ≡ Some (request_data request) → request_of line ≡ Ok request
 request_reads line request h is =
     ap (λ v. option_map_or (λ d. option_map_or Ok (request_in d) (Err Shape)) v (Err NotJson)) is
     ∙ ap (λ r. option_map_or Ok r (Err Shape)) (request_back request h)
 
 pub request_reads_if : {E : Type 0} (result : Result (List ℕ) E) (request : Request)
     (members : Members) → members ≡ request_members request → IsRequestOfBytes request
-    → IfOk result (λ line. value_of line ≡ Some (object members))
+    → IfOk result (λ line. parsed_line_value line ≡ Some (object members))
     → IfOk result (λ line. request_of line ≡ Ok request)
 request_reads_if (Ok line) request members is h read =
     request_reads line request h (read ∙ ap (λ m. Some (object m)) is)
@@ -128,7 +128,7 @@ request_reads_if (Err why) request members is h read = tt
 -- ---- answers
 
 reply_back : (reply : Reply) → IsAnswerOfBytes (answered.Reply reply)
-    → reply_in (kind_of reply) (answer_data (answered.Reply reply)) ≡ Ok reply
+    → reply_in (reply_kind reply) (answer_data (answered.Reply reply)) ≡ Ok reply
 reply_back (reply.Status status) h =
     ap (λ o. option_map_or Ok (option_map reply.Status o) (Err no_reply.Shape))
     (whole_status (answer_data (answered.Reply (reply.Status status)))
@@ -142,16 +142,16 @@ reply_back (reply.Decrypt plain) h =
     ap (λ o. option_map_or Ok (option_map reply.Decrypt o) (Err no_reply.Shape)) (known_back plain h)
 
 pub answer_reads : (line : List ℕ) (answer : Answered) → IsAnswerOfBytes answer
-    → value_of line ≡ Some (answer_data answer) → IsReadBack line answer
+    → parsed_line_value line ≡ Some (answer_data answer) → IsReplyReadBack line answer
 answer_reads line (answered.Reply reply) h is =
-    ap (λ v. option_map_or (reply_in (kind_of reply)) v (Err no_reply.NotJson)) is ∙ reply_back reply h
+    ap (λ v. option_map_or (reply_in (reply_kind reply)) v (Err no_reply.NotJson)) is ∙ reply_back reply h
 answer_reads line (answered.Error text) h is =
     λ asked. ap (λ v. option_map_or (reply_in asked) v (Err no_reply.NotJson)) is
 
 pub answer_reads_if : {E : Type 0} (result : Result (List ℕ) E) (answer : Answered)
     (members : Members) → members ≡ answer_members answer → IsAnswerOfBytes answer
-    → IfOk result (λ line. value_of line ≡ Some (object members))
-    → IfOk result (λ line. IsReadBack line answer)
+    → IfOk result (λ line. parsed_line_value line ≡ Some (object members))
+    → IfOk result (λ line. IsReplyReadBack line answer)
 answer_reads_if (Ok line) answer members is h read =
     answer_reads line answer h (read ∙ ap (λ m. Some (object m)) is)
 answer_reads_if (Err why) answer members is h read = tt

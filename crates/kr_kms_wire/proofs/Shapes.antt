@@ -8,7 +8,7 @@ use Rattle.serde_json.specs.Data.{Data}
 use Rattle.serde_json.specs.Find.{get}
 use Rattle.serde_json.specs.Read.{read}
 use Rattle.kr_base.specs.Pairs.{Pairs}
-use Rattle.kr_kms_wire.specs.Members.{text_at, bytes_at, pairs_in, number_at, value_of, without_end}
+use Rattle.kr_kms_wire.specs.Members.{member_text, member_bytes, annotation_pairs, member_number, parsed_line_value, without_end}
 use Rattle.kr_kms_wire.specs.Replies.{annotations_in, status_in, wrapped_in}
 use Rattle.kr_kms_wire.specs.Requests.{encrypt_in, decrypt_in}
 use Rattle.kr_kms.specs.declared.plugin.Status.{Status}
@@ -27,21 +27,21 @@ stops part whole shape.NoMemory h none = tt
 
 -- the value of a line that is UTF-8, and that none has another
 pub value_is : (line : List ℕ) (value : Option Data) → IsUtf8 (without_end line)
-    → read (without_end line) ≡ value → value_of line ≡ value
+    → read (without_end line) ≡ value → parsed_line_value line ≡ value
 value_is line value text is = rw (is_utf8-from_IsUtf8 (without_end line) text) is
 
 pub no_value : (line : List ℕ) → (IsUtf8 (without_end line) → read (without_end line) ≡ None)
-    → value_of line ≡ None
+    → parsed_line_value line ≡ None
 no_value line none = by (is_utf8 (without_end line)) refl
   where
-    by : (b : Bool) → is_utf8 (without_end line) ≡ b → value_of line ≡ None
+    by : (b : Bool) → is_utf8 (without_end line) ≡ b → parsed_line_value line ≡ None
     by true test = let text = IsUtf8-from_is_utf8 (without_end line) test in
         value_is line None text (none text)
     by false no_text = rw no_text refl
 
 -- a text with LF behind it has the text's value
 pub value_with_end : (text : List ℕ) (value : Data) → IsUtf8 text → read text ≡ Some value
-    → value_of (text ++ 0x0A ∷ []) ≡ Some value
+    → parsed_line_value (text ++ 0x0A ∷ []) ≡ Some value
 value_with_end text value utf8 is = value_is (text ++ 0x0A ∷ []) (Some value)
     (subst IsUtf8 (sym (end_goes text)) utf8)
     (subst (λ t. read t ≡ Some value) (sym (end_goes text)) is)
@@ -66,25 +66,25 @@ status_by version healthz key_id = option_and_then (λ v. option_and_then (λ h.
 
 module _ (value : Data) where
   abbrev version_in : Part
-  version_in = text_at (codes "version") value
+  version_in = member_text (codes "version") value
 
   abbrev healthz_in : Part
-  healthz_in = text_at (codes "healthz") value
+  healthz_in = member_text (codes "healthz") value
 
   abbrev key_id_in : Part
-  key_id_in = text_at (codes "key_id") value
+  key_id_in = member_text (codes "key_id") value
 
   abbrev cipher_in : Part
-  cipher_in = bytes_at (codes "ciphertext") value
+  cipher_in = member_bytes (codes "ciphertext") value
 
   abbrev plain_in : Part
-  plain_in = bytes_at (codes "plaintext") value
+  plain_in = member_bytes (codes "plaintext") value
 
   abbrev uid_in : Option ℕ
-  uid_in = number_at (codes "uid") value
+  uid_in = member_number (codes "uid") value
 
   abbrev given_pairs : Option Pairs
-  given_pairs = option_and_then pairs_in (get (codes "annotations") value)
+  given_pairs = option_and_then annotation_pairs (get (codes "annotations") value)
 
   pub no_version : version_in ≡ None → status_in value ≡ None
   unfolding status_in

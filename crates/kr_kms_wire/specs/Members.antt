@@ -29,35 +29,35 @@ without_end line =
     if slice_index_or line (length line - 1) 0 == 0x0A then take (length line - 1) line else line
 
 -- the value of a line, which is UTF-8
-abbrev pub value_of : List ℕ → Option Data
-value_of line = if is_utf8 (without_end line) then read (without_end line) else None
+abbrev pub parsed_line_value : List ℕ → Option Data
+parsed_line_value line = if is_utf8 (without_end line) then read (without_end line) else None
 
 -- the text of a member
-abbrev pub text_at : List ℕ → Data → Option (List ℕ)
-text_at key value = option_and_then as_str (get key value)
+abbrev pub member_text : List ℕ → Data → Option (List ℕ)
+member_text key value = option_and_then as_str (get key value)
 
 -- the bytes that a text has, and those of a member
-abbrev pub bytes_in : Data → Option (List ℕ)
-bytes_in value = option_and_then (λ text. result_ok (decode_of standard text)) (as_str value)
+abbrev pub decoded_bytes : Data → Option (List ℕ)
+decoded_bytes value = option_and_then (λ text. result_ok (decode_of standard text)) (as_str value)
 
-abbrev pub bytes_at : List ℕ → Data → Option (List ℕ)
-bytes_at key value = option_and_then bytes_in (get key value)
+abbrev pub member_bytes : List ℕ → Data → Option (List ℕ)
+member_bytes key value = option_and_then decoded_bytes (get key value)
 
 -- the found pairs, with one for each member; there are none where a value is no text of bytes
 abbrev pub pairs_with : Pairs → Members → Option Pairs
 pairs_with found no_members = Some found
 pairs_with found (member key value members) =
-    option_and_then (λ bytes. pairs_with (with_pair found key bytes) members) (bytes_in value)
+    option_and_then (λ bytes. pairs_with (with_pair found key bytes) members) (decoded_bytes value)
 
 -- an object of texts of bytes
-abbrev pub pairs_in : Data → Option Pairs
-pairs_in value = option_and_then (pairs_with []) (as_object value)
+abbrev pub annotation_pairs : Data → Option Pairs
+annotation_pairs value = option_and_then (pairs_with []) (as_object value)
 
 -- the number below 2^64 that the text is written for
-abbrev pub number_in : List ℕ → Option ℕ
-number_in text =
+abbrev pub text_number : List ℕ → Option ℕ
+text_number text =
     if bytes_eq (decimal (digits_value 10 text)) text && nat_lt (digits_value 10 text) (2 ^ 64)
     then Some (digits_value 10 text) else None
 
-abbrev pub number_at : List ℕ → Data → Option ℕ
-number_at key value = option_and_then number_in (text_at key value)
+abbrev pub member_number : List ℕ → Data → Option ℕ
+member_number key value = option_and_then text_number (member_text key value)

@@ -5,7 +5,7 @@ use Rattle.serde_json.specs.Data.{Data, string, object, Members, no_members, mem
 use Rattle.serde_json.specs.Find.{get}
 use Rattle.serde_json.specs.Written.{compact_text}
 use Rattle.kr_base.specs.Pairs.{Pairs}
-use Rattle.kr_kms_wire.specs.Members.{text_of_bytes, pair_members, value_of, text_at, bytes_at, pairs_in}
+use Rattle.kr_kms_wire.specs.Members.{text_of_bytes, pair_members, parsed_line_value, member_text, member_bytes, annotation_pairs}
 use Rattle.kr_kms.specs.declared.plugin.Status.{Status}
 use Rattle.kr_kms.specs.declared.plugin.Wrapped.{Wrapped}
 use Rattle.kr_kms_wire.specs.declared.replies.Answered.{Answered}
@@ -21,32 +21,33 @@ use Rattle.kr_kms_wire.specs.declared.replies.ReplyNo.TheVariants.{NotJson, Shap
 
 -- annotations may be missing
 abbrev pub annotations_in : Data → Option Pairs
-annotations_in value = option_map_or pairs_in (get (codes "annotations") value) (Some [])
+annotations_in value = option_map_or annotation_pairs (get (codes "annotations") value) (Some [])
 
 unfoldable pub status_in : Data → Option Status
 status_in value = option_and_then (λ version. option_and_then (λ healthz. option_map
     (λ key_id. record { version = version; healthz = healthz; key_id = key_id })
-    (text_at (codes "key_id") value)) (text_at (codes "healthz") value))
-    (text_at (codes "version") value)
+    (member_text (codes "key_id") value)) (member_text (codes "healthz") value))
+    (member_text (codes "version") value)
 
 unfoldable pub wrapped_in : Data → Option Wrapped
 wrapped_in value = option_and_then (λ key_id. option_and_then (λ annotations. option_map
     (λ cipher. record { cipher = cipher; key_id = key_id; annotations = annotations })
-    (bytes_at (codes "ciphertext") value)) (annotations_in value)) (text_at (codes "key_id") value)
+    (member_bytes (codes "ciphertext") value)) (annotations_in value))
+    (member_text (codes "key_id") value)
 
 -- the reply to a call of this kind, where the value has the shape of one
 abbrev pub shaped_reply : Asked → Data → Option Reply
 shaped_reply call.Status value = option_map reply.Status (status_in value)
 shaped_reply call.Encrypt value = option_map reply.Encrypt (wrapped_in value)
-shaped_reply call.Decrypt value = option_map reply.Decrypt (bytes_at (codes "plaintext") value)
+shaped_reply call.Decrypt value = option_map reply.Decrypt (member_bytes (codes "plaintext") value)
 
 -- a text at `error` is a refusal, whatever stands beside it
 abbrev pub reply_in : Asked → Data → Result Reply ReplyNo
-reply_in asked value = option_map_or (λ text. Err (Error text)) (text_at (codes "error") value)
+reply_in asked value = option_map_or (λ text. Err (Error text)) (member_text (codes "error") value)
     (option_map_or Ok (shaped_reply asked value) (Err Shape))
 
 abbrev pub reply_of : Asked → List ℕ → Result Reply ReplyNo
-reply_of asked line = option_map_or (reply_in asked) (value_of line) (Err NotJson)
+reply_of asked line = option_map_or (reply_in asked) (parsed_line_value line) (Err NotJson)
 
 -- want of memory may take the place of any other answer
 abbrev pub IsReply : Asked → List ℕ → Result Reply ReplyNo → Type 0
@@ -57,10 +58,10 @@ IsReply asked line (Err (Error text)) = reply_of asked line ≡ Err (Error text)
 IsReply asked line (Err NoMemory) = ⊤
 
 -- the kind of call that a reply answers
-abbrev pub kind_of : Reply → Asked
-kind_of (reply.Status status) = call.Status
-kind_of (reply.Encrypt wrapped) = call.Encrypt
-kind_of (reply.Decrypt plain) = call.Decrypt
+abbrev pub reply_kind : Reply → Asked
+reply_kind (reply.Status status) = call.Status
+reply_kind (reply.Encrypt wrapped) = call.Encrypt
+reply_kind (reply.Decrypt plain) = call.Decrypt
 
 -- ---- written: compact, its members by the bytes of their names; a wrap's annotations are always
 -- there
@@ -87,7 +88,7 @@ abbrev pub answer_text : Answered → List ℕ
 answer_text answered = compact_text (answer_data answered) ++ 0x0A ∷ []
 
 -- the line is read as what was answered, whatever an error was asked for
-abbrev pub IsReadBack : List ℕ → Answered → Type 0
-IsReadBack line (answered.Reply reply) = reply_of (kind_of reply) line ≡ Ok reply
-IsReadBack line (answered.Error text) =
+abbrev pub IsReplyReadBack : List ℕ → Answered → Type 0
+IsReplyReadBack line (answered.Reply reply) = reply_of (reply_kind reply) line ≡ Ok reply
+IsReplyReadBack line (answered.Error text) =
     (asked : Asked) → reply_of asked line ≡ Err (Error text)

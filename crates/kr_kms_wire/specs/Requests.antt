@@ -5,7 +5,7 @@ use Rattle.std.specs.Str.{bytes_eq}
 use Rattle.serde_json.specs.Data.{Data, string, object, Members, no_members, member}
 use Rattle.serde_json.specs.Find.{get}
 use Rattle.serde_json.specs.Written.{compact_text}
-use Rattle.kr_kms_wire.specs.Members.{text_of_bytes, pair_members, value_of, text_at, bytes_at, pairs_in, number_at}
+use Rattle.kr_kms_wire.specs.Members.{text_of_bytes, pair_members, parsed_line_value, member_text, member_bytes, annotation_pairs, member_number}
 use Rattle.kr_kms_wire.specs.declared.requests.Request.{Request}
 use Rattle.kr_kms_wire.specs.declared.requests.Request.TheVariants.{Status, Encrypt, Decrypt}
 use Rattle.kr_kms_wire.specs.declared.requests.RequestNo.{RequestNo}
@@ -38,14 +38,14 @@ request_text request = compact_text (request_data request) ++ 0x0A ∷ []
 
 unfoldable pub encrypt_in : Data → Option Request
 encrypt_in value = option_and_then (λ plain. option_map (λ uid. Encrypt plain uid)
-    (number_at (codes "uid") value)) (bytes_at (codes "plaintext") value)
+    (member_number (codes "uid") value)) (member_bytes (codes "plaintext") value)
 
 unfoldable pub decrypt_in : Data → Option Request
 decrypt_in value = option_and_then (λ source. option_and_then (λ key_id. option_and_then
     (λ annotations. option_map (λ uid. Decrypt source key_id annotations uid)
-    (number_at (codes "uid") value))
-    (option_and_then pairs_in (get (codes "annotations") value)))
-    (text_at (codes "key_id") value)) (bytes_at (codes "ciphertext") value)
+    (member_number (codes "uid") value))
+    (option_and_then annotation_pairs (get (codes "annotations") value)))
+    (member_text (codes "key_id") value)) (member_bytes (codes "ciphertext") value)
 
 -- the request of this call, where the value has the shape of one
 abbrev pub request_by : List ℕ → Data → Option Request
@@ -56,11 +56,12 @@ request_by call value =
     else None
 
 abbrev pub request_in : Data → Option Request
-request_in value = option_and_then (λ call. request_by call value) (text_at (codes "call") value)
+request_in value = option_and_then (λ call. request_by call value)
+    (member_text (codes "call") value)
 
 abbrev pub request_of : List ℕ → Result Request RequestNo
 request_of line = option_map_or (λ value. option_map_or Ok (request_in value) (Err Shape))
-    (value_of line) (Err NotJson)
+    (parsed_line_value line) (Err NotJson)
 
 -- want of memory may take the place of any other answer
 abbrev pub IsRequest : List ℕ → Result Request RequestNo → Type 0

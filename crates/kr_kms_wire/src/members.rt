@@ -8,8 +8,8 @@ ghost use Rattle.serde_json.specs.Read.{max_depth};
 ghost use Rattle.serde_json.specs.View.{view, members_view};
 ghost use Rattle.serde_json.specs.Written.{compact_text, has_float};
 ghost use Rattle.kr_base.specs.Pairs.{with_pair};
-ghost use Rattle.kr_kms_wire.specs.Members.{text_of_bytes, pair_members, without_end, value_of, text_at};
-ghost use Rattle.kr_kms_wire.specs.Members.{bytes_in, bytes_at, pairs_with, pairs_in, number_in, number_at};
+ghost use Rattle.kr_kms_wire.specs.Members.{text_of_bytes, pair_members, without_end, parsed_line_value, member_text};
+ghost use Rattle.kr_kms_wire.specs.Members.{decoded_bytes, member_bytes, pairs_with, annotation_pairs, text_number, member_number};
 ghost use Rattle.kr_kms_wire.specs.inner.Shapes.{Reads, ReadsValue};
 ghost use Rattle.kr_kms_wire.specs.inner.Written.{ArePairs};
 
@@ -23,7 +23,7 @@ use std::alloc::Global;
 
 /// Why a line has no value.
 #[derive(Clone, Copy)]
-pub(crate) enum ValueNo {
+pub(crate) enum MemberNo {
     /// It isn't JSON in UTF-8.
     NotJson,
     /// There was no memory for it.
@@ -42,29 +42,29 @@ pub(crate) enum ShapeNo {
 // ---- written
 
 /// The line of these members, with its LF.
-pub(crate) fn line_of(alloc: Global, members: Map<String, Value>) -> Result<Bytes, NoMemory>
+pub(crate) fn members_line(alloc: Global, members: Map<String, Value>) -> Result<Bytes, NoMemory>
     requires floats { has_float (object (members_view members.entries)) ≡ false }
     requires nests { depth (object (members_view members.entries)) ≤ max_depth }
     ensures text { IfOk result (λ line. line
         ≡ compact_text (object (members_view members.entries)) ++ 0x0A ∷ []) }
-    ensures read { IfOk result (λ line. value_of line
+    ensures read { IfOk result (λ line. parsed_line_value line
         ≡ Some (object (members_view members.entries))) }
 {
-    let value = value_with(members);
+    let value = object_value(members);
     let mut line = value.to_vec(alloc)?;
     line.push(b'\n')?;
     Ok(Bytes::from_vec(line))
 }
 
 /// An object of these members.
-fn value_with(members: Map<String, Value>) -> Value
+fn object_value(members: Map<String, Value>) -> Value
     ensures { view result ≡ object (members_view members.entries) }
 {
     Value::Object(members)
 }
 
 /// A member for each pair.
-pub(crate) fn members_of(
+pub(crate) fn annotation_members(
     alloc: Global,
     annotations: &Annotations,
 ) -> Result<Map<String, Value>, NoMemory>
@@ -140,14 +140,14 @@ pub(crate) fn put_number(
 // ---- read
 
 /// The JSON value of a line.
-pub(crate) fn read_value(alloc: Global, line: &[u8]) -> Result<Value, ValueNo>
+pub(crate) fn read_value(alloc: Global, line: &[u8]) -> Result<Value, MemberNo>
     ensures { ReadsValue line.now result }
 {
     match Value::from_slice(alloc, strip_end(line)) {
         Ok(value) => Ok(value),
         Err(error) => match error.classify() {
-            Category::Memory => Err(ValueNo::NoMemory),
-            _ => Err(ValueNo::NotJson),
+            Category::Memory => Err(MemberNo::NoMemory),
+            _ => Err(MemberNo::NotJson),
         },
     }
 }
@@ -165,8 +165,8 @@ fn strip_end(line: &[u8]) -> &[u8]
 }
 
 /// The text at a member.
-pub(crate) fn text_at<'a>(value: &'a Value, key: &str) -> Option<&'a str>
-    ensures { option_map (λ text. text.now) result ≡ text_at key.now (view value.now) }
+pub(crate) fn member_text<'a>(value: &'a Value, key: &str) -> Option<&'a str>
+    ensures { option_map (λ text. text.now) result ≡ member_text key.now (view value.now) }
 {
     match value.get(key) {
         Some(value) => value.as_str(),
@@ -175,10 +175,10 @@ pub(crate) fn text_at<'a>(value: &'a Value, key: &str) -> Option<&'a str>
 }
 
 /// A copy of the text at a member.
-pub(crate) fn own_text_at(alloc: Global, value: &Value, key: &str) -> Result<Text, ShapeNo>
-    ensures { Reads (text_at key.now (view value.now)) result }
+pub(crate) fn own_member_text(alloc: Global, value: &Value, key: &str) -> Result<Text, ShapeNo>
+    ensures { Reads (member_text key.now (view value.now)) result }
 {
-    let Some(text) = text_at(value, key) else {
+    let Some(text) = member_text(value, key) else {
         return Err(ShapeNo::Shape);
     };
     match Text::copy(alloc, text) {
@@ -188,18 +188,18 @@ pub(crate) fn own_text_at(alloc: Global, value: &Value, key: &str) -> Result<Tex
 }
 
 /// The bytes at a member.
-pub(crate) fn bytes_at(alloc: Global, value: &Value, key: &str) -> Result<Bytes, ShapeNo>
-    ensures { Reads (bytes_at key.now (view value.now)) result }
+pub(crate) fn member_bytes(alloc: Global, value: &Value, key: &str) -> Result<Bytes, ShapeNo>
+    ensures { Reads (member_bytes key.now (view value.now)) result }
 {
     match value.get(key) {
-        Some(value) => bytes_in(alloc, value),
+        Some(value) => decoded_bytes(alloc, value),
         None => Err(ShapeNo::Shape),
     }
 }
 
 /// The bytes that a text has.
-fn bytes_in(alloc: Global, value: &Value) -> Result<Bytes, ShapeNo>
-    ensures { Reads (bytes_in (view value.now)) result }
+fn decoded_bytes(alloc: Global, value: &Value) -> Result<Bytes, ShapeNo>
+    ensures { Reads (decoded_bytes (view value.now)) result }
 {
     let Some(text) = value.as_str() else {
         return Err(ShapeNo::Shape);
@@ -212,18 +212,18 @@ fn bytes_in(alloc: Global, value: &Value) -> Result<Bytes, ShapeNo>
 }
 
 /// The number at a member.
-pub(crate) fn number_at(value: &Value, key: &str) -> Option<u64>
-    ensures { result ≡ number_at key.now (view value.now) }
+pub(crate) fn member_number(value: &Value, key: &str) -> Option<u64>
+    ensures { result ≡ member_number key.now (view value.now) }
 {
-    match text_at(value, key) {
-        Some(text) => number_in(text),
+    match member_text(value, key) {
+        Some(text) => text_number(text),
         None => None,
     }
 }
 
 /// The number that the text is written for.
-fn number_in(text: &str) -> Option<u64>
-    ensures { result ≡ number_in text.now }
+fn text_number(text: &str) -> Option<u64>
+    ensures { result ≡ text_number text.now }
 {
     let Ok(number) = text.parse::<u64>() else {
         return None;
@@ -237,18 +237,18 @@ fn number_in(text: &str) -> Option<u64>
 }
 
 /// The pairs at a member, one for each of its members.
-pub(crate) fn pairs_at(alloc: Global, value: &Value, key: &str) -> Result<Annotations, ShapeNo>
-    ensures { Reads (option_and_then pairs_in (get key.now (view value.now))) result }
+pub(crate) fn member_pairs(alloc: Global, value: &Value, key: &str) -> Result<Annotations, ShapeNo>
+    ensures { Reads (option_and_then annotation_pairs (get key.now (view value.now))) result }
 {
     match value.get(key) {
-        Some(value) => pairs_in(alloc, value),
+        Some(value) => annotation_pairs(alloc, value),
         None => Err(ShapeNo::Shape),
     }
 }
 
 /// A pair for each member.
-pub(crate) fn pairs_in(alloc: Global, value: &Value) -> Result<Annotations, ShapeNo>
-    ensures { Reads (pairs_in (view value.now)) result }
+pub(crate) fn annotation_pairs(alloc: Global, value: &Value) -> Result<Annotations, ShapeNo>
+    ensures { Reads (annotation_pairs (view value.now)) result }
 {
     match value.as_object() {
         Some(members) => read_pairs(alloc, members),
@@ -261,7 +261,7 @@ fn read_pairs(alloc: Global, members: &Map<String, Value>) -> Result<Annotations
 {
     let mut found = Annotations::new(alloc);
     for (key, value) in members.iter() {
-        let bytes = bytes_in(alloc, value)?;
+        let bytes = decoded_bytes(alloc, value)?;
         match add_pair(alloc, &mut found, key.as_str(), bytes) {
             Ok(()) => {}
             Err(_) => return Err(ShapeNo::NoMemory),

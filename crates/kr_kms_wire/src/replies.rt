@@ -2,14 +2,14 @@
 ghost use Rattle.std.specs.Prelude.{◌≡◌, ◌⊎◌, IfOk};
 ghost use Rattle.serde_json.specs.View.{view, members_view};
 ghost use Rattle.kr_kms_wire.specs.Replies.{annotations_in, status_in, wrapped_in, shaped_reply};
-ghost use Rattle.kr_kms_wire.specs.Replies.{IsReply, kind_of, reply_members, answer_members};
-ghost use Rattle.kr_kms_wire.specs.Replies.{answer_text, IsReadBack};
+ghost use Rattle.kr_kms_wire.specs.Replies.{IsReply, reply_kind, reply_members, answer_members};
+ghost use Rattle.kr_kms_wire.specs.Replies.{answer_text, IsReplyReadBack};
 ghost use Rattle.kr_kms_wire.specs.inner.Shapes.{Reads};
 ghost use Rattle.kr_kms_wire.specs.inner.Written.{IsAnswerOfBytes};
 
 use crate::members::{
-    ShapeNo, ValueNo, bytes_at, line_of, members_of, own_text_at, pairs_in, put_bytes, put_text,
-    read_value, tell_pairs, text_at,
+    MemberNo, ShapeNo, annotation_members, annotation_pairs, member_bytes, member_text,
+    members_line, own_member_text, put_bytes, put_text, read_value, tell_pairs,
 };
 use kr_base::{Annotations, Bytes, NoMemory, Text};
 use kr_kms::{Status, Wrapped};
@@ -63,14 +63,14 @@ pub enum ReplyNo {
 /// Reads a line, with or without its LF, as the reply to a call of this kind.
 pub fn read_reply(alloc: Global, asked: Asked, line: &[u8]) -> Result<Reply, ReplyNo>
     ensures reply { IsReply asked line.now result }
-    ensures kind { IfOk result (λ reply. kind_of reply ≡ asked) }
+    ensures kind { IfOk result (λ reply. reply_kind reply ≡ asked) }
 {
     let value = match read_value(alloc, line) {
         Ok(value) => value,
-        Err(ValueNo::NotJson) => return Err(ReplyNo::NotJson),
-        Err(ValueNo::NoMemory) => return Err(ReplyNo::NoMemory),
+        Err(MemberNo::NotJson) => return Err(ReplyNo::NotJson),
+        Err(MemberNo::NoMemory) => return Err(ReplyNo::NoMemory),
     };
-    if let Some(text) = text_at(&value, "error") {
+    if let Some(text) = member_text(&value, "error") {
         return Err(refusal(alloc, text));
     }
     match read_shape(alloc, asked, &value) {
@@ -97,16 +97,16 @@ fn read_shape(alloc: Global, asked: Asked, value: &Value) -> Result<Reply, Shape
     match asked {
         Asked::Status => Ok(Reply::Status(read_status(alloc, value)?)),
         Asked::Encrypt => Ok(Reply::Encrypt(read_wrapped(alloc, value)?)),
-        Asked::Decrypt => Ok(Reply::Decrypt(bytes_at(alloc, value, "plaintext")?)),
+        Asked::Decrypt => Ok(Reply::Decrypt(member_bytes(alloc, value, "plaintext")?)),
     }
 }
 
 fn read_status(alloc: Global, value: &Value) -> Result<Status, ShapeNo>
     ensures { Reads (status_in (view value.now)) result }
 {
-    let version = own_text_at(alloc, value, "version")?;
-    let healthz = own_text_at(alloc, value, "healthz")?;
-    let key_id = own_text_at(alloc, value, "key_id")?;
+    let version = own_member_text(alloc, value, "version")?;
+    let healthz = own_member_text(alloc, value, "healthz")?;
+    let key_id = own_member_text(alloc, value, "key_id")?;
     Ok(Status {
         version,
         healthz,
@@ -117,9 +117,9 @@ fn read_status(alloc: Global, value: &Value) -> Result<Status, ShapeNo>
 fn read_wrapped(alloc: Global, value: &Value) -> Result<Wrapped, ShapeNo>
     ensures { Reads (wrapped_in (view value.now)) result }
 {
-    let key_id = own_text_at(alloc, value, "key_id")?;
+    let key_id = own_member_text(alloc, value, "key_id")?;
     let annotations = read_annotations(alloc, value)?;
-    let cipher = bytes_at(alloc, value, "ciphertext")?;
+    let cipher = member_bytes(alloc, value, "ciphertext")?;
     Ok(Wrapped {
         cipher,
         key_id,
@@ -134,17 +134,17 @@ fn read_annotations(alloc: Global, value: &Value) -> Result<Annotations, ShapeNo
     let Some(given) = value.get("annotations") else {
         return Ok(Annotations::new(alloc));
     };
-    pairs_in(alloc, given)
+    annotation_pairs(alloc, given)
 }
 
 /// The line that answers it, with its LF. The annotations of a wrap are always there.
 pub fn reply_line(alloc: Global, answered: &Answered) -> Result<Bytes, NoMemory>
     ensures text { IfOk result (λ line. line ≡ answer_text answered.now) }
-    ensures read { IfOk result (λ line. IsReadBack line answered.now) }
+    ensures read { IfOk result (λ line. IsReplyReadBack line answered.now) }
 {
     tell_bytes(answered);
-    let members = members_by(alloc, answered)?;
-    line_of(alloc, members)
+    let members = reply_member_map(alloc, answered)?;
+    members_line(alloc, members)
 }
 
 /// Tells what its types keep.
@@ -162,7 +162,7 @@ fn tell_bytes(answered: &Answered)
     }
 }
 
-fn members_by(alloc: Global, answered: &Answered) -> Result<Map<String, Value>, NoMemory>
+fn reply_member_map(alloc: Global, answered: &Answered) -> Result<Map<String, Value>, NoMemory>
     ensures { IfOk result (λ members. members_view members.entries
         ≡ answer_members answered.now) }
 {
@@ -189,7 +189,7 @@ fn wrapped_members(alloc: Global, wrapped: &Wrapped) -> Result<Map<String, Value
     ensures { IfOk result (λ members. members_view members.entries
         ≡ reply_members (Reply.Encrypt wrapped.now)) }
 {
-    let pairs = members_of(alloc, &wrapped.annotations)?;
+    let pairs = annotation_members(alloc, &wrapped.annotations)?;
     let mut members = Map::new(alloc);
     put(&mut members, alloc, "annotations", Value::Object(pairs))?;
     put_bytes(&mut members, alloc, "ciphertext", wrapped.cipher.as_slice())?;

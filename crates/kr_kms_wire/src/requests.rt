@@ -7,8 +7,8 @@ ghost use Rattle.kr_kms_wire.specs.inner.Shapes.{Reads};
 ghost use Rattle.kr_kms_wire.specs.inner.Written.{IsRequestOfBytes};
 
 use crate::members::{
-    ShapeNo, ValueNo, bytes_at, line_of, members_of, number_at, own_text_at, pairs_at, put_bytes,
-    put_number, put_text, read_value, tell_pairs, text_at,
+    MemberNo, ShapeNo, annotation_members, member_bytes, member_number, member_pairs, member_text,
+    members_line, own_member_text, put_bytes, put_number, put_text, read_value, tell_pairs,
 };
 use kr_base::{Annotations, Bytes, NoMemory, Text};
 use serde_json::{Map, Value, put};
@@ -51,8 +51,8 @@ pub fn request_line(alloc: Global, request: &Request) -> Result<Bytes, NoMemory>
     ensures read { IfOk result (λ line. request_of line ≡ Ok request.now) }
 {
     tell_bytes(request);
-    let members = members_by(alloc, request)?;
-    line_of(alloc, members)
+    let members = request_member_map(alloc, request)?;
+    members_line(alloc, members)
 }
 
 /// Tells what its types keep.
@@ -78,7 +78,7 @@ fn tell_bytes(request: &Request)
     }
 }
 
-fn members_by(alloc: Global, request: &Request) -> Result<Map<String, Value>, NoMemory>
+fn request_member_map(alloc: Global, request: &Request) -> Result<Map<String, Value>, NoMemory>
     ensures { IfOk result (λ members. members_view members.entries
         ≡ request_members request.now) }
 {
@@ -124,7 +124,7 @@ fn decrypt_members(
     ensures { IfOk result (λ members. members_view members.entries
         ≡ request_members (Request.Decrypt source.now key_id.now annotations.now uid)) }
 {
-    let pairs = members_of(alloc, annotations)?;
+    let pairs = annotation_members(alloc, annotations)?;
     let mut members = Map::new(alloc);
     put(&mut members, alloc, "annotations", Value::Object(pairs))?;
     put_text(&mut members, alloc, "call", "decrypt")?;
@@ -140,8 +140,8 @@ pub fn read_request(alloc: Global, line: &[u8]) -> Result<Request, RequestNo>
 {
     let value = match read_value(alloc, line) {
         Ok(value) => value,
-        Err(ValueNo::NotJson) => return Err(RequestNo::NotJson),
-        Err(ValueNo::NoMemory) => return Err(RequestNo::NoMemory),
+        Err(MemberNo::NotJson) => return Err(RequestNo::NotJson),
+        Err(MemberNo::NoMemory) => return Err(RequestNo::NoMemory),
     };
     match read_call(alloc, &value) {
         Ok(request) => Ok(request),
@@ -154,7 +154,7 @@ pub fn read_request(alloc: Global, line: &[u8]) -> Result<Request, RequestNo>
 fn read_call(alloc: Global, value: &Value) -> Result<Request, ShapeNo>
     ensures { Reads (request_in (view value.now)) result }
 {
-    let Some(call) = text_at(value, "call") else {
+    let Some(call) = member_text(value, "call") else {
         return Err(ShapeNo::Shape);
     };
     match call {
@@ -168,8 +168,8 @@ fn read_call(alloc: Global, value: &Value) -> Result<Request, ShapeNo>
 fn read_encrypt(alloc: Global, value: &Value) -> Result<Request, ShapeNo>
     ensures { Reads (encrypt_in (view value.now)) result }
 {
-    let plain = bytes_at(alloc, value, "plaintext")?;
-    match number_at(value, "uid") {
+    let plain = member_bytes(alloc, value, "plaintext")?;
+    match member_number(value, "uid") {
         Some(uid) => Ok(Request::Encrypt { plain, uid }),
         None => Err(ShapeNo::Shape),
     }
@@ -178,10 +178,10 @@ fn read_encrypt(alloc: Global, value: &Value) -> Result<Request, ShapeNo>
 fn read_decrypt(alloc: Global, value: &Value) -> Result<Request, ShapeNo>
     ensures { Reads (decrypt_in (view value.now)) result }
 {
-    let source = bytes_at(alloc, value, "ciphertext")?;
-    let key_id = own_text_at(alloc, value, "key_id")?;
-    let annotations = pairs_at(alloc, value, "annotations")?;
-    match number_at(value, "uid") {
+    let source = member_bytes(alloc, value, "ciphertext")?;
+    let key_id = own_member_text(alloc, value, "key_id")?;
+    let annotations = member_pairs(alloc, value, "annotations")?;
+    match member_number(value, "uid") {
         Some(uid) => Ok(Request::Decrypt {
             source,
             key_id,

@@ -8,7 +8,7 @@ use Rattle.std.proofs.lemmas.Nat.Bits.{bit_at-suc, bit_at_cat_high, bit_at_cat_l
 use Rattle.std.specs.Int.{w128, bit_at, byte_at, bytes_high_first, from_be_bytes, from_le_bytes, reverse_bits, reverse_bits_onto}
 use Rattle.kr_aes.specs.Cipher.{IsBlock}
 use Rattle.kr_aes.proofs.Blocks.{cell-lt}
-use Rattle.kr_modes.specs.Ghash.{block_of, polynomial}
+use Rattle.kr_modes.specs.Ghash.{polynomial_block, polynomial}
 
 -- ---- reversed bits
 
@@ -129,13 +129,13 @@ high_first (suc m) n (suc k) lt =
     let e : m - 1 - k ≡ suc m - 1 - suc k = omega arith in
     high_first m n k (omega arith) ∙ ap (λ (i : ℕ). byte_at i n) e
 
-byte_of_block : (p i : ℕ) → i < 16 → slice_index (block_of p) i ≡ byte_at (15 - i) (reverse_bits w128 p)
-unfolding block_of
+byte_of_block : (p i : ℕ) → i < 16 → slice_index (polynomial_block p) i ≡ byte_at (15 - i) (reverse_bits w128 p)
+unfolding polynomial_block
 byte_of_block p i lt =
     let e : 16 - 1 - i ≡ 15 - i = omega arith in
     high_first 16 (reverse_bits w128 p) i lt ∙ ap (λ (k : ℕ). byte_at k (reverse_bits w128 p)) e
 
-bit_of_block : (p i j : ℕ) → i < 16 → j < 8 → bit_at (slice_index (block_of p) i) j ≡ bit_at p (8 * i + (7 - j))
+bit_of_block : (p i j : ℕ) → i < 16 → j < 8 → bit_at (slice_index (polynomial_block p) i) j ≡ bit_at p (8 * i + (7 - j))
 bit_of_block p i j hi hj =
     let e : 128 - 1 - (8 * (15 - i) + j) ≡ 8 * i + (7 - j) = omega arith in
     ap (λ (x : ℕ). bit_at x j) (byte_of_block p i hi)
@@ -143,11 +143,11 @@ bit_of_block p i j hi hj =
     ∙ reversed_bit 128 p 0 (8 * (15 - i) + j) (omega arith)
     ∙ ap (bit_at p) e
 
-length-block_of : (p : ℕ) → length (block_of p) ≡ 16
-unfolding block_of
-length-block_of p = refl
+length-polynomial_block : (p : ℕ) → length (polynomial_block p) ≡ 16
+unfolding polynomial_block
+length-polynomial_block p = refl
 
-same_bit : (block : List ℕ) (i j : ℕ) → IsBlock block → i < 16 → j < 8 → bit_at (slice_index (block_of (polynomial block)) i) j ≡ bit_at (slice_index block i) j
+same_bit : (block : List ℕ) (i j : ℕ) → IsBlock block → i < 16 → j < 8 → bit_at (slice_index (polynomial_block (polynomial block)) i) j ≡ bit_at (slice_index block i) j
 same_bit block i j is hi hj =
     let at : (8 * i + (7 - j)) / 8 ≡ i = omega arith in
     let bit : 7 - (8 * i + (7 - j)) % 8 ≡ j = omega arith in
@@ -155,15 +155,15 @@ same_bit block i j is hi hj =
     ∙ bit_of_polynomial block (8 * i + (7 - j)) is (omega arith)
     ∙ (λ k. bit_at (slice_index block (at k)) (bit k))
 
-same_byte : (block : List ℕ) (i : ℕ) → IsBlock block → i < 16 → slice_index (block_of (polynomial block)) i ≡ slice_index block i
+same_byte : (block : List ℕ) (i : ℕ) → IsBlock block → i < 16 → slice_index (polynomial_block (polynomial block)) i ≡ slice_index block i
 same_byte block i is lt =
-    same_from_bits_below 8 (slice_index (block_of (polynomial block)) i) (slice_index block i)
+    same_from_bits_below 8 (slice_index (polynomial_block (polynomial block)) i) (slice_index block i)
     (rw (byte_of_block (polynomial block) i lt) (byte_at-lt (15 - i) (reverse_bits w128 (polynomial block)))) (cell-lt block is i)
     (λ j less. same_bit block i j is lt less)
 
 -- the block of a block's polynomial is that block
-pub block_of-polynomial : (block : List ℕ) → IsBlock block → block_of (polynomial block) ≡ block
-block_of-polynomial block is =
+pub polynomial_block-polynomial : (block : List ℕ) → IsBlock block → polynomial_block (polynomial block) ≡ block
+polynomial_block-polynomial block is =
     let size : length block ≡ 16 = is.size in
-    let long : length (block_of (polynomial block)) ≡ 16 = length-block_of (polynomial block) in
-    ext_get_or 0 (block_of (polynomial block)) block (omega arith) (λ i lt. same_byte block i is (omega arith))
+    let long : length (polynomial_block (polynomial block)) ≡ 16 = length-polynomial_block (polynomial block) in
+    ext_get_or 0 (polynomial_block (polynomial block)) block (omega arith) (λ i lt. same_byte block i is (omega arith))

@@ -13,9 +13,9 @@ use Rattle.kr_aes.specs.Cipher.{IsBlock}
 use Rattle.kr_aes.proofs.Blocks.{cell-lt}
 use Rattle.kr_aes.proofs.Cases.{same_below}
 use Rattle.kr_aes.proofs.Linear.{one_times, zero_times}
-use Rattle.kr_modes.specs.Ghash.{block_of, polynomial}
+use Rattle.kr_modes.specs.Ghash.{polynomial_block, polynomial}
 use Rattle.kr_modes.specs.inner.Tables.{four_terms, polynomial_of, times_x, turned}
-use Rattle.kr_modes.proofs.BlockBits.{bit_of_byte, bit_of_polynomial, block_of-polynomial, byte_at-lt, high_first, joined_bit, joined_low_16, low_byte, reversed-lt, reversed_bit}
+use Rattle.kr_modes.proofs.BlockBits.{bit_of_byte, bit_of_polynomial, polynomial_block-polynomial, byte_at-lt, high_first, joined_bit, joined_low_16, low_byte, reversed-lt, reversed_bit}
 use Rattle.kr_modes.proofs.Groups.{bit_of_group, byte_of_factor}
 use Rattle.kr_modes.proofs.Remainders.{remainder-shifted}
 
@@ -100,9 +100,9 @@ turned_bytes p = same_from_bits_below 128 (polynomial (to_be_bytes w128 p)) (rev
     ∙ sym (reversed_bit 128 p 0 i lt))
 
 -- the block of a number's polynomial
-pub block_of_number : (n : ℕ) → to_le_bytes w128 n ≡ block_of (polynomial_of n)
+pub block_of_number : (n : ℕ) → to_le_bytes w128 n ≡ polynomial_block (polynomial_of n)
 unfolding polynomial_of
-block_of_number n = sym (block_of-polynomial (to_le_bytes w128 n) (IsBlock-number n))
+block_of_number n = sym (polynomial_block-polynomial (to_le_bytes w128 n) (IsBlock-number n))
 
 -- ---- half bytes
 

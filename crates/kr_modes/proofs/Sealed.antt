@@ -13,7 +13,7 @@ use Rattle.kr_modes.specs.declared.ModeNo.TheVariants.{BadPadding}
 use Rattle.kr_modes.specs.Blocks.{blocks, xor}
 use Rattle.kr_modes.specs.Cbc.{cbc, cbc_blocks, cbc_opened, uncbc, uncbc_blocks}
 use Rattle.kr_modes.specs.Gcm.{gctr, counter_block, gcm, gcm_opened, gcm_tag, key_stream, ungcm, zero_padded}
-use Rattle.kr_modes.specs.Ghash.{block_of, ghash, ghash_blocks, polynomial}
+use Rattle.kr_modes.specs.Ghash.{polynomial_block, ghash, ghash_blocks, polynomial}
 use Rattle.kr_modes.specs.Padding.{pad, padding, unpad}
 use Rattle.kr_modes.proofs.FirstBlocks.{blocks-first_blocks, first_blocks}
 use Rattle.kr_modes.proofs.Opening.{cbc_unpadded, gcm_some, tag_from_some, ungcm_some}
@@ -108,13 +108,13 @@ cbc_opened-cbc words rounds iv plain is fits =
 
 -- ---- GCM
 
-length-block_of : (p : ℕ) → length (block_of p) ≡ 16
-unfolding block_of
-length-block_of p = refl
+length-polynomial_block : (p : ℕ) → length (polynomial_block p) ≡ 16
+unfolding polynomial_block
+length-polynomial_block p = refl
 
 length-ghash : (subkey bytes : List ℕ) → length (ghash subkey bytes) ≡ 16
 unfolding ghash
-length-ghash subkey bytes = length-block_of (ghash_blocks (polynomial subkey) 0 (blocks bytes))
+length-ghash subkey bytes = length-polynomial_block (ghash_blocks (polynomial subkey) 0 (blocks bytes))
 
 length-gcm_tag : (encipher : List ℕ → List ℕ) (nonce aad ciphertext : List ℕ) → GivesBlocks encipher → length (gcm_tag encipher nonce aad ciphertext) ≡ 16
 unfolding gcm_tag

@@ -12,8 +12,8 @@ unfoldable pub polynomial : List ℕ → ℕ
 polynomial block = reverse_bits w128 (from_be_bytes w128 block)
 
 -- the block that stands for a polynomial
-unfoldable pub block_of : ℕ → List ℕ
-block_of p = to_be_bytes w128 (reverse_bits w128 p)
+unfoldable pub polynomial_block : ℕ → List ℕ
+polynomial_block p = to_be_bytes w128 (reverse_bits w128 p)
 
 -- x^128 + x^7 + x^2 + x + 1 (6.3)
 abbrev pub modulus : ℕ
@@ -30,7 +30,7 @@ ghash_blocks h y (block ∷ rest) = ghash_blocks h (product (bit_xor y (polynomi
 
 -- the hash of a string of whole blocks under the hash subkey H, a block (6.4)
 unfoldable pub ghash : List ℕ → List ℕ → List ℕ
-ghash subkey bytes = block_of (ghash_blocks (polynomial subkey) 0 (blocks bytes))
+ghash subkey bytes = polynomial_block (ghash_blocks (polynomial subkey) 0 (blocks bytes))
 
 -- ---- laws: the bits of a block, of which bit 0 is the leftmost of the first byte, are the
 -- coefficients of its polynomial; that stands for no other block; and the product is linear in each
@@ -41,7 +41,7 @@ BitsAreCoefficients = (block : List ℕ) (i : ℕ) → IsBlock block → i < 128
     → bit_at (polynomial block) i ≡ bit_at (slice_index block (i / 8)) (7 - i % 8)
 
 abbrev pub BlockOfPolynomial : Type 0
-BlockOfPolynomial = (block : List ℕ) → IsBlock block → block_of (polynomial block) ≡ block
+BlockOfPolynomial = (block : List ℕ) → IsBlock block → polynomial_block (polynomial block) ≡ block
 
 abbrev pub ProductIsLinear : Type 0
 ProductIsLinear = (a b c : ℕ) → (product a (bit_xor b c) ≡ bit_xor (product a b) (product a c))

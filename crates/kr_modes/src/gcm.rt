@@ -51,7 +51,7 @@ pub fn gcm_seal_in_place(
 {
     let size = buffer.len() - TAG;
     gctr(words, rounds, nonce, &mut buffer[..size], 0);
-    let tag = tag_of(words, rounds, nonce, aad, &buffer[..size]);
+    let tag = compute_tag(words, rounds, nonce, aad, &buffer[..size]);
     buffer[size..].copy_from_slice(&tag);
 }
 
@@ -129,7 +129,7 @@ fn checked_length(
         return Err(ModeNo::Short);
     }
     let size = body.len() - TAG;
-    let tag = tag_of(words, rounds, nonce, aad, &body[..size]);
+    let tag = compute_tag(words, rounds, nonce, aad, &body[..size]);
     if !is_same(&tag, &body[size..]) {
         return Err(ModeNo::BadTag);
     }
@@ -162,7 +162,7 @@ fn length_block(aad_size: usize, size: usize) -> [u8; BLOCK]
 }
 
 /// The tag of the associated data and the ciphertext.
-fn tag_of(
+fn compute_tag(
     words: &[u32; 60],
     rounds: Rounds,
     nonce: &[u8; NONCE],

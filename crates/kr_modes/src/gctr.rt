@@ -120,7 +120,7 @@ fn gctr_each(
     for index in written..whole {
         let start = BLOCK * index;
         let n = (index + 1) as u32;
-        begun = begun_for(begun, words, nonce, n);
+        begun = begin_nth_block(begun, words, nonce, n);
         let mut block = begun.encrypt_block(rounds, ((n + 1) % 256) as u8);
         blocks::add(&mut block, &blocks::whole_block(&buffer[from..], index));
         buffer[start..start + BLOCK].copy_from_slice(&block);
@@ -173,14 +173,14 @@ fn counter_blocks(nonce: &[u8; NONCE], n: u32) -> [[u8; BLOCK]; 8]
 {
     let mut blocks = [counter_block(nonce, n); 8];
     for i in 1..8 {
-        count_to(&mut blocks[i], n + i as u32);
+        set_block_count(&mut blocks[i], n + i as u32);
     }
     blocks
 }
 
 /// Puts another count behind the nonce of a counter block.
 #[inline(always)]
-fn count_to(block: &mut [u8; BLOCK], n: u32)
+fn set_block_count(block: &mut [u8; BLOCK], n: u32)
     requires { n + 1 < 2 ^ 32 }
     ensures { block.new ≡ counter_block (take 12 block.old) n }
 {
@@ -190,7 +190,12 @@ fn count_to(block: &mut [u8; BLOCK], n: u32)
 /// What is begun for the counter block after `n` counts. It is begun anew where the last byte is 0,
 /// since the block before it differs elsewhere too.
 #[inline(always)]
-fn begun_for<'a>(begun: Begun<'a>, words: &'a [u32; 60], nonce: &[u8; NONCE], n: u32) -> Begun<'a>
+fn begin_nth_block<'a>(
+    begun: Begun<'a>,
+    words: &'a [u32; 60],
+    nonce: &[u8; NONCE],
+    n: u32,
+) -> Begun<'a>
     requires some { 0 < n }
     requires fits { n + 1 < 2 ^ 32 }
     requires before { begun ≡ record {

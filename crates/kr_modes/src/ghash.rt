@@ -35,7 +35,7 @@ fn shifted(p: u128) -> u128
 
 /// The block that stands for such a polynomial.
 #[inline(always)]
-fn block_of(p: u128) -> u128
+fn polynomial_block(p: u128) -> u128
     ensures { polynomial_of result ≡ reverse_bits w128 p }
 {
     let block = p.to_be_bytes();
@@ -50,10 +50,10 @@ fn multiples(p: u128) -> [u128; 16]
 {
     let q = shifted(p);
     let r = shifted(q);
-    let a = block_of(p);
-    let b = block_of(q);
-    let c = block_of(r);
-    let d = block_of(shifted(r));
+    let a = polynomial_block(p);
+    let b = polynomial_block(q);
+    let c = polynomial_block(r);
+    let d = polynomial_block(shifted(r));
     let ab = a ^ b;
     let cd = c ^ d;
     [

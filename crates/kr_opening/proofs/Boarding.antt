@@ -2,7 +2,7 @@
 use Rattle.std.proofs.Common.{◌≡◌, ℕ, List, [], Option, None, Ok, Err, sym, ap, subst, ◌∙◌}
 use Rattle.kr_store.specs.declared.rows.LogRow.{LogRow}
 use Rattle.kr_config.specs.declared.settings.Settings.{Settings}
-use Rattle.kr_config.specs.Kept.{Row}
+use Rattle.kr_config.specs.Kept.{ConfigEntry}
 use Rattle.kr_judge.specs.Boards.{BoardState}
 use Rattle.kr_opening.specs.declared.opening_board.StartNo.{StartNo}
 use Rattle.kr_opening.specs.declared.opening_board.StartNo.TheVariants.{Stray, OtherSecret, Unfit, NoMemory}
@@ -11,7 +11,7 @@ use Rattle.kr_opening.specs.Replicas.{first_rows, rows_in}
 use Rattle.kr_opening.specs.Starts.{opening_generations, AllFit, IsUnfit, IsLeastStray, IsLeastOther, Boards}
 use Rattle.kr_opening.specs.inner.OpeningBoards.{NotesAll, TakesAllUp}
 
-module _ (replicas : List (Option Settings)) (first : List Row) (rows : List LogRow) (room : ℕ)
+module _ (replicas : List (Option Settings)) (first : List ConfigEntry) (rows : List LogRow) (room : ℕ)
     (empty noted : BoardState)
     (is : first_rows (rows_in replicas) ≡ first)
     (fresh : empty ≡ record { generations = []; needs = []; proposal = None; room = room })

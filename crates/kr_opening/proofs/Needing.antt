@@ -18,7 +18,7 @@ use Rattle.kr_store.specs.declared.rows.Change.{Change}
 use Rattle.kr_store.specs.declared.rows.Change.TheVariants as change
 use Rattle.kr_store.specs.Rows.{later, latest_from, latest}
 use Rattle.kr_config.specs.declared.who.Who.{Who}
-use Rattle.kr_config.specs.Kept.{Row}
+use Rattle.kr_config.specs.Kept.{ConfigEntry}
 use Rattle.kr_config.specs.Nexts.{name_cmp}
 use Rattle.kr_judge.specs.declared.need.Need.{Need}
 use Rattle.kr_judge.specs.Boards.{AreByPath, set_need}
@@ -176,7 +176,7 @@ abbrev pub last_row : List LogRow → List ℕ → Option LogRow
 last_row rows path = option_map (λ found. found.1) (latest rows path)
 
 -- what a path needs
-abbrev pub needed : List Row → Option LogRow → Option Need
+abbrev pub needed : List ConfigEntry → Option LogRow → Option Need
 needed first None = None
 needed first (Some row) = need_of first row.path row.change
 
@@ -225,7 +225,7 @@ some_last rows path v e = by (latest rows path) e
     by (Some found) e = e
     by None e = e
 
-need_path : (first : List Row) (path : List ℕ) (c : Change) (need : Need)
+need_path : (first : List ConfigEntry) (path : List ℕ) (c : Change) (need : Need)
     → need_of first path c ≡ Some need → need.path ≡ path
 need_path first path (change.Put resource stored check) need e = by (provider_of first resource stored) e
   where
@@ -252,7 +252,7 @@ with_found None needs own path at none = by (bytes_eq own path) refl
 with_found (Some need) needs own path at none = set_found needs need path
     ∙ ap (λ p. either (bytes_eq p path) (Some need) (need_at needs path)) (at need refl)
 
-pub needs_found : (first : List Row) (rows : List LogRow) (path : List ℕ)
+pub needs_found : (first : List ConfigEntry) (rows : List LogRow) (path : List ℕ)
     → need_at (needs_of first rows) path ≡ needed first (last_row rows path)
 needs_found first [] path = refl
 needs_found first (row ∷ rows) path = by (is_some (latest rows row.path)) refl
@@ -311,7 +311,7 @@ with_sorted : (o : Option Need) (needs : List Need) → AreByPath needs
 with_sorted None needs s = s
 with_sorted (Some need) needs s = sorted_set needs need s
 
-pub needs_sorted : (first : List Row) (rows : List LogRow) → AreByPath (needs_of first rows)
+pub needs_sorted : (first : List ConfigEntry) (rows : List LogRow) → AreByPath (needs_of first rows)
 needs_sorted first [] = sorted_nil
 needs_sorted first (row ∷ rows) = by (is_some (latest rows row.path)) (needs_sorted first rows)
   where

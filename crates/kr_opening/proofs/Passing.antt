@@ -9,7 +9,7 @@ use Rattle.std.proofs.lemmas.List.Elements.{Contains-append_right}
 use Rattle.kr_config.specs.declared.class.Class.{Class}
 use Rattle.kr_config.specs.declared.class.Class.TheVariants.{Exact, Group, Rest}
 use Rattle.kr_config.specs.declared.pattern.Pattern.{Pattern}
-use Rattle.kr_config.specs.Kept.{Row, apart, keeps, keeps_row, keeps_patterns, keeps_providers, patterns_in, keys_in, kms_in}
+use Rattle.kr_config.specs.Kept.{ConfigEntry, apart, keeps, keeps_row, keeps_patterns, keeps_providers, patterns_in, count_entry_keys, kms_in}
 use Rattle.kr_config.specs.Lists.{first_list, list_of, class_list}
 use Rattle.kr_config.specs.Patterns.{matches, covers_group, covers_rest}
 use Rattle.kr_config.specs.Providers.{is_provider, rivals}
@@ -71,7 +71,7 @@ and_right a b e = (and_parts a b e).1
 some_of : (n : ℕ) → nat_le 1 n ≡ true → 1 ≤ n
 some_of n e = grind (arith, nat_tests)
 
-row_some : (row : Row) → keeps_row row ≡ true → 1 ≤ length row.providers
+row_some : (row : ConfigEntry) → keeps_row row ≡ true → 1 ≤ length row.providers
 row_some row e =
     let providers = and_right (keeps_patterns row.patterns) (keeps_providers row.providers) e in
     let front = and_left (nat_le 1 (length row.providers) && list_all is_provider row.providers)
@@ -79,20 +79,20 @@ row_some row e =
     some_of (length row.providers) (and_left (nat_le 1 (length row.providers))
     (list_all is_provider row.providers) front)
 
-pub rows_keep : (rows : List Row) → IsTrue (keeps rows) → list_all keeps_row rows ≡ true
+pub rows_keep : (rows : List ConfigEntry) → IsTrue (keeps rows) → list_all keeps_row rows ≡ true
 unfolding keeps
 rows_keep rows e =
     let a = and_left (nat_le 1 (length rows) && nat_le
     (length rows) 64 && list_all keeps_row rows && nat_le (patterns_in rows) 256 && nat_le
-    (keys_in rows) 64) (nat_le (kms_in rows) 16) e in
+    (count_entry_keys rows) 64) (nat_le (kms_in rows) 16) e in
     let b = and_left (nat_le 1 (length rows) && nat_le
     (length rows) 64 && list_all keeps_row rows && nat_le (patterns_in rows) 256)
-    (nat_le (keys_in rows) 64) a in
+    (nat_le (count_entry_keys rows) 64) a in
     let c = and_left (nat_le 1 (length rows) && nat_le (length rows) 64 && list_all keeps_row rows)
     (nat_le (patterns_in rows) 256) b in
     and_right (nat_le 1 (length rows) && nat_le (length rows) 64) (list_all keeps_row rows) c
 
-pub first_some : (test : Pattern → Bool) (rows : List Row) → list_all keeps_row rows ≡ true
+pub first_some : (test : Pattern → Bool) (rows : List ConfigEntry) → list_all keeps_row rows ≡ true
     → 1 ≤ length (first_list test rows)
 first_some test [] e = omega arith
 first_some test (row ∷ rows) e =
@@ -105,7 +105,7 @@ first_some test (row ∷ rows) e =
     by true a b = a
     by false a b = b
 
-pub class_some : (rows : List Row) → IsTrue (keeps rows) → (class : Class)
+pub class_some : (rows : List ConfigEntry) → IsTrue (keeps rows) → (class : Class)
     → 1 ≤ length (class_list rows class)
 class_some rows k (Exact text) = first_some (λ pattern. matches pattern text) rows
     (rows_keep rows k)
@@ -117,7 +117,7 @@ class_some rows k Rest = first_some covers_rest rows (rows_keep rows k)
 
 -- what the new settings have in common with each other live generation
 pub record AreReadable (needs : List Need) (generations : List GenerationState) (replica : ℕ)
-    (rows : List Row) : Type 0 where
+    (rows : List ConfigEntry) : Type 0 where
   pub stored : (need : Need) → Contains needs need → Contains (list_of rows need.resource) need.who
   pub reads : (t : GenerationState) → Contains generations t → is_other replica t ≡ true
       → (class : Class) → ReadsWriter (class_list t.rows class) (class_list rows class)
@@ -125,7 +125,7 @@ pub record AreReadable (needs : List Need) (generations : List GenerationState) 
       → (class : Class) → ReadsWriter (class_list rows class) (class_list t.rows class)
 
 module _ (needs : List Need) (generations : List GenerationState) (replica : ℕ)
-    (rows : List Row) (f : FitsBoard needs generations replica rows) where
+    (rows : List ConfigEntry) (f : FitsBoard needs generations replica rows) where
   reads_other : (t : GenerationState) → Contains generations t → is_other replica t ≡ true
       → (class : Class) → Contains (judged_classes rows generations) class
       → ReadsWriter (class_list t.rows class) (class_list rows class)
@@ -141,7 +141,7 @@ module _ (needs : List Need) (generations : List GenerationState) (replica : ℕ
       f.readers (n.number, t) class (other_there replica generations n.number t n.there o) judged
 
 pub passed : (needs : List Need) (generations : List GenerationState) (replica : ℕ)
-    (rows : List Row) → verdict_of needs generations replica rows ≡ Pass
+    (rows : List ConfigEntry) → verdict_of needs generations replica rows ≡ Pass
     → AreReadable needs generations replica rows
 passed needs generations replica rows e =
     let f = (passes_exactly needs generations replica rows).0 e in

@@ -7,7 +7,7 @@ use Rattle.std.proofs.lemmas.List.Elements.{Contains-append_left, Contains-appen
 use Rattle.std.proofs.lemmas.List.{length-set, get_or-set_same, get_or-set_other}
 use Rattle.std.proofs.lemmas.Option.{none-some, same_Some, slice_get-get_or, slice_get_within}
 use Rattle.kr_config.specs.declared.who.Who.{Who}
-use Rattle.kr_config.specs.Kept.{Row}
+use Rattle.kr_config.specs.Kept.{ConfigEntry}
 use Rattle.kr_judge.specs.declared.need.Need.{Need}
 use Rattle.kr_judge.specs.Boards.{GenerationState, is_live, left_by, without_current}
 use Rattle.kr_judge.specs.Lacks.{LacksProvider, IsNeeded, IsLiveIn, IsLiveBeside, given_to}
@@ -19,7 +19,7 @@ use Rattle.kr_opening.specs.Starts.{opening_generations}
 
 -- ---- the replicas' generations
 
-abbrev opened : ℕ → List Row → GenerationState
+abbrev opened : ℕ → List ConfigEntry → GenerationState
 opened replica rows = record { replica = replica; rows = rows; current = true; holders = 0 }
 
 got : {X : Type 0} (xs : List X) (x : X) → Contains xs x → (i : ℕ) × (slice_get xs i ≡ Some x)
@@ -35,13 +35,13 @@ contained (y ∷ ys) zero x e = subst (Contains (y ∷ ys)) (same_Some y x e) (h
 contained (y ∷ ys) (suc i) x e = there y x ys (contained ys i x e)
 
 -- each is that of a replica which is in
-record IsOpened (k : ℕ) (replicas : List (Option (List Row))) (own : GenerationState)
+record IsOpened (k : ℕ) (replicas : List (Option (List ConfigEntry))) (own : GenerationState)
     : Type 0 where
   place : ℕ
   there_is : slice_get replicas place ≡ Some (Some own.rows)
   is : opened (k + place) own.rows ≡ own
 
-further : (k : ℕ) (first : Option (List Row)) (replicas : List (Option (List Row)))
+further : (k : ℕ) (first : Option (List ConfigEntry)) (replicas : List (Option (List ConfigEntry)))
     (own : GenerationState) → IsOpened (k + 1) replicas own → IsOpened k (first ∷ replicas) own
 further k first replicas own r = record {
   place = suc r.place;
@@ -49,7 +49,7 @@ further k first replicas own r = record {
   is = ap (λ (n : ℕ). opened n own.rows) (omega arith) ∙ r.is;
 }
 
-is_opened : (k : ℕ) (replicas : List (Option (List Row))) (own : GenerationState)
+is_opened : (k : ℕ) (replicas : List (Option (List ConfigEntry))) (own : GenerationState)
     → Contains (opening_generations k replicas) own → IsOpened k replicas own
 is_opened k [] own m = absurd (omega (arith, m.1))
 is_opened k (None ∷ replicas) own m =
@@ -59,24 +59,24 @@ is_opened k (Some rows ∷ replicas) own m =
       | inl e ↦ (let same : rows ≡ own.rows = ap (λ (x : GenerationState). x.rows) e in
           record {
             place = 0;
-            there_is = ap (λ (x : List Row). Some (Some x)) same;
-            is = ap (λ (x : List Row). opened (k + 0) x) (sym same)
+            there_is = ap (λ (x : List ConfigEntry). Some (Some x)) same;
+            is = ap (λ (x : List ConfigEntry). opened (k + 0) x) (sym same)
                 ∙ ap (λ (n : ℕ). opened n rows) (omega arith) ∙ e;
           })
       | inr n ↦ further k (Some rows) replicas own (is_opened (k + 1) replicas own n)
     ]
 
-opened_there : (k i : ℕ) (replicas : List (Option (List Row))) (rows : List Row)
+opened_there : (k i : ℕ) (replicas : List (Option (List ConfigEntry))) (rows : List ConfigEntry)
     → slice_get replicas i ≡ Some (Some rows)
     → Contains (opening_generations k replicas) (opened (k + i) rows)
 opened_there k i [] rows e = absurd (none-some (Some rows) e)
 opened_there k zero (None ∷ replicas) rows e = absurd (none_is (same_Some None (Some rows) e))
   where
-    none_is : ◌≡◌ {A = Option (List Row)} None (Some rows) → ⊥
+    none_is : ◌≡◌ {A = Option (List ConfigEntry)} None (Some rows) → ⊥
     none_is e = none-some rows e
 opened_there k zero (Some own ∷ replicas) rows e =
     subst (Contains (opening_generations k (Some own ∷ replicas)))
-    (ap (λ (x : List Row). opened k x)
+    (ap (λ (x : List ConfigEntry). opened k x)
     (same_Some own rows (same_Some (Some own) (Some rows) e))
     ∙ ap (λ (n : ℕ). opened n rows) (omega arith))
     (here (opened k own) (opening_generations (k + 1) replicas))
@@ -92,7 +92,7 @@ opened_there k (suc i) (Some own ∷ replicas) rows e =
 -- ---- beside a replica's new settings
 
 -- one that has left is its replica's, and one that hasn't is another's
-left_apart : (replica place : ℕ) (rows : List Row)
+left_apart : (replica place : ℕ) (rows : List ConfigEntry)
     → is_live (left_by replica (opened (0 + place) rows)) ≡ true → place ≡ replica → ⊥
 left_apart replica place rows live same = by ((0 + place) == replica) refl live
   where
@@ -100,8 +100,8 @@ left_apart replica place rows live same = by ((0 + place) == replica) refl live
     by true e h = cc
     by false e h = eqb-false (0 + place) replica e (omega (arith, same))
 
-module _ (replicas : List (Option (List Row))) (replica : ℕ) where
-  another_by : (rows : List Row) → IsLiveBeside replica (opening_generations 0 replicas) rows
+module _ (replicas : List (Option (List ConfigEntry))) (replica : ℕ) where
+  another_by : (rows : List ConfigEntry) → IsLiveBeside replica (opening_generations 0 replicas) rows
       → AreOfAnother replicas replica rows
   another_by rows (own, m, live, is) =
       let r = mapped (left_by replica) (opening_generations 0 replicas) own m in
@@ -111,10 +111,10 @@ module _ (replicas : List (Option (List Row))) (replica : ℕ) where
         left_apart replica g.place r.from.rows
             (ap (λ (x : GenerationState). is_live (left_by replica x)) g.is
             ∙ ap (λ (x : GenerationState). is_live x) r.of ∙ live),
-        g.there_is ∙ ap (λ (x : List Row). Some (Some x)) rows_are,
+        g.there_is ∙ ap (λ (x : List ConfigEntry). Some (Some x)) rows_are,
       )
 
-  by_another : (rows : List Row) → AreOfAnother replicas replica rows
+  by_another : (rows : List ConfigEntry) → AreOfAnother replicas replica rows
       → IsLiveBeside replica (opening_generations 0 replicas) rows
   by_another rows (other, apart, is) = (
     left_by replica (opened (0 + other) rows),
@@ -125,11 +125,11 @@ module _ (replicas : List (Option (List Row))) (replica : ℕ) where
     refl,
   )
 
-  among : (rows : List Row) → AreOfAnother replicas replica rows → Contains replicas (Some rows)
+  among : (rows : List ConfigEntry) → AreOfAnother replicas replica rows → Contains replicas (Some rows)
   among rows (other, apart, is) = contained replicas other (Some rows) is
 
-  module _ (rows : List Row) (l : replica < length replicas) where
-    abbrev given : List (Option (List Row))
+  module _ (rows : List ConfigEntry) (l : replica < length replicas) where
+    abbrev given : List (Option (List ConfigEntry))
     given = slice_set replicas replica (Some rows)
 
     given_new : Contains given (Some rows)
@@ -139,7 +139,7 @@ module _ (replicas : List (Option (List Row))) (replica : ℕ) where
       get_or-set_same replicas replica (Some rows) (Some rows) l,
     )
 
-    given_other : (own : List Row) → AreOfAnother replicas replica own → Contains given (Some own)
+    given_other : (own : List ConfigEntry) → AreOfAnother replicas replica own → Contains given (Some own)
     given_other own (other, apart, is) = (
       other,
       omega (
@@ -153,7 +153,7 @@ module _ (replicas : List (Option (List Row))) (replica : ℕ) where
           (slice_get_within replicas other (Some own) is)) ∙ is),
     )
 
-    given_is : (own : List Row) → Contains given (Some own)
+    given_is : (own : List ConfigEntry) → Contains given (Some own)
         → AreOfAnother replicas replica own ⊎ (rows ≡ own)
     given_is own (place, less, e) =
         let within : place < length replicas =
@@ -173,21 +173,21 @@ module _ (replicas : List (Option (List Row))) (replica : ℕ) where
 
 -- ---- the law
 
-fit_less : (Live More : List Row → Type 0) (needs : List Need)
-    → ((rows : List Row) → Live rows → More rows) → AreFit More needs → AreFit Live needs
+fit_less : (Live More : List ConfigEntry → Type 0) (needs : List Need)
+    → ((rows : List ConfigEntry) → Live rows → More rows) → AreFit More needs → AreFit Live needs
 fit_less Live More needs to f = record {
   writers = λ rows other class a b. f.writers rows other class (to rows a) (to other b);
   stored = λ rows need a m. f.stored rows need (to rows a) m;
 }
 
-lacks_by : (Stored : List ℕ → Who → Type 0) (Other More : List Row → Type 0) (rows : List Row)
-    → ((own : List Row) → Other own → More own) → LacksProvider Stored Other rows
+lacks_by : (Stored : List ℕ → Who → Type 0) (Other More : List ConfigEntry → Type 0) (rows : List ConfigEntry)
+    → ((own : List ConfigEntry) → Other own → More own) → LacksProvider Stored Other rows
     → LacksProvider Stored More rows
 lacks_by Stored Other More rows to (inl s) = inl s
 lacks_by Stored Other More rows to (inr (other, live, w)) = inr (other, to other live, w)
 
 -- what is live once a replica has the settings: these, and what is live beside them
-module _ (generations : List GenerationState) (replica : ℕ) (rows : List Row) where
+module _ (generations : List GenerationState) (replica : ℕ) (rows : List ConfigEntry) where
   new_lives : IsLiveIn (given_to replica rows generations) rows
   new_lives = (
     opened replica rows,
@@ -197,7 +197,7 @@ module _ (generations : List GenerationState) (replica : ℕ) (rows : List Row) 
     refl,
   )
 
-  beside_lives : (other : List Row) → IsLiveBeside replica generations other
+  beside_lives : (other : List ConfigEntry) → IsLiveBeside replica generations other
       → IsLiveIn (given_to replica rows generations) other
   beside_lives other (own, m, live, is) = (
     own,
@@ -206,7 +206,7 @@ module _ (generations : List GenerationState) (replica : ℕ) (rows : List Row) 
     is,
   )
 
-  lives_then : (other : List Row) → IsLiveIn (given_to replica rows generations) other
+  lives_then : (other : List ConfigEntry) → IsLiveIn (given_to replica rows generations) other
       → IsLiveBeside replica generations other ⊎ (rows ≡ other)
   lives_then other (own, m, live, is) = elim (Contains-push_cases
       (without_current replica generations) (opened replica rows) own m) [
@@ -214,20 +214,20 @@ module _ (generations : List GenerationState) (replica : ℕ) (rows : List Row) 
         | inr e ↦ inr (ap (λ (x : GenerationState). x.rows) e ∙ is)
       ]
 
-module _ (needs : List Need) (replicas : List (Option (List Row))) (replica : ℕ)
-    (rows : List Row) (l : replica < length replicas) where
+module _ (needs : List Need) (replicas : List (Option (List ConfigEntry))) (replica : ℕ)
+    (rows : List ConfigEntry) (l : replica < length replicas) where
   abbrev generations : List GenerationState
   generations = opening_generations 0 replicas
 
-  live_given : (own : List Row) → IsLiveIn (given_to replica rows generations) own
+  live_given : (own : List ConfigEntry) → IsLiveIn (given_to replica rows generations) own
       → Contains (slice_set replicas replica (Some rows)) (Some own)
   live_given own live = elim (lives_then generations replica rows own live) [
     | inl beside ↦ given_other replicas replica rows l own (another_by replicas replica own beside)
-    | inr same ↦ subst (λ (x : List Row). Contains (slice_set replicas replica (Some rows))
+    | inr same ↦ subst (λ (x : List ConfigEntry). Contains (slice_set replicas replica (Some rows))
         (Some x)) same (given_new replicas replica rows l)
   ]
 
-  given_live : (own : List Row) → Contains (slice_set replicas replica (Some rows)) (Some own)
+  given_live : (own : List ConfigEntry) → Contains (slice_set replicas replica (Some rows)) (Some own)
       → IsLiveIn (given_to replica rows generations) own
   given_live own m = elim (given_is replicas replica rows l own m) [
     | inl another ↦ beside_lives generations replica rows own

@@ -9,7 +9,7 @@ use Rattle.kr_provider.specs.Publication.{Publication, IsPublished}
 use Rattle.kr_judge.proofs.Parts.{take_at_more}
 use Rattle.kr_opening.specs.declared.generation.Generation.{Generation}
 use Rattle.kr_opening.specs.Replicas.{generations_from, current_from, settings_of, rows_in, settings_rows}
-use Rattle.kr_opening.specs.inner.OpeningBoards.{generation_at, number_if_in, number_after}
+use Rattle.kr_opening.specs.inner.OpeningBoards.{generation_at, joined_number, next_joined_number}
 
 -- ---- numbers
 
@@ -85,7 +85,7 @@ numbered_more rs current number i p n l e =
 
 pub numbered_step : (rs : List (Option Publication)) (current : List (Option ℕ)) (number i : ℕ)
     (r : Option Publication) → AreNumbered rs current number i → i < length rs → r ≡ get_or rs i r
-    → AreNumbered rs (current ++ number_if_in r number ∷ []) (number_after r number) (i + 1)
+    → AreNumbered rs (current ++ joined_number r number ∷ []) (next_joined_number r number) (i + 1)
 numbered_step rs current number i None n l e = numbered_gap rs current number i n l e
 numbered_step rs current number i (Some p) n l e = numbered_more rs current number i p n l e
 

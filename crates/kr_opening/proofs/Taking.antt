@@ -8,7 +8,7 @@ use Rattle.std.proofs.lemmas.List.Elements.{Contains-push_cases}
 use Rattle.std.proofs.lemmas.Option.{none-some, same_Some, slice_get-get_or}
 use Rattle.kr_config.specs.declared.class.Class.{Class}
 use Rattle.kr_config.specs.declared.settings.Settings.{Settings}
-use Rattle.kr_config.specs.Kept.{Row, rows_of}
+use Rattle.kr_config.specs.Kept.{ConfigEntry, rows_of}
 use Rattle.kr_config.specs.Lists.{list_of, class_list}
 use Rattle.kr_judge.specs.Fits.{ReadsWriter}
 use Rattle.kr_judge.specs.declared.need.Need.{Need}
@@ -23,30 +23,30 @@ use Rattle.kr_judge.proofs.Lacking.{reads_own}
 use Rattle.kr_opening.proofs.Passing.{passed, AreReadable}
 use Rattle.kr_opening.specs.Replicas.{rows_in, settings_rows}
 
-abbrev pub fresh : ℕ → List Row → GenerationState
+abbrev pub fresh : ℕ → List ConfigEntry → GenerationState
 fresh replica rows = record { replica = replica; rows = rows; current = true; holders = 0 }
 
-taken_none : (k : ℕ) (rs : List (Option (List Row)))
+taken_none : (k : ℕ) (rs : List (Option (List ConfigEntry)))
     → opening_generations k (rs ++ None ∷ []) ≡ opening_generations k rs
 taken_none k [] = refl
 taken_none k (None ∷ rs) = taken_none (k + 1) rs
 taken_none k (Some rows ∷ rs) = ap (λ ts. fresh k rows ∷ ts) (taken_none (k + 1) rs)
 
-taken_some : (k : ℕ) (rs : List (Option (List Row))) (rows : List Row) (n : ℕ) → k + length rs ≡ n
+taken_some : (k : ℕ) (rs : List (Option (List ConfigEntry))) (rows : List ConfigEntry) (n : ℕ) → k + length rs ≡ n
     → opening_generations k (rs ++ Some rows ∷ []) ≡ opening_generations k rs ++ fresh n rows ∷ []
 taken_some k [] rows n e = ap (λ m. fresh m rows ∷ []) (omega (arith, e))
 taken_some k (None ∷ rs) rows n e = taken_some (k + 1) rs rows n (omega (arith, e))
 taken_some k (Some first ∷ rs) rows n e =
     ap (λ ts. fresh k first ∷ ts) (taken_some (k + 1) rs rows n (omega (arith, e)))
 
-pub taken_few : (k : ℕ) (rs : List (Option (List Row)))
+pub taken_few : (k : ℕ) (rs : List (Option (List ConfigEntry)))
     → length (opening_generations k rs) ≤ length rs
 taken_few k [] = omega arith
 taken_few k (None ∷ rs) = omega (arith, taken_few (k + 1) rs)
 taken_few k (Some rows ∷ rs) = omega (arith, taken_few (k + 1) rs)
 
 -- none of them is the replica's
-left_alone : (k i : ℕ) (rs : List (Option (List Row))) → k + length rs ≤ i
+left_alone : (k i : ℕ) (rs : List (Option (List ConfigEntry))) → k + length rs ≤ i
     → without_current i (opening_generations k rs) ≡ opening_generations k rs
 left_alone k i [] l = refl
 left_alone k i (None ∷ rs) l = left_alone (k + 1) i rs (omega arith)
@@ -58,7 +58,7 @@ left_alone k i (Some rows ∷ rs) l =
     (λ j. head j ∷ tail j)
 
 -- settings that are taken up are a live generation, of another replica
-taken_there : (k i : ℕ) (rs : List (Option (List Row))) (rows : List Row) → k + length rs ≤ i
+taken_there : (k i : ℕ) (rs : List (Option (List ConfigEntry))) (rows : List ConfigEntry) → k + length rs ≤ i
     → Contains rs (Some rows)
     → (t : GenerationState) × Contains (opening_generations k rs) t × (is_other i t ≡ true) × (t.rows ≡ rows)
 taken_there k i [] rows l (p, w, e) = absurd (omega (arith, w))
@@ -84,21 +84,21 @@ none_fit needs = record {
   stored = λ rows need (k, l, e) there. absurd (omega (arith, l));
 }
 
-fit_gap : (rs : List (Option (List Row))) (needs : List Need) → AllFit rs needs
+fit_gap : (rs : List (Option (List ConfigEntry))) (needs : List Need) → AllFit rs needs
     → AllFit (rs ++ None ∷ []) needs
 fit_gap rs needs f = record {
   writers = λ rows other class a b. f.writers rows other class (old rows a) (old other b);
   stored = λ rows need a there. f.stored rows need (old rows a) there;
 }
   where
-    old : (rows : List Row) → Contains (rs ++ None ∷ []) (Some rows) → Contains rs (Some rows)
+    old : (rows : List ConfigEntry) → Contains (rs ++ None ∷ []) (Some rows) → Contains rs (Some rows)
     old rows a = elim (Contains-push_cases rs None (Some rows) a) [
       | inl c ↦ c
       | inr e ↦ absurd
           (none-some rows e)
     ]
 
-fit_more : (rs : List (Option (List Row))) (needs : List Need) (i : ℕ) (rows : List Row)
+fit_more : (rs : List (Option (List ConfigEntry))) (needs : List Need) (i : ℕ) (rows : List ConfigEntry)
     → length rs ≤ i → AreReadable needs (opening_generations 0 rs) i rows → AllFit rs needs
     → AllFit (rs ++ Some rows ∷ []) needs
 fit_more rs needs i rows l p f = record {
@@ -107,29 +107,29 @@ fit_more rs needs i rows l p f = record {
   stored = λ a need ca there. kept a need there (Contains-push_cases rs (Some rows) (Some a) ca);
 }
   where
-    by : (a b : List Row) (class : Class) → Contains rs (Some a) ⊎ (Some rows ≡ Some a)
+    by : (a b : List ConfigEntry) (class : Class) → Contains rs (Some a) ⊎ (Some rows ≡ Some a)
         → Contains rs (Some b) ⊎ (Some rows ≡ Some b)
         → ReadsWriter (class_list b class) (class_list a class)
     by a b class (inl ca) (inl cb) = f.writers a b class ca cb
     by a b class (inl ca) (inr eb) =
         let t = taken_there 0 i rs a (omega (arith, l)) ca in
-        subst (λ (r : List Row). ReadsWriter (class_list r class) (class_list a class))
+        subst (λ (r : List ConfigEntry). ReadsWriter (class_list r class) (class_list a class))
         (same_Some rows b eb)
-        (subst (λ (r : List Row). ReadsWriter (class_list rows class) (class_list r class)) t.3
+        (subst (λ (r : List ConfigEntry). ReadsWriter (class_list rows class) (class_list r class)) t.3
         (p.is_read t.0 t.1 t.2 class))
     by a b class (inr ea) (inl cb) =
         let t = taken_there 0 i rs b (omega (arith, l)) cb in
-        subst (λ (r : List Row). ReadsWriter (class_list b class) (class_list r class))
+        subst (λ (r : List ConfigEntry). ReadsWriter (class_list b class) (class_list r class))
         (same_Some rows a ea)
-        (subst (λ (r : List Row). ReadsWriter (class_list r class) (class_list rows class)) t.3
+        (subst (λ (r : List ConfigEntry). ReadsWriter (class_list r class) (class_list rows class)) t.3
         (p.reads t.0 t.1 t.2 class))
     by a b class (inr ea) (inr eb) =
-        subst (λ (r : List Row). ReadsWriter (class_list b class) (class_list r class))
+        subst (λ (r : List ConfigEntry). ReadsWriter (class_list b class) (class_list r class))
         (same_Some rows a ea)
-        (subst (λ (r : List Row). ReadsWriter (class_list r class) (class_list rows class))
+        (subst (λ (r : List ConfigEntry). ReadsWriter (class_list r class) (class_list rows class))
         (same_Some rows b eb) (reads_own (class_list rows class)))
 
-    kept : (a : List Row) (need : Need) → Contains needs need
+    kept : (a : List ConfigEntry) (need : Need) → Contains needs need
         → Contains rs (Some a) ⊎ (Some rows ≡ Some a) → Contains (list_of a need.resource) need.who
     kept a need there (inl ca) = f.stored a need ca there
     kept a need there (inr ea) = subst (λ r. Contains (list_of r need.resource) need.who)
@@ -138,11 +138,11 @@ fit_more rs needs i rows l p f = record {
 -- ---- the loop
 
 -- the board after the first i replicas, which fit
-pub record AreTaken (rs : List (Option (List Row))) (old now : BoardState) (i : ℕ) : Type 0 where
+pub record AreTaken (rs : List (Option (List ConfigEntry))) (old now : BoardState) (i : ℕ) : Type 0 where
   pub board_is : now ≡ record old { generations = opening_generations 0 (take i rs) }
   pub fit : AllFit (take i rs) old.needs
 
-pub taken_begin : (rs : List (Option (List Row))) (old : BoardState) → old.generations ≡ []
+pub taken_begin : (rs : List (Option (List ConfigEntry))) (old : BoardState) → old.generations ≡ []
     → AreTaken rs old old 0
 taken_begin rs old e = record {
   board_is = ap (λ gs. record old { generations = gs }) e;
@@ -255,7 +255,7 @@ taken_end replicas old now i t l =
           ∙ ap (λ rs. record old { generations = opening_generations 0 rs }) all,
     )
 
-pub taken_idle : (rs : List (Option (List Row))) (old now : BoardState) (i : ℕ)
+pub taken_idle : (rs : List (Option (List ConfigEntry))) (old now : BoardState) (i : ℕ)
     → AreTaken rs old now i → old.proposal ≡ None → now.proposal ≡ None
 taken_idle rs old now i t e = ap (λ (b : BoardState). b.proposal) t.board_is ∙ e
 

@@ -23,7 +23,7 @@ use Rattle.kr_store.specs.declared.rows.Change.TheVariants as change
 use Rattle.kr_store.specs.Rows.{latest, live, live_row, row_of, AllFollow, AreRows}
 use Rattle.kr_store.specs.Stores.{IsNext}
 use Rattle.kr_config.specs.declared.who.Who.{Who}
-use Rattle.kr_config.specs.Kept.{Row}
+use Rattle.kr_config.specs.Kept.{ConfigEntry}
 use Rattle.kr_config.specs.Nexts.{name_cmp}
 use Rattle.kr_judge.specs.declared.need.Need.{Need}
 use Rattle.kr_judge.specs.Boards.{AreByPath, BoardState, set_need}
@@ -38,7 +38,7 @@ use Rattle.kr_opening.proofs.LastRows.{last_at}
 use Rattle.kr_opening.proofs.Needing.{need_at, set_found, equal_by, same_path, own_path, last_row, needed, needs_found, needs_sorted, same_needs}
 
 -- what a live row needs
-abbrev pub live_need : List Row → stored_row.Row → Option Need
+abbrev pub live_need : List ConfigEntry → stored_row.Row → Option Need
 live_need first row = option_map (λ who. record {
   path = row.path;
   resource = row.resource;
@@ -47,7 +47,7 @@ live_need first row = option_map (λ who. record {
 }) (provider_of first row.resource row.stored)
 
 -- the live rows up to a path are noted, and no path is that has no live row
-pub record AreNoted (first : List Row) (rows : List LogRow) (after : List ℕ)
+pub record AreNoted (first : List ConfigEntry) (rows : List LogRow) (after : List ℕ)
     (needs : List Need) : Type 0 where
   pub sorted : AreByPath needs
   pub here : (path : List ℕ) (row : stored_row.Row) → live rows path ≡ Some row
@@ -88,7 +88,7 @@ not_above_empty (byte ∷ path) n = absurd (n refl)
 
 -- ---- the walk
 
-pub noted_begin : (format : Format) (first : List Row) (rows : List LogRow) → AreRows format rows
+pub noted_begin : (format : Format) (first : List ConfigEntry) (rows : List LogRow) → AreRows format rows
     → AreNoted first rows [] []
 noted_begin format first rows f = record {
   sorted = sorted_nil;
@@ -116,7 +116,7 @@ between rows after path row own next e n h l = by (name_cmp path row.path) refl
         both_ways (bytes_eq row.path path) h same
     by Greater c = n (nat_list_cmp_total.antisymm row.path path ∙ ap ordering_reverse c)
 
-module _ (first : List Row) (rows : List LogRow) (after : List ℕ) (needs : List Need)
+module _ (first : List ConfigEntry) (rows : List LogRow) (after : List ℕ) (needs : List Need)
     (row : stored_row.Row) (who : Who) where
   set_at : (path : List ℕ) (v : Bool) → bytes_eq row.path path ≡ v
       → need_at (set_need needs (record { path = row.path; resource = row.resource; who = who }))
@@ -157,7 +157,7 @@ module _ (first : List Row) (rows : List LogRow) (after : List ℕ) (needs : Lis
       (none-some row (sym e ∙ ap (live rows) (sym (same_path row.path path h)) ∙ next.1))
   none_more noted next path e false h = set_at path false h ∙ noted.none path e
 
-pub noted_more : (first : List Row) (rows : List LogRow) (after : List ℕ) (needs : List Need)
+pub noted_more : (first : List ConfigEntry) (rows : List LogRow) (after : List ℕ) (needs : List Need)
     (row : stored_row.Row) (who : Who) → AreNoted first rows after needs
     → IsNext rows after (Some row) → provider_of first row.resource row.stored ≡ Some who
     → AreNoted first rows row.path (set_need needs
@@ -172,7 +172,7 @@ noted_more first rows after needs row who noted next is = record {
 }
 
 -- a row without a provider is the first such one
-pub stray_next : (first : List Row) (rows : List LogRow) (after : List ℕ) (needs : List Need)
+pub stray_next : (first : List ConfigEntry) (rows : List LogRow) (after : List ℕ) (needs : List Need)
     (row : stored_row.Row) → AreNoted first rows after needs
     → IsNext rows after (Some row) → provider_of first row.resource row.stored ≡ None
     → IsLeastStray first rows row.path
@@ -190,7 +190,7 @@ stray_next first rows after needs row noted next none = record {
         both_ways (is_some (provider_of first stray.0.resource stray.0.stored)) both old.1
 
 -- what the last row of a path needs is what its live row needs
-live_last : (first : List Row) (rows : List LogRow) (path : List ℕ) (row : stored_row.Row)
+live_last : (first : List ConfigEntry) (rows : List LogRow) (path : List ℕ) (row : stored_row.Row)
     → live rows path ≡ Some row → needed first (last_row rows path) ≡ live_need first row
 live_last first rows path row e = by (latest rows path) e
   where
@@ -204,7 +204,7 @@ live_last first rows path row e = by (latest rows path) e
     by None e = absurd (none-some row e)
     by (Some found) e = put found.0 found.1.path found.1.change e
 
-dead_last : (first : List Row) (rows : List LogRow) (path : List ℕ) → live rows path ≡ None
+dead_last : (first : List ConfigEntry) (rows : List LogRow) (path : List ℕ) → live rows path ≡ None
     → needed first (last_row rows path) ≡ None
 dead_last first rows path e = by (latest rows path) e
   where
@@ -227,7 +227,7 @@ all_up : (rows : List LogRow) (after path : List ℕ) (row : stored_row.Row) →
 all_up rows after path row next e = next path (some_live rows path row e)
 
 -- after the last live row all are noted
-pub noted_end : (first : List Row) (rows : List LogRow) (after : List ℕ) (needs : List Need)
+pub noted_end : (first : List ConfigEntry) (rows : List LogRow) (after : List ℕ) (needs : List Need)
     → AreNoted first rows after needs → IsNext rows after None
     → HasNoStray first rows × (needs ≡ needs_of first rows)
 noted_end first rows after needs noted next = (
@@ -331,20 +331,20 @@ goes_on rows after row next = by (latest rows row.path) refl next.1
 
 -- ---- the reader of a value, by its place
 
-pub reader_is : (first : List Row) (list : List Who) (resource bytes : List ℕ) (place : ℕ)
+pub reader_is : (first : List ConfigEntry) (list : List Who) (resource bytes : List ℕ) (place : ℕ)
     (who : Who) → list ≡ list_of first resource → reader_place list bytes ≡ Some place
     → who ≡ get_or list place who → provider_of first resource bytes ≡ Some who
 reader_is first list resource bytes place who l e is = ap (λ ws. reader_in ws bytes) (sym l)
     ∙ found_at (is_reader bytes) list place who e is
 
-pub reader_none : (first : List Row) (list : List Who) (resource bytes : List ℕ)
+pub reader_none : (first : List ConfigEntry) (list : List Who) (resource bytes : List ℕ)
     → list ≡ list_of first resource → reader_place list bytes ≡ None
     → provider_of first resource bytes ≡ None
 reader_none first list resource bytes l e = ap (λ ws. reader_in ws bytes) (sym l)
     ∙ no_place (is_reader bytes) list e
 
 -- what is said of a row that has no provider
-pub note_stray : (first : List Row) (row : stored_row.Row) (b : BoardState) (path : List ℕ)
+pub note_stray : (first : List ConfigEntry) (row : stored_row.Row) (b : BoardState) (path : List ℕ)
     (why : StartNo) → IsStrayOf path why → path ≡ row.path
     → provider_of first row.resource row.stored ≡ None
     → Notes first row b b (Err why)
@@ -356,17 +356,17 @@ note_stray first row b path NoMemory s e none = tt
 -- ---- the first other secret
 
 -- up to a path no live row has another secret, or this one is the first that has
-abbrev pub AreKept : List Row → List LogRow → List ℕ → Option (List ℕ) → Type 0
+abbrev pub AreKept : List ConfigEntry → List LogRow → List ℕ → Option (List ℕ) → Type 0
 AreKept first rows after None = (path : List ℕ) → IsOtherSecret first rows path
     → name_cmp after path ≢ Less → ⊥
 AreKept first rows after (Some path) = IsLeastOther first rows path
 
-pub kept_begin : (format : Format) (first : List Row) (rows : List LogRow) → AreRows format rows
+pub kept_begin : (format : Format) (first : List ConfigEntry) (rows : List LogRow) → AreRows format rows
     → AreKept first rows [] None
 kept_begin format first rows f path other n = no_empty_path
     (subst IsPath (not_above_empty path n) (path_of_live format rows path other.0 f other.2))
 
-module _ (first : List Row) (rows : List LogRow) (after : List ℕ) (row : stored_row.Row)
+module _ (first : List ConfigEntry) (rows : List LogRow) (after : List ℕ) (row : stored_row.Row)
     (who : Who) (next : IsNext rows after (Some row))
     (is : provider_of first row.resource row.stored ≡ Some who) where
   -- a row that has its provider's check isn't one with another secret
@@ -403,7 +403,7 @@ module _ (first : List Row) (rows : List LogRow) (after : List ℕ) (row : store
   kept_step None false e old = other_next (sym e) old
 
 -- after the last live row
-pub kept_end : (first : List Row) (rows : List LogRow) (after : List ℕ) (found : Option (List ℕ))
+pub kept_end : (first : List ConfigEntry) (rows : List LogRow) (after : List ℕ) (found : Option (List ℕ))
     (start now : BoardState) → AreKept first rows after found → IsNext rows after None
     → HasNoStray first rows → now ≡ record start { needs = needs_of first rows }
     → NotesAll first rows start now (no_other found)
@@ -415,7 +415,7 @@ kept_end first rows after None start now kept next none e = (
 kept_end first rows after (Some path) start now kept next none e = (none, kept)
 
 -- why the walk ends before its end
-pub note_stops : (first : List Row) (rows : List LogRow) (start now next : BoardState)
+pub note_stops : (first : List ConfigEntry) (rows : List LogRow) (start now next : BoardState)
     (after asked : List ℕ) (row seen : stored_row.Row) (why : StartNo)
     → AreNoted first rows after now.needs → IsNext rows asked (Some row) → asked ≡ after
     → seen ≡ row → Notes first seen now next (Err why) → NotesAll first rows start next (Err why)
@@ -433,12 +433,12 @@ note_stops first rows start now next after asked row seen NoMemory noted is aske
 -- ---- the loop
 
 -- what the board has so far, and where another secret was found first
-abbrev pub IsWalked : List Row → List LogRow → BoardState → List ℕ → BoardState
+abbrev pub IsWalked : List ConfigEntry → List LogRow → BoardState → List ℕ → BoardState
     → Option (List ℕ) → Type 0
 IsWalked first rows start after now found = AreNoted first rows after now.needs
     × (now ≡ record start { needs = now.needs }) × AreKept first rows after found
 
-pub walk_step : (first : List Row) (rows : List LogRow) (start now next : BoardState)
+pub walk_step : (first : List ConfigEntry) (rows : List LogRow) (start now next : BoardState)
     (after path asked shown : List ℕ) (row seen : stored_row.Row) (kept : Bool)
     (found other : Option (List ℕ)) → IsWalked first rows start after now found
     → IsNext rows asked (Some row) → asked ≡ after → seen ≡ row

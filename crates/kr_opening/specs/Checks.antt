@@ -5,12 +5,12 @@ use Rattle.kr_store.specs.declared.format.Check.{Check}
 use Rattle.kr_store.specs.declared.format.Format.{Format}
 use Rattle.kr_store.specs.Rows.{check_in}
 use Rattle.kr_config.specs.declared.who.Who.{Who}
-use Rattle.kr_provider.specs.Checks.{check_of}
+use Rattle.kr_provider.specs.Checks.{provider_check}
 use Rattle.kr_provider.specs.Publication.{Publication, writer_at}
 
 -- the provider's check, as the number that its 8 bytes are with the highest byte first
 abbrev pub store_check : Who → Check
-store_check who = record { value = from_be_bytes w64 (check_of who) }
+store_check who = record { value = from_be_bytes w64 (provider_check who) }
 
 -- a row has the provider's check, where it has one
 abbrev pub keeps_check : Option Check → Who → Bool

@@ -5,7 +5,7 @@ use Rattle.std.specs.declared.cmp.Ordering.TheVariants.{Less}
 use Rattle.kr_store.specs.declared.rows.LogRow.{LogRow}
 use Rattle.kr_store.specs.declared.rows.Row as stored_row
 use Rattle.kr_store.specs.Rows.{live}
-use Rattle.kr_config.specs.Kept.{Row}
+use Rattle.kr_config.specs.Kept.{ConfigEntry}
 use Rattle.kr_config.specs.Nexts.{name_cmp}
 use Rattle.kr_judge.specs.declared.need.Need.{Need}
 use Rattle.kr_judge.specs.declared.verdict.Verdict.{Verdict}
@@ -19,7 +19,7 @@ use Rattle.kr_opening.specs.Needs.{provider_of, needs_of, HasNoStray, IsOtherSec
 use Rattle.kr_opening.specs.Replicas.{first_rows}
 
 -- the generations of the replicas that are in, from this replica on, as they are judged
-abbrev pub opening_generations : ℕ → List (Option (List Row)) → List GenerationState
+abbrev pub opening_generations : ℕ → List (Option (List ConfigEntry)) → List GenerationState
 opening_generations replica [] = []
 opening_generations replica (None ∷ replicas) = opening_generations (replica + 1) replicas
 opening_generations replica (Some rows ∷ replicas) =
@@ -33,35 +33,37 @@ opening_generations replica (Some rows ∷ replicas) =
 -- ---- the causes, in their order
 
 -- the live row of the path has no provider
-abbrev pub IsStray : (first : List Row) → List LogRow → List ℕ → Type 0
+abbrev pub IsStray : (first : List ConfigEntry) → List LogRow → List ℕ → Type 0
 IsStray first rows path = (row : stored_row.Row) × (live rows path ≡ Some row)
     × (provider_of first row.resource row.stored ≡ None)
 
 -- and no lesser path is so
-pub record IsLeastStray (first : List Row) (rows : List LogRow) (path : List ℕ) : Type 0 where
+pub record IsLeastStray (first : List ConfigEntry) (rows : List LogRow) (path : List ℕ)
+    : Type 0 where
   pub stray : IsStray first rows path
   pub least : (lesser : List ℕ) → IsStray first rows lesser → name_cmp lesser path ≢ Less
 
 -- the live row of the path was sealed with another secret, and of no lesser path
-pub record IsLeastOther (first : List Row) (rows : List LogRow) (path : List ℕ) : Type 0 where
+pub record IsLeastOther (first : List ConfigEntry) (rows : List LogRow) (path : List ℕ)
+    : Type 0 where
   pub other : IsOtherSecret first rows path
   pub least : (lesser : List ℕ) → IsOtherSecret first rows lesser → name_cmp lesser path ≢ Less
 
 -- the settings of the replicas that are in fit
-abbrev pub AllFit : List (Option (List Row)) → List Need → Type 0
+abbrev pub AllFit : List (Option (List ConfigEntry)) → List Need → Type 0
 AllFit replicas needs = AreFit (λ rows. Contains replicas (Some rows)) needs
 
 -- the replicas before this one fit, and its settings are refused by the verdict on them
-pub record IsUnfit (replicas : List (Option (List Row))) (needs : List Need) (replica : ℕ)
+pub record IsUnfit (replicas : List (Option (List ConfigEntry))) (needs : List Need) (replica : ℕ)
     (verdict : Verdict) : Type 0 where
-  pub rows : List Row
+  pub rows : List ConfigEntry
   pub is : slice_get replicas replica ≡ Some (Some rows)
   pub before : AllFit (take replica replicas) needs
   pub verdict_is : verdict ≡ verdict_of needs
       (opening_generations 0 (take replica replicas)) replica rows
   pub refused : verdict ≢ Pass
 
-abbrev pub IsNoStart : List LogRow → List (Option (List Row)) → StartNo → Type 0
+abbrev pub IsNoStart : List LogRow → List (Option (List ConfigEntry)) → StartNo → Type 0
 IsNoStart rows replicas (Stray path) = IsLeastStray (first_rows replicas) rows path
 IsNoStart rows replicas (OtherSecret path) = HasNoStray (first_rows replicas) rows
     × IsLeastOther (first_rows replicas) rows path
@@ -73,13 +75,15 @@ IsNoStart rows replicas NoMemory = ⊤
 -- ---- the calls
 
 -- each live row has a provider and its check, and the replicas that are in fit
-pub record MayStart (rows : List LogRow) (replicas : List (Option (List Row))) : Type 0 where
+pub record MayStart (rows : List LogRow) (replicas : List (Option (List ConfigEntry)))
+    : Type 0 where
   pub readable : HasNoStray (first_rows replicas) rows
   pub secrets : HasNoOtherSecret (first_rows replicas) rows
   pub fit : AllFit replicas (needs_of (first_rows replicas) rows)
 
 -- the board of the rows and of the replicas' settings, with room for so many generations
-abbrev pub Boards : List LogRow → List (Option (List Row)) → (room : ℕ) → Result BoardState StartNo
+abbrev pub Boards : List LogRow → List (Option (List ConfigEntry)) → (room : ℕ)
+    → Result BoardState StartNo
     → Type 0
 Boards rows replicas room (Ok board) = MayStart rows replicas × (board
     ≡ record {

@@ -3,7 +3,7 @@ ghost use Rattle.std.specs.Prelude.{◌≡◌};
 ghost use Rattle.kr_opening.specs.Checks.{store_check, keeps_check};
 
 use kr_config::Who;
-use kr_provider::check_of;
+use kr_provider::provider_check;
 use kr_store::Check;
 
 /// The provider's check, as a store keeps it. It takes no memory.
@@ -11,7 +11,7 @@ pub fn store_check(who: &Who) -> Check
     ensures { result ≡ store_check who.now }
 {
     Check {
-        value: u64::from_be_bytes(check_of(who)),
+        value: u64::from_be_bytes(provider_check(who)),
     }
 }
 

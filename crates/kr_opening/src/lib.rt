@@ -11,4 +11,4 @@ pub mod start_parts;
 pub use check::store_check;
 pub use generation::Generation;
 pub use laws::judges_replicas;
-pub use opening_board::{StartNo, board_of, is_refusal};
+pub use opening_board::{StartNo, is_refusal, make_opening_board};

@@ -3,13 +3,13 @@ ghost use Rattle.std.specs.Prelude.{◌≡◌, ◌<◌, ◌≤◌, [], length, N
 ghost use Rattle.kr_config.specs.Kept.{rows_of};
 ghost use Rattle.kr_opening.specs.Replicas.{IsFirstIn, first_rows, rows_in, settings_rows};
 ghost use Rattle.kr_opening.specs.Starts.{Boards};
-ghost use Rattle.kr_opening.specs.inner.OpeningBoards.{IsStrayOf, Notes, NotesAll, TakesUp, TakesAllUp, is_refusal, first_other, no_other, path_of};
+ghost use Rattle.kr_opening.specs.inner.OpeningBoards.{IsStrayOf, Notes, NotesAll, TakesUp, TakesAllUp, is_refusal, first_other, no_other, walk_path};
 
 use crate::check::keeps_check;
 use kr_base::{List, NoMemory, Shared, Tape, Text};
 use kr_config::Settings;
 use kr_judge::{Board, Verdict};
-use kr_provider::reader_of;
+use kr_provider::find_reader;
 use kr_store::{Row, Store};
 use std::alloc::Global;
 
@@ -32,7 +32,7 @@ pub enum StartNo {
 /// replicas are taken up in order, each judged on those before it; those that are in get the
 /// generations 0, 1 and so on.
 #[tactic(auto, using(crate::proofs::Boarding::board_stray))]
-pub fn board_of<T: Tape>(
+pub fn make_opening_board<T: Tape>(
     alloc: Global,
     store: &Store<T>,
     replicas: &List<Option<Shared<Settings>>>,
@@ -48,14 +48,14 @@ pub fn board_of<T: Tape>(
         Err(NoMemory) => return Err(StartNo::NoMemory),
     };
     let replicas = replicas.as_slice();
-    match note_all(alloc, store, first_of(replicas), &mut board) {
+    match note_all(alloc, store, first_settings(replicas), &mut board) {
         Ok(()) => {}
         Err(why) => {
             drop(board);
             return Err(why);
         }
     }
-    match take_all_up(replicas, &mut board) {
+    match accept_all_settings(replicas, &mut board) {
         Ok(()) => Ok(board),
         Err(why) => {
             drop(board);
@@ -65,7 +65,7 @@ pub fn board_of<T: Tape>(
 }
 
 /// The settings of the first replica.
-fn first_of(replicas: &[Option<Shared<Settings>>]) -> &Settings
+fn first_settings(replicas: &[Option<Shared<Settings>>]) -> &Settings
     requires { IsFirstIn replicas.now }
     ensures { first_rows (rows_in replicas.now) ≡ rows_of result.now.entries.0 }
 {
@@ -90,7 +90,7 @@ fn note_all<T: Tape>(
     let mut other = None;
     let mut last = None;
     loop {
-        let row = match store.next_after(path_of(&last)) {
+        let row = match store.successor(walk_path(&last)) {
             Ok(Some(row)) => row,
             Ok(None) => {
                 drop(last);
@@ -120,8 +120,8 @@ fn note_all<T: Tape>(
 }
 
 /// The path of the row where the walk is; the empty one at its begin.
-fn path_of(last: &Option<Shared<Row>>) -> &str
-    ensures { result.now ≡ path_of last.now }
+fn walk_path(last: &Option<Shared<Row>>) -> &str
+    ensures { result.now ≡ walk_path last.now }
 {
     match last {
         Some(row) => row.get().path.as_str(),
@@ -165,12 +165,12 @@ fn note(alloc: Global, first: &Settings, row: &Row, board: &mut Board) -> Result
     requires { board.old.proposal ≡ None }
     ensures { Notes (rows_of first.now.entries.0) row.now board.old board.new result }
 {
-    let list = first.list_for(row.resource.as_str());
-    let Some(place) = reader_of(list, row.stored.as_slice()) else {
+    let list = first.resource_list(row.resource.as_str());
+    let Some(place) = find_reader(list, row.stored.as_slice()) else {
         return Err(stray(alloc, row.path.as_str()));
     };
     let who = &list[place];
-    match board.set_need(row.path.as_str(), row.resource.as_str(), who) {
+    match board.set_need(&row.path, row.resource.as_str(), who) {
         Ok(()) => Ok(keeps_check(row.check, who)),
         Err(NoMemory) => Err(StartNo::NoMemory),
     }
@@ -188,7 +188,10 @@ fn stray(alloc: Global, path: &str) -> StartNo
 
 /// Takes the replicas' settings up in order, each judged on those before it.
 #[tactic(auto, using(crate::proofs::Taking::taken_begin, crate::proofs::Taking::taken_step, crate::proofs::Taking::taking_stops, crate::proofs::Taking::taken_end, crate::proofs::Taking::taken_room, crate::proofs::Taking::taken_idle))]
-fn take_all_up(replicas: &[Option<Shared<Settings>>], board: &mut Board) -> Result<(), StartNo>
+fn accept_all_settings(
+    replicas: &[Option<Shared<Settings>>],
+    board: &mut Board,
+) -> Result<(), StartNo>
     requires none { board.old.generations ≡ [] }
     requires idle { board.old.proposal ≡ None }
     requires room { length replicas.now ≤ board.old.room }
@@ -196,13 +199,13 @@ fn take_all_up(replicas: &[Option<Shared<Settings>>], board: &mut Board) -> Resu
     ensures { TakesAllUp (rows_in replicas.now) board.old board.new result }
 {
     for (replica, settings) in replicas.iter().enumerate() {
-        take_up(replica as u32, settings, board)?;
+        accept_settings(replica as u32, settings, board)?;
     }
     Ok(())
 }
 
 /// Takes a replica's settings up, where it is in and nothing is against them.
-fn take_up(
+fn accept_settings(
     replica: u32,
     settings: &Option<Shared<Settings>>,
     board: &mut Board,

@@ -3,7 +3,7 @@ ghost use Rattle.std.specs.Prelude.{◌≡◌, ◌<◌, ◌≤◌, ◌+◌, ◌^
 ghost use Rattle.std.specs.Option.{option_map};
 ghost use Rattle.kr_provider.specs.Publication.{IsPublished};
 ghost use Rattle.kr_opening.specs.Replicas.{generations_from, current_from, settings_of, rows_in, settings_rows};
-ghost use Rattle.kr_opening.specs.inner.OpeningBoards.{generation_at, number_if_in, number_after};
+ghost use Rattle.kr_opening.specs.inner.OpeningBoards.{generation_at, joined_number, next_joined_number};
 
 use crate::generation::Generation;
 use kr_base::{List, NoMemory, Shared};
@@ -69,13 +69,15 @@ fn share_settings(
 {
     let mut settings = Vec::new(alloc);
     for replica in replicas {
-        settings.push(settings_in(replica)?)?;
+        settings.push(replica_settings(replica)?)?;
     }
     Ok(List::from_vec(settings))
 }
 
 /// The settings of a replica that is in.
-fn settings_in(replica: &Option<Shared<Published>>) -> Result<Option<Shared<Settings>>, NoMemory>
+fn replica_settings(
+    replica: &Option<Shared<Published>>,
+) -> Result<Option<Shared<Settings>>, NoMemory>
     ensures rows { IfOk result (λ settings.
         settings_rows settings ≡ option_map (λ p. p.rows) replica.now) }
     ensures published { IfSome replica.now IsPublished }
@@ -139,15 +141,15 @@ fn number_replicas(
     let mut current = Vec::new(alloc);
     let mut number = 0u32;
     for replica in replicas {
-        current.push(number_if_in(replica, number))?;
-        number = number_after(replica, number);
+        current.push(joined_number(replica, number))?;
+        number = next_joined_number(replica, number);
     }
     Ok(current)
 }
 
 /// The number, for a replica that is in.
-fn number_if_in(replica: &Option<Shared<Published>>, number: u32) -> Option<u32>
-    ensures { result ≡ number_if_in replica.now number }
+fn joined_number(replica: &Option<Shared<Published>>, number: u32) -> Option<u32>
+    ensures { result ≡ joined_number replica.now number }
 {
     match replica {
         Some(_) => Some(number),
@@ -156,9 +158,9 @@ fn number_if_in(replica: &Option<Shared<Published>>, number: u32) -> Option<u32>
 }
 
 /// The number of the next replica that is in.
-fn number_after(replica: &Option<Shared<Published>>, number: u32) -> u32
+fn next_joined_number(replica: &Option<Shared<Published>>, number: u32) -> u32
     requires { number + 1 < 2 ^ 32 }
-    ensures { result ≡ number_after replica.now number }
+    ensures { result ≡ next_joined_number replica.now number }
 {
     match replica {
         Some(_) => number + 1,

@@ -11,7 +11,7 @@ use Rattle.std.proofs.lemmas.Bool.Decides.{Decides-eqb}
 use Rattle.std.proofs.lemmas.Map.Keys.{IsDistinct-push, IsDistinct-from_apart, apart_from_distinct}
 use Rattle.std.proofs.lemmas.Map.Steps.{length-le_from_distinct_below}
 use Rattle.std.proofs.lemmas.Map.Views.{Contains-from_any}
-use Rattle.kr_pages.specs.Pool.{IsPool, Pool, Takes, is_free, with_free, with_words, words_of, zero_page}
+use Rattle.kr_pages.specs.Pool.{IsPool, Pool, Takes, is_free, with_free, with_words, page_words, zero_page}
 
 -- no more pages are free than there are
 pub free-le : (pool : Pool) → IsPool pool → length pool.free ≤ length pool.pages
@@ -22,7 +22,7 @@ free-le pool is = length-le_from_distinct_below pool.free (length pool.pages) is
 
 -- another page keeps its words
 still : (pages : List (List ℕ)) (number k : ℕ) (words : List ℕ) → (k ≡ number → words ≡ zero_page) → number < length pages
-    → slice_index_or pages k [] ≡ zero_page → words_of (with_words (record { pages = pages; free = [] }) number words) k ≡ zero_page
+    → slice_index_or pages k [] ≡ zero_page → page_words (with_words (record { pages = pages; free = [] }) number words) k ≡ zero_page
 still pages number k words zeroed below e = elim (cases_eq k number) [
   | inl same ↦ rw same (get_or-set_same pages number words [] below) ∙ zeroed same
   | inr other ↦ get_or-set_other pages number k words [] other ∙ e
@@ -34,7 +34,7 @@ IsPool-with_free pool number is below out =
     let size : length (with_free pool number).pages ≡ length pool.pages = length-set pool.pages number zero_page in record {
       distinct = IsDistinct-push nat_eq_equiv pool.free number is.distinct out;
       below = rw size (All-push (λ k. k < length pool.pages) pool.free number is.below below);
-      zero = All-push (λ k. words_of (with_free pool number) k ≡ zero_page) pool.free number
+      zero = All-push (λ k. page_words (with_free pool number) k ≡ zero_page) pool.free number
           (λ k d lt. still pool.pages number _ zero_page (λ _. refl) below (is.zero k d lt)) (get_or-set_same pool.pages number zero_page [] below);
     }
 

@@ -8,8 +8,8 @@ pub record Pool : Type 0 where
   pub free : List ℕ
 
 -- the words of a page
-abbrev pub words_of : Pool → ℕ → List ℕ
-words_of pool number = slice_index_or pool.pages number []
+abbrev pub page_words : Pool → ℕ → List ℕ
+page_words pool number = slice_index_or pool.pages number []
 
 -- whether a page is free
 abbrev pub is_free : Pool → ℕ → Bool
@@ -23,14 +23,14 @@ zero_page = replicate 60 0
 pub record IsPool (pool : Pool) : Type 0 where
   pub distinct : IsDistinct nat_eq pool.free
   pub below : All (λ number. number < length pool.pages) pool.free
-  pub zero : All (λ number. words_of pool number ≡ zero_page) pool.free
+  pub zero : All (λ number. page_words pool number ≡ zero_page) pool.free
 
 -- the page was free, and is no more; nothing else changes
 pub record Takes (old new : Pool) (number : ℕ) : Type 0 where
   pub pages : new.pages ≡ old.pages
   pub free : old.free ≡ new.free ++ number ∷ []
   pub below : number < length old.pages
-  pub zero : words_of old number ≡ zero_page
+  pub zero : page_words old number ≡ zero_page
   pub was : is_free old number ≡ true
   pub out : is_free new number ≡ false
   pub others : (k : ℕ) → is_free old k ≡ false → is_free new k ≡ false

@@ -5,7 +5,7 @@
 ghost use Rattle.std.specs.Prelude.{◌≡◌, ◌≢◌, ℕ, ◌↔◌, ◌+◌, ◌<◌, [], length, replicate, false, IsErr, IfOk, OnErr};
 ghost use Rattle.std.specs.Borrow.{sem};
 ghost use Rattle.std.specs.List.{range_with_len};
-ghost use Rattle.kr_pages.specs.Pool.{IsPool, Takes, is_free, with_free, words_of, zero_page};
+ghost use Rattle.kr_pages.specs.Pool.{IsPool, Takes, is_free, with_free, page_words, zero_page};
 
 use kr_base::NoMemory;
 use std::alloc::Global;
@@ -105,7 +105,7 @@ impl Pages {
     pub fn words(&self, page: &Page) -> &[u32; 60]
         requires below { page.now < length self.now.pages }
         requires out { is_free self.now page.now ≡ false }
-        ensures { result.now ≡ words_of self.now page.now }
+        ensures { result.now ≡ page_words self.now page.now }
     {
         &self.pages[page.number as usize]
     }
@@ -115,7 +115,7 @@ impl Pages {
         requires below { page.now < length self.old.pages }
         requires out { is_free self.old page.now ≡ false }
         ensures* changed { sem 𝓛 (LendsWords self.entry page.now result) }
-        ensures words { result.now ≡ words_of self.old page.now }
+        ensures words { result.now ≡ page_words self.old page.now }
     {
         &mut self.pages[page.number as usize]
     }
@@ -129,7 +129,7 @@ impl Pages {
     }
 
     /// How many pages are taken.
-    pub fn out(&self) -> u32
+    pub fn taken_count(&self) -> u32
         ensures pool { IsPool self.now }
         ensures out { length self.now.free + result ≡ length self.now.pages }
     {

@@ -7,7 +7,7 @@ use Rattle.std.specs.declared.cmp.Ordering.{Ordering}
 use Rattle.std.specs.declared.cmp.Ordering.TheVariants.{Equal}
 use Rattle.std.proofs.lemmas.List.{drop_more, drop_all}
 use Rattle.std.proofs.Math.Seq.{drop-append_seam}
-use Rattle.kr_paths.specs.Paths.{path_cmp, AreSorted, first, is_behind, next_after}
+use Rattle.kr_paths.specs.Paths.{path_cmp, AreSorted, first, is_behind, successor}
 use Rattle.kr_paths.specs.inner.Parts.{Entries, joined, AreParts, AllBelow, AllAbove, Begins, IsCut, IsPartFor}
 use Rattle.kr_paths.proofs.Orders.{itself, above_behind, sorted_back}
 use Rattle.kr_paths.proofs.Joins.{joined_append}
@@ -36,7 +36,7 @@ fits (x ∷ xs) e rest = (let more : length xs < length (xs ++ e ∷ rest) = fit
 pub there_fits : (path : List ℕ) (es : Entries) (at : ℕ) → IsCut path es at (Begins path) → at < length es
 there_fits path es at cut = subst (λ n. n < length es) cut.3 (subst (λ l. length cut.0 < length l) (sym (cut.2 ∙ ap (λ l. cut.0 ++ l) cut.5.2)) (fits cut.0 (path, cut.5.0) cut.5.1))
 
-pub after_there : (path : List ℕ) (es : Entries) (at : ℕ) → AreSorted es → IsCut path es at (Begins path) → first (drop (at + 1) es) ≡ next_after path es
+pub after_there : (path : List ℕ) (es : Entries) (at : ℕ) → AreSorted es → IsCut path es at (Begins path) → first (drop (at + 1) es) ≡ successor path es
 after_there path es at sorted cut =
     let all : es ≡ cut.0 ++ (path, cut.5.0) ∷ cut.5.1 = cut.2 ∙ ap (λ l. cut.0 ++ l) cut.5.2 in
     let place : at + 1 ≡ suc (length cut.0) = omega (arith, cut.3) in
@@ -44,7 +44,7 @@ after_there path es at sorted cut =
     ap first (ap (λ n. drop n es) place ∙ ap (drop (suc (length cut.0))) all ∙ past_seam cut.0 (path, cut.5.0) cut.5.1
     ∙ sym (ap (filter (is_behind path)) all ∙ none_behind path cut.0 ((path, cut.5.0) ∷ cut.5.1) cut.4 ∙ past_itself path cut.5.0 cut.5.1 ∙ all_behind path cut.5.1 above))
 
-pub after_gap : (path : List ℕ) (es : Entries) (at : ℕ) → IsCut path es at (AllAbove path) → first (drop at es) ≡ next_after path es
+pub after_gap : (path : List ℕ) (es : Entries) (at : ℕ) → IsCut path es at (AllAbove path) → first (drop at es) ≡ successor path es
 after_gap path es at cut =
     ap first (ap (λ n. drop n es) (sym cut.3) ∙ ap (drop (length cut.0)) cut.2 ∙ drop-append_seam cut.0 cut.1
     ∙ sym (ap (filter (is_behind path)) cut.2 ∙ none_behind path cut.0 cut.1 cut.4 ∙ all_behind path cut.1 cut.5))
@@ -74,14 +74,14 @@ first_none : (xs ys : Entries) → None ≡ first xs → first ys ≡ first (xs 
 first_none [] ys h = refl
 first_none (x ∷ xs) ys h = cc
 
-pub next_own : (path : List ℕ) (parts : List Entries) (at : ℕ) (part : IsPartFor path parts at) (e : List ℕ × ℕ) → Some e ≡ next_after path part.own → Some e ≡ next_after path (joined parts)
+pub next_own : (path : List ℕ) (parts : List Entries) (at : ℕ) (part : IsPartFor path parts at) (e : List ℕ × ℕ) → Some e ≡ successor path part.own → Some e ≡ successor path (joined parts)
 next_own path parts at part e h = first_of (filter (is_behind path) part.own) (joined part.behind) e h ∙ ap first (sym (behind_all path parts at part))
 
 behind_is : (before : List Entries) (own : Entries) (behind : List Entries) → drop (suc (length before)) (before ++ own ∷ behind) ≡ behind
 behind_is [] own behind = refl
 behind_is (x ∷ xs) own behind = behind_is xs own behind
 
-pub next_part : (path : List ℕ) (parts : List Entries) (at : ℕ) (part : IsPartFor path parts at) → None ≡ next_after path part.own → first (joined (drop (at + 1) parts)) ≡ next_after path (joined parts)
+pub next_part : (path : List ℕ) (parts : List Entries) (at : ℕ) (part : IsPartFor path parts at) → None ≡ successor path part.own → first (joined (drop (at + 1) parts)) ≡ successor path (joined parts)
 next_part path parts at part h =
     let place : at + 1 ≡ suc (length part.before) = omega (arith, part.place) in
     ap (λ l. first (joined l)) (ap (λ n. drop n parts) place ∙ ap (drop (suc (length part.before))) part.parts_are ∙ behind_is part.before part.own part.behind)

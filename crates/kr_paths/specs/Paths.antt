@@ -26,5 +26,5 @@ abbrev pub is_behind : List ℕ → List ℕ × ℕ → Bool
 is_behind path entry = is_lt (path_cmp path entry.0)
 
 -- the first entry whose path is above this one
-abbrev pub next_after : List ℕ → List (List ℕ × ℕ) → Option (List ℕ × ℕ)
-next_after path entries = first (filter (is_behind path) entries)
+abbrev pub successor : List ℕ → List (List ℕ × ℕ) → Option (List ℕ × ℕ)
+successor path entries = first (filter (is_behind path) entries)

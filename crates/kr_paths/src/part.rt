@@ -2,7 +2,7 @@
 ghost use Rattle.std.specs.Prelude.{◌≡◌, ◌<◌, ◌≤◌, ◌+◌, ◌++◌, [], ◌∷◌, length, get_or, slice_set, take, drop, true, IfOk, OnOk, OnErr};
 ghost use Rattle.std.specs.Option.{option_map};
 ghost use Rattle.std.specs.List.{insert, remove};
-ghost use Rattle.kr_paths.specs.Paths.{AreSorted, first, next_after};
+ghost use Rattle.kr_paths.specs.Paths.{AreSorted, first, successor};
 ghost use Rattle.kr_paths.specs.inner.Parts.{IsFound, is_above, with_number};
 
 use crate::path::Path;
@@ -16,11 +16,11 @@ const MOST: usize = 512;
 
 /// Paths with their numbers. Contracts see the list of both.
 #[derive(Drop)]
-pub(crate) struct Part {
+pub(crate) struct PathPart {
     entries: Vec<(Path, usize)>,
 }
 
-impl Model for Part {
+impl Model for PathPart {
     ghost use Rattle.std.specs.Prelude.{ℕ, List};
 
     ghost Value = { List (List ℕ × ℕ) };
@@ -28,14 +28,14 @@ impl Model for Part {
     ghost view = { λ part. part.entries.items };
 }
 
-impl Part {
+impl PathPart {
     /// A part of one entry.
-    pub fn of(alloc: Global, path: Path, number: usize) -> Result<Part, NoMemory>
+    pub fn from_entry(alloc: Global, path: Path, number: usize) -> Result<PathPart, NoMemory>
         ensures { IfOk result (λ part. part ≡ (path, number) ∷ []) }
     {
         let mut entries = Vec::new(alloc);
         entries.push((path, number))?;
-        Ok(Part { entries })
+        Ok(PathPart { entries })
     }
 
     /// How many entries it has.
@@ -92,19 +92,19 @@ impl Part {
 
     /// The first entry whose path is above this one.
     #[tactic(auto, using(crate::proofs::Nexts::there_fits, crate::proofs::Nexts::after_there, crate::proofs::Nexts::after_gap))]
-    pub fn after(&self, path: &str) -> Option<(&Path, usize)>
+    pub fn first_successor(&self, path: &str) -> Option<(&Path, usize)>
         requires { AreSorted self.now }
         ensures { option_map (λ entry. (entry.0.now, entry.1)) result
-            ≡ next_after path.now self.now }
+            ≡ successor path.now self.now }
     {
         match self.find(path) {
-            Ok(at) => self.entry_behind(at),
+            Ok(at) => self.entry_past_place(at),
             Err(at) => self.entry(at),
         }
     }
 
     /// The entry behind that at this place, if there is one.
-    fn entry_behind(&self, at: usize) -> Option<(&Path, usize)>
+    fn entry_past_place(&self, at: usize) -> Option<(&Path, usize)>
         requires { at < length self.now }
         ensures { option_map (λ entry. (entry.0.now, entry.1)) result
             ≡ first (drop (at + 1) self.now) }
@@ -164,13 +164,13 @@ impl Part {
     }
 
     /// Keeps the entries before this place, and gives the others up.
-    pub fn split_off(&mut self, at: usize) -> Result<Part, NoMemory>
+    pub fn split_off(&mut self, at: usize) -> Result<PathPart, NoMemory>
         requires { at ≤ length self.old }
         ensures rest { IfOk result (λ rest. rest ≡ drop at self.old) }
         ensures kept { OnOk result (self.new ≡ take at self.old) }
         ensures err { OnErr result (self.new ≡ self.old) }
     {
         let entries = self.entries.split_off(at)?;
-        Ok(Part { entries })
+        Ok(PathPart { entries })
     }
 }

@@ -25,11 +25,11 @@ impl Path {
     pub fn copy(alloc: Global, path: &str) -> Result<Path, NoMemory>
         ensures { IfOk result (λ copy. copy ≡ path.now) }
     {
-        Path::of(alloc, Text::copy(alloc, path)?)
+        Path::from_text(alloc, Text::copy(alloc, path)?)
     }
 
     /// The first owner of the path, which is taken over as it stands.
-    pub fn of(alloc: Global, path: Text) -> Result<Path, NoMemory>
+    pub fn from_text(alloc: Global, path: Text) -> Result<Path, NoMemory>
         ensures { IfOk result (λ own. own ≡ path) }
     {
         match Shared::new(alloc, path) {

@@ -3,21 +3,21 @@ ghost use Rattle.std.specs.Prelude.{◌≡◌, ◌<◌, ◌≤◌, ◌+◌, [], 
 ghost use Rattle.std.specs.Option.{option_map};
 ghost use Rattle.std.specs.Map.{lookup, remove_entry};
 ghost use Rattle.std.specs.BTreeMap.{insert_entry, is_at};
-ghost use Rattle.kr_paths.specs.Paths.{path_cmp, AreSorted, first, next_after};
+ghost use Rattle.kr_paths.specs.Paths.{path_cmp, AreSorted, first, successor};
 ghost use Rattle.kr_paths.specs.inner.Parts.{AreParts, IsSpot, joined};
 
-use crate::part::Part;
+use crate::part::PathPart;
 use crate::path::Path;
 use crate::spot::{Spot, find, find_part};
 use kr_base::NoMemory;
 use std::alloc::Global;
 use std::marker::Model;
 
-/// A number at each of some paths. Contracts see the list of both, in the order of the paths. A path
-/// is looked up without memory, and kept by one word.
+/// A number at each of some paths. Contracts see the list of both, in the order of the paths. A
+/// path is looked up without memory, and kept by one word.
 #[derive(Drop)]
 pub struct PathMap {
-    parts: Vec<Part>,
+    parts: Vec<PathPart>,
     count: usize,
     alloc: Global,
 }
@@ -86,17 +86,17 @@ impl PathMap {
 
     /// The least path above this one, and its number.
     #[tactic(auto, using(crate::proofs::Nexts::next_own, crate::proofs::Nexts::next_part))]
-    pub fn next_after(&self, path: &str) -> Option<(&Path, usize)>
+    pub fn successor(&self, path: &str) -> Option<(&Path, usize)>
         ensures { option_map (λ entry. (entry.0.now, entry.1)) result
-            ≡ next_after path.now self.now }
+            ≡ successor path.now self.now }
     {
         if self.parts.is_empty() {
             return None;
         }
         let at = find_part(self.parts.as_slice(), path);
-        match self.parts[at].after(path) {
+        match self.parts[at].first_successor(path) {
             Some(entry) => Some(entry),
-            None => first_behind(self.parts.as_slice(), at),
+            None => following_entry(self.parts.as_slice(), at),
         }
     }
 
@@ -138,7 +138,7 @@ impl PathMap {
         if !spot.there {
             return None;
         }
-        let number = take_at(&mut self.parts, spot, path);
+        let number = remove_path(&mut self.parts, spot, path);
         self.count -= 1;
         Some(number)
     }
@@ -146,7 +146,7 @@ impl PathMap {
 
 /// The first entry behind the part at this place.
 #[tactic(auto, using(crate::proofs::Nexts::first_from, crate::proofs::Nexts::first_past))]
-fn first_behind(parts: &[Part], at: usize) -> Option<(&Path, usize)>
+fn following_entry(parts: &[PathPart], at: usize) -> Option<(&Path, usize)>
     requires parts { AreParts parts.now }
     requires at { at < length parts.now }
     ensures { option_map (λ entry. (entry.0.now, entry.1)) result
@@ -160,7 +160,7 @@ fn first_behind(parts: &[Part], at: usize) -> Option<(&Path, usize)>
 
 /// The first part, of one entry.
 fn put_first(
-    parts: &mut Vec<Part>,
+    parts: &mut Vec<PathPart>,
     alloc: Global,
     path: Path,
     number: usize,
@@ -171,13 +171,13 @@ fn put_first(
     ensures err { OnErr result (parts.new.items ≡ parts.old.items) }
     ensures parts { AreParts parts.new.items }
 {
-    let part = Part::of(alloc, path, number)?;
+    let part = PathPart::from_entry(alloc, path, number)?;
     parts.push(part)?;
     Ok(())
 }
 
 /// Parts the part at this place in two.
-fn halve(parts: &mut Vec<Part>, at: usize) -> Result<(), NoMemory>
+fn halve(parts: &mut Vec<PathPart>, at: usize) -> Result<(), NoMemory>
     requires parts { AreParts parts.old.items }
     requires at { at < length parts.old.items }
     requires long { 2 ≤ length (get_or parts.old.items at []) }
@@ -195,7 +195,7 @@ fn halve(parts: &mut Vec<Part>, at: usize) -> Result<(), NoMemory>
 }
 
 /// Puts a path that isn't there, and belongs at the spot. A part that is full is halved before.
-fn put_new(parts: &mut Vec<Part>, spot: Spot, path: Path, number: usize) -> Result<(), NoMemory>
+fn put_new(parts: &mut Vec<PathPart>, spot: Spot, path: Path, number: usize) -> Result<(), NoMemory>
     requires parts { AreParts parts.old.items }
     requires spot { IsSpot path parts.old.items spot }
     requires new { spot.there ≡ false }
@@ -205,15 +205,20 @@ fn put_new(parts: &mut Vec<Part>, spot: Spot, path: Path, number: usize) -> Resu
     ensures parts { AreParts parts.new.items }
 {
     if !parts[spot.part].is_full() {
-        return put_at(parts, spot, path, number);
+        return insert_path(parts, spot, path, number);
     }
     halve(parts, spot.part)?;
     let spot = find(parts.as_slice(), path.as_str());
-    put_at(parts, spot, path, number)
+    insert_path(parts, spot, path, number)
 }
 
 /// Puts a path that isn't there, and belongs at the spot.
-fn put_at(parts: &mut Vec<Part>, spot: Spot, path: Path, number: usize) -> Result<(), NoMemory>
+fn insert_path(
+    parts: &mut Vec<PathPart>,
+    spot: Spot,
+    path: Path,
+    number: usize,
+) -> Result<(), NoMemory>
     requires parts { AreParts parts.old.items }
     requires spot { IsSpot path parts.old.items spot }
     requires new { spot.there ≡ false }
@@ -226,7 +231,7 @@ fn put_at(parts: &mut Vec<Part>, spot: Spot, path: Path, number: usize) -> Resul
 }
 
 /// Takes the entry at the spot, where the path stands, away. Tells its number.
-fn take_at(parts: &mut Vec<Part>, spot: Spot, path: &str) -> usize
+fn remove_path(parts: &mut Vec<PathPart>, spot: Spot, path: &str) -> usize
     requires parts { AreParts parts.old.items }
     requires spot { IsSpot path.now parts.old.items spot }
     requires there { spot.there ≡ true }

@@ -2,7 +2,7 @@
 ghost use Rattle.std.specs.Prelude.{◌≡◌, ◌<◌, length};
 ghost use Rattle.kr_paths.specs.inner.Parts.{AreParts, IsPartFor, IsSpot};
 
-use crate::part::Part;
+use crate::part::PathPart;
 
 /// A part, a place in it, and whether the path is there. Else it belongs before that place.
 #[derive(Clone, Copy)]
@@ -13,7 +13,7 @@ pub(crate) struct Spot {
 }
 
 /// The last part that doesn't begin above the path, or else the first.
-pub(crate) fn find_part(parts: &[Part], path: &str) -> usize
+pub(crate) fn find_part(parts: &[PathPart], path: &str) -> usize
     requires parts { AreParts parts.now }
     requires some { 0 < length parts.now }
     ensures { IsPartFor path.now parts.now result }
@@ -32,7 +32,7 @@ pub(crate) fn find_part(parts: &[Part], path: &str) -> usize
 }
 
 /// Where the path stands, or belongs.
-pub(crate) fn find(parts: &[Part], path: &str) -> Spot
+pub(crate) fn find(parts: &[PathPart], path: &str) -> Spot
     requires parts { AreParts parts.now }
     requires some { 0 < length parts.now }
     ensures { IsSpot path.now parts.now result }

@@ -20,7 +20,7 @@ use Rattle.kr_config.specs.declared.refusal.Counted.{Counted}
 use Rattle.kr_config.specs.declared.refusal.Counted.TheVariants.{Entries, Keys, Plugins}
 use Rattle.kr_config.specs.declared.who.Who.{Who}
 use Rattle.kr_config.specs.Classes.{class_cmp, class_made, classes_made, classes_in}
-use Rattle.kr_config.specs.Kept.{Row, apart, keeps, keeps_patterns, keeps_providers, keeps_row, patterns_in, keys_in, kms_in}
+use Rattle.kr_config.specs.Kept.{ConfigEntry, apart, keeps, keeps_patterns, keeps_providers, keeps_row, patterns_in, count_entry_keys, kms_in}
 use Rattle.kr_config.specs.Lists.{first_list, class_list}
 use Rattle.kr_config.specs.ClassEntries.{class_pattern, class_row}
 use Rattle.kr_config.specs.Patterns.{is_pattern, matches, covers_group, covers_rest}
@@ -33,7 +33,7 @@ use Rattle.kr_judge.proofs.Lists.{cases, filtered_none, map_empty, mapped_none, 
 use Rattle.kr_judge.proofs.Tables.{is_table}
 use Rattle.kr_plan.specs.Merges.{merge, merged_list, merged_rows, classes_of, wide_rows, turned_rows}
 use Rattle.kr_plan.specs.declared.refusal.PlanNo.TheVariants.{SecretClash, TooMany}
-use Rattle.kr_plan.specs.Plans.{clash, first_clash, clashes_at, clash_reasons, amounts, is_above, limit_reasons}
+use Rattle.kr_plan.specs.Plans.{clash, first_clash, clashes_at, clash_reasons, amounts, exceeds_limit, limit_reasons}
 use Rattle.kr_plan.proofs.Apart.{no_clash, clash_turn, merged_apart, all_filter}
 use Rattle.kr_plan.proofs.ClassLists.{rest_in}
 use Rattle.kr_plan.proofs.Counting.{count_turn, count_most}
@@ -69,7 +69,7 @@ patterns_formed : (ps : List Pattern) → keeps_patterns ps ≡ true → list_al
 patterns_formed ps h = right (nat_le 1 (length ps)) (list_all is_pattern ps)
     (left (nat_le 1 (length ps) && list_all is_pattern ps) (apart patterns.clash ps) h)
 
-rows_formed : (rows : List Row) (class : Class) → list_all keeps_row rows ≡ true
+rows_formed : (rows : List ConfigEntry) (class : Class) → list_all keeps_row rows ≡ true
     → Contains (classes_in rows) class → IsFormed class
 rows_formed [] class h m = absurd (omega (arith, m.1))
 rows_formed (row ∷ rows) class h m =
@@ -81,7 +81,7 @@ rows_formed (row ∷ rows) class h m =
     ]
 
 -- two settings that keep the rules
-module _ (from to : List Row) (kept_from : keeps from ≡ true) (kept_to : keeps to ≡ true) where
+module _ (from to : List ConfigEntry) (kept_from : keeps from ≡ true) (kept_to : keeps to ≡ true) where
   abbrev Table : List Class
   Table = classes_of from to
 
@@ -128,7 +128,7 @@ providers_keep one other a b none =
     (right (nat_le 1 (length one) && list_all is_provider one) (apart rivals one) a)
     (right (nat_le 1 (length other) && list_all is_provider other) (apart rivals other) b) none)
 
-row_keeps : (one other : List Row) (class : Class) → IsFormed class
+row_keeps : (one other : List ConfigEntry) (class : Class) → IsFormed class
     → keeps_providers (merge (class_list one class) (class_list other class)) ≡ true
     → keeps_row (class_row (merged_list one other) class) ≡ true
 row_keeps one other class formed kept = both (keeps_patterns (class_pattern class ∷ []))
@@ -137,12 +137,12 @@ row_keeps one other class formed kept = both (keeps_patterns (class_pattern clas
 
 -- ---- all entries
 
-abbrev Unclashed : (classes : List Class) → (one other : List Row) → Type 0
+abbrev Unclashed : (classes : List Class) → (one other : List ConfigEntry) → Type 0
 Unclashed classes one other = (class : Class) → Contains classes class → (a b : Who)
     → Contains (class_list one class) a → Contains (class_list other class) b
     → clash a b ≡ false
 
-pub unclashed : (classes : List Class) (one other : List Row)
+pub unclashed : (classes : List Class) (one other : List ConfigEntry)
     → clash_reasons (clashes_at classes one other) ≡ [] → Unclashed classes one other
 unclashed classes one other none class m =
     no_clash (class_list one class) (class_list other class)
@@ -151,11 +151,11 @@ unclashed classes one other none class m =
     (first_clash (class_list one c) (class_list other c))) classes
     (map_empty (λ own. SecretClash own.0 own.1) (clashes_at classes one other) none) class m))
 
-turn_unclashed : (classes : List Class) (one other : List Row) → Unclashed classes one other
+turn_unclashed : (classes : List Class) (one other : List ConfigEntry) → Unclashed classes one other
     → Unclashed classes other one
 turn_unclashed classes one other h class m a b x y = clash_turn b a (h class m b a y x)
 
-rows_keep : (classes : List Class) (one other : List Row) → keeps one ≡ true → keeps other ≡ true
+rows_keep : (classes : List Class) (one other : List ConfigEntry) → keeps one ≡ true → keeps other ≡ true
     → ((class : Class) → Contains classes class → IsFormed class)
     → Unclashed classes one other
     → list_all keeps_row (merged_rows classes one other) ≡ true
@@ -167,26 +167,26 @@ rows_keep classes one other a b formed none =
     (providers_keep (class_list one class) (class_list other class) (list_keeps one class a)
     (list_keeps other class b) (none class m))) classes (All-contains_itself classes)))
 
-patterns_each : (classes : List Class) (one other : List Row)
+patterns_each : (classes : List Class) (one other : List ConfigEntry)
     → patterns_in (merged_rows classes one other) ≡ length classes
 patterns_each [] one other = refl
 patterns_each (class ∷ classes) one other =
-    let s = sum_by-cons (λ (row : Row). length row.patterns) (class_row (merged_list one other) class)
+    let s = sum_by-cons (λ (row : ConfigEntry). length row.patterns) (class_row (merged_list one other) class)
     (merged_rows classes one other) in
     let r = patterns_each classes one other in omega (arith, s, r)
 
-pub whole : (classes : List Class) (one other : List Row) → Contains classes Rest
+pub whole : (classes : List Class) (one other : List ConfigEntry) → Contains classes Rest
     → length classes ≤ 64 → list_all keeps_row (merged_rows classes one other) ≡ true
-    → keys_in (merged_rows classes one other) ≤ 64 → kms_in (merged_rows classes one other) ≤ 16
+    → count_entry_keys (merged_rows classes one other) ≤ 64 → kms_in (merged_rows classes one other) ≤ 16
     → keeps (merged_rows classes one other) ≡ true
 unfolding keeps
 whole classes one other some few rows keys plugins =
-    let made : List Row = merged_rows classes one other in
+    let made : List ConfigEntry = merged_rows classes one other in
     let long : length made ≡ length classes = length-map classes (class_row (merged_list one other)) in
     let each = patterns_each classes one other in
     six (le-leb 1 (length made) (omega (arith, long, some.1)))
     (le-leb (length made) 64 (omega (arith, long, few))) rows
-    (le-leb (patterns_in made) 256 (omega (arith, each, few))) (le-leb (keys_in made) 64 keys)
+    (le-leb (patterns_in made) 256 (omega (arith, each, few))) (le-leb (count_entry_keys made) 64 keys)
     (le-leb (kms_in made) 16 plugins)
   where
     six : {a b c d e f : Bool} → a ≡ true → b ≡ true → c ≡ true → d ≡ true → e ≡ true
@@ -195,31 +195,31 @@ whole classes one other some few rows keys plugins =
 
 -- ---- the limits
 
-pub record IsWithin (rows : List Row) : Type 0 where
+pub record IsWithin (rows : List ConfigEntry) : Type 0 where
   pub entries : length rows ≤ 64
-  pub keys : keys_in rows ≤ 64
+  pub keys : count_entry_keys rows ≤ 64
   pub plugins : kms_in rows ≤ 16
 
-pub within : (rows : List Row) → limit_reasons (amounts rows) ≡ [] → IsWithin rows
+pub within : (rows : List ConfigEntry) → limit_reasons (amounts rows) ≡ [] → IsWithin rows
 within rows none =
-    let left_out : filter is_above (amounts rows) ≡ [] =
-    map_empty (λ own. TooMany own.0 own.1) (filter is_above (amounts rows)) none in
-    let at : (amount : Counted × ℕ) → Contains (amounts rows) amount → is_above amount ≡ false =
-    filtered_none is_above (amounts rows) left_out in
+    let left_out : filter exceeds_limit (amounts rows) ≡ [] =
+    map_empty (λ own. TooMany own.0 own.1) (filter exceeds_limit (amounts rows)) none in
+    let at : (amount : Counted × ℕ) → Contains (amounts rows) amount → exceeds_limit amount ≡ false =
+    filtered_none exceeds_limit (amounts rows) left_out in
     record {
       entries = ltb-false 64 (length rows) (at (Entries, length rows) (0, omega arith, refl));
-      keys = ltb-false 64 (keys_in rows) (at (Keys, keys_in rows) (1, omega arith, refl));
+      keys = ltb-false 64 (count_entry_keys rows) (at (Keys, count_entry_keys rows) (1, omega arith, refl));
       plugins = ltb-false 16 (kms_in rows) (at (Plugins, kms_in rows) (2, omega arith, refl));
     }
 
 -- both phases have as many of each
-counts_turn : (p : Who → Bool) (classes : List Class) (one other : List Row) → keeps one ≡ true
+counts_turn : (p : Who → Bool) (classes : List Class) (one other : List ConfigEntry) → keeps one ≡ true
     → keeps other ≡ true
-    → sum_by (λ (row : Row). count_by p row.providers) (merged_rows classes one other)
-    ≡ sum_by (λ (row : Row). count_by p row.providers) (merged_rows classes other one)
+    → sum_by (λ (row : ConfigEntry). count_by p row.providers) (merged_rows classes one other)
+    ≡ sum_by (λ (row : ConfigEntry). count_by p row.providers) (merged_rows classes other one)
 counts_turn p [] one other a b = refl
 counts_turn p (class ∷ classes) one other a b =
-    let many : Row → ℕ = λ row. count_by p row.providers in
+    let many : ConfigEntry → ℕ = λ row. count_by p row.providers in
     let s = sum_by-cons many (class_row (merged_list one other) class) (merged_rows classes one other) in
     let t = sum_by-cons many (class_row (merged_list other one) class) (merged_rows classes other one) in
     let r = counts_turn p classes one other a b in
@@ -227,7 +227,7 @@ counts_turn p (class ∷ classes) one other a b =
     (stands one class a) (stands other class b) in
     omega (arith, s, t, r, c)
   where
-    stands : (rows : List Row) (c : Class) → keeps rows ≡ true
+    stands : (rows : List ConfigEntry) (c : Class) → keeps rows ≡ true
         → apart rivals (class_list rows c) ≡ true
     stands rows c h =
         let ws : List Who = class_list rows c in
@@ -236,7 +236,7 @@ counts_turn p (class ∷ classes) one other a b =
 
 -- ---- the settings of both phases
 
-pub wide_keeps : (from to : List Row) → keeps from ≡ true → keeps to ≡ true
+pub wide_keeps : (from to : List ConfigEntry) → keeps from ≡ true → keeps to ≡ true
     → clash_reasons (clashes_at (classes_of from to) from to) ≡ []
     → IsWithin (wide_rows from to) → keeps (wide_rows from to) ≡ true
 wide_keeps from to a b none few =
@@ -247,7 +247,7 @@ wide_keeps from to a b none few =
     (rows_keep classes from to a b (formed from to a b) (unclashed classes from to none)) few.keys
     few.plugins
 
-pub turned_keeps : (from to : List Row) → keeps from ≡ true → keeps to ≡ true
+pub turned_keeps : (from to : List ConfigEntry) → keeps from ≡ true → keeps to ≡ true
     → clash_reasons (clashes_at (classes_of from to) from to) ≡ []
     → IsWithin (wide_rows from to) → keeps (turned_rows from to) ≡ true
 turned_keeps from to a b none few =
@@ -292,10 +292,10 @@ all_long (p ∷ ps) = omega (
   all_long ps,
 )
 
-in_long : (rows : List Row) → length (classes_in rows) ≤ patterns_in rows
+in_long : (rows : List ConfigEntry) → length (classes_in rows) ≤ patterns_in rows
 in_long [] = omega arith
 in_long (row ∷ rows) =
-    let s = sum_by-cons (λ (r : Row). length r.patterns) row rows in
+    let s = sum_by-cons (λ (r : ConfigEntry). length r.patterns) row rows in
     omega (
       arith,
       s,
@@ -304,17 +304,17 @@ in_long (row ∷ rows) =
       in_long rows,
     )
 
-few_patterns : (rows : List Row) → keeps rows ≡ true → patterns_in rows ≤ 256
+few_patterns : (rows : List ConfigEntry) → keeps rows ≡ true → patterns_in rows ≤ 256
 few_patterns rows h =
     let kept = kept_of rows h in leb-true (patterns_in rows) 256 kept.patterns
 
-few_keys : (rows : List Row) → keeps rows ≡ true → keys_in rows ≤ 64
-few_keys rows h = let kept = kept_of rows h in leb-true (keys_in rows) 64 kept.keys
+few_keys : (rows : List ConfigEntry) → keeps rows ≡ true → count_entry_keys rows ≤ 64
+few_keys rows h = let kept = kept_of rows h in leb-true (count_entry_keys rows) 64 kept.keys
 
-few_plugins : (rows : List Row) → keeps rows ≡ true → kms_in rows ≤ 16
+few_plugins : (rows : List ConfigEntry) → keeps rows ≡ true → kms_in rows ≤ 16
 few_plugins rows h = let kept = kept_of rows h in leb-true (kms_in rows) 16 kept.plugins
 
-table_long : (from to : List Row) → keeps from ≡ true → keeps to ≡ true
+table_long : (from to : List ConfigEntry) → keeps from ≡ true → keeps to ≡ true
     → length (classes_of from to) ≤ 513
 unfolding table_of
 table_long from to a b =
@@ -325,13 +325,13 @@ table_long from to a b =
     omega (arith, o, one, other, in_long from, in_long to, few_patterns from a, few_patterns to b)
 
 -- the providers of a list are among all
-list_most : (p : Who → Bool) (test : Pattern → Bool) (rows : List Row) (most : ℕ)
+list_most : (p : Who → Bool) (test : Pattern → Bool) (rows : List ConfigEntry) (most : ℕ)
     → count_by p (first_list test []) ≤ most
-    → sum_by (λ (row : Row). count_by p row.providers) rows ≤ most
+    → sum_by (λ (row : ConfigEntry). count_by p row.providers) rows ≤ most
     → count_by p (first_list test rows) ≤ most
 list_most p test [] most none h = none
 list_most p test (row ∷ rows) most none h =
-    let s = sum_by-cons (λ (r : Row). count_by p r.providers) row rows in
+    let s = sum_by-cons (λ (r : ConfigEntry). count_by p r.providers) row rows in
     by (list_any test row.patterns) (omega (arith, s, h))
     (list_most p test rows most none (omega (arith, s, h)))
   where
@@ -340,9 +340,9 @@ list_most p test (row ∷ rows) most none h =
     by true own rest = own
     by false own rest = rest
 
-class_most : (p : Who → Bool) (rows : List Row) (class : Class) (most : ℕ)
+class_most : (p : Who → Bool) (rows : List ConfigEntry) (class : Class) (most : ℕ)
     → count_by p (class_list [] class) ≤ most
-    → sum_by (λ (row : Row). count_by p row.providers) rows ≤ most
+    → sum_by (λ (row : ConfigEntry). count_by p row.providers) rows ≤ most
     → count_by p (class_list rows class) ≤ most
 class_most p rows (Exact text) most none h =
     list_most p (λ pattern. matches pattern text) rows most none h
@@ -350,15 +350,15 @@ class_most p rows (Group group) most none h =
     list_most p (λ pattern. covers_group pattern group) rows most none h
 class_most p rows Rest most none h = list_most p covers_rest rows most none h
 
-merged_most : (p : Who → Bool) (classes : List Class) (one other : List Row) (most : ℕ)
+merged_most : (p : Who → Bool) (classes : List Class) (one other : List ConfigEntry) (most : ℕ)
     → ((class : Class) → count_by p (class_list [] class) ≤ most)
-    → sum_by (λ (row : Row). count_by p row.providers) one ≤ most
-    → sum_by (λ (row : Row). count_by p row.providers) other ≤ most
-    → sum_by (λ (row : Row). count_by p row.providers) (merged_rows classes one other)
+    → sum_by (λ (row : ConfigEntry). count_by p row.providers) one ≤ most
+    → sum_by (λ (row : ConfigEntry). count_by p row.providers) other ≤ most
+    → sum_by (λ (row : ConfigEntry). count_by p row.providers) (merged_rows classes one other)
     ≤ length classes * (most + most)
 merged_most p [] one other most none a b = omega arith
 merged_most p (class ∷ classes) one other most none a b =
-    let many : Row → ℕ = λ row. count_by p row.providers in
+    let many : ConfigEntry → ℕ = λ row. count_by p row.providers in
     let s = sum_by-cons many (class_row (merged_list one other) class) (merged_rows classes one other) in
     let r = merged_most p classes one other most none a b in
     let c = count_most p (class_list one class) (class_list other class) in
@@ -376,12 +376,12 @@ no_plugin (Exact text) = omega arith
 no_plugin (Group group) = omega arith
 no_plugin Rest = omega arith
 
-pub record IsSmall (rows : List Row) : Type 0 where
+pub record IsSmall (rows : List ConfigEntry) : Type 0 where
   pub entries : length rows < 2 ^ 32
-  pub keys : keys_in rows < 2 ^ 32
+  pub keys : count_entry_keys rows < 2 ^ 32
   pub plugins : kms_in rows < 2 ^ 32
 
-pub wide_small : (from to : List Row) → keeps from ≡ true → keeps to ≡ true
+pub wide_small : (from to : List ConfigEntry) → keeps from ≡ true → keeps to ≡ true
     → IsSmall (wide_rows from to)
 wide_small from to a b =
     let classes : List Class = classes_of from to in

@@ -8,12 +8,12 @@ use Rattle.std.proofs.lemmas.List.Folds.{Any-from_list_any}
 use Rattle.kr_config.specs.declared.class.Class.{Class}
 use Rattle.kr_config.specs.declared.class.Class.TheVariants.{Exact}
 use Rattle.kr_config.specs.declared.who.Who.{Who}
-use Rattle.kr_config.specs.Kept.{Row}
+use Rattle.kr_config.specs.Kept.{ConfigEntry}
 use Rattle.kr_config.specs.Lists.{list_of, class_list}
 use Rattle.kr_config.proofs.Inversions.{left}
 use Rattle.kr_judge.specs.declared.need.Need.{Need}
 use Rattle.kr_judge.specs.declared.verdict.Verdict.TheVariants.{Pass}
-use Rattle.kr_judge.specs.Boards.{GenerationState, is_live, is_current_of}
+use Rattle.kr_judge.specs.Boards.{GenerationState, is_live, is_replica_current}
 use Rattle.kr_judge.specs.Fits.{ReadsWriter}
 use Rattle.kr_judge.specs.Verdicts.{first, verdict_of, with_numbers, is_other, others}
 use Rattle.kr_judge.proofs.Lists.{there, cases, head_is}
@@ -49,7 +49,7 @@ other_there replica generations other m =
     )
 
 -- the one settings and the other, and what a board has
-module _ (one other : List Row) (needs : List Need) (generations : List GenerationState)
+module _ (one other : List ConfigEntry) (needs : List Need) (generations : List GenerationState)
     (replica : ℕ) (between : IsBetween one other needs generations replica) where
   live_gives : (own : GenerationState) (class : Class) → Contains generations own
       → is_live own ≡ true → GivesEither one other own.rows class
@@ -64,7 +64,7 @@ module _ (one other : List Row) (needs : List Need) (generations : List Generati
       → Contains (class_list one (Exact need.resource)) need.who
       ⊎ Contains (class_list other (Exact need.resource)) need.who
   stored_at need m =
-      let some = Any-from_list_any (is_current_of replica) generations between.is_in in
+      let some = Any-from_list_any (is_replica_current replica) generations between.is_in in
       let own : GenerationState = some.1 in
       let member : Contains generations own = (some.0, some.2, some.3) in
       let current : own.current ≡ true = left own.current (own.replica == replica) some.4 in
@@ -77,7 +77,7 @@ module _ (one other : List Row) (needs : List Need) (generations : List Generati
       ]
 
   -- new settings pass that read what is stored, and at each class go with either list
-  pub passes : (rows : List Row)
+  pub passes : (rows : List ConfigEntry)
       → ((need : Need) → Contains needs need → Contains (list_of rows need.resource) need.who)
       → ((list : List Who) (class : Class)
       → (list ≡ class_list one class) ⊎ (list ≡ class_list other class)
@@ -97,7 +97,7 @@ module _ (one other : List Row) (needs : List Need) (generations : List Generati
 
 pub wide_passes : WidePasses
 wide_passes from to needs generations replica kept between =
-    let wide : List Row = wide_rows from to in
+    let wide : List ConfigEntry = wide_rows from to in
     let at : (class : Class)
     → class_list wide class ≡ merge (class_list from class) (class_list to class) =
     λ class. (merges_each_class from to class).0 in
@@ -127,8 +127,8 @@ wide_passes from to needs generations replica kept between =
 
 pub turned_passes : TurnedPasses
 turned_passes from to needs generations replica between =
-    let wide : List Row = wide_rows from to in
-    let turned : List Row = turned_rows from to in
+    let wide : List ConfigEntry = wide_rows from to in
+    let turned : List ConfigEntry = turned_rows from to in
     let here_wide : (class : Class)
     → class_list wide class ≡ merge (class_list from class) (class_list to class) =
     λ class. (merges_each_class from to class).0 in
@@ -166,7 +166,7 @@ turned_passes from to needs generations replica between =
 
 pub target_passes : TargetPasses
 target_passes from to needs generations replica kept between stored =
-    let turned : List Row = turned_rows from to in
+    let turned : List ConfigEntry = turned_rows from to in
     let at : (class : Class)
     → class_list turned class ≡ merge (class_list to class) (class_list from class) =
     λ class. (merges_each_class from to class).1 in

@@ -9,7 +9,7 @@ use Rattle.std.proofs.lemmas.List.FromFn.{map-range_with_len_more}
 use Rattle.kr_config.specs.declared.class.Class.{Class}
 use Rattle.kr_config.specs.declared.settings.Entry.{Entry}
 use Rattle.kr_config.specs.declared.who.Who.{Who}
-use Rattle.kr_config.specs.Kept.{Row, row_of, rows_of}
+use Rattle.kr_config.specs.Kept.{ConfigEntry, entry_lists, rows_of}
 use Rattle.kr_config.specs.Lists.{class_list}
 use Rattle.kr_config.specs.ClassEntries.{class_row}
 use Rattle.kr_judge.specs.Providers.{has}
@@ -24,17 +24,17 @@ use Rattle.kr_plan.specs.declared.moves.Phase.{Phase}
 -- ---- the first clash
 
 -- what is left of the classes decides
-pub record IsLeft (classes : List Class) (one other : List Row) (i : ℕ) : Type 0 where
+pub record IsLeft (classes : List Class) (one other : List ConfigEntry) (i : ℕ) : Type 0 where
   pub first_is : first (clashes_at classes one other) ≡ first (clashes_at (drop i classes) one other)
 
 -- what one class adds
 abbrev at_class : Class → Option Who → List (Class × Who) → List (Class × Who)
 at_class class who rest = cons_option (option_map (λ own. (class, own)) who) rest
 
-pub left_begin : (classes : List Class) (one other : List Row) → IsLeft classes one other 0
+pub left_begin : (classes : List Class) (one other : List ConfigEntry) → IsLeft classes one other 0
 left_begin classes one other = record { first_is = refl }
 
-pub left_more : (classes : List Class) (one other : List Row) (i : ℕ) (class : Class)
+pub left_more : (classes : List Class) (one other : List ConfigEntry) (i : ℕ) (class : Class)
     → IsLeft classes one other i → i < length classes → class ≡ get_or classes i class
     → None ≡ first_clash (class_list one class) (class_list other class)
     → IsLeft classes one other (i + 1)
@@ -45,7 +45,7 @@ left_more classes one other i class left h is none = record {
       (sym none);
 }
 
-pub left_found : (classes : List Class) (one other : List Row) (i : ℕ) (class : Class) (who : Who)
+pub left_found : (classes : List Class) (one other : List ConfigEntry) (i : ℕ) (class : Class) (who : Who)
     → IsLeft classes one other i → i < length classes → class ≡ get_or classes i class
     → Some who ≡ first_clash (class_list one class) (class_list other class)
     → Some (class, who) ≡ first (clashes_at classes one other)
@@ -53,26 +53,26 @@ left_found classes one other i class who left h is some =
     sym (left.first_is ∙ ap (λ l. first (clashes_at l one other)) (drop_at classes i class h is)
     ∙ ap (λ w. first (at_class class w (clashes_at (drop (i + 1) classes) one other))) (sym some))
 
-pub left_end : (classes : List Class) (one other : List Row) (i : ℕ) → IsLeft classes one other i
+pub left_end : (classes : List Class) (one other : List ConfigEntry) (i : ℕ) → IsLeft classes one other i
     → length classes ≤ i → None ≡ first (clashes_at classes one other)
 left_end classes one other i left h =
     sym (left.first_is ∙ ap (λ l. first (clashes_at l one other)) (drop_end classes i h))
 
 -- ---- entries
 
-pub merged_more : (classes : List Class) (one other : List Row) (i : ℕ) (class : Class)
+pub merged_more : (classes : List Class) (one other : List ConfigEntry) (i : ℕ) (class : Class)
     (entries : List Entry) (entry : Entry)
     → rows_of entries ≡ merged_rows (take i classes) one other → i < length classes
-    → class ≡ get_or classes i class → row_of entry ≡ class_row (merged_list one other) class
+    → class ≡ get_or classes i class → entry_lists entry ≡ class_row (merged_list one other) class
     → rows_of (entries ++ entry ∷ []) ≡ merged_rows (take (i + 1) classes) one other
 merged_more classes one other i class entries entry was h is row =
-    map-append row_of entries (entry ∷ [])
-    ∙ ap (λ l. l ++ row_of entry ∷ []) was
+    map-append entry_lists entries (entry ∷ [])
+    ∙ ap (λ l. l ++ entry_lists entry ∷ []) was
     ∙ ap (λ r. merged_rows (take i classes) one other ++ r ∷ []) row
     ∙ sym (ap (map (class_row (merged_list one other))) (take_at_more classes i class h is)
     ∙ map-append (class_row (merged_list one other)) (take i classes) (class ∷ []))
 
-pub merged_end : (classes : List Class) (one other : List Row) (i : ℕ) (entries : List Entry)
+pub merged_end : (classes : List Class) (one other : List ConfigEntry) (i : ℕ) (entries : List Entry)
     → rows_of entries ≡ merged_rows (take i classes) one other → length classes ≤ i
     → rows_of entries ≡ merged_rows classes one other
 merged_end classes one other i entries was h =

@@ -22,7 +22,7 @@ pub fn check_secrets(
     ensures { Checks (clash_reasons (clashes_at classes.now (rows_of from.now.entries.0)
         (rows_of to.now.entries.0))) result }
 {
-    match first_clash_at(classes, from, to) {
+    match find_first_clash(classes, from, to) {
         Some((class, who)) => Err(PlanNo::SecretClash {
             class: class.copy(alloc)?,
             who: who.copy(alloc)?,
@@ -33,7 +33,7 @@ pub fn check_secrets(
 
 /// The first class at which the two settings clash, and the first provider of the one that does.
 #[tactic(auto, using(crate::proofs::Steps::left_begin, crate::proofs::Steps::left_more, crate::proofs::Steps::left_found, crate::proofs::Steps::left_end))]
-fn first_clash_at<'a>(
+fn find_first_clash<'a>(
     classes: &'a [Class],
     from: &'a Settings,
     to: &Settings,
@@ -54,11 +54,11 @@ fn first_clash_at<'a>(
 fn first_clash<'a>(providers: &'a [Who], others: &[Who]) -> Option<&'a Who>
     ensures { option_copied result ≡ first_clash providers.now others.now }
 {
-    providers.iter().find(|who| clashes_among(*who, others))
+    providers.iter().find(|who| clashes_with_any(*who, others))
 }
 
 /// Whether the provider clashes with one of these.
-fn clashes_among(who: &Who, others: &[Who]) -> bool
+fn clashes_with_any(who: &Who, others: &[Who]) -> bool
     ensures { result ≡ list_any (clash who.now) others.now }
 {
     others.iter().any(|other| clashes(who, other))

@@ -1,7 +1,7 @@
 //! The settings of a phase: at each class both configurations' lists, one behind the other.
 ghost use Rattle.std.specs.Prelude.{◌≡◌, ◌++◌, not, IfOk, OnOk};
 ghost use Rattle.std.specs.List.{filter};
-ghost use Rattle.kr_config.specs.Kept.{row_of, rows_of};
+ghost use Rattle.kr_config.specs.Kept.{entry_lists, rows_of};
 ghost use Rattle.kr_config.specs.ClassEntries.{class_row};
 ghost use Rattle.kr_judge.specs.Providers.{has};
 ghost use Rattle.kr_plan.specs.Merges.{merge, merged_list, merged_rows};
@@ -36,7 +36,7 @@ fn merged_entry(
     one: &Settings,
     other: &Settings,
 ) -> Result<Entry, NoMemory>
-    ensures { IfOk result (λ entry. row_of entry
+    ensures { IfOk result (λ entry. entry_lists entry
         ≡ class_row (merged_list (rows_of one.now.entries.0) (rows_of other.now.entries.0))
         class.now) }
 {

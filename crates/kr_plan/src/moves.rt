@@ -1,6 +1,6 @@
 //! Plans and their moves.
 ghost use Rattle.std.specs.Prelude.{◌≡◌, ◌++◌, IfOk, OnOk};
-ghost use Rattle.kr_plan.specs.Plans.{reloads, moves_of};
+ghost use Rattle.kr_plan.specs.Plans.{reloads, replica_moves};
 
 use kr_base::{List, NoMemory, Shared};
 use kr_config::Settings;
@@ -43,8 +43,8 @@ pub struct Plan {
 }
 
 /// The moves of so many replicas.
-pub fn moves_of(alloc: Global, replicas: u32) -> Result<List<Move>, NoMemory>
-    ensures { IfOk result (λ moves. moves.0 ≡ moves_of replicas) }
+pub fn replica_moves(alloc: Global, replicas: u32) -> Result<List<Move>, NoMemory>
+    ensures { IfOk result (λ moves. moves.0 ≡ replica_moves replicas) }
 {
     let mut moves = Vec::new(alloc);
     push_reloads(&mut moves, Phase::Wide, replicas)?;

@@ -7,7 +7,7 @@ ghost use Rattle.kr_plan.specs.Plans.{Plans};
 use crate::clash::check_secrets;
 use crate::limits::check_limits;
 use crate::merging::merged_entries;
-use crate::moves::{Plan, moves_of};
+use crate::moves::{Plan, replica_moves};
 use crate::refusal::PlanNo;
 use kr_base::{List, NoMemory, Shared};
 use kr_config::{Class, ClassTable, Entry, Settings};
@@ -25,11 +25,11 @@ pub fn plan(alloc: Global, from: &Settings, to: &Settings, replicas: u32) -> Res
     let mut table = ClassTable::new(alloc);
     table.add(from)?;
     table.add(to)?;
-    plan_over(alloc, table.classes(), from, to, replicas)
+    plan_classes(alloc, table.classes(), from, to, replicas)
 }
 
 /// The same, over the classes that the two configurations tell apart.
-fn plan_over(
+fn plan_classes(
     alloc: Global,
     classes: &[Class],
     from: &Settings,
@@ -46,18 +46,18 @@ fn plan_over(
     check_limits(wide.as_slice())?;
     let turned = merged_entries(alloc, classes, to, from)?;
     Ok(Plan {
-        wide: settings_of(alloc, wide)?,
-        turned: settings_of(alloc, turned)?,
-        moves: moves_of(alloc, replicas)?,
+        wide: checked_settings(alloc, wide)?,
+        turned: checked_settings(alloc, turned)?,
+        moves: replica_moves(alloc, replicas)?,
     })
 }
 
 /// The settings of entries that keep the rules.
-fn settings_of(alloc: Global, entries: List<Entry>) -> Result<Shared<Settings>, NoMemory>
+fn checked_settings(alloc: Global, entries: List<Entry>) -> Result<Shared<Settings>, NoMemory>
     requires { IsTrue (keeps (rows_of entries.0)) }
     ensures { IfOk result (λ settings. settings.entries ≡ entries) }
 {
-    match Shared::new(alloc, Settings::of(alloc, entries)?) {
+    match Shared::new(alloc, Settings::from_entries(alloc, entries)?) {
         Ok(settings) => Ok(settings),
         Err(_) => Err(NoMemory),
     }

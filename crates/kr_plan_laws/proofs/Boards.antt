@@ -7,9 +7,9 @@ use Rattle.std.proofs.lemmas.Bool.{eq-eqb, eqb-true, ltb-true}
 use Rattle.std.proofs.lemmas.List.Folds.{Any-from_list_any, list_any_at}
 use Rattle.std.proofs.lemmas.List.Sums.{sum_by-cons}
 use Rattle.std.proofs.lemmas.Option.{none-some, same_Some}
-use Rattle.kr_config.specs.Kept.{Row}
+use Rattle.kr_config.specs.Kept.{ConfigEntry}
 use Rattle.kr_provider.specs.Publication.{Publication}
-use Rattle.kr_judge.specs.Boards.{GenerationState, is_live, is_current_of}
+use Rattle.kr_judge.specs.Boards.{GenerationState, is_live, is_replica_current}
 use Rattle.kr_judge.specs.Lacks.{IsLiveIn}
 use Rattle.kr_judge.specs.LiveFits.{AreFit}
 use Rattle.kr_plan.specs.Merges.{wide_rows, turned_rows}
@@ -141,7 +141,7 @@ live_one st own h live = (h.number, by own.current refl live, h.rows_are)
     by false e k = inr (held_number st.held h.number
         (subst (λ n. 0 < n) (sym h.holders_are) (ltb-true 0 own.holders k)))
 
-judged_live : (st : State) (rows : List Row) → IsLiveIn (board_generations st) rows → IsLive st rows
+judged_live : (st : State) (rows : List ConfigEntry) → IsLiveIn (board_generations st) rows → IsLive st rows
 judged_live st rows (own, m, live, is) =
     subst (IsLive st) is (live_one st own (has_number st own m) live)
 
@@ -152,7 +152,7 @@ readable st fit = record {
       fit.writers rows other class (judged_live st rows live) (judged_live st other beside);
 }
 
-module _ (o : Opening) (st : State) (sound : IsSound o st) (one other : List Row) (replica : ℕ)
+module _ (o : Opening) (st : State) (sound : IsSound o st) (one other : List ConfigEntry) (replica : ℕ)
     (midway : IsMidway one other st replica) where
   held_is_current : (own : GenerationState) → Contains (board_generations st) own
       → 0 < own.holders → own.current ≡ true
@@ -167,7 +167,7 @@ module _ (o : Opening) (st : State) (sound : IsSound o st) (one other : List Row
       (contains_at st.current h.generation.replica h.number current)
 
   is_there : (n : ℕ) → current_of st replica ≡ Some n
-      → list_any (is_current_of replica) (board_generations st) ≡ true
+      → list_any (is_replica_current replica) (board_generations st) ≡ true
   is_there n e =
       let own = sound.own replica n e in
       let g : Generation = own.generation in
@@ -176,18 +176,18 @@ module _ (o : Opening) (st : State) (sound : IsSound o st) (one other : List Row
       let c : Contains (board_generations st) (judged_generation st.current st.held n g) =
       subst (λ k. Contains (board_generations st) (judged_generation st.current st.held k g)) number
       judged in
-      list_any_at (is_current_of replica) (board_generations st) c.0
+      list_any_at (is_replica_current replica) (board_generations st) c.0
       (judged_generation st.current st.held n g) c.1
-      (ap (is_current_of replica) c.2
+      (ap (is_replica_current replica) c.2
       ∙ ap (λ v. v && (g.replica == replica))
       (there_number st.current n (contains_at st.current replica n e))
       ∙ eq-eqb g.replica replica own.replica_is)
 
-  in_there : list_any (is_current_of replica) (board_generations st) ≡ true
+  in_there : list_any (is_replica_current replica) (board_generations st) ≡ true
   in_there = by (current_of st replica) refl midway.is_in
     where
       by : (x : Option ℕ) → current_of st replica ≡ x → IsSome x
-          → list_any (is_current_of replica) (board_generations st) ≡ true
+          → list_any (is_replica_current replica) (board_generations st) ≡ true
       by None e s = absurd cc
       by (Some n) e s = is_there n e
 

@@ -9,12 +9,12 @@ use Rattle.std.proofs.lemmas.List.Elements.{Contains-append_right}
 use Rattle.std.proofs.lemmas.List.Folds.{Any-from_list_any, list_any_at}
 use Rattle.kr_config.specs.declared.class.Class.{Class}
 use Rattle.kr_config.specs.declared.class.Class.TheVariants.{Exact}
-use Rattle.kr_config.specs.Kept.{Row, keeps}
+use Rattle.kr_config.specs.Kept.{ConfigEntry, keeps}
 use Rattle.kr_config.specs.Lists.{list_of, class_list}
 use Rattle.kr_config.proofs.Inversions.{both, left, right}
 use Rattle.kr_judge.specs.declared.need.Need.{Need}
 use Rattle.kr_judge.specs.declared.verdict.Verdict.TheVariants.{Pass}
-use Rattle.kr_judge.specs.Boards.{GenerationState, is_live, left_by, without_current, is_current_of}
+use Rattle.kr_judge.specs.Boards.{GenerationState, is_live, left_by, without_current, is_replica_current}
 use Rattle.kr_judge.specs.Lacks.{IsLiveIn, IsLiveBeside, given_to}
 use Rattle.kr_judge.specs.LiveFits.{AreFit}
 use Rattle.kr_judge.specs.Verdicts.{first, verdict_of}
@@ -34,7 +34,7 @@ use Rattle.kr_plan_laws.specs.Rounds.{RoundsFollow, RoundsPass}
 module _ (change : GenerationState → GenerationState)
     (same : (own : GenerationState) → (change own).rows ≡ own.rows)
     (live : (own : GenerationState) → is_live (change own) ≡ true → is_live own ≡ true) where
-  fewer : (generations : List GenerationState) (rows : List Row)
+  fewer : (generations : List GenerationState) (rows : List ConfigEntry)
       → IsLiveIn (map change generations) rows → IsLiveIn generations rows
   fewer generations rows (own, m, alive, is) =
       let made = mapped change generations own m in (
@@ -61,8 +61,8 @@ none_more own h = by own.current h
     by true k = refl
     by false k = absurd (false≢true k)
 
-fit_of : (Live Fewer : List Row → Type 0) (needs : List Need)
-    → ((rows : List Row) → Fewer rows → Live rows) → AreFit Live needs → AreFit Fewer needs
+fit_of : (Live Fewer : List ConfigEntry → Type 0) (needs : List Need)
+    → ((rows : List ConfigEntry) → Fewer rows → Live rows) → AreFit Live needs → AreFit Fewer needs
 fit_of Live Fewer needs fewer_live fit = record {
   writers = λ rows other class a b.
       fit.writers rows other class (fewer_live rows a) (fewer_live other b);
@@ -72,13 +72,13 @@ fit_of Live Fewer needs fewer_live fit = record {
 -- ---- a phase in its midst
 
 -- the replicas below k give the other settings, and those from k on the one
-pub record IsMixed (one other : List Row) (k replicas : ℕ) (needs : List Need)
+pub record IsMixed (one other : List ConfigEntry) (k replicas : ℕ) (needs : List Need)
     (generations : List GenerationState) : Type 0 where
   pub fit : AreFit (IsLiveIn generations) needs
   pub held : (own : GenerationState) → Contains generations own → 0 < own.holders
       → own.current ≡ true
   pub are_in : (replica : ℕ) → replica < replicas
-      → list_any (is_current_of replica) generations ≡ true
+      → list_any (is_replica_current replica) generations ≡ true
   pub within : (own : GenerationState) → Contains generations own → own.current ≡ true
       → own.replica < replicas
   pub done : (own : GenerationState) → Contains generations own → own.current ≡ true
@@ -86,7 +86,7 @@ pub record IsMixed (one other : List Row) (k replicas : ℕ) (needs : List Need)
   pub left_over : (own : GenerationState) → Contains generations own → own.current ≡ true
       → k ≤ own.replica → (class : Class) → class_list own.rows class ≡ class_list one class
 
-begins : (one other : List Row) (replicas : ℕ) (needs : List Need)
+begins : (one other : List ConfigEntry) (replicas : ℕ) (needs : List Need)
     (generations : List GenerationState) → AllGive one replicas needs generations
     → IsMixed one other 0 replicas needs generations
 begins one other replicas needs generations all = record {
@@ -98,7 +98,7 @@ begins one other replicas needs generations all = record {
   left_over = λ own m current h. (all.gives own m current).1;
 }
 
-ends : (one other : List Row) (replicas : ℕ) (needs : List Need)
+ends : (one other : List ConfigEntry) (replicas : ℕ) (needs : List Need)
     (generations : List GenerationState) → IsMixed one other replicas replicas needs generations
     → AllGive other replicas needs generations
 ends one other replicas needs generations mixed = record {
@@ -111,7 +111,7 @@ ends one other replicas needs generations mixed = record {
   );
 }
 
-module _ (one other : List Row) (replicas : ℕ) (needs : List Need)
+module _ (one other : List ConfigEntry) (replicas : ℕ) (needs : List Need)
     (passes : (generations : List GenerationState) (replica : ℕ)
     → IsBetween one other needs generations replica
     → verdict_of needs generations replica other ≡ Pass) where
@@ -209,24 +209,24 @@ module _ (one other : List Row) (replicas : ℕ) (needs : List Need)
         by n false z is = absurd (omega (arith, z))
 
     in_then : (replica : ℕ) → replica < replicas
-        → list_any (is_current_of replica) (let_go Given) ≡ true
+        → list_any (is_replica_current replica) (let_go Given) ≡ true
     in_then replica l = by (replica == k) refl
       where
         among : (own : GenerationState) → Contains Given own
-            → is_current_of replica own ≡ true
-            → list_any (is_current_of replica) (let_go Given) ≡ true
+            → is_replica_current replica own ≡ true
+            → list_any (is_replica_current replica) (let_go Given) ≡ true
         among own m is =
             let c = image unheld Given own m in
-            list_any_at (is_current_of replica) (let_go Given) c.0 (unheld own) c.1
-            (ap (is_current_of replica) c.2 ∙ is)
+            list_any_at (is_replica_current replica) (let_go Given) c.0 (unheld own) c.1
+            (ap (is_replica_current replica) c.2 ∙ is)
 
         by : (v : Bool) → (replica == k) ≡ v
-            → list_any (is_current_of replica) (let_go Given) ≡ true
+            → list_any (is_replica_current replica) (let_go Given) ≡ true
         by true e = among New
             (Contains-append_right (without_current k generations) (New ∷ []) New (here New []))
             (eq-eqb k replica (sym (eqb-true replica k e)))
         by false e =
-            let some = Any-from_list_any (is_current_of replica) generations
+            let some = Any-from_list_any (is_replica_current replica) generations
             (mixed.are_in replica l) in
             let own : GenerationState = some.1 in
             let its =
@@ -298,7 +298,7 @@ module _ (one other : List Row) (replicas : ℕ) (needs : List Need)
 -- ---- the rewrite
 
 -- what is stored then is what `to` writes, which all turned settings read
-rewritten_fits : (from to : List Row) (replicas : ℕ) (needs rewritten : List Need)
+rewritten_fits : (from to : List ConfigEntry) (replicas : ℕ) (needs rewritten : List Need)
     (generations : List GenerationState)
     → AllGive (turned_rows from to) replicas needs generations
     → ((need : Need) → Contains rewritten need → first (list_of to need.resource) ≡ Some need.who)
@@ -313,7 +313,7 @@ rewritten_fits from to replicas needs rewritten generations all written = record
         ≡ merge (class_list to (Exact need.resource)) (class_list from (Exact need.resource)) =
         (all.gives own live.1 current).1 (Exact need.resource)
         ∙ (merges_each_class from to (Exact need.resource)).1 in
-        subst (λ (r : List Row). Contains (list_of r need.resource) need.who) live.3
+        subst (λ (r : List ConfigEntry). Contains (list_of r need.resource) need.who) live.3
         (subst (λ l. Contains l need.who) (sym is)
         (in_one (class_list to (Exact need.resource)) (class_list from (Exact need.resource))
         need.who (first_member (list_of to need.resource) need.who (written need m))));
@@ -330,7 +330,7 @@ rewritten_fits from to replicas needs rewritten generations all written = record
 
 -- ---- the laws
 
-module _ (from to : List Row) (replicas : ℕ) (needs rewritten : List Need)
+module _ (from to : List ConfigEntry) (replicas : ℕ) (needs rewritten : List Need)
     (generations : List GenerationState) (kept_from : keeps from ≡ true)
     (kept_to : keeps to ≡ true) (all : AllGive from replicas needs generations)
     (written : (need : Need) → Contains rewritten need

@@ -20,7 +20,7 @@ use Rattle.kr_provider.specs.Exchanges.{AnswersByFetch, LacksSource, MakesSeedsB
 use Rattle.kr_provider.specs.Publication.{seed_of}
 use Rattle.kr_provider.specs.Readers.{reader_in}
 use Rattle.kr_provider.specs.Reading.{Unseals}
-use Rattle.kr_provider.specs.Unsealing.{HasNoSource, IsSeedOf, MayAsk, TakesSeed}
+use Rattle.kr_provider.specs.Unsealing.{HasNoSource, IsSeedOf, MayAskPlugin, TakesSeed}
 use Rattle.kr_provider.specs.declared.refusal.Opened.{Opened}
 use Rattle.kr_provider.specs.declared.refusal.PublishNo.{PublishNo}
 use Rattle.kr_provider.specs.declared.refusal.UnsealNo.{UnsealNo}
@@ -80,13 +80,13 @@ module _ (opens : Opens) where
       by_seed (Some row) at n = by_row row at (key_eq (key_of row) (seed_key name object)) refl n
 
     source_is : OpenAll opens seeds → (name : List ℕ) (envelope : Envelope) (object : Result EncryptedObject ObjectNo) → envelope.object ≡ object
-        → TakesSeed seeds (Some (Kms name)) envelope → HasNoSource envelope → (MayAsk seeds (Some (Kms name)) object → ⊥)
+        → TakesSeed seeds (Some (Kms name)) envelope → HasNoSource envelope → (MayAskPlugin seeds (Some (Kms name)) object → ⊥)
         → envelope.source ≡ source_by opens name object
     source_is all name envelope (Ok object) is takes none n = by_seed all name envelope object is takes (seed_of name seeds) refl n
     source_is all name envelope (Err why) is takes none n = none why is
 
     unasked_envelope : OpenAll opens seeds → (reader : Option Who) (envelope : Envelope) → HasObject reader bytes envelope.object
-        → TakesSeed seeds reader envelope → HasNoSource envelope → (MayAsk seeds reader envelope.object → ⊥) → HasEnvelope opens reader bytes envelope
+        → TakesSeed seeds reader envelope → HasNoSource envelope → (MayAskPlugin seeds reader envelope.object → ⊥) → HasEnvelope opens reader bytes envelope
     unasked_envelope all None envelope has takes none n = tt
     unasked_envelope all (Some Identity) envelope has takes none n = tt
     unasked_envelope all (Some (Aescbc name secret)) envelope has takes none n = tt

@@ -9,7 +9,7 @@ use Rattle.std.proofs.lemmas.List.Quantifiers.{position-Some}
 use Rattle.std.proofs.lemmas.Slice.Eq.{bytes_eq-Decides}
 use Rattle.kr_base.specs.Faults.{Rose}
 use Rattle.kr_base.specs.Told.{Agrees}
-use Rattle.kr_config.specs.Kept.{Row}
+use Rattle.kr_config.specs.Kept.{ConfigEntry}
 use Rattle.kr_kms.specs.Calls.{Link, IsSameLink}
 use Rattle.kr_kms.specs.Health.{HasBreach}
 use Rattle.kr_kms.specs.declared.health.Field.{Field}
@@ -75,7 +75,7 @@ module _ {L : Type 0} (link : L → Link) (names : List (List ℕ)) where
       → AreDistinct link ys
   distinct_stay xs ys a d = subst (IsDistinct bytes_eq) (sym (names_stay xs ys a)) d
 
-  pub links_stay : (xs ys : List L) (rows : List Row) → AskedOnly link names xs ys
+  pub links_stay : (xs ys : List L) (rows : List ConfigEntry) → AskedOnly link names xs ys
       → HasLinks (names_of link xs) rows → HasLinks (names_of link ys) rows
   links_stay xs ys rows a h = λ name c. subst (λ l. Contains l name) (sym (names_stay xs ys a))
       (h name c)

@@ -7,7 +7,7 @@ use Rattle.kr_config.specs.declared.who.Who.TheVariants.{Kms}
 use Rattle.kr_config.specs.Providers.{is_kms}
 use Rattle.kr_envelope.specs.declared.object.EncryptedObject.{EncryptedObject}
 use Rattle.kr_envelope.specs.declared.object.ObjectNo.{ObjectNo}
-use Rattle.kr_envelope.specs.Limits.{Reads}
+use Rattle.kr_envelope.specs.Limits.{ReadsMessage}
 use Rattle.kr_envelope.proofs.OneReading as objects
 use Rattle.kr_kms.specs.Cache.{CacheState, GivesSeed, seed_at}
 use Rattle.kr_kms.specs.Calls.{Link}
@@ -63,7 +63,7 @@ abbrev pub under : EncryptedObject → List ℕ → Envelope
 under object source = record { object = Ok object; source = Some source }
 
 -- bytes spell one object alone
-one_object : (body : List ℕ) (a b : EncryptedObject) → Reads body (Ok a) → Reads body (Ok b)
+one_object : (body : List ℕ) (a b : EncryptedObject) → ReadsMessage body (Ok a) → ReadsMessage body (Ok b)
     → a ≡ b
 one_object body a b r s =
     let same : ◌≡◌ {A = Result EncryptedObject ObjectNo} (Ok a) (Ok b) =
@@ -89,7 +89,7 @@ module _ {L : Type 0} (rows : List (SeedKey × List ℕ)) (seeds : List SeedRow)
   module _ (name body : List ℕ) (first : Bool) (r : IsReadBy list bytes (Kms name) body first)
     where
       by_plugin : (result : Result Opened UnsealNo)
-          → ((object : EncryptedObject) (source : List ℕ) → Reads body (Ok object)
+          → ((object : EncryptedObject) (source : List ℕ) → ReadsMessage body (Ok object)
           → seed_at rows (seed_key name object) ≡ Some source
           → (news ≡ olds) × (MayAskFor seeds name object
           → Unseals (under object source) seeds list path bytes result))
@@ -101,8 +101,8 @@ module _ {L : Type 0} (rows : List (SeedKey × List ℕ)) (seeds : List SeedRow)
           subst (λ n. (news ≡ olds) × (MayAskFor seeds n object
           → Unseals (under object source) seeds list path bytes result)) (sym same)
           (at object source
-          (subst (λ b. Reads b (Ok object)) (sym r.body_is)
-          (subst (λ n. Reads (body_by (Kms n) bytes) (Ok object)) same has.0))
+          (subst (λ b. ReadsMessage b (Ok object)) (sym r.body_is)
+          (subst (λ n. ReadsMessage (body_by (Kms n) bytes) (Ok object)) same has.0))
           (subst (λ n. seed_at rows (seed_key n object) ≡ Some source) same is))
 
       -- its object isn't read
@@ -114,7 +114,7 @@ module _ {L : Type 0} (rows : List (SeedKey × List ℕ)) (seeds : List SeedRow)
       ))
         where
           at : (why : UnsealNo) → IsObjectIn body (Err why) → (object : EncryptedObject)
-              (source : List ℕ) → Reads body (Ok object)
+              (source : List ℕ) → ReadsMessage body (Ok object)
               → Unseals (under object source) seeds list path bytes (Err why)
           at (Refused why) (breach, s, (is, n)) object source reads =
               let same : ◌≡◌ {A = Result EncryptedObject ObjectNo} (Ok object) (Err breach) =
@@ -124,7 +124,7 @@ module _ {L : Type 0} (rows : List (SeedKey × List ℕ)) (seeds : List SeedRow)
           at NoMemory i object source reads = tt
 
       module _ (row : SeedRow) (is_row : seed_of name seeds ≡ Some row) (found : EncryptedObject)
-          (spells : Reads body (Ok found))
+          (spells : ReadsMessage body (Ok found))
           (gave : Result (List ℕ) UnsealNo)
           (cached : (source : List ℕ) → seed_at rows (seed_key name found) ≡ Some source
           → (news ≡ olds) × ((IsSeedOf row name found → ⊥)

@@ -3,7 +3,7 @@ use Rattle.std.proofs.Common.{ℕ, true, List, [], ◌∷◌, ◌++◌, map, ref
 use Rattle.std.specs.Prelude.{Option, Some, None, All}
 use Rattle.std.specs.Io.KnownBytes.{Consumes}
 use Rattle.std.proofs.lemmas.List.Elements.{All-head, All-tail}
-use Rattle.kr_config.specs.Kept.{Row, plugins_in}
+use Rattle.kr_config.specs.Kept.{ConfigEntry, plugins_in}
 use Rattle.kr_kms.specs.Calls.{Link}
 use Rattle.kr_kms.specs.Seeds.{IsSeedRow}
 use Rattle.kr_kms.specs.Truth.{Truth, TellsOf, key_of}
@@ -50,7 +50,7 @@ module _ {L : Type 0} (truth : Truth) (link : L → Link) (links : List L) where
 
 module _ {L D : Type 0} (truth : Truth) (link : L → Link) (left : D → Option (List ℕ))
     (count : D → ℕ) where
-  pub all_in_order : (rows : List Row) (links : List L) (dice after : D) (made : List SeedRow)
+  pub all_in_order : (rows : List ConfigEntry) (links : List L) (dice after : D) (made : List SeedRow)
       → AreSeedsOf truth link links (plugins_in rows) (λ name. true) made
       → Consumes (left dice) (left after) (bytes_of_seeds made)
       → MakesEach truth link links (plugin_order rows) made (left dice) (left after)
@@ -62,7 +62,7 @@ module _ {L D : Type 0} (truth : Truth) (link : L → Link) (left : D → Option
       (λ x d. (s.named x).1 ((order_has names x).0 d, refl))))
       (each truth link links made (left dice) (left after) s.rows s.opens s.healthy c)
 
-  pub some_in_order : (rows : List Row) (links : List L) (dice after : D) (name drawn : List ℕ)
+  pub some_in_order : (rows : List ConfigEntry) (links : List L) (dice after : D) (name drawn : List ℕ)
       → EndsAt truth link left count rows links dice after name drawn
       → MakesBefore truth link links (plugin_order rows) name drawn (left dice) (left after)
   some_in_order rows links dice after name drawn e =

@@ -14,13 +14,13 @@ use Rattle.kr_config.specs.declared.pattern.Pattern.{Pattern}
 use Rattle.kr_config.specs.declared.settings.Entry.{Entry}
 use Rattle.kr_config.specs.declared.who.Who.{Who}
 use Rattle.kr_config.specs.declared.who.Who.TheVariants.{Identity, Aescbc, Aesgcm, Kms}
-use Rattle.kr_config.specs.Kept.{Row, keeps_row, keys_in, row_of, rows_of}
+use Rattle.kr_config.specs.Kept.{ConfigEntry, keeps_row, count_entry_keys, entry_lists, rows_of}
 use Rattle.kr_config.specs.Lists.{first_list, list_of}
 use Rattle.kr_config.specs.Patterns.{matches}
 use Rattle.kr_config.specs.Providers.{is_key, is_provider, is_secret}
 use Rattle.kr_config.proofs.Inversions.{left as and_left, right as and_right}
-use Rattle.kr_pages.specs.Pool.{words_of}
-use Rattle.kr_provider.specs.KeyPages.{HoldKeys, KeyPages, words_out, secret_of, secrets_among, secrets_in}
+use Rattle.kr_pages.specs.Pool.{page_words}
+use Rattle.kr_provider.specs.KeyPages.{HoldKeys, KeyPages, words_out, key_secret, secrets_among, secrets_in}
 use Rattle.kr_provider.specs.Publication.{Publication}
 use Rattle.kr_provider.specs.Readers.{writer_of}
 use Rattle.kr_provider.specs.inner.Scan.{AreAmong, HasWords, IsAmong, place_from}
@@ -30,10 +30,10 @@ use Rattle.kr_provider.proofs.Lists.{of_row}
 -- ---- what is left of a list behind an item
 
 pub rows_more : (entries : List Entry) (i : ℕ) (e : Entry) → i < length entries
-    → e ≡ get_or entries i e → rows_of (drop i entries) ≡ row_of e ∷ rows_of (drop (i + 1) entries)
+    → e ≡ get_or entries i e → rows_of (drop i entries) ≡ entry_lists e ∷ rows_of (drop (i + 1) entries)
 rows_more entries i e h is = ap rows_of (drop-cons entries i e h)
-    ∙ ap (λ x. row_of x ∷ rows_of (drop (suc i) entries)) (sym is)
-    ∙ ap (λ k. row_of e ∷ rows_of (drop k entries)) (sym (add-one i))
+    ∙ ap (λ x. entry_lists x ∷ rows_of (drop (suc i) entries)) (sym is)
+    ∙ ap (λ k. entry_lists e ∷ rows_of (drop k entries)) (sym (add-one i))
 
 pub rows_end : (entries : List Entry) (i : ℕ) → length entries ≤ i → rows_of (drop i entries) ≡ []
 rows_end entries i h = ap rows_of (drop_all i entries h)
@@ -62,7 +62,7 @@ pub secrets_count : (providers : List Who) → length (secrets_among providers)
 secrets_count providers = is_count_by (λ l. length (secrets_among l)) is_key refl secrets_first
     providers
 
-pub secrets_counted : (rows : List Row) → length (secrets_in rows) ≡ keys_in rows
+pub secrets_counted : (rows : List ConfigEntry) → length (secrets_in rows) ≡ count_entry_keys rows
 secrets_counted rows = is_sum_by (λ l. length (secrets_in l))
     (λ row. count_by is_key row.providers) refl
     (λ row rest. length-append (secrets_among row.providers) (secrets_in rest)
@@ -74,7 +74,7 @@ secret_length : (secret : List ℕ) → is_secret secret ≡ true → IsKeyLengt
 secret_length secret e = grind (arith, nat_tests)
 
 pub key_length : (who : Who) (secret : List ℕ) → is_provider who ≡ true
-    → secret_of who ≡ secret ∷ [] → IsKeyLength (length secret)
+    → key_secret who ≡ secret ∷ [] → IsKeyLength (length secret)
 key_length Identity secret e s = absurd (cc)
 key_length (Aescbc name own) secret e s = let same : own ≡ secret = cc in
     subst (λ t. IsKeyLength (length t)) same (secret_length own (and_right _ _ e))
@@ -87,11 +87,11 @@ pub row_at : (entries : List Entry) (i : ℕ) (e : Entry)
     → list_all is_provider e.providers.0 ≡ true
 row_at [] i e rules h is = absurd (omega (arith, h))
 row_at (x ∷ xs) zero e rules h is = let each =
-    and_left (keeps_row (row_of x)) (list_all keeps_row (rows_of xs)) rules in
+    and_left (keeps_row (entry_lists x)) (list_all keeps_row (rows_of xs)) rules in
     subst (λ (y : Entry). list_all is_provider y.providers.0 ≡ true) (sym is)
-    (of_row (row_of x) each).providers
+    (of_row (entry_lists x) each).providers
 row_at (x ∷ xs) (suc i) e rules h is = row_at xs i e
-    (and_right (keeps_row (row_of x)) (list_all keeps_row (rows_of xs)) rules) (omega (arith, h)) is
+    (and_right (keeps_row (entry_lists x)) (list_all keeps_row (rows_of xs)) rules) (omega (arith, h)) is
 
 pub who_at : (providers : List Who) (i : ℕ) (who : Who) → list_all is_provider providers ≡ true
     → i < length providers → who ≡ get_or providers i who → is_provider who ≡ true
@@ -110,7 +110,7 @@ pub room_for : (pages : KeyPages) (first rest : List (List ℕ)) (whole : List (
 room_for pages first rest whole n e h =
     let a = ap (λ (l : List (List ℕ)). length l) e in
     let b = length-append (words_out pages) (map padded_schedule (first ++ rest)) in
-    let c = length-map pages.out (λ number. words_of pages.pool number) in
+    let c = length-map pages.out (λ number. page_words pages.pool number) in
     let d = length-map (first ++ rest) padded_schedule in
     let f = length-append first rest in
     omega (arith, a, b, c, d, f, h)
@@ -120,7 +120,7 @@ pub room_whole : (pages : KeyPages) (secrets : List (List ℕ)) (n : ℕ)
     (words_out pages ++ map padded_schedule secrets) ≤ n
 room_whole pages secrets n h =
     let b = length-append (words_out pages) (map padded_schedule secrets) in
-    let c = length-map pages.out (λ number. words_of pages.pool number) in
+    let c = length-map pages.out (λ number. page_words pages.pool number) in
     let d = length-map secrets padded_schedule in
     omega (arith, b, c, d, h)
 
@@ -153,17 +153,17 @@ place_later n first rest secret e = ap (λ (b : Bool).
     ∙ ap (λ k. place_from k rest secret) (sym (add-one n))
 
 pub step_hit : (who : Who) (n : ℕ) (rest : List (List ℕ)) (secret : List ℕ)
-    → list_any (λ s. bytes_eq s secret) (secret_of who) ≡ true
-    → place_from n (secret_of who ++ rest) secret ≡ Some n
+    → list_any (λ s. bytes_eq s secret) (key_secret who) ≡ true
+    → place_from n (key_secret who ++ rest) secret ≡ Some n
 step_hit Identity n rest secret e = absurd (cc)
 step_hit (Aescbc name own) n rest secret e = place_first n own rest secret (only _ e)
 step_hit (Aesgcm name own) n rest secret e = place_first n own rest secret (only _ e)
 step_hit (Kms name) n rest secret e = absurd (cc)
 
 pub step_miss : (who : Who) (n : ℕ) (rest : List (List ℕ)) (secret : List ℕ)
-    → list_any (λ s. bytes_eq s secret) (secret_of who) ≡ false
-    → place_from n (secret_of who ++ rest) secret
-    ≡ place_from (n + length (secret_of who)) rest secret
+    → list_any (λ s. bytes_eq s secret) (key_secret who) ≡ false
+    → place_from n (key_secret who ++ rest) secret
+    ≡ place_from (n + length (key_secret who)) rest secret
 step_miss Identity n rest secret e = ap (λ k. place_from k rest secret) (omega arith)
 step_miss (Aescbc name own) n rest secret e = place_later n own rest secret (or_left _ _ e)
 step_miss (Aesgcm name own) n rest secret e = place_later n own rest secret (or_left _ _ e)
@@ -223,7 +223,7 @@ scan_counts entries i before e h is inv =
 pub scan_room : (entries : List Entry) (i before n : ℕ) (e : Entry) → i < length entries
     → e ≡ get_or entries i e
     → before + length (secrets_in (rows_of (drop i entries)))
-    ≡ length (secrets_in (rows_of entries)) → keys_in (rows_of entries) ≤ n
+    ≡ length (secrets_in (rows_of entries)) → count_entry_keys (rows_of entries) ≤ n
     → before + length (secrets_among e.providers.0) ≤ n
 scan_room entries i before n e h is inv few =
     let a = scan_counts entries i before e h is inv in
@@ -297,17 +297,17 @@ found_in n (first ∷ rest) secret e = chosen (bytes_eq first secret) refl
 pub place_holds : (secrets : List (List ℕ)) (pages : KeyPages) (secret : List ℕ) (place : ℕ)
     → HoldKeys secrets pages → list_any (λ s. bytes_eq s secret) secrets ≡ true
     → Some place ≡ place_from 0 secrets secret
-    → (place < length pages.out) × (words_of pages.pool (get_or pages.out place 0)
+    → (place < length pages.out) × (page_words pages.pool (get_or pages.out place 0)
     ≡ padded_schedule secret)
 place_holds secrets pages secret place h a e =
     let f = found_in 0 secrets secret a in
     let at : f.place ≡ place = some_is (sym f.is ∙ sym e) in
-    let long = sym (length-map pages.out (λ number. words_of pages.pool number))
+    let long = sym (length-map pages.out (λ number. page_words pages.pool number))
     ∙ ap (λ (l : List (List ℕ)). length l) h.held ∙ length-map secrets padded_schedule in
     let within : place < length secrets = (let w = f.within in omega (arith, at, w)) in
     let there : place < length pages.out = omega (arith, long, within) in (
       there,
-      sym (get_or-map (words_of pages.pool) pages.out place 0 [] there)
+      sym (get_or-map (page_words pages.pool) pages.out place 0 [] there)
           ∙ ap (λ l. get_or l place []) h.held
           ∙ get_or-map padded_schedule secrets place [] [] within
           ∙ ap padded_schedule (ap (λ k. get_or secrets k []) (sym at) ∙ f.same),
@@ -322,13 +322,13 @@ place_some secrets secret a e = let f = found_in 0 secrets secret a in let is = 
 
 -- ---- the provider of a key
 
-pub no_words : (who : Who) (words : List ℕ) → secret_of who ≡ [] → HasWords who words
+pub no_words : (who : Who) (words : List ℕ) → key_secret who ≡ [] → HasWords who words
 no_words Identity words e = tt
 no_words (Aescbc name secret) words e = absurd (cc)
 no_words (Aesgcm name secret) words e = absurd (cc)
 no_words (Kms name) words e = tt
 
-pub its_words : (who : Who) (secret words : List ℕ) → secret_of who ≡ secret ∷ []
+pub its_words : (who : Who) (secret words : List ℕ) → key_secret who ≡ secret ∷ []
     → words ≡ padded_schedule secret → HasWords who words
 its_words Identity secret words e w = tt
 its_words (Aescbc name own) secret words e w = let same : secret ≡ own = cc in
@@ -338,7 +338,7 @@ its_words (Aesgcm name own) secret words e w = let same : secret ≡ own = cc in
 its_words (Kms name) secret words e w = tt
 
 pub its_secret : (who : Who) (secrets : List (List ℕ)) (secret : List ℕ)
-    → secret_of who ≡ secret ∷ [] → IsAmong secrets who
+    → key_secret who ≡ secret ∷ [] → IsAmong secrets who
     → list_any (λ s. bytes_eq s secret) secrets ≡ true
 its_secret Identity secrets secret e a = absurd (cc)
 its_secret (Aescbc name own) secrets secret e a = let same : own ≡ secret = cc in
@@ -390,7 +390,7 @@ all_ahead secrets behind (who ∷ list) a =
 same_bytes : (secret : List ℕ) → bytes_eq secret secret ≡ true
 same_bytes secret = (bytes_eq-Decides secret secret).1 refl
 
-own_secret : (who : Who) → IsAmong (secret_of who) who
+own_secret : (who : Who) → IsAmong (key_secret who) who
 own_secret Identity = tt
 own_secret (Aescbc name secret) = or_first _ _ (same_bytes secret)
 own_secret (Aesgcm name secret) = or_first _ _ (same_bytes secret)
@@ -399,12 +399,12 @@ own_secret (Kms name) = tt
 own_secrets : (list : List Who) → AreAmong (secrets_among list) list
 own_secrets [] = tt
 own_secrets (who ∷ list) = (
-  more_ahead (secret_of who) (secrets_among list) who
+  more_ahead (key_secret who) (secrets_among list) who
       (own_secret who),
-  all_behind (secret_of who) (secrets_among list) list (own_secrets list),
+  all_behind (key_secret who) (secrets_among list) list (own_secrets list),
 )
 
-first_among : (test : Pattern → Bool) (rows : List Row)
+first_among : (test : Pattern → Bool) (rows : List ConfigEntry)
     → AreAmong (secrets_in rows) (first_list test rows)
 first_among test [] = (tt, tt)
 first_among test (row ∷ rows) = chosen (list_any test row.patterns)
@@ -418,7 +418,7 @@ first_among test (row ∷ rows) = chosen (list_any test row.patterns)
     chosen true a b = a
     chosen false a b = b
 
-pub list_among : (rows : List Row) (resource : List ℕ)
+pub list_among : (rows : List ConfigEntry) (resource : List ℕ)
     → AreAmong (secrets_in rows) (list_of rows resource)
 list_among rows resource = first_among (λ pattern. matches pattern resource) rows
 

@@ -32,5 +32,5 @@ mod SeedTalks
 mod ReadTalks
 pub mod AgreeTalks
 pub mod WithoutPlugins
-mod FollowedPages
+pub mod FollowedPages
 pub mod LeftKeys

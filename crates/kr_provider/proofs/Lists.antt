@@ -6,7 +6,7 @@ use Rattle.std.proofs.lemmas.Bool.Decides.{nat_tests}
 use Rattle.kr_config.specs.declared.pattern.Pattern.{Pattern}
 use Rattle.kr_config.specs.declared.who.Who.{Who}
 use Rattle.kr_config.specs.declared.who.Who.TheVariants.{Identity, Aescbc, Aesgcm, Kms}
-use Rattle.kr_config.specs.Kept.{Row, apart, keeps, keeps_row, keeps_patterns, keeps_providers, patterns_in, keys_in, kms_in, plugins_in}
+use Rattle.kr_config.specs.Kept.{ConfigEntry, apart, keeps, keeps_row, keeps_patterns, keeps_providers, patterns_in, count_entry_keys, kms_in, plugins_in}
 use Rattle.kr_config.specs.Lists.{first_list, list_of}
 use Rattle.kr_config.specs.Patterns.{matches}
 use Rattle.kr_config.specs.Providers.{is_kms, is_provider, plugins_among, rivals}
@@ -25,7 +25,7 @@ pub record Listed (list : List Who) : Type 0 where
   pub providers : list_all is_provider list ≡ true
   pub stand : apart rivals list ≡ true
 
-pub of_row : (row : Row) → keeps_row row ≡ true → Listed row.providers
+pub of_row : (row : ConfigEntry) → keeps_row row ≡ true → Listed row.providers
 of_row row e =
     let providers = and_right (keeps_patterns row.patterns) (keeps_providers row.providers) e in
     let front = and_left (nat_le 1 (length row.providers) && list_all is_provider row.providers)
@@ -39,8 +39,8 @@ of_row row e =
           (apart rivals row.providers) providers;
     }
 
-first_keeps : (P : List Who → Type 0) (test : Pattern → Bool) (rows : List Row) → P (Identity ∷ [])
-    → ((row : Row) → keeps_row row ≡ true → P row.providers) → list_all keeps_row rows ≡ true
+first_keeps : (P : List Who → Type 0) (test : Pattern → Bool) (rows : List ConfigEntry) → P (Identity ∷ [])
+    → ((row : ConfigEntry) → keeps_row row ≡ true → P row.providers) → list_all keeps_row rows ≡ true
     → P (first_list test rows)
 first_keeps P test [] one each e = one
 first_keeps P test (row ∷ rows) one each e = chosen (list_any test row.patterns)
@@ -52,34 +52,34 @@ first_keeps P test (row ∷ rows) one each e = chosen (list_any test row.pattern
     chosen true a b = a
     chosen false a b = b
 
-pub rows_keep : (rows : List Row) → IsTrue (keeps rows) → list_all keeps_row rows ≡ true
+pub rows_keep : (rows : List ConfigEntry) → IsTrue (keeps rows) → list_all keeps_row rows ≡ true
 unfolding keeps
 rows_keep rows e =
     let a = and_left (nat_le 1 (length rows) && nat_le (length rows) 64 && list_all keeps_row rows
-    && nat_le (patterns_in rows) 256 && nat_le (keys_in rows) 64) (nat_le (kms_in rows) 16) e in
+    && nat_le (patterns_in rows) 256 && nat_le (count_entry_keys rows) 64) (nat_le (kms_in rows) 16) e in
     let b = and_left (nat_le 1 (length rows) && nat_le (length rows) 64 && list_all keeps_row rows
-    && nat_le (patterns_in rows) 256) (nat_le (keys_in rows) 64) a in
+    && nat_le (patterns_in rows) 256) (nat_le (count_entry_keys rows) 64) a in
     let c = and_left (nat_le 1 (length rows) && nat_le (length rows) 64 && list_all keeps_row rows)
     (nat_le (patterns_in rows) 256) b in
     and_right (nat_le 1 (length rows) && nat_le (length rows) 64) (list_all keeps_row rows) c
 
-pub few_keys : (rows : List Row) → IsTrue (keeps rows) → keys_in rows ≤ 64
+pub few_keys : (rows : List ConfigEntry) → IsTrue (keeps rows) → count_entry_keys rows ≤ 64
 unfolding keeps
 few_keys rows e =
     let a = and_left (nat_le 1 (length rows) && nat_le (length rows) 64 && list_all keeps_row rows
-    && nat_le (patterns_in rows) 256 && nat_le (keys_in rows) 64) (nat_le (kms_in rows) 16) e in
-    at_most (keys_in rows) (and_right (nat_le 1 (length rows) && nat_le (length rows) 64
-    && list_all keeps_row rows && nat_le (patterns_in rows) 256) (nat_le (keys_in rows) 64) a)
+    && nat_le (patterns_in rows) 256 && nat_le (count_entry_keys rows) 64) (nat_le (kms_in rows) 16) e in
+    at_most (count_entry_keys rows) (and_right (nat_le 1 (length rows) && nat_le (length rows) 64
+    && list_all keeps_row rows && nat_le (patterns_in rows) 256) (nat_le (count_entry_keys rows) 64) a)
   where
     at_most : (n : ℕ) → nat_le n 64 ≡ true → n ≤ 64
     at_most n e = grind (arith, nat_tests)
 
-pub listed : (rows : List Row) (resource : List ℕ) → IsTrue (keeps rows)
+pub listed : (rows : List ConfigEntry) (resource : List ℕ) → IsTrue (keeps rows)
     → Listed (list_of rows resource)
 listed rows resource k = first_keeps Listed (λ pattern. matches pattern resource) rows
     (record { some = lit≤ tt; providers = refl; stand = refl }) of_row (rows_keep rows k)
 
-pub list_rules : (rows : List Row) (resource : List ℕ) → IsTrue (keeps rows)
+pub list_rules : (rows : List ConfigEntry) (resource : List ℕ) → IsTrue (keeps rows)
     → IsProviderList (list_of rows resource)
 list_rules rows resource k =
     let rules = listed rows resource k in record { some = rules.some; providers = rules.providers }
@@ -97,14 +97,14 @@ no_name (Aescbc name secret ∷ list) e = no_name list e
 no_name (Aesgcm name secret ∷ list) e = no_name list e
 no_name (Kms name ∷ list) e = absurd (cc)
 
-pub no_names : (rows : List Row) → names_plugin rows ≡ false → plugins_in rows ≡ []
+pub no_names : (rows : List ConfigEntry) → names_plugin rows ≡ false → plugins_in rows ≡ []
 no_names [] e = refl
 no_names (row ∷ rows) e = ap (λ l. l ++ plugins_in rows)
     (no_name row.providers (or_left (list_any is_kms row.providers) (names_plugin rows) e))
     ∙ no_names rows (or_right (list_any is_kms row.providers) (names_plugin rows) e)
 
 -- need no link
-pub no_links : (names : List (List ℕ)) (rows : List Row) → names_plugin rows ≡ false
+pub no_links : (names : List (List ℕ)) (rows : List ConfigEntry) → names_plugin rows ≡ false
     → HasLinks names rows
 no_links names rows e = λ name c.
     absurd (omega (arith, c.1, ap (λ (l : List (List ℕ)). length l) (no_names rows e)))

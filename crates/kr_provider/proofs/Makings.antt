@@ -6,7 +6,7 @@ use Rattle.std.specs.List.Sorted.{IsStrictlySortedBy}
 use Rattle.std.proofs.KnownBytes.{Consumes-kept, Consumes-nil, Consumes-trans}
 use Rattle.std.proofs.lemmas.List.{map-append}
 use Rattle.std.proofs.lemmas.List.Elements.{All-contains, All-nil, All-push, Contains-append_cases, Contains-append_left, Contains-append_right}
-use Rattle.kr_config.specs.Kept.{Row, plugins_in}
+use Rattle.kr_config.specs.Kept.{ConfigEntry, plugins_in}
 use Rattle.kr_config.specs.Nexts.{IsNextName, name_cmp}
 use Rattle.kr_kms.specs.Calls.{Link}
 use Rattle.kr_kms.specs.Health.{HasBreach}
@@ -19,14 +19,14 @@ use Rattle.kr_provider.specs.AskedLinks.{AskedOnly, HasLinkWith}
 use Rattle.kr_provider.specs.Publishing.{AreSeedsOf, EndsAt, EndsWithin, IsHealthy, Publishes, bytes_of_seeds}
 use Rattle.kr_provider.specs.declared.refusal.PublishNo.{PublishNo}
 use Rattle.kr_provider.specs.declared.refusal.PublishNo.TheVariants.{PluginFailed, DiceFailed, Unhealthy, NoMemory}
-use Rattle.kr_provider.specs.Exchanges.{refusal_at, IsRefusalAt}
+use Rattle.kr_provider.specs.Exchanges.{plugin_refusal, IsRefusalAt}
 use Rattle.kr_provider.specs.inner.Making.{MakesAt, MakesOne}
 use Rattle.kr_provider.proofs.AskedLists.{asked_none, asked_one, asked_then, breach_back, had, has_at, rose_at, rose_from, rose_later}
-use Rattle.kr_provider.proofs.NameOrder.{IsStrictlySortedBy-none, ascend_more, before_next, is_before, is_less, neither, none_between, not_itself, then_before, to_false}
+use Rattle.kr_provider.proofs.NameOrder.{IsStrictlySortedBy-none, ascend_more, before_next, comes_earlier, is_less, neither, none_between, not_itself, then_before, to_false}
 
 -- the refusal that is told is the plugin's, or there is no memory to tell it
 pub told_or : (name : List ℕ) (why : SeedNo) (refusal : PublishNo) → IsRefusalAt name why refusal
-    → (refusal ≡ refusal_at name why) ⊎ (refusal ≡ NoMemory)
+    → (refusal ≡ plugin_refusal name why) ⊎ (refusal ≡ NoMemory)
 told_or name seed.Failed refusal told = told
 told_or name seed.DiceFailed refusal told = inl told
 told_or name (seed.Unhealthy field text) refusal told = told
@@ -34,7 +34,7 @@ told_or name seed.NoMemory refusal told = inl told
 
 -- whether a name doesn't come after another
 abbrev pub is_passed : List ℕ → List ℕ → Bool
-is_passed after other = not (is_before after other)
+is_passed after other = not (comes_earlier after other)
 
 passed : (b : Bool) → not b ≡ true → b ≡ false
 passed true e = absurd (cc)
@@ -47,14 +47,14 @@ unpassed false e = refl
 module _ {L : Type 0} (truth : Truth) (link : L
     → Link) (links : List L) (names : List (List ℕ)) where
   -- none is made yet, and no name is passed
-  pub seeds_none : ((name : List ℕ) → Contains names name → is_before [] name ≡ true)
+  pub seeds_none : ((name : List ℕ) → Contains names name → comes_earlier [] name ≡ true)
       → AreSeedsOf truth link links names (is_passed []) []
   seeds_none all = record {
     ascend = IsStrictlySortedBy-none;
     named = λ name. (
       λ c. absurd (omega (arith, c.1)),
       λ c. let t = all name c.0 in
-          let f = passed (is_before [] name) c.1 in absurd (cc),
+          let f = passed (comes_earlier [] name) c.1 in absurd (cc),
     );
     rows = All-nil IsSeedRow;
     opens = All-nil (λ row. TellsOf truth (key_of row) row.seed);
@@ -81,18 +81,18 @@ module _ {L : Type 0} (truth : Truth) (link : L
   pub seeds_before : (after next : List ℕ) (made : List SeedRow)
       → IsNextName names after (Some next) → AreSeedsOf truth link links names
       (is_passed after) made → AreSeedsOf truth link links names
-      (λ other. is_before other next) made
-  seeds_before after next made n s = seeds_by (is_passed after) (λ other. is_before other next) made
-      (λ other c e. before_next after next other n.1 (passed (is_before after other) e))
-      (λ other c e. unpassed (is_before after other) (none_between names after next other n c e)) s
+      (λ other. comes_earlier other next) made
+  seeds_before after next made n s = seeds_by (is_passed after) (λ other. comes_earlier other next) made
+      (λ other c e. before_next after next other n.1 (passed (comes_earlier after other) e))
+      (λ other c e. unpassed (comes_earlier after other) (none_between names after next other n c e)) s
 
   -- where no name is next, they are those of all
   pub seeds_all : (after : List ℕ) (made : List SeedRow) → IsNextName names after None
       → AreSeedsOf truth link links names (is_passed after) made
       → AreSeedsOf truth link links names (λ name. true) made
   seeds_all after made n s = seeds_by (is_passed after) (λ name. true) made (λ other c e. refl)
-      (λ other c e. unpassed (is_before after other)
-      (All-contains (λ x. is_before after x ≡ false) names other n c)) s
+      (λ other c e. unpassed (comes_earlier after other)
+      (All-contains (λ x. comes_earlier after x ≡ false) names other n c)) s
 
   -- the seed of the next joins them
   pub seeds_more : (after next : List ℕ) (made : List SeedRow) (row : SeedRow)
@@ -105,9 +105,9 @@ module _ {L : Type 0} (truth : Truth) (link : L
       map-append (λ (r : SeedRow). r.name) made (row ∷ [])
       ∙ ap (λ m. map (λ (r : SeedRow). r.name) made ++ m ∷ []) is in
       let before : (other : List ℕ) → Contains (map (λ r. r.name) made) other
-      → is_before other next ≡ true =
+      → comes_earlier other next ≡ true =
       λ other c. before_next after next other n.1
-      (passed (is_before after other) ((s.named other).0 c).1) in record {
+      (passed (comes_earlier after other) ((s.named other).0 c).1) in record {
         ascend = subst (IsStrictlySortedBy name_cmp) (sym joined)
             (ascend_more (map (λ r. r.name) made) next s.ascend
             (λ other c. is_less other next (before other c)));
@@ -116,20 +116,20 @@ module _ {L : Type 0} (truth : Truth) (link : L
               (subst (λ l. Contains l other) joined c)) [
                 | inl d ↦ (
                   ((s.named other).0 d).0,
-                  unpassed (is_before next other)
-                      (to_false (is_before next other)
+                  unpassed (comes_earlier next other)
+                      (to_false (comes_earlier next other)
                       (λ t. not_itself next (then_before next other next t (before other d)))),
                 )
                 | inr d ↦ (
                   subst (Contains names) (one next other d) n.0,
                   unpassed
-                      (is_before next other) (to_false (is_before next other)
-                      (λ t. not_itself next (subst (λ o. is_before next o ≡ true)
+                      (comes_earlier next other) (to_false (comes_earlier next other)
+                      (λ t. not_itself next (subst (λ o. comes_earlier next o ≡ true)
                       (sym (one next other d)) t))),
                 )
               ],
           λ c. subst (λ l. Contains l other) (sym joined)
-              (found other c.0 (passed (is_before next other) c.1) (is_before after other) refl),
+              (found other c.0 (passed (comes_earlier next other) c.1) (comes_earlier after other) refl),
         );
         rows = All-push IsSeedRow made row s.rows keeps;
         opens = All-push (λ r. TellsOf truth (key_of r) r.seed) made row s.opens opens;
@@ -141,13 +141,13 @@ module _ {L : Type 0} (truth : Truth) (link : L
       one x y (zero, lt, e) = e
       one x y (suc k, lt, e) = absurd (omega (arith, lt))
 
-      found : (other : List ℕ) → Contains names other → is_before next other ≡ false → (b : Bool)
-          → is_before after other ≡ b → Contains (map (λ r. r.name) made ++ next ∷ []) other
+      found : (other : List ℕ) → Contains names other → comes_earlier next other ≡ false → (b : Bool)
+          → comes_earlier after other ≡ b → Contains (map (λ r. r.name) made ++ next ∷ []) other
       found other c f false e = Contains-append_left (map (λ r. r.name) made) (next ∷ []) other
-          ((s.named other).1 (c, unpassed (is_before after other) e))
+          ((s.named other).1 (c, unpassed (comes_earlier after other) e))
       found other c f true e =
           let same : next ≡ other = neither next other f
-          (to_false (is_before other next)
+          (to_false (comes_earlier other next)
           (λ t. let g = none_between names after next other n c t in cc)) in
           Contains-append_right (map (λ r. r.name) made) (next ∷ []) other (0, omega arith, same)
 
@@ -162,15 +162,15 @@ bytes_more (first ∷ made) row = ap (λ l. first.seed ++ l) (bytes_more made ro
 module _ {L D : Type 0} (truth : Truth) (link : L → Link) (left : D → Option (List ℕ)) (count : D
     → ℕ) where
   -- how far publishing has come
-  pub record ComesTo (rows : List Row) (links : List L) (dice : D) (name : List ℕ)
+  pub record ComesTo (rows : List ConfigEntry) (links : List L) (dice : D) (name : List ℕ)
       (made : List SeedRow) (mids : List L) (mid : D) : Type 0 where
     pub seeds : AreSeedsOf truth link links (plugins_in rows) (is_passed name) made
     pub asked : AskedOnly link (plugins_in rows) links mids
     pub drawn : Consumes (left dice) (left mid) (bytes_of_seeds made)
     pub later : count dice ≤ count mid
 
-  pub begins_at : (rows : List Row) (links : List L) (dice : D)
-      → ((name : List ℕ) → Contains (plugins_in rows) name → is_before [] name ≡ true)
+  pub begins_at : (rows : List ConfigEntry) (links : List L) (dice : D)
+      → ((name : List ℕ) → Contains (plugins_in rows) name → comes_earlier [] name ≡ true)
       → ComesTo rows links dice [] [] links dice
   begins_at rows links dice all = record {
     seeds = seeds_none truth link links (plugins_in rows) all;
@@ -179,7 +179,7 @@ module _ {L D : Type 0} (truth : Truth) (link : L → Link) (left : D → Option
     later = omega arith;
   }
 
-  module _ (rows : List Row) (links : List L) (dice : D) (name next : List ℕ) (made : List SeedRow)
+  module _ (rows : List ConfigEntry) (links : List L) (dice : D) (name next : List ℕ) (made : List SeedRow)
       (mids news : List L) (mid after : D) where
     healthy_before : (breach : _) (answer : Result SeedRow SeedNo)
         → ComesTo rows links dice name made mids mid
@@ -297,7 +297,7 @@ module _ {L D : Type 0} (truth : Truth) (link : L → Link) (left : D → Option
         by (Err NoMemory) a = one a.0 a.1
 
   -- all are made where no plugin is next
-  pub all_made : (rows : List Row) (links : List L) (dice : D) (name : List ℕ) (made : List SeedRow)
+  pub all_made : (rows : List ConfigEntry) (links : List L) (dice : D) (name : List ℕ) (made : List SeedRow)
       (news : List L) (after : D) → IsNextName (plugins_in rows) name None
       → ComesTo rows links dice name made news after
       → Publishes truth link left count rows links dice
@@ -313,13 +313,13 @@ module _ {L D : Type 0} (truth : Truth) (link : L → Link) (left : D → Option
   answers_at name links dice why refusal news after told a = by_told (told_or name why refusal told)
     where
       by : (why : SeedNo) → MakesOne truth link left count name links dice (Err why) news after
-          → MakesAt truth link left count name links dice (Err (refusal_at name why)) news after
+          → MakesAt truth link left count name links dice (Err (plugin_refusal name why)) news after
       by seed.Failed a = (refl, a)
       by seed.DiceFailed a = a
       by (seed.Unhealthy field text) a = (refl, a)
       by seed.NoMemory a = (Err seed.NoMemory, a)
 
-      by_told : (refusal ≡ refusal_at name why) ⊎ (refusal ≡ NoMemory)
+      by_told : (refusal ≡ plugin_refusal name why) ⊎ (refusal ≡ NoMemory)
           → MakesAt truth link left count name links dice (Err refusal) news after
       by_told (inr e) =
           subst (λ r. MakesAt truth link left count name links dice (Err r) news after) (sym e)

@@ -12,23 +12,23 @@ use Rattle.std.proofs.lemmas.Map.Lookups.{exact_bytes}
 use Rattle.kr_config.specs.Nexts.{IsNextName, name_cmp}
 
 -- whether one name comes before another
-abbrev pub is_before : List ℕ → List ℕ → Bool
-is_before a b = is_lt (name_cmp a b)
+abbrev pub comes_earlier : List ℕ → List ℕ → Bool
+comes_earlier a b = is_lt (name_cmp a b)
 
 less : (o : Ordering) → is_lt o ≡ true → o ≡ Less
 less Less e = refl
 less Equal e = absurd (cc)
 less Greater e = absurd (cc)
 
-pub is_less : (a b : List ℕ) → is_before a b ≡ true → name_cmp a b ≡ Less
+pub is_less : (a b : List ℕ) → comes_earlier a b ≡ true → name_cmp a b ≡ Less
 is_less a b e = less (name_cmp a b) e
 
-pub then_before : (a b c : List ℕ) → is_before a b ≡ true → is_before b c ≡ true
-    → is_before a c ≡ true
+pub then_before : (a b c : List ℕ) → comes_earlier a b ≡ true → comes_earlier b c ≡ true
+    → comes_earlier a c ≡ true
 then_before a b c e f = ap is_lt (nat_list_cmp_total.trans a b c (is_less a b e) (is_less b c f))
 
 -- neither comes before the other only where they are one
-pub neither : (a b : List ℕ) → is_before a b ≡ false → is_before b a ≡ false → a ≡ b
+pub neither : (a b : List ℕ) → comes_earlier a b ≡ false → comes_earlier b a ≡ false → a ≡ b
 neither a b e f = exact_bytes a b (equal (name_cmp a b) (name_cmp b a)
     (nat_list_cmp_total.antisymm a b) e f)
   where
@@ -40,7 +40,7 @@ neither a b e f = exact_bytes a b (equal (name_cmp a b) (name_cmp b a)
     equal Greater Equal a e f = absurd (cc)
     equal Greater Greater a e f = absurd (cc)
 
-pub not_itself : (a : List ℕ) → is_before a a ≡ true → ⊥
+pub not_itself : (a : List ℕ) → comes_earlier a a ≡ true → ⊥
 not_itself a e = turned (name_cmp a a) (nat_list_cmp_total.antisymm a a) (is_less a a e)
   where
     turned : (o : Ordering) → o ≡ ordering_reverse o → o ≡ Less → ⊥
@@ -57,23 +57,23 @@ to_true true n = refl
 to_true false n = absurd (n refl)
 
 -- what doesn't come after a name comes before the next one
-pub before_next : (after next other : List ℕ) → is_before after next ≡ true
-    → is_before after other ≡ false → is_before other next ≡ true
-before_next after next other n o = to_true (is_before other next)
-    (λ f. by (is_before other after) refl f)
+pub before_next : (after next other : List ℕ) → comes_earlier after next ≡ true
+    → comes_earlier after other ≡ false → comes_earlier other next ≡ true
+before_next after next other n o = to_true (comes_earlier other next)
+    (λ f. by (comes_earlier other after) refl f)
   where
-    by : (b : Bool) → is_before other after ≡ b → is_before other next ≡ false → ⊥
+    by : (b : Bool) → comes_earlier other after ≡ b → comes_earlier other next ≡ false → ⊥
     by true e f = let t = then_before other after next e n in cc
     by false e f = let same = neither other after e o in
-        let t = subst (λ a. is_before a next ≡ true) (sym same) n in
+        let t = subst (λ a. comes_earlier a next ≡ true) (sym same) n in
         cc
 
 -- of the names that come after one, none comes before the next
 pub none_between : (names : List (List ℕ)) (after next other : List ℕ)
-    → IsNextName names after (Some next) → Contains names other → is_before other next ≡ true
-    → is_before after other ≡ false
-none_between names after next other n c b = to_false (is_before after other)
-    (λ t. All-contains (λ x. is_before after x ≡ true
+    → IsNextName names after (Some next) → Contains names other → comes_earlier other next ≡ true
+    → comes_earlier after other ≡ false
+none_between names after next other n c b = to_false (comes_earlier after other)
+    (λ t. All-contains (λ x. comes_earlier after x ≡ true
     → name_cmp x next ≢ Less) names other n.2 c t (is_less other next b))
 
 -- a name joins others, all of which come before it
@@ -100,14 +100,14 @@ IsStrictlySortedBy-none = tt
 
 abbrev pub count_after : List ℕ → List (List ℕ) → ℕ
 count_after after [] = 0
-count_after after (name ∷ names) = (if is_before after name then 1 else 0) + count_after after names
+count_after after (name ∷ names) = (if comes_earlier after name then 1 else 0) + count_after after names
 
-count_less : (after next : List ℕ) (names : List (List ℕ)) → is_before after next ≡ true
+count_less : (after next : List ℕ) (names : List (List ℕ)) → comes_earlier after next ≡ true
     → count_after next names ≤ count_after after names
 count_less after next [] b = omega arith
 count_less after next (name ∷ names) b =
     let more = count_less after next names b in
-    one (is_before after name) (is_before next name) (count_after after names)
+    one (comes_earlier after name) (comes_earlier next name) (count_after after names)
     (count_after next names) more (then_before after next name b)
   where
     one : (a n : Bool) (i j : ℕ) → j ≤ i → (n ≡ true → a ≡ true)
@@ -118,14 +118,14 @@ count_less after next (name ∷ names) b =
     one false false i j h f = omega (arith, h)
 
 -- behind the next name there are fewer
-pub count_falls : (after next : List ℕ) (names : List (List ℕ)) → is_before after next ≡ true
+pub count_falls : (after next : List ℕ) (names : List (List ℕ)) → comes_earlier after next ≡ true
     → Contains names next → count_after next names < count_after after names
 count_falls after next [] b c = absurd (omega (arith, c.1))
 count_falls after next (name ∷ names) b (zero, lt, e) =
-    one (is_before after name) (is_before next name) (count_after after names)
+    one (comes_earlier after name) (comes_earlier next name) (count_after after names)
     (count_after next names) (count_less after next names b)
-    (ap (is_before after) e ∙ b) (to_false (is_before next name)
-    (λ t. not_itself next (sym (ap (is_before next) e) ∙ t)))
+    (ap (comes_earlier after) e ∙ b) (to_false (comes_earlier next name)
+    (λ t. not_itself next (sym (ap (comes_earlier next) e) ∙ t)))
   where
     one : (a n : Bool) (i j : ℕ) → j ≤ i → a ≡ true → n ≡ false
         → (if n then 1 else 0) + j < (if a then 1 else 0) + i
@@ -134,7 +134,7 @@ count_falls after next (name ∷ names) b (zero, lt, e) =
     one false n i j h f g = absurd (cc)
 count_falls after next (name ∷ names) b (suc k, lt, e) =
     let more = count_falls after next names b (k, omega (arith, lt), e) in
-    one (is_before after name) (is_before next name) (count_after after names)
+    one (comes_earlier after name) (comes_earlier next name) (count_after after names)
     (count_after next names) more (then_before after next name b)
   where
     one : (a n : Bool) (i j : ℕ) → j < i → (n ≡ true → a ≡ true)

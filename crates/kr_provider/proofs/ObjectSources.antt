@@ -2,8 +2,8 @@
 use Rattle.std.proofs.Common.{◌≡◌, ℕ, ◌+◌, ◌≤◌, Bool, false, List, [], ◌∷◌, Result, Ok, Err, length, refl, ◌∙◌, ap, subst, arith, inl, inr, length-append}
 use Rattle.std.specs.List.{filter_map}
 use Rattle.kr_envelope.specs.declared.object.EncryptedObject.{EncryptedObject}
-use Rattle.kr_envelope.specs.Limits.{Reads}
-use Rattle.kr_envelope.specs.Messages.{Item, IsItem, encrypted, key_id, source, annotation, kind, other, encrypted_in, last_or, of_bytes}
+use Rattle.kr_envelope.specs.Limits.{ReadsMessage}
+use Rattle.kr_envelope.specs.Messages.{WireItem, IsItem, encrypted, key_id, source, annotation, kind, other, encrypted_in, last_or, of_bytes}
 use Rattle.kr_envelope.specs.Wire.{IsField, Spells}
 use Rattle.kr_kms.specs.Cache.{AreOpen, CacheState, Fetches, key_eq}
 use Rattle.kr_kms.specs.Calls.{Link, asked_key}
@@ -23,7 +23,7 @@ use Rattle.kr_provider.proofs.AskedLists.{asked_alone, asked_none, rose_at}
 
 -- ---- an object's data are no longer than its bytes
 
-last_fits : (items : List Item) (text x : List ℕ) (n : ℕ) → Spells IsItem text items
+last_fits : (items : List WireItem) (text x : List ℕ) (n : ℕ) → Spells IsItem text items
     → length text ≤ n → length x ≤ n → length (last_or x (filter_map encrypted_in items)) ≤ n
 last_fits [] text x n s l k = k
 last_fits (encrypted content ∷ items) text x n (front, rest, is, more, parts) l k =
@@ -86,7 +86,7 @@ last_fits (other ∷ items) text x n (front, rest, is, more, parts) l k =
       l,
     )) k
 
-pub data_within : (text : List ℕ) (found : EncryptedObject) → Reads text (Ok found)
+pub data_within : (text : List ℕ) (found : EncryptedObject) → ReadsMessage text (Ok found)
     → length found.encrypted ≤ length text
 data_within text found (items, message, judged) =
     let same : last_or [] (filter_map encrypted_in items) ≡ found.encrypted =

@@ -10,7 +10,7 @@ use Rattle.kr_base.specs.Rules.{IsName}
 use Rattle.kr_config.specs.declared.pattern.Pattern.{Pattern}
 use Rattle.kr_config.specs.declared.who.Who.{Who}
 use Rattle.kr_config.specs.declared.who.Who.TheVariants.{Identity, Aescbc, Aesgcm, Kms}
-use Rattle.kr_config.specs.Kept.{Row, keeps, keeps_row, plugins_in}
+use Rattle.kr_config.specs.Kept.{ConfigEntry, keeps, keeps_row, plugins_in}
 use Rattle.kr_config.specs.Lists.{first_list, list_of}
 use Rattle.kr_config.specs.Patterns.{matches}
 use Rattle.kr_config.specs.Providers.{is_provider, plugin_of, plugins_among}
@@ -23,24 +23,24 @@ use Rattle.kr_provider.specs.Publishing.{AreSeedsOf}
 use Rattle.kr_provider.specs.Readers.{writer_of}
 use Rattle.kr_provider.specs.inner.Scan.{AreNamedIn, HasSeed, HaveSeeds, IsNamedIn}
 use Rattle.kr_provider.proofs.Lists.{of_row, rows_keep}
-use Rattle.kr_provider.proofs.NameOrder.{is_before}
+use Rattle.kr_provider.proofs.NameOrder.{comes_earlier}
 use Rattle.kr_provider.proofs.Rivals.{name_of}
 
-some_name : (name : List ℕ) → IsName name → is_before [] name ≡ true
+some_name : (name : List ℕ) → IsName name → comes_earlier [] name ≡ true
 some_name [] n = absurd (omega (arith, n.0))
 some_name (byte ∷ bytes) n = refl
 
 named_who : (who : Who) (name : List ℕ) → is_provider who ≡ true → Contains (plugin_of who) name
-    → is_before [] name ≡ true
+    → comes_earlier [] name ≡ true
 named_who Identity name p c = absurd (omega (arith, c.1))
 named_who (Aescbc n s) name p c = absurd (omega (arith, c.1))
 named_who (Aesgcm n s) name p c = absurd (omega (arith, c.1))
-named_who (Kms n) name p (zero, lt, e) = subst (λ m. is_before [] m ≡ true) e
+named_who (Kms n) name p (zero, lt, e) = subst (λ m. comes_earlier [] m ≡ true) e
     (some_name n (name_of n p))
 named_who (Kms n) name p (suc k, lt, e) = absurd (omega (arith, lt))
 
 named_among : (list : List Who) (name : List ℕ) → list_all is_provider list ≡ true
-    → Contains (plugins_among list) name → is_before [] name ≡ true
+    → Contains (plugins_among list) name → comes_earlier [] name ≡ true
 named_among [] name p c = absurd (omega (arith, c.1))
 named_among (who ∷ list) name p c = elim (Contains-append_cases (plugin_of who)
     (plugins_among list) name c) [
@@ -48,8 +48,8 @@ named_among (who ∷ list) name p c = elim (Contains-append_cases (plugin_of who
       | inr d ↦ named_among list name (and_right (is_provider who) (list_all is_provider list) p) d
     ]
 
-named_in : (rows : List Row) (name : List ℕ) → list_all keeps_row rows ≡ true
-    → Contains (plugins_in rows) name → is_before [] name ≡ true
+named_in : (rows : List ConfigEntry) (name : List ℕ) → list_all keeps_row rows ≡ true
+    → Contains (plugins_in rows) name → comes_earlier [] name ≡ true
 named_in [] name k c = absurd (omega (arith, c.1))
 named_in (row ∷ rows) name k c = elim (Contains-append_cases (plugins_among row.providers)
     (plugins_in rows) name c) [
@@ -59,8 +59,8 @@ named_in (row ∷ rows) name k c = elim (Contains-append_cases (plugins_among ro
     ]
 
 -- no plugin's name is empty
-pub names_some : (rows : List Row) → IsTrue (keeps rows) → (name : List ℕ)
-    → Contains (plugins_in rows) name → is_before [] name ≡ true
+pub names_some : (rows : List ConfigEntry) → IsTrue (keeps rows) → (name : List ℕ)
+    → Contains (plugins_in rows) name → comes_earlier [] name ≡ true
 names_some rows k name c = named_in rows name (rows_keep rows k) c
 
 -- ---- a resource's list names plugins of the settings alone
@@ -103,7 +103,7 @@ own_names (who ∷ list) = (
       (own_names list),
 )
 
-first_named : (test : Pattern → Bool) (rows : List Row)
+first_named : (test : Pattern → Bool) (rows : List ConfigEntry)
     → AreNamedIn (plugins_in rows) (first_list test rows)
 first_named test [] = (tt, tt)
 first_named test (row ∷ rows) = chosen (list_any test row.patterns)
@@ -120,7 +120,7 @@ first_named test (row ∷ rows) = chosen (list_any test row.patterns)
     chosen true a b = a
     chosen false a b = b
 
-pub list_named : (rows : List Row) (resource : List ℕ)
+pub list_named : (rows : List ConfigEntry) (resource : List ℕ)
     → AreNamedIn (plugins_in rows) (list_of rows resource)
 list_named rows resource = first_named (λ pattern. matches pattern resource) rows
 
@@ -176,7 +176,7 @@ writer_seeded seeds (who ∷ rest) a = a.0
 -- ---- what was made for all names is published
 
 pub all_published : {L : Type 0} (truth : Truth) (link : L → Link) (links : List L)
-    (rows : List Row) (seeds : List SeedRow) → IsTrue (keeps rows)
+    (rows : List ConfigEntry) (seeds : List SeedRow) → IsTrue (keeps rows)
     → AreSeedsOf truth link links (plugins_in rows) (λ name. true) seeds
     → IsPublished (record { rows = rows; seeds = seeds })
 all_published truth link links rows seeds k s = record {

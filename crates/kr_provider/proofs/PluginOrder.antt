@@ -8,8 +8,8 @@ use Rattle.std.specs.Ordering.{is_lt}
 use Rattle.std.specs.declared.cmp.Ordering.TheVariants.{Less}
 use Rattle.std.proofs.lemmas.List.Elements.{Contains-append_right}
 use Rattle.kr_config.specs.Nexts.{name_cmp}
-use Rattle.kr_provider.specs.PluginOrder.{insert_name, in_order}
-use Rattle.kr_provider.proofs.NameOrder.{IsStrictlySortedBy-none, is_before, is_less, neither, not_itself, then_before}
+use Rattle.kr_provider.specs.PluginOrder.{insert_name, names_in_order}
+use Rattle.kr_provider.proofs.NameOrder.{IsStrictlySortedBy-none, comes_earlier, is_less, neither, not_itself, then_before}
 
 abbrev Ascend : List (List ℕ) → Type 0
 Ascend names = IsStrictlySortedBy name_cmp names
@@ -31,7 +31,7 @@ of_each P (x ∷ xs) f = (
 )
 
 first_before : (x : List ℕ) (xs : List (List ℕ)) (name : List ℕ) → Ascend (x ∷ xs)
-    → Contains xs name → is_before x name ≡ true
+    → Contains xs name → comes_earlier x name ≡ true
 unfolding IsStrictlySortedBy
 first_before x xs name s c = ap is_lt (at_each (λ y. name_cmp x y ≡ Less) xs name s.0 c)
 
@@ -40,16 +40,16 @@ unfolding IsStrictlySortedBy
 rest_ascend x xs s = s.1
 
 ascend_from : (x : List ℕ) (xs : List (List ℕ))
-    → ((name : List ℕ) → Contains xs name → is_before x name ≡ true) → Ascend xs → Ascend (x ∷ xs)
+    → ((name : List ℕ) → Contains xs name → comes_earlier x name ≡ true) → Ascend xs → Ascend (x ∷ xs)
 unfolding IsStrictlySortedBy
 ascend_from x xs b s =
     (of_each (λ y. name_cmp x y ≡ Less) xs (λ name c. is_less x name (b name c)), s)
 
 -- what the first comes before stands behind it
 rest_has : (x : List ℕ) (xs : List (List ℕ)) (name : List ℕ) → Contains (x ∷ xs) name
-    → is_before x name ≡ true → Contains xs name
+    → comes_earlier x name ≡ true → Contains xs name
 rest_has x xs name (zero, lt, e) b =
-    absurd (not_itself x (subst (λ z. is_before x z ≡ true) (sym e) b))
+    absurd (not_itself x (subst (λ z. comes_earlier x z ≡ true) (sym e) b))
 rest_has x xs name (suc k, lt, e) b = (k, omega (arith, lt), e)
 
 -- ---- one name is put in
@@ -76,11 +76,11 @@ module _ (name : List ℕ) where
       → (name ≡ x) ⊎ Contains names x
   insert_forth [] x (zero, lt, e) = inl e
   insert_forth [] x (suc k, lt, e) = absurd (omega (arith, lt))
-  insert_forth (other ∷ others) x c = put_forth (is_before name other) (is_before other name)
+  insert_forth (other ∷ others) x c = put_forth (comes_earlier name other) (comes_earlier other name)
       other others x (insert_forth others x) c
 
-  put_itself : (p q : Bool) (other : List ℕ) (others : List (List ℕ)) → is_before name other ≡ p
-      → is_before other name ≡ q → Contains (insert_name name others) name
+  put_itself : (p q : Bool) (other : List ℕ) (others : List (List ℕ)) → comes_earlier name other ≡ p
+      → comes_earlier other name ≡ q → Contains (insert_name name others) name
       → Contains (put p q other others) name
   put_itself true q other others e f c = (0, omega arith, refl)
   put_itself false true other others e f c = (suc c.0, omega (arith, c.1), c.2)
@@ -88,7 +88,7 @@ module _ (name : List ℕ) where
 
   insert_itself : (names : List (List ℕ)) → Contains (insert_name name names) name
   insert_itself [] = (0, omega arith, refl)
-  insert_itself (other ∷ others) = put_itself (is_before name other) (is_before other name)
+  insert_itself (other ∷ others) = put_itself (comes_earlier name other) (comes_earlier other name)
       other others refl refl (insert_itself others)
 
   put_others : (p q : Bool) (other : List ℕ) (others : List (List ℕ)) (x : List ℕ)
@@ -103,22 +103,22 @@ module _ (name : List ℕ) where
   insert_others : (names : List (List ℕ)) (x : List ℕ) → Contains names x
       → Contains (insert_name name names) x
   insert_others [] x c = absurd (omega (arith, c.1))
-  insert_others (other ∷ others) x c = put_others (is_before name other) (is_before other name)
+  insert_others (other ∷ others) x c = put_others (comes_earlier name other) (comes_earlier other name)
       other others x (insert_others others x) c
 
-  ahead : (other : List ℕ) (others : List (List ℕ)) (x : List ℕ) → is_before name other ≡ true
-      → Ascend (other ∷ others) → Contains (other ∷ others) x → is_before name x ≡ true
-  ahead other others x e s (zero, lt, f) = subst (λ z. is_before name z ≡ true) f e
+  ahead : (other : List ℕ) (others : List (List ℕ)) (x : List ℕ) → comes_earlier name other ≡ true
+      → Ascend (other ∷ others) → Contains (other ∷ others) x → comes_earlier name x ≡ true
+  ahead other others x e s (zero, lt, f) = subst (λ z. comes_earlier name z ≡ true) f e
   ahead other others x e s (suc k, lt, f) =
       then_before name other x e (first_before other others x s (k, omega (arith, lt), f))
 
-  behind : (other : List ℕ) (others : List (List ℕ)) (x : List ℕ) → is_before other name ≡ true
-      → Ascend (other ∷ others) → (name ≡ x) ⊎ Contains others x → is_before other x ≡ true
-  behind other others x e s (inl d) = subst (λ z. is_before other z ≡ true) d e
+  behind : (other : List ℕ) (others : List (List ℕ)) (x : List ℕ) → comes_earlier other name ≡ true
+      → Ascend (other ∷ others) → (name ≡ x) ⊎ Contains others x → comes_earlier other x ≡ true
+  behind other others x e s (inl d) = subst (λ z. comes_earlier other z ≡ true) d e
   behind other others x e s (inr d) = first_before other others x s d
 
-  put_ascends : (p q : Bool) (other : List ℕ) (others : List (List ℕ)) → is_before name other ≡ p
-      → is_before other name ≡ q → Ascend (other ∷ others) → Ascend (insert_name name others)
+  put_ascends : (p q : Bool) (other : List ℕ) (others : List (List ℕ)) → comes_earlier name other ≡ p
+      → comes_earlier other name ≡ q → Ascend (other ∷ others) → Ascend (insert_name name others)
       → Ascend (put p q other others)
   put_ascends true q other others e f s r =
       ascend_from name (other ∷ others) (λ x c. ahead other others x e s c) s
@@ -128,31 +128,31 @@ module _ (name : List ℕ) where
 
   insert_ascends : (names : List (List ℕ)) → Ascend names → Ascend (insert_name name names)
   insert_ascends [] s = ascend_from name [] (λ x c. absurd (omega (arith, c.1))) s
-  insert_ascends (other ∷ others) s = put_ascends (is_before name other) (is_before other name)
+  insert_ascends (other ∷ others) s = put_ascends (comes_earlier name other) (comes_earlier other name)
       other others refl refl s (insert_ascends others (rest_ascend other others s))
 
 -- ---- all of them
 
-pub order_ascends : (names : List (List ℕ)) → Ascend (in_order names)
+pub order_ascends : (names : List (List ℕ)) → Ascend (names_in_order names)
 order_ascends [] = IsStrictlySortedBy-none
-order_ascends (name ∷ names) = insert_ascends name (in_order names) (order_ascends names)
+order_ascends (name ∷ names) = insert_ascends name (names_in_order names) (order_ascends names)
 
-order_forth : (names : List (List ℕ)) (x : List ℕ) → Contains (in_order names) x → Contains names x
+order_forth : (names : List (List ℕ)) (x : List ℕ) → Contains (names_in_order names) x → Contains names x
 order_forth [] x c = c
 order_forth (name ∷ names) x c =
-    elim (insert_forth name (in_order names) x c) [
+    elim (insert_forth name (names_in_order names) x c) [
       | inl d ↦ (0, omega arith, d)
       | inr d ↦ let e = order_forth names x d in (suc e.0, omega (arith, e.1), e.2)
     ]
 
-order_back : (names : List (List ℕ)) (x : List ℕ) → Contains names x → Contains (in_order names) x
+order_back : (names : List (List ℕ)) (x : List ℕ) → Contains names x → Contains (names_in_order names) x
 order_back [] x c = c
 order_back (name ∷ names) x (zero, lt, e) =
-    subst (Contains (in_order (name ∷ names))) e (insert_itself name (in_order names))
+    subst (Contains (names_in_order (name ∷ names))) e (insert_itself name (names_in_order names))
 order_back (name ∷ names) x (suc k, lt, e) =
-    insert_others name (in_order names) x (order_back names x (k, omega (arith, lt), e))
+    insert_others name (names_in_order names) x (order_back names x (k, omega (arith, lt), e))
 
-pub order_has : (names : List (List ℕ)) (x : List ℕ) → Contains (in_order names) x
+pub order_has : (names : List (List ℕ)) (x : List ℕ) → Contains (names_in_order names) x
     ↔ Contains names x
 order_has names x = (order_forth names x, order_back names x)
 
@@ -171,7 +171,7 @@ one_first n ns m ms s t (suc j, lt, e) (suc k, less, f) =
 rests : (n : List ℕ) (ns : List (List ℕ)) (m : List ℕ) (ms : List (List ℕ)) (x : List ℕ)
     → Ascend (n ∷ ns) → n ≡ m → Contains ns x → Contains (m ∷ ms) x → Contains ms x
 rests n ns m ms x s e c d =
-    rest_has m ms x d (subst (λ z. is_before z x ≡ true) e (first_before n ns x s c))
+    rest_has m ms x d (subst (λ z. comes_earlier z x ≡ true) e (first_before n ns x s c))
 
 pub one_order : (names made : List (List ℕ)) → Ascend names → Ascend made
     → ((x : List ℕ) → Contains made x → Contains names x)
@@ -190,16 +190,16 @@ one_order (n ∷ ns) (m ∷ ms) s t into out =
     (λ i. same i ∷ rest i)
 
 is_ahead : (n : List ℕ) (ns : List (List ℕ)) (m name : List ℕ) → Ascend (n ∷ ns)
-    → Contains (n ∷ ns) m → is_before m name ≡ true → is_before n name ≡ true
-is_ahead n ns m name s (zero, lt, e) b = subst (λ z. is_before z name ≡ true) (sym e) b
+    → Contains (n ∷ ns) m → comes_earlier m name ≡ true → comes_earlier n name ≡ true
+is_ahead n ns m name s (zero, lt, e) b = subst (λ z. comes_earlier z name ≡ true) (sym e) b
 is_ahead n ns m name s (suc k, lt, e) b =
     then_before n m name (first_before n ns m s (k, omega (arith, lt), e)) b
 
 -- those before a name stand in front of it
 pub order_before : (names made : List (List ℕ)) (name : List ℕ) → Ascend names → Ascend made
     → Contains names name
-    → ((x : List ℕ) → Contains made x → Contains names x × (is_before x name ≡ true))
-    → ((x : List ℕ) → Contains names x → is_before x name ≡ true → Contains made x)
+    → ((x : List ℕ) → Contains made x → Contains names x × (comes_earlier x name ≡ true))
+    → ((x : List ℕ) → Contains names x → comes_earlier x name ≡ true → Contains made x)
     → (rest : List (List ℕ)) × (names ≡ made ++ (name ∷ rest))
 order_before [] made name s t c into out = absurd (omega (arith, c.1))
 order_before (n ∷ ns) [] name s t (zero, lt, e) into out = (ns, ap (λ z. z ∷ ns) e)
@@ -208,7 +208,7 @@ order_before (n ∷ ns) [] name s t (suc k, lt, e) into out =
     (first_before n ns name s (k, omega (arith, lt), e)) in omega (arith, d.1))
 order_before (n ∷ ns) (m ∷ ms) name s t c into out =
     let first = into m (0, omega arith, refl) in
-    let near : is_before n name ≡ true = is_ahead n ns m name s first.0 first.1 in
+    let near : comes_earlier n name ≡ true = is_ahead n ns m name s first.0 first.1 in
     let same : n ≡ m = one_first n ns m ms s t first.0 (out n (0, omega arith, refl) near) in
     let more = order_before ns ms name (rest_ascend n ns s) (rest_ascend m ms t)
     (rest_has n ns name c near)

@@ -8,7 +8,7 @@ use Rattle.kr_config.specs.declared.who.Who.TheVariants.{Identity, Aescbc, Aesgc
 use Rattle.kr_envelope.specs.declared.object.EncryptedObject.{EncryptedObject}
 use Rattle.kr_envelope.specs.declared.object.ObjectNo.{ObjectNo}
 use Rattle.kr_envelope.specs.declared.object.ObjectNo.TheVariants as object
-use Rattle.kr_envelope.specs.Limits.{Reads}
+use Rattle.kr_envelope.specs.Limits.{ReadsMessage}
 use Rattle.kr_kms.specs.Cache.{CacheState}
 use Rattle.kr_kms.specs.Calls.{Link}
 use Rattle.kr_kms.specs.Exchanges.{Exchange}
@@ -21,7 +21,7 @@ use Rattle.kr_provider.specs.Exchanges.{AnswersByFetch, LacksSource, ReadsBy, fe
 use Rattle.kr_provider.specs.Publication.{Publication, list_at, seed_of}
 use Rattle.kr_provider.specs.Readers.{reader_in}
 use Rattle.kr_provider.specs.Reading.{Unseals, is_current, provider_reading, reader_reading, source_reading, value_reading}
-use Rattle.kr_provider.specs.Unsealing.{IsSeedOf, MayAsk, TakesSeed, UnsealsBy}
+use Rattle.kr_provider.specs.Unsealing.{IsSeedOf, MayAskPlugin, TakesSeed, UnsealsBy}
 use Rattle.kr_provider.specs.declared.refusal.Opened.{Opened}
 use Rattle.kr_provider.specs.declared.refusal.UnsealNo.{UnsealNo}
 use Rattle.kr_provider.specs.declared.refusal.UnsealNo.TheVariants.{Refused, PluginFailed, NoMemory}
@@ -58,7 +58,7 @@ abbrev pub opened_as : Bool → Result (List ℕ) UnsealNo → Result Opened Uns
 opened_as stale (Ok plain) = Ok (record { plain = plain; stale = stale })
 opened_as stale (Err why) = Err why
 
-no_asking : (seeds : List SeedRow) (reader : Option Who) (found : Result EncryptedObject ObjectNo) → IsNoPlugin reader → MayAsk seeds reader found → ⊥
+no_asking : (seeds : List SeedRow) (reader : Option Who) (found : Result EncryptedObject ObjectNo) → IsNoPlugin reader → MayAskPlugin seeds reader found → ⊥
 no_asking seeds None found n m = m
 no_asking seeds (Some Identity) found n m = m
 no_asking seeds (Some (Aescbc name secret)) found n m = m
@@ -82,8 +82,8 @@ module _ (seeds : List SeedRow) (list : List Who) (path bytes : List ℕ) (cache
     by_reader envelope = ap (λ o. reader_reading envelope o path bytes) r.reader
         ∙ ap (provider_reading envelope (Kms name) path) (sym r.body_is)
 
-    spelled : (answer : Result EncryptedObject ObjectNo) → Reads body answer → answer ≢ Err object.NoMemory → IsObjectOf name bytes answer
-    spelled answer s n = (subst (λ b. Reads b answer) r.body_is s, n)
+    spelled : (answer : Result EncryptedObject ObjectNo) → ReadsMessage body answer → answer ≢ Err object.NoMemory → IsObjectOf name bytes answer
+    spelled answer s n = (subst (λ b. ReadsMessage b answer) r.body_is s, n)
 
     -- its object isn't read
     pub read_refused : (why : UnsealNo) → IsObjectIn body (Err why) → ReadsBy seeds list path bytes cache (Err why) cache []
@@ -93,7 +93,7 @@ module _ (seeds : List SeedRow) (list : List Who) (path bytes : List ℕ) (cache
         (subst (λ o. HasObject o bytes (Err breach)) (sym r.reader) (spelled (Err breach) s (λ e. n (cc))))
         (subst (λ o. TakesSeed seeds o envelope) (sym r.reader) (λ found row e. absurd (cc)))
         (λ why is. refl)
-        (λ m. subst (λ o. MayAsk seeds o (Err breach)) r.reader m)
+        (λ m. subst (λ o. MayAskPlugin seeds o (Err breach)) r.reader m)
         (by_reader envelope ∙ is) refl
     read_refused (PluginFailed failed) i = absurd i
     read_refused NoMemory i = no_memory refl refl
@@ -102,7 +102,7 @@ module _ (seeds : List SeedRow) (list : List Who) (path bytes : List ℕ) (cache
         → Talk step links links (ReadsBy seeds list path bytes cache (Err why) cache)
     talk_refused step links why i = talk_none step _ links (read_refused why i)
 
-    module _ (row : SeedRow) (is_row : seed_of name seeds ≡ Some row) (found : EncryptedObject) (s : Reads body (Ok found))
+    module _ (row : SeedRow) (is_row : seed_of name seeds ≡ Some row) (found : EncryptedObject) (s : ReadsMessage body (Ok found))
         (stale : Bool) (stale_is : stale ≡ not (first && is_current (Some row) (Ok found))) where
       abbrev under : List ℕ → Envelope
       under source = record { object = Ok found; source = Some source }
@@ -141,7 +141,7 @@ module _ (seeds : List SeedRow) (list : List Who) (path bytes : List ℕ) (cache
           (subst (λ w. TakesSeed seeds w (under row.seed)) (sym r.reader)
           (λ other q e f is. ap (λ (p : SeedRow). Some p.seed) (sym (one_row q f))))
           (λ why is. absurd (cc))
-          (λ m. subst (λ w. MayAsk seeds w (Ok found)) r.reader m row is_row own)
+          (λ m. subst (λ w. MayAskPlugin seeds w (Ok found)) r.reader m row is_row own)
           (unseals row.seed gave g) same
       read_object gave after _ (unasked_for another none same) = no_memory (ap (opened_as stale) none) same
       read_object gave after es (by_fetch source another fetches g) =

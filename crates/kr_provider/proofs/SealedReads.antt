@@ -19,7 +19,7 @@ use Rattle.kr_config.specs.declared.who.Who.{Who}
 use Rattle.kr_config.specs.declared.who.Who.TheVariants.{Identity, Aescbc, Aesgcm, Kms}
 use Rattle.kr_kms.specs.declared.seeds.SeedRow.{SeedRow}
 use Rattle.kr_provider.specs.Ciphers.{cipher_under, inverse_under, rounds_under}
-use Rattle.kr_provider.specs.Envelopes.{Envelope, gcm_body, object_of, seed_body, value_key}
+use Rattle.kr_provider.specs.Envelopes.{Envelope, gcm_body, sealed_object, seed_body, value_key}
 use Rattle.kr_provider.specs.Laws.{IsSealedEnvelope, SealedReads}
 use Rattle.kr_provider.specs.Publication.{seed_of}
 use Rattle.kr_provider.specs.Readers.{body_by, is_reader}
@@ -92,7 +92,7 @@ is_read seeds (Aesgcm name secret) path plain drawn value e = begun kind.Aesgcm 
 is_read seeds (Kms name) path plain drawn value e = by_row (seed_of name seeds) e
   where
     by_row : (o : Option SeedRow) → option_map
-        (λ row. prefix kind.Kms name ++ canonical (object_of row path plain drawn)) o ≡ Some value
+        (λ row. prefix kind.Kms name ++ canonical (sealed_object row path plain drawn)) o ≡ Some value
         → begins (prefix kind.Kms name) value ≡ true
     by_row None e = absurd (cc)
     by_row (Some row) e = begun kind.Kms name _ value e

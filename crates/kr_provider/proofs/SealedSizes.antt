@@ -26,7 +26,7 @@ use Rattle.kr_config.proofs.Inversions.{left as and_left}
 use Rattle.kr_kms.specs.Seeds.{IsSeedRow}
 use Rattle.kr_kms.specs.declared.seeds.SeedRow.{SeedRow}
 use Rattle.kr_provider.specs.Ciphers.{cipher_under, rounds_under}
-use Rattle.kr_provider.specs.Envelopes.{gcm_body, object_of, seed_body, value_key}
+use Rattle.kr_provider.specs.Envelopes.{gcm_body, sealed_object, seed_body, value_key}
 use Rattle.kr_provider.specs.Laws.{SealingIsSized}
 use Rattle.kr_provider.specs.Publication.{Publication, list_at, seed_of, writer_at}
 use Rattle.kr_provider.specs.Readers.{writer_of}
@@ -89,16 +89,16 @@ seed_size seed path plain drawn size =
     ∙ omega (arith, info_size, gcm_size (value_key seed info) path plain nonce nonce_size)
 
 writable : (row : SeedRow) (path plain drawn : List ℕ) → IsSeedRow row → IsBytes 44 drawn
-    → IsWritable (object_of row path plain drawn)
+    → IsWritable (sealed_object row path plain drawn)
 writable row path plain drawn r b =
-    within_limits (object_of row path plain drawn)
+    within_limits (sealed_object row path plain drawn)
     (omega (arith, seed_size row.seed path plain drawn b.0)) r.key_id r.source r.annotations
 
 pub written : (row : SeedRow) (path plain drawn : List ℕ) → IsSeedRow row → length plain ≤ 2097152
-    → IsBytes 44 drawn → IsReadBack (canonical (object_of row path plain drawn))
-    (object_of row path plain drawn)
+    → IsBytes 44 drawn → IsReadBack (canonical (sealed_object row path plain drawn))
+    (sealed_object row path plain drawn)
 written row path plain drawn r f b =
-    read_back (canonical (object_of row path plain drawn)) (object_of row path plain drawn) refl
+    read_back (canonical (sealed_object row path plain drawn)) (sealed_object row path plain drawn) refl
     (writable row path plain drawn r b)
     (record {
       fits = omega (arith, f, seed_size row.seed path plain drawn b.0);
@@ -136,14 +136,14 @@ size_by seeds (Aesgcm name secret) path plain drawn value b e =
 size_by seeds (Kms name) path plain drawn value b e = by_row (seed_of name seeds) e
   where
     by_row : (o : Option SeedRow) → option_map
-        (λ row. prefix kind.Kms name ++ canonical (object_of row path plain drawn)) o ≡ Some value
+        (λ row. prefix kind.Kms name ++ canonical (sealed_object row path plain drawn)) o ≡ Some value
         → length value ≡ option_map_or (λ row.
         length (prefix kind.Kms name) + (content_size (32 + (12 + (length plain + 16)))
-        + length (canonical (frame_of (object_of row [] [] []))))) o 0
+        + length (canonical (frame_of (sealed_object row [] [] []))))) o 0
     by_row None e = absurd (cc)
     by_row (Some row) e =
         let start = prefix kind.Kms name in
-        let object = object_of row path plain drawn in
+        let object = sealed_object row path plain drawn in
         of_value (start ++ canonical object) value e ∙ length-append start (canonical object)
         ∙ ap (λ n. length start + n) (canonical_size object
         ∙ ap (λ n. content_size n + length (canonical (frame_of object)))
@@ -190,12 +190,12 @@ few_by seeds (Aesgcm name secret) path plain drawn value a p b f e =
 few_by seeds (Kms name) path plain drawn value a p b f e = by_row (seed_of name seeds) refl e
   where
     by_row : (o : Option SeedRow) → seed_of name seeds ≡ o
-        → option_map (λ row. prefix kind.Kms name ++ canonical (object_of row path plain drawn)) o
+        → option_map (λ row. prefix kind.Kms name ++ canonical (sealed_object row path plain drawn)) o
         ≡ Some value → length value ≤ 2162688
     by_row None s e = absurd (cc)
     by_row (Some row) s e =
         let start = prefix kind.Kms name in
-        let object = object_of row path plain drawn in
+        let object = sealed_object row path plain drawn in
         let long : length (seed_body row.seed path plain drawn) ≤ 2097212 =
         omega (arith, seed_size row.seed path plain drawn b.0, f) in
         let r = of_all IsSeedRow seeds row a (found (λ q. bytes_eq q.name name) seeds row s).1 in

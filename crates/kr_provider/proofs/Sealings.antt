@@ -9,14 +9,14 @@ use Rattle.kr_envelope.specs.declared.object.ObjectNo.{ObjectNo}
 use Rattle.kr_envelope.specs.declared.object.ObjectNo.TheVariants.{NoMemory}
 use Rattle.kr_envelope.specs.declared.prefix.Kind.TheVariants as kind
 use Rattle.kr_envelope.specs.Canonical.{canonical}
-use Rattle.kr_envelope.specs.Limits.{Reads}
+use Rattle.kr_envelope.specs.Limits.{ReadsMessage}
 use Rattle.kr_envelope.specs.Prefixes.{prefix}
 use Rattle.kr_config.specs.declared.who.Who.{Who}
 use Rattle.kr_config.specs.declared.who.Who.TheVariants.{Identity, Aescbc, Aesgcm, Kms}
 use Rattle.kr_kms.specs.Seeds.{IsSeedRow}
 use Rattle.kr_kms.specs.declared.seeds.SeedRow.{SeedRow}
 use Rattle.kr_kms.specs.Truth.{Opens, key_of}
-use Rattle.kr_provider.specs.Envelopes.{Envelope, HasEnvelope, object_of, seed_key, source_by, unknown}
+use Rattle.kr_provider.specs.Envelopes.{Envelope, HasEnvelope, sealed_object, seed_key, source_by, unknown}
 use Rattle.kr_provider.specs.Laws.{IsSealedEnvelope, SealingReads}
 use Rattle.kr_provider.specs.Publication.{SeedOpens, seed_of, writer_at}
 use Rattle.kr_provider.specs.Sealing.{IsBytes, draw_size, value_by}
@@ -32,12 +32,12 @@ answered answer object n (inr e) = absurd (n e)
 -- the row that a test finds for a name, and what its wrapped source opens to
 found_opens : (opens : Opens) (seeds : List SeedRow) (name path plain drawn : List ℕ)
     (row : SeedRow) → SeedOpens opens seeds (Kms name) → seed_of name seeds ≡ Some row
-    → source_by opens name (Ok (object_of row path plain drawn)) ≡ Some row.seed
+    → source_by opens name (Ok (sealed_object row path plain drawn)) ≡ Some row.seed
 found_opens opens seeds name path plain drawn row o f =
     let there = found (λ r. bytes_eq r.name name) seeds row f in
     let named : row.name ≡ name = (bytes_eq-Decides row.name name).0 there.0 in
-    let key : seed_key name (object_of row path plain drawn) ≡ key_of row =
-    ap (λ n. seed_key n (object_of row path plain drawn)) (sym named) in
+    let key : seed_key name (sealed_object row path plain drawn) ≡ key_of row =
+    ap (λ n. seed_key n (sealed_object row path plain drawn)) (sym named) in
     ap opens key ∙ o row f
 
 row_envelope : (opens : Opens) (seeds : List SeedRow) (name path plain drawn value : List ℕ)
@@ -45,14 +45,14 @@ row_envelope : (opens : Opens) (seeds : List SeedRow) (name path plain drawn val
     → SeedOpens opens seeds (Kms name) → All IsSeedRow seeds → length plain ≤ 2097152
     → IsBytes 44 drawn
     → seed_of name seeds ≡ Some row
-    → Some (prefix kind.Kms name ++ canonical (object_of row path plain drawn)) ≡ Some value
+    → Some (prefix kind.Kms name ++ canonical (sealed_object row path plain drawn)) ≡ Some value
     → HasEnvelope opens (Some (Kms name)) value envelope
     → IsSealedEnvelope seeds (Kms name) path plain drawn envelope
 row_envelope opens seeds name path plain drawn value envelope row o a fits b f e h =
     let there = (found (λ r. bytes_eq r.name name) seeds row f).1 in
-    let object = object_of row path plain drawn in
-    let spelled : Reads (canonical object) envelope.object =
-    subst (λ bytes. Reads bytes envelope.object)
+    let object = sealed_object row path plain drawn in
+    let spelled : ReadsMessage (canonical object) envelope.object =
+    subst (λ bytes. ReadsMessage bytes envelope.object)
     (behind kind.Kms name (canonical object) value e) h.0.0 in
     let is : envelope.object ≡ Ok object = answered envelope.object object h.0.1
     ((written row path plain drawn (of_all IsSeedRow seeds row a there) fits b).1
@@ -76,17 +76,17 @@ row_held : (opens : Opens) (seeds : List SeedRow) (name path plain drawn value :
     → SeedOpens opens seeds (Kms name) → All IsSeedRow seeds → length plain ≤ 2097152
     → IsBytes 44 drawn
     → seed_of name seeds ≡ Some row
-    → Some (prefix kind.Kms name ++ canonical (object_of row path plain drawn)) ≡ Some value
+    → Some (prefix kind.Kms name ++ canonical (sealed_object row path plain drawn)) ≡ Some value
     → Held opens seeds (Kms name) path plain drawn value
 unfolding Held
 row_held opens seeds name path plain drawn value row o a fits b f e =
     let there = (found (λ r. bytes_eq r.name name) seeds row f).1 in
-    let object = object_of row path plain drawn in
+    let object = sealed_object row path plain drawn in
     let body = behind kind.Kms name (canonical object) value e in (
       record { object = Ok object; source = Some row.seed },
       (
         (
-          subst (λ bytes. Reads bytes (Ok object)) (sym body)
+          subst (λ bytes. ReadsMessage bytes (Ok object)) (sym body)
               (written row path plain drawn (of_all IsSeedRow seeds row a there) fits b).0,
           (λ same. cc),
         ),
@@ -108,7 +108,7 @@ envelope_of opens seeds (Kms name) path plain drawn value envelope o a fits b e 
     by_row (seed_of name seeds) refl e
   where
     by_row : (found : Option SeedRow) → seed_of name seeds ≡ found
-        → option_map (λ row. prefix kind.Kms name ++ canonical (object_of row path plain drawn))
+        → option_map (λ row. prefix kind.Kms name ++ canonical (sealed_object row path plain drawn))
         found ≡ Some value → IsSealedEnvelope seeds (Kms name) path plain drawn envelope
     by_row None f e = absurd (cc)
     by_row (Some row) f e = row_envelope opens seeds name path plain drawn value envelope row o a
@@ -126,7 +126,7 @@ held_of opens seeds (Kms name) path plain drawn value o a fits b e =
     by_row (seed_of name seeds) refl e
   where
     by_row : (found : Option SeedRow) → seed_of name seeds ≡ found
-        → option_map (λ row. prefix kind.Kms name ++ canonical (object_of row path plain drawn))
+        → option_map (λ row. prefix kind.Kms name ++ canonical (sealed_object row path plain drawn))
         found ≡ Some value → Held opens seeds (Kms name) path plain drawn value
     by_row None f e = absurd (cc)
     by_row (Some row) f e = row_held opens seeds name path plain drawn value row o a fits b f e

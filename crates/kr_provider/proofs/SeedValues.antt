@@ -8,7 +8,7 @@ use Rattle.kr_envelope.specs.Canonical.{canonical, content_field, fields_behind,
 use Rattle.kr_envelope.specs.Prefixes.{prefix}
 use Rattle.kr_config.specs.declared.who.Who.TheVariants.{Kms}
 use Rattle.kr_kms.specs.declared.seeds.SeedRow.{SeedRow}
-use Rattle.kr_provider.specs.Envelopes.{gcm_body, object_of, seed_body, value_key}
+use Rattle.kr_provider.specs.Envelopes.{gcm_body, sealed_object, seed_body, value_key}
 use Rattle.kr_provider.specs.Publication.{seed_of}
 use Rattle.kr_provider.specs.Sealing.{sealed_by}
 use Rattle.kr_provider.proofs.Filled.{sealed_fits}
@@ -36,7 +36,7 @@ pub value_between : (name path plain drawn : List ℕ) (row : SeedRow) (size : �
     → length drawn ≡ 44 → size ≡ 32 + (12 + (length plain + 16))
     → (prefix kind.Kms name ++ 10 ∷ shortest size) ++ (seed_body row.seed path plain drawn
     ++ fields_behind row.key_id row.source row.annotations Seed)
-    ≡ prefix kind.Kms name ++ canonical (object_of row path plain drawn)
+    ≡ prefix kind.Kms name ++ canonical (sealed_object row path plain drawn)
 value_between name path plain drawn row size d s =
     let start = prefix kind.Kms name in
     let body = seed_body row.seed path plain drawn in
@@ -48,9 +48,9 @@ value_between name path plain drawn row size d s =
 
 pub sealed_by_row : (seeds : List SeedRow) (name path plain drawn value : List ℕ) (row : SeedRow)
     → length plain ≤ 2097152 → seed_of name seeds ≡ Some row
-    → value ≡ prefix kind.Kms name ++ canonical (object_of row path plain drawn)
+    → value ≡ prefix kind.Kms name ++ canonical (sealed_object row path plain drawn)
     → sealed_by seeds (Kms name) path plain drawn ≡ Some value
 sealed_by_row seeds name path plain drawn value row h is v =
     sealed_fits seeds (Kms name) path plain drawn h
-    ∙ ap (option_map (λ r. prefix kind.Kms name ++ canonical (object_of r path plain drawn))) is
+    ∙ ap (option_map (λ r. prefix kind.Kms name ++ canonical (sealed_object r path plain drawn))) is
     ∙ ap (λ l. Some l) (sym v)

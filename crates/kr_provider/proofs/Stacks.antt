@@ -10,7 +10,7 @@ use Rattle.std.proofs.lemmas.Bool.Decides.{Decides-eqb}
 use Rattle.std.proofs.lemmas.Map.Keys.{IsDistinct-from_apart}
 use Rattle.std.proofs.Math.Seq.{take-length}
 use Rattle.kr_aes.specs.KeyExpansion.{padded_schedule}
-use Rattle.kr_pages.specs.Pool.{IsPool, Pool, Takes, is_free, with_free, with_words, words_of, zero_page}
+use Rattle.kr_pages.specs.Pool.{IsPool, Pool, Takes, is_free, with_free, with_words, page_words, zero_page}
 use Rattle.kr_pages.proofs.Pools.{IsPool-with_words, numbers_more}
 use Rattle.kr_provider.specs.KeyPages.{HoldKeys, KeyPages, words_out, size_of}
 use Rattle.kr_provider.specs.inner.Stack.{IsStack}
@@ -117,11 +117,11 @@ pub words_out-with_page : (old : KeyPages) (pool : Pool) (number : ℕ) (words :
 words_out-with_page old pool number words is t =
     let was = taken old pool number is t in
     let inside : number < length pool.pages = omega (arith, was.size, t.below) in
-    map-append (words_of (with_words pool number words)) old.out (number ∷ [])
-    ∙ ap (λ w. map (words_of (with_words pool number words)) old.out ++ w ∷ [])
+    map-append (page_words (with_words pool number words)) old.out (number ∷ [])
+    ∙ ap (λ w. map (page_words (with_words pool number words)) old.out ++ w ∷ [])
     (get_or-set_same pool.pages number words [] inside)
-    ∙ ap (λ l. l ++ words ∷ []) (map_same (words_of (with_words pool number words))
-    (words_of old.pool) old.out (λ i d lt.
+    ∙ ap (λ l. l ++ words ∷ []) (map_same (page_words (with_words pool number words))
+    (page_words old.pool) old.out (λ i d lt.
     get_or-set_other pool.pages number (slice_index_or old.out i d) words []
     (let p = is.places i d lt in omega (arith, p, was.last, was.one, is.count, lt))
     ∙ ap (λ l. slice_index_or l (slice_index_or old.out i d) []) t.pages))
@@ -171,7 +171,7 @@ holds secrets pages is h = record {
     | inr more ↦ out_from pages number is more ∙ sym (ap not (is_out number lt more))
   ];
   others = λ number lt none. elim (cases_lt number (length pages.pool.free)) [
-    | inl less ↦ ap (words_of pages.pool) (sym (free_at pages number 0 is less))
+    | inl less ↦ ap (page_words pages.pool) (sym (free_at pages number 0 is less))
         ∙ is.pool.zero number 0 less
     | inr more ↦ absurd (let found = is_out number lt more in cc)
   ];
@@ -195,7 +195,7 @@ holds secrets pages is h = record {
 -- where no page is out there is no key
 pub nothing_held : (pages : KeyPages) → IsStack pages → pages.out ≡ [] → HoldKeys [] pages
 nothing_held pages is none = holds [] pages is
-    (ap (λ (l : List ℕ). map (λ number. words_of pages.pool number) l) none)
+    (ap (λ (l : List ℕ). map (λ number. page_words pages.pool number) l) none)
 
 -- a stack of which nothing is taken
 pub IsStack-free_pages : (pages : KeyPages) → IsPool pages.pool → (n : ℕ)

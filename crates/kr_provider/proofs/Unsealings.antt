@@ -8,7 +8,7 @@ use Rattle.kr_config.specs.Providers.{is_kms}
 use Rattle.kr_envelope.specs.declared.object.EncryptedObject.{EncryptedObject}
 use Rattle.kr_envelope.specs.declared.object.ObjectNo.{ObjectNo}
 use Rattle.kr_envelope.specs.declared.object.ObjectNo.TheVariants as object
-use Rattle.kr_envelope.specs.Limits.{Reads}
+use Rattle.kr_envelope.specs.Limits.{ReadsMessage}
 use Rattle.kr_kms.specs.Calls.{Link}
 use Rattle.kr_kms.specs.Truth.{Truth, key_of}
 use Rattle.kr_kms.specs.declared.seeds.SeedRow.{SeedRow}
@@ -17,7 +17,7 @@ use Rattle.kr_provider.specs.Envelopes.{Envelope, HasEnvelope, HasObject, IsObje
 use Rattle.kr_provider.specs.Publication.{seed_of}
 use Rattle.kr_provider.specs.Readers.{reader_in}
 use Rattle.kr_provider.specs.Reading.{Unseals, is_current, provider_reading, reader_reading}
-use Rattle.kr_provider.specs.Unsealing.{IsReading, IsSeedOf, MayAsk, MayAskFor, TakesSeed, UnsealsBy, plugin_reading}
+use Rattle.kr_provider.specs.Unsealing.{IsReading, IsSeedOf, MayAskPlugin, MayAskFor, TakesSeed, UnsealsBy, plugin_reading}
 use Rattle.kr_provider.specs.declared.refusal.Opened.{Opened}
 use Rattle.kr_provider.specs.declared.refusal.UnsealNo.{UnsealNo}
 use Rattle.kr_provider.specs.declared.refusal.UnsealNo.TheVariants.{Refused, PluginFailed, NoMemory}
@@ -98,8 +98,8 @@ module _ {L : Type 0} (truth : Truth) (link : L → Link) (seeds : List SeedRow)
 
   module _ (name body : List ℕ) (first : Bool) where
     spelled : (answer : Result EncryptedObject ObjectNo) → IsReadBy list bytes (Kms name) body first
-        → Reads body answer → answer ≢ Err object.NoMemory → IsObjectOf name bytes answer
-    spelled answer r s n = (subst (λ b. Reads b answer) r.body_is s, n)
+        → ReadsMessage body answer → answer ≢ Err object.NoMemory → IsObjectOf name bytes answer
+    spelled answer r s n = (subst (λ b. ReadsMessage b answer) r.body_is s, n)
 
     asked_by : (olds news : List L) → IsReadBy list bytes (Kms name) body first
         → AskedOnly link (name ∷ []) olds news
@@ -132,7 +132,7 @@ module _ {L : Type 0} (truth : Truth) (link : L → Link) (seeds : List SeedRow)
 
     module _ (row : SeedRow) (is_row : seed_of name seeds ≡ Some row)
         (found_object : EncryptedObject)
-        (r : IsReadBy list bytes (Kms name) body first) (s : Reads body (Ok found_object)) where
+        (r : IsReadBy list bytes (Kms name) body first) (s : ReadsMessage body (Ok found_object)) where
       -- a seed that is found is that of the plugin
       one_row : (other : SeedRow) → seed_of name seeds ≡ Some other → other ≡ row
       one_row other e = let same : Some other ≡ Some row = sym e ∙ is_row in cc
@@ -168,7 +168,7 @@ module _ {L : Type 0} (truth : Truth) (link : L → Link) (seeds : List SeedRow)
             asked = asked_by olds news r o.asked;
             unasked = λ m. elim o.unasked [
               | inl e ↦ e
-              | inr n ↦ absurd (m (subst (λ w. MayAsk seeds w (Ok found_object)) (sym r.reader)
+              | inr n ↦ absurd (m (subst (λ w. MayAskPlugin seeds w (Ok found_object)) (sym r.reader)
                   (may_ask n)))
             ];
           }
@@ -222,7 +222,7 @@ module _ {L : Type 0} (truth : Truth) (link : L → Link) (seeds : List SeedRow)
           | inr n ↦ inr (
             Ok found_object,
             subst (λ w. HasObject w bytes (Ok found_object)) (sym r.reader) object_is,
-            subst (λ w. MayAsk seeds w (Ok found_object)) (sym r.reader) (may_ask n),
+            subst (λ w. MayAskPlugin seeds w (Ok found_object)) (sym r.reader) (may_ask n),
           )
         ];
       }

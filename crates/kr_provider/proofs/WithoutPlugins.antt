@@ -4,7 +4,7 @@ use Rattle.std.specs.Prelude.{◌||◌, not}
 use Rattle.std.specs.List.{list_any}
 use Rattle.kr_config.specs.declared.who.Who.{Who}
 use Rattle.kr_config.specs.declared.who.Who.TheVariants.{Identity, Aescbc, Aesgcm, Kms}
-use Rattle.kr_config.specs.Kept.{Row}
+use Rattle.kr_config.specs.Kept.{ConfigEntry}
 use Rattle.kr_config.specs.Lists.{list_of}
 use Rattle.kr_config.specs.Providers.{is_kms}
 use Rattle.kr_kms.specs.Calls.{Link}
@@ -36,7 +36,7 @@ none_named (Aescbc name secret ∷ list) n = none_named list n.1
 none_named (Aesgcm name secret ∷ list) n = none_named list n.1
 none_named (Kms name ∷ list) n = absurd (omega (arith, n.0.1))
 
-pub none_listed : (rows : List Row) (resource : List ℕ) → names_plugin rows ≡ false
+pub none_listed : (rows : List ConfigEntry) (resource : List ℕ) → names_plugin rows ≡ false
     → list_any is_kms (list_of rows resource) ≡ false
 none_listed rows resource e = none_named (list_of rows resource)
     (subst (λ names. AreNamedIn names (list_of rows resource)) (no_names rows e)

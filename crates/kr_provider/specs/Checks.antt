@@ -10,8 +10,8 @@ abbrev pub keyed_check : (secret name : List ℕ) → List ℕ
 keyed_check secret name = take 8 (hmac secret name)
 
 -- zeros where there is no secret
-abbrev pub check_of : Who → List ℕ
-check_of Identity = replicate 8 0
-check_of (Aescbc name secret) = keyed_check secret name
-check_of (Aesgcm name secret) = keyed_check secret name
-check_of (Kms name) = replicate 8 0
+abbrev pub provider_check : Who → List ℕ
+provider_check Identity = replicate 8 0
+provider_check (Aescbc name secret) = keyed_check secret name
+provider_check (Aesgcm name secret) = keyed_check secret name
+provider_check (Kms name) = replicate 8 0

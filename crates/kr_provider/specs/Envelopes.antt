@@ -8,7 +8,7 @@ use Rattle.kr_envelope.specs.declared.object.EncryptedObject.{EncryptedObject}
 use Rattle.kr_envelope.specs.declared.object.ObjectNo.{ObjectNo}
 use Rattle.kr_envelope.specs.declared.object.ObjectNo.TheVariants.{NoMemory}
 use Rattle.kr_envelope.specs.declared.object.SourceKind.TheVariants.{Seed}
-use Rattle.kr_envelope.specs.Limits.{Reads}
+use Rattle.kr_envelope.specs.Limits.{ReadsMessage}
 use Rattle.kr_config.specs.declared.who.Who.{Who}
 use Rattle.kr_config.specs.declared.who.Who.TheVariants.{Identity, Aescbc, Aesgcm, Kms}
 use Rattle.kr_kms.specs.declared.seeds.SeedKey.{SeedKey}
@@ -34,8 +34,8 @@ seed_body seed path plain drawn = take 32 drawn
     ++ gcm_body (value_key seed (take 32 drawn)) path plain (drop 32 drawn)
 
 -- with what the plugin wants back to unwrap the seed
-abbrev pub object_of : SeedRow → (path plain drawn : List ℕ) → EncryptedObject
-object_of row path plain drawn = record {
+abbrev pub sealed_object : SeedRow → (path plain drawn : List ℕ) → EncryptedObject
+sealed_object row path plain drawn = record {
   encrypted = seed_body row.seed path plain drawn;
   key_id =
       row.key_id;
@@ -72,7 +72,8 @@ source_by opens name (Err why) = None
 
 -- what the body of a plugin's value spells
 abbrev pub IsObjectOf : (name bytes : List ℕ) → Result EncryptedObject ObjectNo → Type 0
-IsObjectOf name bytes object = Reads (body_by (Kms name) bytes) object × (object ≢ Err NoMemory)
+IsObjectOf name bytes object = ReadsMessage (body_by (Kms name) bytes) object
+    × (object ≢ Err NoMemory)
 
 -- the object of a value, by its reader; only a plugin's has one
 abbrev pub HasObject : Option Who → (bytes : List ℕ) → Result EncryptedObject ObjectNo → Type 0

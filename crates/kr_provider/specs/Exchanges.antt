@@ -3,7 +3,7 @@
 use Rattle.std.specs.Prelude.{◌≡◌, ℕ, ◌⊎◌, List, [], ◌∷◌, ◌++◌, Option, Some, None, Result, Ok, Err}
 use Rattle.kr_config.specs.declared.who.Who.{Who}
 use Rattle.kr_config.specs.declared.who.Who.TheVariants.{Kms}
-use Rattle.kr_config.specs.Kept.{Row, plugins_in}
+use Rattle.kr_config.specs.Kept.{ConfigEntry, plugins_in}
 use Rattle.kr_config.specs.Nexts.{IsNextName}
 use Rattle.kr_envelope.specs.declared.object.EncryptedObject.{EncryptedObject}
 use Rattle.kr_kms.specs.Cache.{CacheState, FetchesBy}
@@ -19,7 +19,7 @@ use Rattle.kr_provider.specs.Envelopes.{Envelope, HasObject, IsObjectOf, seed_ke
 use Rattle.kr_provider.specs.Publication.{Publication}
 use Rattle.kr_provider.specs.Readers.{reader_in}
 use Rattle.kr_provider.specs.Reading.{Unseals}
-use Rattle.kr_provider.specs.Unsealing.{HasNoSource, MayAsk, MayAskFor, TakesSeed}
+use Rattle.kr_provider.specs.Unsealing.{HasNoSource, MayAskPlugin, MayAskFor, TakesSeed}
 use Rattle.kr_provider.specs.declared.refusal.Opened.{Opened}
 use Rattle.kr_provider.specs.declared.refusal.PublishNo.{PublishNo}
 use Rattle.kr_provider.specs.declared.refusal.PublishNo.TheVariants as publishing
@@ -29,17 +29,17 @@ use Rattle.kr_provider.specs.declared.refusal.UnsealNo.TheVariants.{PluginFailed
 -- ---- publishing
 
 -- a refusal of the plugin of this name
-abbrev pub refusal_at : List ℕ → SeedNo → PublishNo
-refusal_at name seed.Failed = publishing.PluginFailed name
-refusal_at name seed.DiceFailed = publishing.DiceFailed
-refusal_at name (seed.Unhealthy field text) = publishing.Unhealthy name field text
-refusal_at name seed.NoMemory = publishing.NoMemory
+abbrev pub plugin_refusal : List ℕ → SeedNo → PublishNo
+plugin_refusal name seed.Failed = publishing.PluginFailed name
+plugin_refusal name seed.DiceFailed = publishing.DiceFailed
+plugin_refusal name (seed.Unhealthy field text) = publishing.Unhealthy name field text
+plugin_refusal name seed.NoMemory = publishing.NoMemory
 
 -- it is told so; or, where its name is to be told, there is no memory for that
 abbrev pub IsRefusalAt : List ℕ → SeedNo → PublishNo → Type 0
 IsRefusalAt name seed.DiceFailed refusal = refusal ≡ publishing.DiceFailed
 IsRefusalAt name seed.NoMemory refusal = refusal ≡ publishing.NoMemory
-IsRefusalAt name why refusal = (refusal ≡ refusal_at name why) ⊎ (refusal ≡ publishing.NoMemory)
+IsRefusalAt name why refusal = (refusal ≡ plugin_refusal name why) ⊎ (refusal ≡ publishing.NoMemory)
 
 -- what the plugin of this name answered is told
 abbrev pub IsToldAt : {T : Type 0} → List ℕ → Result T SeedNo → Result T PublishNo → Type 0
@@ -81,7 +81,8 @@ module _ {D : Type 0} (left : D → Option (List ℕ)) (count : D → ℕ) where
         → MakesSeedsBy names passed dice (with_seed_first row result) after (exchanges ++ others)
 
   -- all plugins that the entries name
-  abbrev pub PublishesBy : List Row → D → Result Publication PublishNo → D → List Exchange → Type 0
+  abbrev pub PublishesBy : List ConfigEntry → D → Result Publication PublishNo → D → List Exchange
+      → Type 0
   PublishesBy rows dice (Ok p) after exchanges = (p.rows ≡ rows)
       × MakesSeedsBy (plugins_in rows) [] dice (Ok p.seeds) after exchanges
   PublishesBy rows dice (Err why) after exchanges =
@@ -110,7 +111,7 @@ pub data ReadsBy (seeds : List SeedRow) (list : List Who) (path bytes : List ℕ
       → ReadsBy seeds list path bytes cache result after []
   unasked : (envelope : Envelope) → HasObject (reader_in list bytes) bytes envelope.object
       → TakesSeed seeds (reader_in list bytes) envelope → HasNoSource envelope
-      → (MayAsk seeds (reader_in list bytes) envelope.object → ⊥)
+      → (MayAskPlugin seeds (reader_in list bytes) envelope.object → ⊥)
       → Unseals envelope seeds list path bytes result → after ≡ cache
       → ReadsBy seeds list path bytes cache result after []
   fetched : {exchanges : List Exchange} (name : List ℕ) (object : EncryptedObject)

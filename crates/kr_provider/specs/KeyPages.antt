@@ -5,21 +5,21 @@ use Rattle.std.specs.List.{IsDistinct, flat_map, list_any, range_with_len}
 use Rattle.kr_aes.specs.KeyExpansion.{padded_schedule}
 use Rattle.kr_config.specs.declared.who.Who.{Who}
 use Rattle.kr_config.specs.declared.who.Who.TheVariants.{Identity, Aescbc, Aesgcm, Kms}
-use Rattle.kr_config.specs.Kept.{Row}
-use Rattle.kr_pages.specs.Pool.{Pool, IsPool, is_free, words_of, zero_page}
+use Rattle.kr_config.specs.Kept.{ConfigEntry}
+use Rattle.kr_pages.specs.Pool.{Pool, IsPool, is_free, page_words, zero_page}
 use Rattle.kr_provider.specs.Publication.{Publication}
 
 -- the secrets of the keys in some entries, in the order of the file
-abbrev pub secret_of : Who → List (List ℕ)
-secret_of Identity = []
-secret_of (Aescbc name secret) = secret ∷ []
-secret_of (Aesgcm name secret) = secret ∷ []
-secret_of (Kms name) = []
+abbrev pub key_secret : Who → List (List ℕ)
+key_secret Identity = []
+key_secret (Aescbc name secret) = secret ∷ []
+key_secret (Aesgcm name secret) = secret ∷ []
+key_secret (Kms name) = []
 
 abbrev pub secrets_among : List Who → List (List ℕ)
-secrets_among providers = flat_map secret_of providers
+secrets_among providers = flat_map key_secret providers
 
-abbrev pub secrets_in : List Row → List (List ℕ)
+abbrev pub secrets_in : List ConfigEntry → List (List ℕ)
 secrets_in rows = flat_map (λ row. secrets_among row.providers) rows
 
 -- those of the configuration that was adopted
@@ -38,7 +38,7 @@ size_of pages = length pages.pool.pages
 
 -- what the taken pages hold
 abbrev pub words_out : KeyPages → List (List ℕ)
-words_out pages = map (λ number. words_of pages.pool number) pages.out
+words_out pages = map (λ number. page_words pages.pool number) pages.out
 
 -- so many pages, none of which is taken
 abbrev pub free_pages : ℕ → KeyPages
@@ -61,4 +61,4 @@ pub record HoldKeys (secrets : List (List ℕ)) (pages : KeyPages) : Type 0 wher
   pub free : (number : ℕ) → number < size_of pages
       → is_free pages.pool number ≡ not (list_any (nat_eq number) pages.out)
   pub others : (number : ℕ) → number < size_of pages → list_any (nat_eq number) pages.out ≡ false
-      → words_of pages.pool number ≡ zero_page
+      → page_words pages.pool number ≡ zero_page

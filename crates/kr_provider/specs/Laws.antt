@@ -9,7 +9,7 @@ use Rattle.kr_envelope.specs.declared.object.SourceKind.{SourceKind}
 use Rattle.kr_envelope.specs.declared.object.SourceKind.TheVariants.{Key, Seed}
 use Rattle.kr_config.specs.declared.who.Who.{Who}
 use Rattle.kr_config.specs.declared.who.Who.TheVariants.{Identity, Aescbc, Aesgcm, Kms}
-use Rattle.kr_config.specs.Kept.{Row, keeps_providers, plugins_in}
+use Rattle.kr_config.specs.Kept.{ConfigEntry, keeps_providers, plugins_in}
 use Rattle.kr_config.specs.Lists.{list_of}
 use Rattle.kr_config.specs.Providers.{is_kms}
 use Rattle.kr_kms.specs.declared.seeds.SeedRow.{SeedRow}
@@ -17,7 +17,7 @@ use Rattle.kr_kms.specs.Calls.{Link, IsSameLink}
 use Rattle.kr_kms.specs.Truth.{Opens, Truth}
 use Rattle.kr_provider.specs.AskedLinks.{AskedOnly, FaultRose}
 use Rattle.kr_provider.specs.Ciphers.{cipher_under}
-use Rattle.kr_provider.specs.Envelopes.{Envelope, object_of, unknown, value_key}
+use Rattle.kr_provider.specs.Envelopes.{Envelope, sealed_object, unknown, value_key}
 use Rattle.kr_provider.specs.PluginOrder.{MakesBefore, MakesEach, plugin_order}
 use Rattle.kr_provider.specs.Publication.{Publication, IsPublished, SeedOpens, names_plugin, seed_of, writer_at}
 use Rattle.kr_provider.specs.Publishing.{AreSeedsOf, EndsAt, bytes_of_seeds}
@@ -36,7 +36,8 @@ IsSealedEnvelope seeds (Aescbc name secret) path plain drawn envelope = ⊤
 IsSealedEnvelope seeds (Aesgcm name secret) path plain drawn envelope = ⊤
 IsSealedEnvelope seeds (Kms name) path plain drawn envelope = (row : SeedRow)
     × (seed_of name seeds ≡ Some row) × (length row.seed ≡ 32)
-    × (envelope.object ≡ Ok (object_of row path plain drawn)) × (envelope.source ≡ Some row.seed)
+    × (envelope.object ≡ Ok (sealed_object row path plain drawn))
+    × (envelope.source ≡ Some row.seed)
 
 -- what a provider sealed reads as the data at that path, by every list that holds the provider
 abbrev pub SealedReads : Type 0
@@ -82,12 +83,12 @@ ReadsWithoutPlugin = (opens : Opens) (list : List Who) (path bytes : List ℕ) (
 
 -- where settings name no plugin, no link is asked, and any envelope serves
 pub record UnsealsWithoutPlugin {L : Type 0} (truth : Truth) (link : L → Link) : Type 0 where
-  pub reads : (seeds : List SeedRow) (rows : List Row) (resource path bytes : List ℕ)
+  pub reads : (seeds : List SeedRow) (rows : List ConfigEntry) (resource path bytes : List ℕ)
       (olds news : List L) (result : Result Opened UnsealNo) → names_plugin rows ≡ false
       → UnsealsBy truth link seeds (list_of rows resource) path bytes olds result news
       → (envelope : Envelope)
       → Unseals envelope seeds (list_of rows resource) path bytes result
-  pub stay : (seeds : List SeedRow) (rows : List Row) (resource path bytes : List ℕ)
+  pub stay : (seeds : List SeedRow) (rows : List ConfigEntry) (resource path bytes : List ℕ)
       (olds news : List L) (result : Result Opened UnsealNo) → names_plugin rows ≡ false
       → UnsealsBy truth link seeds (list_of rows resource) path bytes olds result news
       → news ≡ olds
@@ -96,11 +97,11 @@ pub record UnsealsWithoutPlugin {L : Type 0} (truth : Truth) (link : L → Link)
 -- those of the names before the one that ended it
 pub record PublishesInOrder {L D : Type 0} (truth : Truth) (link : L → Link)
     (left : D → Option (List ℕ)) (count : D → ℕ) : Type 0 where
-  pub all : (rows : List Row) (links : List L) (dice after : D) (made : List SeedRow)
+  pub all : (rows : List ConfigEntry) (links : List L) (dice after : D) (made : List SeedRow)
       → AreSeedsOf truth link links (plugins_in rows) (λ name. true) made
       → Consumes (left dice) (left after) (bytes_of_seeds made)
       → MakesEach truth link links (plugin_order rows) made (left dice) (left after)
-  pub some : (rows : List Row) (links : List L) (dice after : D) (name drawn : List ℕ)
+  pub some : (rows : List ConfigEntry) (links : List L) (dice after : D) (name drawn : List ℕ)
       → EndsAt truth link left count rows links dice after name drawn
       → MakesBefore truth link links (plugin_order rows) name drawn (left dice) (left after)
 

@@ -2,7 +2,7 @@
 use Rattle.std.specs.Prelude.{ℕ, List, map, Contains, Option, None, Some, ⊤}
 use Rattle.std.specs.List.{IsDistinct}
 use Rattle.std.specs.Str.{bytes_eq}
-use Rattle.kr_config.specs.Kept.{Row, plugins_in}
+use Rattle.kr_config.specs.Kept.{ConfigEntry, plugins_in}
 use Rattle.kr_kms.specs.Calls.{Link}
 use Rattle.kr_provider.specs.Publication.{Publication}
 
@@ -13,7 +13,7 @@ abbrev pub AreDistinct : {L : Type 0} → (L → Link) → List L → Type 0
 AreDistinct link links = IsDistinct bytes_eq (names_of link links)
 
 -- there is a link to each plugin that the entries name
-abbrev pub HasLinks : List (List ℕ) → List Row → Type 0
+abbrev pub HasLinks : List (List ℕ) → List ConfigEntry → Type 0
 HasLinks names rows = (name : List ℕ) → Contains (plugins_in rows) name → Contains names name
 
 -- and to each of the configuration that was adopted

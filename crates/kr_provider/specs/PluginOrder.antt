@@ -3,7 +3,7 @@
 use Rattle.std.specs.Prelude.{◌≡◌, ℕ, List, [], ◌∷◌, ◌++◌, Option, if◌then◌else◌}
 use Rattle.std.specs.Io.KnownBytes.{Consumes}
 use Rattle.std.specs.Ordering.{is_lt}
-use Rattle.kr_config.specs.Kept.{Row, plugins_in}
+use Rattle.kr_config.specs.Kept.{ConfigEntry, plugins_in}
 use Rattle.kr_config.specs.Nexts.{name_cmp}
 use Rattle.kr_kms.specs.Calls.{Link}
 use Rattle.kr_kms.specs.Seeds.{IsSeedRow}
@@ -19,13 +19,13 @@ insert_name name (other ∷ others) = if is_lt (name_cmp name other) then name �
     else (if is_lt (name_cmp other name) then other ∷ insert_name name others
     else other ∷ others)
 
-abbrev pub in_order : List (List ℕ) → List (List ℕ)
-in_order [] = []
-in_order (name ∷ names) = insert_name name (in_order names)
+abbrev pub names_in_order : List (List ℕ) → List (List ℕ)
+names_in_order [] = []
+names_in_order (name ∷ names) = insert_name name (names_in_order names)
 
 -- those that the entries name
-abbrev pub plugin_order : List Row → List (List ℕ)
-plugin_order rows = in_order (plugins_in rows)
+abbrev pub plugin_order : List ConfigEntry → List (List ℕ)
+plugin_order rows = names_in_order (plugins_in rows)
 
 module _ {L : Type 0} (truth : Truth) (link : L → Link) (links : List L) where
   -- a seed of the plugin of this name, which was healthy and wrapped it

@@ -7,7 +7,7 @@ use Rattle.std.specs.Cmp.Lexicographic.{slice_cmp}
 use Rattle.std.specs.Str.{bytes_eq}
 use Rattle.kr_config.specs.declared.who.Who.{Who}
 use Rattle.kr_config.specs.declared.who.Who.TheVariants.{Identity, Aescbc, Aesgcm, Kms}
-use Rattle.kr_config.specs.Kept.{Row, keeps, plugins_in}
+use Rattle.kr_config.specs.Kept.{ConfigEntry, keeps, plugins_in}
 use Rattle.kr_config.specs.Lists.{list_of}
 use Rattle.kr_config.specs.Providers.{is_kms, is_provider}
 use Rattle.kr_kms.specs.declared.seeds.SeedRow.{SeedRow}
@@ -17,11 +17,11 @@ use Rattle.kr_provider.specs.Readers.{writer_of}
 
 -- the entries of the settings, and the seeds
 pub record Publication : Type 0 where
-  pub rows : List Row
+  pub rows : List ConfigEntry
   pub seeds : List SeedRow
 
 -- whether some entries name a plugin
-abbrev pub names_plugin : List Row → Bool
+abbrev pub names_plugin : List ConfigEntry → Bool
 names_plugin rows = list_any (λ row. list_any is_kms row.providers) rows
 
 -- the settings keep their rules, and there is one seed for each plugin that they name, by the bytes

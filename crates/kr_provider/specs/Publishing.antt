@@ -6,7 +6,7 @@ use Rattle.std.specs.List.Sorted.{IsStrictlySortedBy}
 use Rattle.std.specs.Ordering.{is_lt}
 use Rattle.std.specs.Io.KnownBytes.{Consumes}
 use Rattle.kr_base.specs.Faults.{Rose}
-use Rattle.kr_config.specs.Kept.{Row, plugins_in}
+use Rattle.kr_config.specs.Kept.{ConfigEntry, plugins_in}
 use Rattle.kr_config.specs.Nexts.{name_cmp}
 use Rattle.kr_kms.specs.Calls.{Link}
 use Rattle.kr_kms.specs.Health.{HasBreach, TellsKeyId}
@@ -43,7 +43,8 @@ module _ {L D : Type 0} (truth : Truth) (link : L → Link) (left : D → Option
     (count : D → ℕ) where
   -- the plugin of this name ended it: there are seeds of those before, for which bytes were drawn,
   -- and these bytes behind them
-  pub record EndsAt (rows : List Row) (links : List L) (dice after : D) (name drawn : List ℕ)
+  pub record EndsAt (rows : List ConfigEntry) (links : List L) (dice after : D)
+      (name drawn : List ℕ)
       : Type 0 where
     pub there : Contains (plugins_in rows) name
     pub made : List SeedRow
@@ -52,12 +53,13 @@ module _ {L D : Type 0} (truth : Truth) (link : L → Link) (left : D → Option
     pub draws : Consumes (left dice) (left after) (bytes_of_seeds made ++ drawn)
 
   -- it ended there at its status, where nothing was drawn for it, or when it wrapped what was drawn
-  abbrev pub EndsWithin : List Row → List L → D → D → List ℕ → Type 0
+  abbrev pub EndsWithin : List ConfigEntry → List L → D → D → List ℕ → Type 0
   EndsWithin rows links dice after name = EndsAt rows links dice after name []
       ⊎ ((drawn : List ℕ) × (length drawn ≡ 32)
       × EndsAt rows links dice after name drawn × HasLinkWith link name IsHealthy links)
 
-  abbrev pub Publishes : List Row → List L → D → Result Publication PublishNo → List L → D → Type 0
+  abbrev pub Publishes : List ConfigEntry → List L → D → Result Publication PublishNo → List L → D
+      → Type 0
   Publishes rows links dice (Ok p) new after = (p.rows ≡ rows)
       × AreSeedsOf truth link links (plugins_in rows) (λ name. true) p.seeds
       × Consumes (left dice) (left after) (bytes_of_seeds p.seeds)

@@ -13,7 +13,7 @@ use Rattle.kr_config.specs.declared.who.Who.{Who}
 use Rattle.kr_config.specs.declared.who.Who.TheVariants.{Identity, Aescbc, Aesgcm, Kms}
 use Rattle.kr_kms.specs.declared.seeds.SeedRow.{SeedRow}
 use Rattle.kr_provider.specs.Ciphers.{cipher_under}
-use Rattle.kr_provider.specs.Envelopes.{gcm_body, object_of}
+use Rattle.kr_provider.specs.Envelopes.{gcm_body, sealed_object}
 use Rattle.kr_provider.specs.Publication.{Publication, seed_of, writer_at}
 use Rattle.kr_provider.specs.declared.refusal.SealNo.{SealNo}
 use Rattle.kr_provider.specs.declared.refusal.SealNo.TheVariants.{LooksEncrypted, TooLarge, DiceFailed, NoMemory}
@@ -37,7 +37,8 @@ value_by seeds (Aescbc name secret) path plain drawn =
 value_by seeds (Aesgcm name secret) path plain drawn =
     Some (prefix kind.Aesgcm name ++ gcm_body secret path plain drawn)
 value_by seeds (Kms name) path plain drawn = option_map
-    (λ row. prefix kind.Kms name ++ canonical (object_of row path plain drawn)) (seed_of name seeds)
+    (λ row. prefix kind.Kms name ++ canonical (sealed_object row path plain drawn))
+    (seed_of name seeds)
 
 -- nothing above the limit of data is sealed
 abbrev pub sealed_by : List SeedRow → Who → (path plain drawn : List ℕ) → Option (List ℕ)
@@ -63,7 +64,7 @@ value_size seeds (Aescbc name secret) size = length (prefix kind.Aescbc name)
 value_size seeds (Aesgcm name secret) size = length (prefix kind.Aesgcm name) + (12 + (size + 16))
 value_size seeds (Kms name) size = option_map_or
     (λ row. length (prefix kind.Kms name) + (content_size (32 + (12 + (size + 16)))
-    + length (canonical (frame_of (object_of row [] [] []))))) (seed_of name seeds) 0
+    + length (canonical (frame_of (sealed_object row [] [] []))))) (seed_of name seeds) 0
 
 -- how a call's answer stands to that: the value is under the drawn bytes, each refusal comes
 -- exactly where it applies, and nothing is drawn for a refusal or for want of memory

@@ -31,13 +31,13 @@ MayAskFor seeds name object =
     (row : SeedRow) → seed_of name seeds ≡ Some row → IsSeedOf row name object → ⊥
 
 -- a plugin may be asked for a value only where it reads the value and the value has an object
-abbrev pub MayAsk : List SeedRow → Option Who → Result EncryptedObject ObjectNo → Type 0
-MayAsk seeds None object = ⊥
-MayAsk seeds (Some Identity) object = ⊥
-MayAsk seeds (Some (Aescbc name secret)) object = ⊥
-MayAsk seeds (Some (Aesgcm name secret)) object = ⊥
-MayAsk seeds (Some (Kms name)) (Ok object) = MayAskFor seeds name object
-MayAsk seeds (Some (Kms name)) (Err why) = ⊥
+abbrev pub MayAskPlugin : List SeedRow → Option Who → Result EncryptedObject ObjectNo → Type 0
+MayAskPlugin seeds None object = ⊥
+MayAskPlugin seeds (Some Identity) object = ⊥
+MayAskPlugin seeds (Some (Aescbc name secret)) object = ⊥
+MayAskPlugin seeds (Some (Aesgcm name secret)) object = ⊥
+MayAskPlugin seeds (Some (Kms name)) (Ok object) = MayAskFor seeds name object
+MayAskPlugin seeds (Some (Kms name)) (Err why) = ⊥
 
 -- the reader of a value, where it is a plugin
 abbrev pub plugin_reading : Option Who → List (List ℕ)
@@ -74,10 +74,10 @@ pub record IsReading {L : Type 0} (truth : Truth) (link : L → Link) (seeds : L
   pub is : Unseals envelope seeds list path bytes result
   -- no link is asked but that to the reader, and that one only where it may be asked
   pub asked : AskedOnly link (plugin_reading (reader_in list bytes)) old new
-  pub unasked : (MayAsk seeds (reader_in list bytes) envelope.object → ⊥) → new ≡ old
+  pub unasked : (MayAskPlugin seeds (reader_in list bytes) envelope.object → ⊥) → new ≡ old
 
 -- the plugin that reads the value was asked for the object's source and failed
-pub record FailsAt {L : Type 0} (link : L → Link) (seeds : List SeedRow) (list : List Who)
+pub record FailsAtSource {L : Type 0} (link : L → Link) (seeds : List SeedRow) (list : List Who)
     (bytes : List ℕ) (old : List L) (name : List ℕ) (new : List L) : Type 0 where
   pub object : EncryptedObject
   pub reader : reader_in list bytes ≡ Some (Kms name)
@@ -91,7 +91,8 @@ pub record LacksMemory {L : Type 0} (link : L → Link) (seeds : List SeedRow) (
     (bytes : List ℕ) (old new : List L) : Type 0 where
   pub asked : AskedOnly link (plugin_reading (reader_in list bytes)) old new
   pub unasked : (new ≡ old) ⊎ ((object : Result EncryptedObject ObjectNo)
-      × HasObject (reader_in list bytes) bytes object × MayAsk seeds (reader_in list bytes) object)
+      × HasObject (reader_in list bytes) bytes object
+      × MayAskPlugin seeds (reader_in list bytes) object)
 
 -- each answer, in the order in which a refusal comes
 module _ {L : Type 0} (truth : Truth) (link : L → Link) where
@@ -102,7 +103,7 @@ module _ {L : Type 0} (truth : Truth) (link : L → Link) where
   UnsealsBy seeds list path bytes old (Err (Refused why)) new =
       IsReading truth link seeds list path bytes old (Err (Refused why)) new
   UnsealsBy seeds list path bytes old (Err (PluginFailed name)) new =
-      FailsAt link seeds list bytes old name new
+      FailsAtSource link seeds list bytes old name new
   UnsealsBy seeds list path bytes old (Err NoMemory) new =
       LacksMemory link seeds list bytes old new
 

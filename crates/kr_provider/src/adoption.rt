@@ -1,10 +1,10 @@
 //! The configuration that a bench adopted last, and the pages of its keys.
 ghost use Rattle.std.specs.Prelude.{◌≡◌, ◌↔◌, ◌<◌, [], Some, None, length, IsErr, IsSome, IfOk, IfSome, OnOk, OnErr};
-ghost use Rattle.kr_config.specs.Kept.{keys_in};
+ghost use Rattle.kr_config.specs.Kept.{count_entry_keys};
 ghost use Rattle.kr_provider.specs.KeyPages.{HoldKeys, adopted_secrets, secrets_in, size_of, free_pages};
 ghost use Rattle.kr_provider.specs.inner.Scan.{HasWords, IsAmong};
 
-use crate::adopted::{count_keys, keep_all, words_for};
+use crate::adopted::{count_keys, keep_all, provider_key_words};
 use crate::key_pages::KeyPages;
 use crate::published::Published;
 use crate::refusal::PagesFull;
@@ -49,7 +49,7 @@ impl Adoption {
     /// Adopts a configuration, where there are as many pages as it has keys: the pages go back, and
     /// each key is expanded into one.
     pub(crate) fn adopt(&mut self, published: Shared<Published>) -> Result<(), PagesFull>
-        ensures full { IsErr result ↔ (size_of self.old.pages < keys_in published.rows) }
+        ensures full { IsErr result ↔ (size_of self.old.pages < count_entry_keys published.rows) }
         ensures unchanged { OnErr result (self.new ≡ self.old) }
         ensures kept { OnOk result (self.new.published ≡ Some published) }
         ensures size { size_of self.new.pages ≡ size_of self.old.pages }
@@ -98,7 +98,7 @@ impl Adoption {
         requires among { IfSome self.now.published (λ p. IsAmong (secrets_in p.rows) who.now) }
         ensures { HasWords who.now result.now }
     {
-        words_for(self.published().entries(), &self.pages, who)
+        provider_key_words(self.published().entries(), &self.pages, who)
     }
 
     /// Gives all pages back.

@@ -1,10 +1,10 @@
 //! The bench of one worker: it seals and unseals by the configuration that it adopted last.
 ghost use Rattle.std.specs.Prelude.{◌≡◌, ◌↔◌, ◌≤◌, ◌<◌, [], ◌∷◌, length, Contains, Some, None, IsErr, IsSome, IfOk, IfErr, IfSome, OnOk, OnErr};
 ghost use Rattle.kr_base.specs.Limits.{path_limit, value_limit};
-ghost use Rattle.kr_config.specs.Kept.{keys_in, plugins_in, rows_of};
+ghost use Rattle.kr_config.specs.Kept.{count_entry_keys, plugins_in, rows_of};
 ghost use Rattle.kr_base.specs.Walks.{Talk};
 ghost use Rattle.kr_provider.specs.AskedLinks.{Among, AskedOnly};
-ghost use Rattle.kr_provider.specs.BenchKeys.{AdoptCall, ClearsKeys, Does};
+ghost use Rattle.kr_provider.specs.BenchKeys.{AdoptCall, ClearsKeys, Does, adoption_of};
 ghost use Rattle.kr_provider.specs.Exchanges.{PublishesBy, ReadsBy, TellsKeyIdAt};
 ghost use Rattle.kr_provider.specs.KeyPages.{HoldKeys, adopted_secrets, size_of, free_pages};
 ghost use Rattle.kr_provider.specs.Names.{HasLinks, names_of};
@@ -15,11 +15,11 @@ ghost use Rattle.kr_provider.specs.Unsealing.{HeedsCache, UnsealsBy};
 
 use crate::adoption::Adoption;
 use crate::links::Links;
-use crate::making::refusal_at;
+use crate::making::plugin_refusal;
 use crate::published::{Published, publish};
 use crate::refusal::{Opened, PagesFull, PublishNo, SealNo, UnsealNo};
-use crate::sealing::{beside, seal_by};
-use crate::values::unseal_for;
+use crate::sealing::{seal_value, value_overhead};
+use crate::values::unseal_for_resource;
 use kr_base::{Bytes, Dice, NoMemory, Shared, Text};
 use kr_config::Settings;
 use kr_kms::{Kms, SeedCache};
@@ -97,7 +97,7 @@ impl<L: Kms, D: Dice> Bench<L, D> {
     /// changes.
     pub fn adopt(&mut self, published: Shared<Published>) -> Result<(), PagesFull>
         requires links { HasLinks (names_of L.link self.old.links) published.rows }
-        ensures full { IsErr result ↔ (size_of self.old.pages < keys_in published.rows) }
+        ensures full { IsErr result ↔ (size_of self.old.pages < count_entry_keys published.rows) }
         ensures unchanged { OnErr result (self.new ≡ self.old) }
         ensures kept { OnOk result (self.new
             ≡ record self.old { published = Some published; pages = self.new.pages }) }
@@ -114,7 +114,7 @@ impl<L: Kms, D: Dice> Bench<L, D> {
     /// Links, random source and unwrapped seeds stay. It takes no memory.
     pub fn let_go(&mut self)
         ensures kept { self.new ≡ record self.old { published = None; pages = self.new.pages } }
-        ensures cleared { ClearsKeys self.old self.new }
+        ensures cleared { ClearsKeys (adoption_of self.old) (adoption_of self.new) }
     {
         self.adoption.let_go();
     }
@@ -153,15 +153,22 @@ impl<L: Kms, D: Dice> Bench<L, D> {
         ensures later { D.count self.old.dice ≤ D.count self.new.dice }
         ensures kept { self.new ≡ record self.old { dice = self.new.dice } }
     {
-        let beside = beside_for(&self.adoption, resource, plain.len());
+        let beside = writer_overhead(&self.adoption, resource, plain.len());
         match with_room(alloc, plain, beside) {
-            Ok(plain) => seal_for(alloc, &self.adoption, resource, path, plain, &mut self.dice),
+            Ok(plain) => seal_for_resource(
+                alloc,
+                &self.adoption,
+                resource,
+                path,
+                plain,
+                &mut self.dice,
+            ),
             Err(_) => Err(SealNo::NoMemory),
         }
     }
 
-    /// The same, in the buffer of data that are given away. It grows by what is missing alone, since
-    /// its room stays with the value.
+    /// The same, in the buffer of data that are given away. It grows by what is missing alone,
+    /// since its room stays with the value.
     pub fn seal_in_place(
         &mut self,
         alloc: Global,
@@ -179,9 +186,16 @@ impl<L: Kms, D: Dice> Bench<L, D> {
         ensures later { D.count self.old.dice ≤ D.count self.new.dice }
         ensures kept { self.new ≡ record self.old { dice = self.new.dice } }
     {
-        let beside = beside_for(&self.adoption, resource, plain.as_slice().len());
+        let beside = writer_overhead(&self.adoption, resource, plain.as_slice().len());
         match grown(plain, beside) {
-            Ok(plain) => seal_for(alloc, &self.adoption, resource, path, plain, &mut self.dice),
+            Ok(plain) => seal_for_resource(
+                alloc,
+                &self.adoption,
+                resource,
+                path,
+                plain,
+                &mut self.dice,
+            ),
             Err(_) => Err(SealNo::NoMemory),
         }
     }
@@ -239,7 +253,7 @@ impl<L: Kms, D: Dice> Bench<L, D> {
         ensures kept { self.new
             ≡ record self.old { links = self.new.links; cache = self.new.cache } }
     {
-        unseal_for(
+        unseal_for_resource(
             alloc,
             &self.adoption,
             &mut self.links,
@@ -259,7 +273,7 @@ impl<L: Kms, D: Dice> Bench<L, D> {
             (TellsKeyIdAt name.now result) }
         ensures kept { self.new ≡ record self.old { links = self.new.links } }
     {
-        key_id_in(alloc, name, &mut self.links)
+        plugin_key_id(alloc, name, &mut self.links)
     }
 
     /// Publishes settings with the bench's own links and random source. The adopted configuration
@@ -300,7 +314,7 @@ impl<L: Kms, D: Dice> Bench<L, D> {
 }
 
 /// The value by the writer of the resource's list, made in the data's buffer.
-fn seal_for<D: Dice>(
+fn seal_for_resource<D: Dice>(
     alloc: Global,
     adoption: &Adoption,
     resource: &str,
@@ -318,18 +332,18 @@ fn seal_for<D: Dice>(
     ensures later { D.count dice.old ≤ D.count dice.new }
 {
     let published = adoption.published();
-    let writer = published.writer_for(resource);
+    let writer = published.resource_writer(resource);
     let words = adoption.words(writer);
     plain.known();
-    seal_by(alloc, writer, published.seeds(), words, path, plain, dice)
+    seal_value(alloc, writer, published.seeds(), words, path, plain, dice)
 }
 
 /// How many bytes a value of the resource has beside so many bytes of data.
-fn beside_for(adoption: &Adoption, resource: &str, size: usize) -> usize
+fn writer_overhead(adoption: &Adoption, resource: &str, size: usize) -> usize
     requires { IsSome adoption.now.published }
 {
     let published = adoption.published();
-    beside(published.writer_for(resource), published.seeds(), size)
+    value_overhead(published.resource_writer(resource), published.seeds(), size)
 }
 
 /// The data, with room for so many bytes beside them.
@@ -351,7 +365,7 @@ fn with_room(alloc: Global, plain: &[u8], beside: usize) -> Result<Bytes, NoMemo
 }
 
 /// The id of the key that the plugin of this name wraps with now.
-fn key_id_in<L: Kms>(alloc: Global, name: &str, links: &mut Links<L>) -> Result<Text, PublishNo>
+fn plugin_key_id<L: Kms>(alloc: Global, name: &str, links: &mut Links<L>) -> Result<Text, PublishNo>
     requires { Contains (names_of L.link links.old) name.now }
     ensures told { TellsKeyIdOf L.link name.now links.old result links.new }
     ensures asked { AskedOnly L.link (name.now ∷ []) links.old links.new }
@@ -359,6 +373,6 @@ fn key_id_in<L: Kms>(alloc: Global, name: &str, links: &mut Links<L>) -> Result<
 {
     match links.key_id(alloc, name) {
         Ok(key_id) => Ok(key_id),
-        Err(why) => Err(refusal_at(alloc, name, why)),
+        Err(why) => Err(plugin_refusal(alloc, name, why)),
     }
 }

@@ -1,6 +1,6 @@
 //! What tells the secret of a provider from another of the same name.
 ghost use Rattle.std.specs.Prelude.{◌≡◌};
-ghost use Rattle.kr_provider.specs.Checks.{check_of, keyed_check};
+ghost use Rattle.kr_provider.specs.Checks.{provider_check, keyed_check};
 
 use kr_config::Who;
 
@@ -8,8 +8,8 @@ use kr_config::Who;
 const CHECK: usize = 8;
 
 /// The check of a provider, which stands beside its values. It takes no memory.
-pub fn check_of(who: &Who) -> [u8; CHECK]
-    ensures { result ≡ check_of who.now }
+pub fn provider_check(who: &Who) -> [u8; CHECK]
+    ensures { result ≡ provider_check who.now }
 {
     match who {
         Who::Identity => [0; CHECK],

@@ -2,7 +2,7 @@
 //! given back where the keys are cleared or ended.
 ghost use Rattle.std.specs.Prelude.{◌≡◌, ◌+◌, ◌<◌, [], ◌∷◌, ◌++◌, length, slice_index_or, IfOk};
 ghost use Rattle.kr_aes.specs.KeyExpansion.{IsKeyLength, padded_schedule};
-ghost use Rattle.kr_pages.specs.Pool.{words_of};
+ghost use Rattle.kr_pages.specs.Pool.{page_words};
 ghost use Rattle.kr_provider.specs.KeyPages.{HoldKeys, words_out, size_of, free_pages};
 ghost use Rattle.kr_provider.specs.inner.Stack.{IsStack};
 
@@ -54,7 +54,7 @@ impl KeyPages {
     pub(crate) fn size(&self) -> usize
         ensures { result ≡ size_of self.now }
     {
-        self.pool.free() as usize + self.pool.out() as usize
+        self.pool.free() as usize + self.pool.taken_count() as usize
     }
 
     /// How many of them hold a key.
@@ -84,7 +84,7 @@ impl KeyPages {
     /// The words of the key at a place.
     pub(crate) fn words(&self, place: usize) -> &[u32; 60]
         requires { place < length self.now.out }
-        ensures { result.now ≡ words_of self.now.pool (slice_index_or self.now.out place 0) }
+        ensures { result.now ≡ page_words self.now.pool (slice_index_or self.now.out place 0) }
     {
         self.pool.words(&self.out.as_slice()[place])
     }

@@ -41,8 +41,8 @@ pub fn some_reading()
     ensures { ReadsSomehow }
 {}
 
-/// A value of aesgcm, or of a plugin whose object's source was unwrapped, is data at the paths of its
-/// tag alone.
+/// A value of aesgcm, or of a plugin whose object's source was unwrapped, is data at the paths of
+/// its tag alone.
 pub fn tag_of_path()
     ensures { ReadsUnderItsTag }
 {}
@@ -58,9 +58,9 @@ pub fn asked_links<L: Kms>()
     ensures { (names : List (List ℕ)) → LinksStay L.link names }
 {}
 
-/// After each front of what a bench is asked for, its pages hold exactly the schedules of the
-/// configuration that it adopted last and didn't let go since, and every other page is free and
-/// zero.
+/// At every moment between two things that a bench is asked for, its pages hold exactly the
+/// schedules of the configuration that it adopted last and didn't let go since, and every other
+/// page is free and zero.
 pub fn pages_follow_calls<L: Kms, D: Dice>()
     ensures { PagesFollowCalls L D }
 {}

@@ -25,9 +25,9 @@ mod value_keys;
 mod values;
 
 pub use bench::Bench;
-pub use check::check_of;
+pub use check::provider_check;
 pub use kr_base::Shared;
 pub use links::Links;
 pub use published::{Published, names_plugin, publish};
-pub use readers::reader_of;
+pub use readers::find_reader;
 pub use refusal::{Opened, PagesFull, PublishNo, SealNo, UnsealNo, ValueNo};

@@ -15,7 +15,7 @@ ghost use Rattle.kr_provider.specs.inner.Scan.{is_served};
 use kr_base::{Bytes, Dice, NoMemory, Text};
 use kr_config::{Entry, Settings, Who};
 use kr_envelope::EncryptedObject;
-use kr_kms::{Kms, KmsNo, SeedCache, SeedNo, SeedRow, key_id_of, make_seed};
+use kr_kms::{Kms, KmsNo, SeedCache, SeedNo, SeedRow, healthy_key_id, make_seed};
 use std::alloc::Global;
 use std::marker::Model;
 
@@ -81,7 +81,7 @@ impl<L: Kms> Links<L> {
         requires { Contains (names_of L.link self.now) name.now }
         ensures { HasLinkWith L.link name.now (λ link. result ≡ link.count) self.now }
     {
-        faults_in(self.items.as_slice(), name)
+        link_faults(self.items.as_slice(), name)
     }
 
     /// Tells what its type keeps: the names are distinct.
@@ -113,8 +113,8 @@ impl<L: Kms> Links<L> {
             (λ old new. TellsKeyId (L.link old) result (L.link new)) self.old self.new }
         ensures exchanged { Talk (Among L.step) self.old self.new (TellsKeyIdBy name.now result) }
     {
-        let at = place_of(self.items.as_slice(), name);
-        key_id_of(alloc, &mut self.items[at])
+        let at = plugin_link_place(self.items.as_slice(), name);
+        healthy_key_id(alloc, &mut self.items[at])
     }
 
     /// A seed of the plugin of this name.
@@ -132,7 +132,7 @@ impl<L: Kms> Links<L> {
         ensures exchanged { Talk (Among L.step) self.old self.new
             (MakesSeedBy D.left D.count name.now dice.old result dice.new) }
     {
-        let at = place_of(self.items.as_slice(), name);
+        let at = plugin_link_place(self.items.as_slice(), name);
         make_seed(alloc, &mut self.items[at], dice)
     }
 
@@ -151,7 +151,7 @@ impl<L: Kms> Links<L> {
             (asked_key name.now object.now.key_id object.now.annotations object.now.source)
             cache.old result cache.new) }
     {
-        let at = place_of(self.items.as_slice(), name);
+        let at = plugin_link_place(self.items.as_slice(), name);
         cache.fetch(
             &mut self.items[at],
             object.key_id.as_str(),
@@ -198,29 +198,29 @@ fn is_served<L: Kms>(links: &[L], who: &Who) -> bool
 }
 
 /// How often the link to the plugin of this name failed so far.
-fn faults_in<L: Kms>(links: &[L], name: &str) -> u64
+fn link_faults<L: Kms>(links: &[L], name: &str) -> u64
     requires { Contains (names_of L.link links.now) name.now }
     ensures { HasLinkWith L.link name.now (λ link. result ≡ link.count) links.now }
 {
-    let at = place_of(links, name);
+    let at = plugin_link_place(links, name);
     links[at].faults()
 }
 
 /// Where the link to the plugin of this name stands, which is there.
-fn place_of<L: Kms>(links: &[L], name: &str) -> usize
+fn plugin_link_place<L: Kms>(links: &[L], name: &str) -> usize
     requires { Contains (names_of L.link links.now) name.now }
     ensures place { position (λ link. bytes_eq (L.link link).name name.now) links.now
         ≡ Some result }
     ensures within { result < length links.now }
 {
-    let Some(at) = place_in(links, name) else {
+    let Some(at) = find_plugin_link(links, name) else {
         unreachable!();
     };
     at
 }
 
 /// Where the link to the plugin of this name stands, if there is one.
-fn place_in<L: Kms>(links: &[L], name: &str) -> Option<usize>
+fn find_plugin_link<L: Kms>(links: &[L], name: &str) -> Option<usize>
     ensures { result ≡ position (λ link. bytes_eq (L.link link).name name.now) links.now }
 {
     links.iter().position(|link| link.name() == name)

@@ -65,12 +65,12 @@ fn make_one<L: Kms, D: Dice>(
 {
     match links.make_seed(alloc, name, dice) {
         Ok(row) => Ok(row),
-        Err(why) => Err(refusal_at(alloc, name, why)),
+        Err(why) => Err(plugin_refusal(alloc, name, why)),
     }
 }
 
 /// What the refusal of the plugin of this name is, or that there is no memory for it.
-pub(crate) fn refusal_at(alloc: Global, name: &str, why: SeedNo) -> PublishNo
+pub(crate) fn plugin_refusal(alloc: Global, name: &str, why: SeedNo) -> PublishNo
     ensures { IsRefusalAt name.now why result }
 {
     match why {

@@ -71,15 +71,15 @@ impl Published {
     }
 
     /// The providers of the resource.
-    pub fn list_for(&self, resource: &str) -> &[Who]
+    pub fn resource_list(&self, resource: &str) -> &[Who]
         ensures list { result.now ≡ list_at self.now resource.now }
         ensures kept { IsPublished self.now }
     {
-        self.settings.get().list_for(resource)
+        self.settings.get().resource_list(resource)
     }
 
     /// The provider that writes values of the resource.
-    pub(crate) fn writer_for(&self, resource: &str) -> &Who
+    pub(crate) fn resource_writer(&self, resource: &str) -> &Who
         ensures writer { result.now ≡ writer_at self.now resource.now }
         ensures provider { is_provider result.now ≡ true }
         ensures among { IsAmong (secrets_in self.now.rows) result.now }
@@ -87,7 +87,7 @@ impl Published {
         ensures rows { All IsSeedRow self.now.seeds }
     {
         let list = self.listed(resource);
-        writer_in(list)
+        list_writer(list)
     }
 
     /// The providers of the resource, with what settings keep of them.
@@ -99,7 +99,7 @@ impl Published {
         ensures seeds { HaveSeeds self.now.seeds result.now }
         ensures rows { All IsSeedRow self.now.seeds }
     {
-        self.list_for(resource)
+        self.resource_list(resource)
     }
 
     /// Tells what its type keeps: the rules of settings, and a wrapped seed for each plugin.
@@ -111,7 +111,7 @@ impl Published {
 }
 
 /// The first of a list.
-fn writer_in(list: &[Who]) -> &Who
+fn list_writer(list: &[Who]) -> &Who
     requires { IsProviderList list.now }
     ensures writer { result.now ≡ writer_of list.now }
     ensures provider { is_provider result.now ≡ true }

@@ -8,7 +8,7 @@ use kr_envelope::{Kind, MARK};
 
 /// The place of the provider whose prefix the bytes begin with, or of identity where they don't
 /// begin `k8s:enc:`; none where the list holds no such provider.
-pub fn reader_of(list: &[Who], bytes: &[u8]) -> Option<usize>
+pub fn find_reader(list: &[Who], bytes: &[u8]) -> Option<usize>
     ensures { result ≡ reader_place list.now bytes.now }
 {
     list.iter().position(|who| reads(who, bytes))
@@ -18,12 +18,12 @@ pub fn reader_of(list: &[Who], bytes: &[u8]) -> Option<usize>
 fn reads(who: &Who, bytes: &[u8]) -> bool
     ensures { result ≡ is_reader bytes.now who.now }
 {
-    body_of(who, bytes).is_some()
+    value_body(who, bytes).is_some()
 }
 
 /// What the provider reads: the bytes behind its prefix, for identity all of a value without one.
 /// None where the value is another provider's.
-pub(crate) fn body_of<'a>(who: &Who, bytes: &'a [u8]) -> Option<&'a [u8]>
+pub(crate) fn value_body<'a>(who: &Who, bytes: &'a [u8]) -> Option<&'a [u8]>
     ensures { MatchOption result (is_reader bytes.now who.now ≡ false)
         (λ body. (is_reader bytes.now who.now ≡ true) × (body.now ≡ body_by who.now bytes.now)) }
 {

@@ -6,7 +6,7 @@ ghost use Rattle.kr_provider.specs.Ciphers.{rounds_under};
 use kr_aes::Rounds;
 
 /// The rounds that go with the words of a key.
-pub(crate) fn rounds_of(secret: &[u8]) -> Rounds
+pub(crate) fn key_rounds(secret: &[u8]) -> Rounds
     requires { IsKeyLength (length secret.now) }
     ensures rounds { result ≡ rounds_under secret.now }
     ensures schedule { IsSchedule (padded_schedule secret.now) result }

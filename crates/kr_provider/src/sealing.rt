@@ -17,9 +17,9 @@ ghost use Rattle.kr_provider.specs.inner.Bare.{IsBare};
 ghost use Rattle.kr_provider.specs.inner.Scan.{HasSeed, HasWords};
 
 use crate::refusal::SealNo;
-use crate::rounds::rounds_of;
+use crate::rounds::key_rounds;
 use crate::seed_sealing::{beside_by_seed, by_seed};
-use crate::seeds::seed_of;
+use crate::seeds::plugin_seed;
 use kr_base::{Bytes, DATA_LIMIT, Dice, Failed, Text};
 use kr_config::Who;
 use kr_envelope::{Kind, MARK, push_prefix};
@@ -38,7 +38,7 @@ pub(crate) const TAG: usize = 16;
 
 /// The value of the data by a provider, whose key's words are given, a plugin's under its seed. It
 /// is made in the data's buffer. The memory for it is taken before the dice is asked.
-pub(crate) fn seal_by<D: Dice>(
+pub(crate) fn seal_value<D: Dice>(
     alloc: Global,
     who: &Who,
     seeds: &[SeedRow],
@@ -65,7 +65,7 @@ pub(crate) fn seal_by<D: Dice>(
         Who::Aescbc(name, secret) => by_aescbc(alloc, name, secret, words, plain, dice),
         Who::Aesgcm(name, secret) => by_aesgcm(alloc, name, secret, words, path, plain, dice),
         Who::Kms(name) => {
-            let Some(row) = seed_of(seeds, name.as_str()) else {
+            let Some(row) = plugin_seed(seeds, name.as_str()) else {
                 unreachable!();
             };
             by_seed(alloc, name, row, path, plain, dice)
@@ -191,12 +191,12 @@ pub(crate) fn prefix_and(kind: Kind, name: &Text, more: usize) -> usize
 }
 
 /// How many bytes a provider's value has beside so many bytes of data.
-pub(crate) fn beside(who: &Who, seeds: &[SeedRow], size: usize) -> usize {
+pub(crate) fn value_overhead(who: &Who, seeds: &[SeedRow], size: usize) -> usize {
     match who {
         Who::Identity => 0,
         Who::Aescbc(name, _) => prefix_and(Kind::Aescbc, name, IV + IV),
         Who::Aesgcm(name, _) => prefix_and(Kind::Aesgcm, name, NONCE + TAG),
-        Who::Kms(name) => match seed_of(seeds, name.as_str()) {
+        Who::Kms(name) => match plugin_seed(seeds, name.as_str()) {
             Some(row) => beside_by_seed(name, row, size),
             None => 0,
         },
@@ -248,7 +248,7 @@ fn write_cbc(
         ≡ take start value.old
         ++ (iv.now ++ cbc (cipher_under secret.now) iv.now (pad plain)) }
 {
-    let rounds = rounds_of(secret.as_slice());
+    let rounds = key_rounds(secret.as_slice());
     let (_, room) = value.split_at_mut(start);
     let (first, body) = room.split_at_mut(IV);
     first.copy_from_slice(iv);
@@ -274,7 +274,7 @@ pub(crate) fn write_gcm(
     ensures { let plain = take size (drop 12 (drop start value.old)) in
         value.new ≡ take start value.old ++ gcm_body secret.now path.now plain nonce.now }
 {
-    let rounds = rounds_of(secret);
+    let rounds = key_rounds(secret);
     let (_, room) = value.split_at_mut(start);
     let (first, body) = room.split_at_mut(NONCE);
     first.copy_from_slice(nonce);

@@ -16,7 +16,7 @@ use crate::sealing::{NONCE, TAG, draw, framed, prefix_and, write_gcm};
 use crate::value_keys::{SEED, value_key};
 use kr_aes::expand;
 use kr_base::{Bytes, Dice, Failed, Text};
-use kr_envelope::{Kind, SourceKind, push_behind, push_data_size, push_prefix};
+use kr_envelope::{Kind, SourceKind, push_data_size, push_last_fields, push_prefix};
 use kr_kms::SeedRow;
 use std::alloc::Global;
 
@@ -44,7 +44,7 @@ pub(crate) fn by_seed<D: Dice>(
     ensures later { D.count dice.old ≤ D.count dice.new }
 {
     let size = plain.as_slice().len();
-    let Some((mut value, start)) = object_around(alloc, name, row, plain) else {
+    let Some((mut value, start)) = object_frame(alloc, name, row, plain) else {
         return Err(SealNo::NoMemory);
     };
     let mut drawn = [0u8; SEED + NONCE];
@@ -95,12 +95,7 @@ fn head_size(size: usize) -> usize {
 
 /// The value with the data in place of their ciphertext and zeros in place of the other sealed
 /// bytes, and where these begin; none for want of memory.
-fn object_around(
-    alloc: Global,
-    name: &Text,
-    row: &SeedRow,
-    plain: Bytes,
-) -> Option<(Vec<u8>, usize)>
+fn object_frame(alloc: Global, name: &Text, row: &SeedRow, plain: Bytes) -> Option<(Vec<u8>, usize)>
     requires row { IsSeedRow row.now }
     requires fits { length plain ≤ data_limit }
     ensures { IfSome result (λ framed. let size = 32 + 12 + length plain + 16 in
@@ -115,7 +110,7 @@ fn object_around(
     let start = front.len();
     front.resize(start + SEED + NONCE, 0).ok()?;
     let mut value = framed(front.as_slice(), plain, TAG)?;
-    push_behind(
+    push_last_fields(
         &mut value,
         row.key_id.as_str(),
         row.source.as_slice(),

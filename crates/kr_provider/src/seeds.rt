@@ -11,25 +11,25 @@ use kr_envelope::{EncryptedObject, SourceKind};
 use kr_kms::SeedRow;
 
 /// The seed of the plugin of this name, if it has one.
-pub(crate) fn seed_of<'a>(seeds: &'a [SeedRow], name: &str) -> Option<&'a SeedRow>
+pub(crate) fn plugin_seed<'a>(seeds: &'a [SeedRow], name: &str) -> Option<&'a SeedRow>
     ensures { MatchOption result (seed_of name.now seeds.now ≡ None)
         (λ row. seed_of name.now seeds.now ≡ Some row.now) }
 {
-    match place_in(seeds, name) {
+    match find_plugin_seed(seeds, name) {
         Some(at) => Some(&seeds[at]),
         None => None,
     }
 }
 
 /// Where the seed of the plugin of this name stands.
-fn place_in(seeds: &[SeedRow], name: &str) -> Option<usize>
+fn find_plugin_seed(seeds: &[SeedRow], name: &str) -> Option<usize>
     ensures { result ≡ position (λ row. bytes_eq row.name name.now) seeds.now }
 {
     seeds.iter().position(|row| row.name.as_str() == name)
 }
 
 /// Whether the seed is the object's: name, key id, annotations and source are the same.
-pub(crate) fn is_seed_of(row: &SeedRow, name: &str, object: &EncryptedObject) -> bool
+pub(crate) fn is_object_seed(row: &SeedRow, name: &str, object: &EncryptedObject) -> bool
     ensures { result ≡ key_eq (key_of row.now) (seed_key name.now object.now) }
 {
     row.name.as_str() == name

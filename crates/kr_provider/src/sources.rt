@@ -20,12 +20,12 @@ pub(crate) fn read_object(alloc: Global, body: &[u8]) -> Result<EncryptedObject,
 {
     match EncryptedObject::read(alloc, body) {
         Ok(object) => Ok(object),
-        Err(why) => Err(refusal_of(why)),
+        Err(why) => Err(envelope_refusal(why)),
     }
 }
 
 /// The refusal of an object, or that there was no memory for it.
-fn refusal_of(why: ObjectNo) -> UnsealNo
+fn envelope_refusal(why: ObjectNo) -> UnsealNo
     ensures { IsRefusalOf why result }
 {
     match why {

@@ -12,7 +12,7 @@ ghost use Rattle.kr_provider.specs.inner.Scan.{HasWords};
 ghost use Rattle.kr_provider.specs.inner.Sources.{Gives};
 
 use crate::refusal::{UnsealNo, ValueNo};
-use crate::rounds::rounds_of;
+use crate::rounds::key_rounds;
 use crate::sealing::NONCE;
 use kr_base::Bytes;
 use kr_config::Who;
@@ -20,7 +20,7 @@ use kr_modes::{ModeNo, cbc_unseal_in_place, gcm_unseal_in_place};
 
 /// The data of the body by a provider that is no plugin, whose key's words are given. The body
 /// stands behind the first `from` bytes of the value, and the data are made in the value's buffer.
-pub(crate) fn unseal_by(
+pub(crate) fn unseal_body(
     who: &Who,
     words: &[u32; 60],
     path: &str,
@@ -56,14 +56,14 @@ fn by_aescbc(secret: &[u8], words: &[u32; 60], value: Bytes, from: usize) -> Res
     ensures { Gives (body_reading (cbc_opened (inverse_under secret.now) (drop from value)))
         result }
 {
-    let rounds = rounds_of(secret);
+    let rounds = key_rounds(secret);
     let mut buffer = value.into_vec();
     match cbc_unseal_in_place(words, rounds, buffer.as_mut_slice(), from) {
         Ok(length) => {
             buffer.truncate(length);
             Ok(Bytes::from_vec(buffer))
         }
-        Err(why) => Err(UnsealNo::Refused(refusal_of(why))),
+        Err(why) => Err(UnsealNo::Refused(mode_refusal(why))),
     }
 }
 
@@ -84,7 +84,7 @@ pub(crate) fn by_aesgcm(
 {
     let bytes = value.as_slice();
     if bytes.len() - from < NONCE {
-        return Err(UnsealNo::Refused(refusal_of(ModeNo::Short)));
+        return Err(UnsealNo::Refused(mode_refusal(ModeNo::Short)));
     }
     let start = from + NONCE;
     let mut nonce = [0u8; NONCE];
@@ -109,19 +109,19 @@ fn by_gcm(
     ensures { Gives (body_reading
         (gcm_opened (cipher_under secret.now) nonce.now path.now (drop from value))) result }
 {
-    let rounds = rounds_of(secret);
+    let rounds = key_rounds(secret);
     let mut buffer = value.into_vec();
     match gcm_unseal_in_place(words, rounds, nonce, path, buffer.as_mut_slice(), from) {
         Ok(length) => {
             buffer.truncate(length);
             Ok(Bytes::from_vec(buffer))
         }
-        Err(why) => Err(UnsealNo::Refused(refusal_of(why))),
+        Err(why) => Err(UnsealNo::Refused(mode_refusal(why))),
     }
 }
 
 /// The refusal of a body.
-pub(crate) fn refusal_of(why: ModeNo) -> ValueNo
+pub(crate) fn mode_refusal(why: ModeNo) -> ValueNo
     ensures { body_refusal why ≡ refused result }
 {
     match why {

@@ -20,11 +20,11 @@ ghost use Rattle.kr_provider.specs.inner.Sources.{OpensSourceBy, UnsealsObjectBy
 
 use crate::adoption::Adoption;
 use crate::links::Links;
-use crate::readers::{body_of, reader_of};
+use crate::readers::{find_reader, value_body};
 use crate::refusal::{Opened, UnsealNo, ValueNo};
-use crate::seeds::{is_seed_of, is_stale, seed_of};
+use crate::seeds::{is_object_seed, is_stale, plugin_seed};
 use crate::sources::{by_source, read_object};
-use crate::unsealing::unseal_by;
+use crate::unsealing::unseal_body;
 use kr_base::{Bytes, Text};
 use kr_config::Who;
 use kr_envelope::EncryptedObject;
@@ -32,7 +32,7 @@ use kr_kms::{Kms, KmsNo, SeedCache, SeedRow};
 use std::alloc::Global;
 
 /// What the value holds by the list of the resource, made in the value's buffer.
-pub(crate) fn unseal_for<L: Kms>(
+pub(crate) fn unseal_for_resource<L: Kms>(
     alloc: Global,
     adoption: &Adoption,
     links: &mut Links<L>,
@@ -57,11 +57,11 @@ pub(crate) fn unseal_for<L: Kms>(
     let published = adoption.published();
     let list = published.listed(resource);
     let seeds = published.seeds();
-    unseal_in(alloc, adoption, seeds, list, links, cache, path, value)
+    unseal_by_list(alloc, adoption, seeds, list, links, cache, path, value)
 }
 
 /// What the value holds by a list of providers.
-fn unseal_in<L: Kms>(
+fn unseal_by_list<L: Kms>(
     alloc: Global,
     adoption: &Adoption,
     seeds: &[SeedRow],
@@ -88,24 +88,24 @@ fn unseal_in<L: Kms>(
     ensures kept { AreOpen L.truth cache.new.rows }
 {
     let bytes = value.as_slice();
-    let Some(place) = reader_of(list, bytes) else {
+    let Some(place) = find_reader(list, bytes) else {
         return Err(UnsealNo::Refused(ValueNo::NoProvider));
     };
     let reader = &list[place];
-    let Some(body) = body_of(reader, bytes) else {
+    let Some(body) = value_body(reader, bytes) else {
         unreachable!();
     };
     let first = place == 0;
     match reader {
         Who::Kms(name) => {
-            let Some(row) = seed_of(seeds, name.as_str()) else {
+            let Some(row) = plugin_seed(seeds, name.as_str()) else {
                 unreachable!();
             };
             by_plugin(alloc, name.as_str(), row, links, cache, first, path, body)
         }
         _ => {
             let from = bytes.len() - body.len();
-            match unseal_by(reader, adoption.words(reader), path, value, from) {
+            match unseal_body(reader, adoption.words(reader), path, value, from) {
                 Ok(plain) => Ok(Opened {
                     plain,
                     stale: !first,
@@ -177,7 +177,7 @@ fn unseal_object<L: Kms>(
         (UnsealsObjectBy row.now name.now object path.now cache.old result cache.new) }
     ensures kept { AreOpen L.truth cache.new.rows }
 {
-    if is_seed_of(row, name, &object) {
+    if is_object_seed(row, name, &object) {
         return by_source(object.kind, row.seed.as_slice(), path, object.encrypted);
     }
     let source = open_source(alloc, name, &object, links, cache)?;

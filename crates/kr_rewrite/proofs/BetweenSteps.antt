@@ -4,9 +4,6 @@ use Rattle.kr_base.specs.Rules.{IsPath}
 use Rattle.kr_kms.specs.Calls.{Link}
 use Rattle.kr_provider.proofs.AskedLists.{asked_then, names_stay}
 use Rattle.kr_provider.specs.AskedLinks.{AskedOnly}
-use Rattle.kr_provider.specs.BenchKeys.{LeavesKeys}
-use Rattle.kr_provider.specs.BenchState.{BenchState}
-use Rattle.kr_provider.specs.KeyPages.{HoldKeys, size_of}
 use Rattle.kr_provider.specs.Names.{names_of}
 use Rattle.kr_history.specs.Calls.{AreServed}
 use Rattle.kr_history.specs.declared.call.CallNo.{CallNo}
@@ -14,8 +11,8 @@ use Rattle.kr_rollout.specs.declared.opening.Opening.{Opening}
 use Rattle.kr_history.specs.Acting.{Caller}
 use Rattle.kr_history.specs.Parts.{AddsWithin}
 use Rattle.kr_history.proofs.PartsAdd.{nothing_within, within_behind, within_more}
-use Rattle.kr_rewrite.specs.Drives.{Counts, CoversLive, DrivesOver, EndsByOver, FindsRow, IsCutOver, IsDriveOver, WalksOver, last_of, path_of, report_at}
-use Rattle.kr_rewrite.specs.Rewrites.{IsStepOver, IsStepTo, RowReads}
+use Rattle.kr_rewrite.specs.Drives.{StepCounts, CoversLive, DrivesOver, EndsByOver, FindsRow, IsCutOver, IsDriveOver, WalksOver, last_of, path_of, report_at}
+use Rattle.kr_rewrite.specs.Rewrites.{IsStepOver, IsStepTo, ReadsFoundRow}
 use Rattle.kr_rewrite.specs.declared.outcome.Report.{Report}
 use Rattle.kr_rewrite.specs.declared.outcome.Step.{Step}
 use Rattle.kr_rewrite.specs.declared.outcome.Step.TheVariants as step
@@ -24,13 +21,13 @@ use Rattle.kr_rewrite.proofs.Covering.{IsCovered, covered_begin, covered_end, co
 use Rattle.kr_rewrite.proofs.Growing.{StepLooks, TakesStep, at_end, at_row, takes_step}
 use Rattle.kr_rewrite.proofs.Walking.{counts_more, ends_there, finds_row, last_is, settles, walks_more}
 
-module _ {S D : Type 0} (Reads : RowReads S) (left : D → Option (List ℕ))
+module _ {S D : Type 0} (Reads : ReadsFoundRow S) (left : D → Option (List ℕ))
     (count : D → ℕ) (replica : ℕ) where
   -- steps were taken up to here, each counted, and no path was passed by that is live throughout
   pub record IsWalked (above : List ℕ) (old : Caller) (from : S) (dice : D) (report : Report)
       (now : Caller) (links : S) (drawn : D) : Type 0 where
     pub steps : List Step
-    pub counts : Counts above steps report
+    pub counts : StepCounts above steps report
     pub walks : WalksOver Reads left count replica above steps old from dice now links drawn
     pub covers : IsCovered above steps old now
     pub few : AddsWithin (4 * length steps) 0 [] old now
@@ -39,7 +36,7 @@ module _ {S D : Type 0} (Reads : RowReads S) (left : D → Option (List ℕ))
       → report ≡ report_at above → IsWalked above old from dice report old from dice
   walked_begin above old from dice report is = record {
     steps = [];
-    counts = subst (λ (r : Report). Counts above [] r) (sym is)
+    counts = subst (λ (r : Report). StepCounts above [] r) (sym is)
         (record { rewritten = refl; fresh = refl; changed = refl; left = refl; last = refl });
     walks = (refl, refl, refl);
     covers = covered_begin above old;
@@ -181,7 +178,7 @@ path_next taken found old new c is to = inr (subst IsPath (sym (last_is taken fo
 
 -- ---- what stays
 
-module _ {S D : Type 0} (Reads : RowReads S) (left : D → Option (List ℕ))
+module _ {S D : Type 0} (Reads : ReadsFoundRow S) (left : D → Option (List ℕ))
     (count : D → ℕ) (replica : ℕ) (above : List ℕ) (old : Caller) (olds : S) (dice : D)
     (report : Report) (now : Caller) (links : S) (drawn : D)
     (w : IsWalked Reads left count replica above old olds dice report now links drawn) where
@@ -210,29 +207,9 @@ asked_still link olds mids news a b =
     (subst (λ names. AskedOnly link names mids news)
     (names_stay link (names_of link olds) olds mids a) b)
 
--- a bench that was left so and so again
-pub leaves_then : {L D : Type 0} (old middle new : BenchState L D) → LeavesKeys old middle
-    → LeavesKeys middle new → LeavesKeys old new
-leaves_then old middle new (inl a) (inl b) = inl (b.0 ∙ a.0, b.1 ∙ a.1)
-leaves_then old middle new (inl a) (inr b) = inr (record {
-  none = b.none;
-  keys = b.keys;
-  size = b.size ∙ ap (λ x. size_of x) a.1;
-})
-leaves_then old middle new (inr a) (inl b) = inr (record {
-  none = b.0 ∙ a.none;
-  keys = subst (λ x. HoldKeys [] x) (sym b.1) a.keys;
-  size = ap (λ x. size_of x) b.1 ∙ a.size;
-})
-leaves_then old middle new (inr a) (inr b) = inr (record {
-  none = b.none;
-  keys = b.keys;
-  size = b.size ∙ a.size;
-})
-
 -- ---- the whole drive
 
-pub drives_on : {S D : Type 0} (Reads : RowReads S) (Meanwhile : S → S → Type 0)
+pub drives_on : {S D : Type 0} (Reads : ReadsFoundRow S) (Meanwhile : S → S → Type 0)
     (left : D → Option (List ℕ)) (count : D → ℕ) (replica : ℕ) (above : List ℕ) (old new : Caller)
     (from to : S) (dice after : D) (result : Result Report (Report × CallNo))
     → GoesOnOver Reads Meanwhile left count replica above old from dice result new to after

@@ -16,7 +16,7 @@ use Rattle.kr_history.specs.Calls.{EndsEarly}
 use Rattle.kr_history.specs.Parts.{AddsWithin}
 use Rattle.kr_rewrite.specs.DriveExchanges.{Ahead, IsDriveBy, IsStepBy, ReadsRow, before, behind}
 use Rattle.kr_rewrite.specs.Drives.{report_at}
-use Rattle.kr_rewrite.specs.Rewrites.{IsStepOver, RewritesOver, RowReads, StepsOver}
+use Rattle.kr_rewrite.specs.Rewrites.{IsStepOver, RewritesOver, ReadsFoundRow, StepsOver}
 use Rattle.kr_rewrite.specs.declared.outcome.Report.{Report}
 use Rattle.kr_rewrite.specs.declared.outcome.Step.{Step}
 use Rattle.kr_rewrite.specs.inner.Stages.{CountsStep, GoesOnBy}
@@ -24,7 +24,7 @@ use Rattle.kr_rewrite.proofs.BetweenSteps.{IsWalked, drives_on, walked_begin, wa
 
 -- ---- the same steps, over something else that answers
 
-module _ {S T D : Type 0} (Reads : RowReads S) (Others : RowReads T) (to_other : S → T)
+module _ {S T D : Type 0} (Reads : ReadsFoundRow S) (Others : ReadsFoundRow T) (to_other : S → T)
     (each : (p : Publication) (row : Row) (from : S) (opened : Result Opened UnsealNo) (to : S)
     → Reads p row from opened to → Others p row (to_other from) opened (to_other to))
     (left : D → Option (List ℕ)) (count : D → ℕ) where

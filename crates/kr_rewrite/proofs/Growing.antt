@@ -28,7 +28,7 @@ use Rattle.kr_rollout.specs.Histories.{state_of}
 use Rattle.kr_history.proofs.FoundRows.{found_is_live}
 use Rattle.kr_history.proofs.Nexts.{legal_now, opening_is, seat_is, seen_is}
 use Rattle.kr_rewrite.specs.Drives.{FindsRow, path_of}
-use Rattle.kr_rewrite.specs.Rewrites.{FindsNone, IsStepOver, ReplacesBy, ResealsBy, RewritesBy, RewritesData, RewritesOver, RowReads, StepsOver, unread_step, unsealed_step}
+use Rattle.kr_rewrite.specs.Rewrites.{FindsNone, IsStepOver, ReplacesBy, ResealsBy, RewritesBy, RewritesData, RewritesOver, ReadsFoundRow, StepsOver, unread_step, unsealed_step}
 use Rattle.kr_rewrite.specs.declared.outcome.Step.{Step}
 use Rattle.kr_rewrite.specs.declared.outcome.Step.TheVariants as step
 
@@ -91,7 +91,7 @@ module _ {D : Type 0} (left : D → Option (List ℕ)) (count : D → ℕ) (p : 
   opened_grows (Ok opened) result r = data_grows opened.plain opened.stale result r
   opened_grows (Err why) result r = grows_same old new r.1
 
-pub rewrites_grow : {S D : Type 0} (Reads : RowReads S) (left : D → Option (List ℕ))
+pub rewrites_grow : {S D : Type 0} (Reads : ReadsFoundRow S) (left : D → Option (List ℕ))
     (count : D → ℕ) (p : Publication) (row : Row) (old new : Caller) (from to : S)
     (dice after : D) (result : Result Step CallNo)
     → RewritesOver Reads left count p row old from dice result new to after → Grows old new
@@ -199,7 +199,7 @@ module _ {D : Type 0} (left : D → Option (List ℕ)) (count : D → ℕ) (p : 
   opened_at (Ok opened) taken r = data_at opened.plain opened.stale taken r
   opened_at (Err why) taken r = unread_at row.path why taken r.0
 
-rewrites_at : {S D : Type 0} (Reads : RowReads S) (left : D → Option (List ℕ))
+rewrites_at : {S D : Type 0} (Reads : ReadsFoundRow S) (left : D → Option (List ℕ))
     (count : D → ℕ) (p : Publication) (row : Row) (old new : Caller) (from to : S)
     (dice after : D) (taken : Step)
     → RewritesOver Reads left count p row old from dice (Ok taken) new to after
@@ -317,7 +317,7 @@ module _ (above : List ℕ) (replica number : ℕ) (p : Publication) (old adopte
       (at_row row at (looks_from old adopted middle new replica number p above (answer.Found row)
       (Some row) a b (grows_then middle acted new m g) (after_finds adopted middle above row b)))
 
-module _ {S D : Type 0} (Reads : RowReads S) (left : D → Option (List ℕ))
+module _ {S D : Type 0} (Reads : ReadsFoundRow S) (left : D → Option (List ℕ))
     (count : D → ℕ) (replica : ℕ) (above : List ℕ) (old new : Caller) (from to : S)
     (dice after : D) where
   by_steps : (taken : Step) (number : ℕ) (p : Publication) (adopted acted : Caller)
@@ -384,7 +384,7 @@ early_grows replica old new refusal.StoreFailed a = absurd a
 early_grows replica old new (refusal.StoreFull needed) a = absurd a
 early_grows replica old new (refusal.Unhealthy name field text) a = absurd a
 
-module _ {S D : Type 0} (Reads : RowReads S) (left : D → Option (List ℕ))
+module _ {S D : Type 0} (Reads : ReadsFoundRow S) (left : D → Option (List ℕ))
     (count : D → ℕ) (replica : ℕ) (above : List ℕ) (old new : Caller) (from to : S)
     (dice after : D) where
   steps_grow : (p : Publication) (adopted acted : Caller) (done : Result Step CallNo)

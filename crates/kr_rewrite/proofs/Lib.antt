@@ -6,6 +6,7 @@ pub mod DriveTalks
 pub mod Growing
 pub mod Looking
 pub mod Options
+mod Quiet
 pub mod Replacing
 pub mod Rewriting
 pub mod RowTalks

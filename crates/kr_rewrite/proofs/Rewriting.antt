@@ -17,7 +17,7 @@ use Rattle.kr_history.specs.Acting.{Caller, AddsEntry}
 use Rattle.kr_history.specs.Calls.{LetsGo}
 use Rattle.kr_rewrite.specs.declared.outcome.Step.{Step}
 use Rattle.kr_rewrite.specs.declared.outcome.Step.TheVariants as step
-use Rattle.kr_rewrite.specs.Rewrites.{IsStepOver, IsStepTo, RewritesData, RewritesOver, RowReads, StepsOver, UnsealsRow, unread_step}
+use Rattle.kr_rewrite.specs.Rewrites.{IsStepOver, IsStepTo, RewritesData, RewritesOver, ReadsFoundRow, StepsOver, UnsealsRow, unread_step}
 use Rattle.kr_rewrite.specs.inner.Stages.{LooksAbove, ReadsData, ResealsRow}
 
 -- ---- the value that was found
@@ -40,7 +40,7 @@ reads_data truth link p row olds news opened u = record {
   told = λ told opens. (u.envelope, u.told told opens, u.is.0);
 }
 
-module _ {S D : Type 0} (Reads : RowReads S) (left : D → Option (List ℕ)) (count : D → ℕ)
+module _ {S D : Type 0} (Reads : ReadsFoundRow S) (left : D → Option (List ℕ)) (count : D → ℕ)
     (p : Publication) (row : Row) (from to : S) (path : List ℕ) (path_is : path ≡ row.path)
     (old new : Caller) (dice lent after : D) (same : lent ≡ dice) where
   pub stale_rewritten : (opened : Opened) (result : Result Step CallNo)
@@ -77,7 +77,7 @@ module _ {S D : Type 0} (Reads : RowReads S) (left : D → Option (List ℕ)) (c
 
 -- ---- the row that was looked for
 
-module _ {S D : Type 0} (Reads : RowReads S) (left : D → Option (List ℕ)) (count : D → ℕ)
+module _ {S D : Type 0} (Reads : ReadsFoundRow S) (left : D → Option (List ℕ)) (count : D → ℕ)
     (p : Publication) (above : List ℕ) (old : Caller) (from : S) (dice : D) where
   pub looked_in_vain : (why : CallNo) (new : Caller) → LooksAbove above old (Err why) new
       → StepsOver Reads left count p above old from dice (Err why) new from dice
@@ -112,7 +112,7 @@ module _ {S D : Type 0} (Reads : RowReads S) (left : D → Option (List ℕ)) (c
   })
 
 -- the stages of a step, one behind another
-pub step_held : {S D : Type 0} (Reads : RowReads S) (left : D → Option (List ℕ)) (count : D → ℕ)
+pub step_held : {S D : Type 0} (Reads : ReadsFoundRow S) (left : D → Option (List ℕ)) (count : D → ℕ)
     (above copy : List ℕ) (replica : ℕ) (old adopted acted new : Caller) (from lent to : S)
     (dice taken after : D) (held : ℕ × Publication) (published : Option Publication)
     (done result : Result Step CallNo) → copy ≡ above → lent ≡ from → taken ≡ dice

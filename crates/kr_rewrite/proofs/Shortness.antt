@@ -23,7 +23,7 @@ use Rattle.kr_kms.specs.Calls.{Link}
 use Rattle.kr_kms.specs.Truth.{Truth}
 use Rattle.kr_rewrite.specs.DriveLaws.{DrivesNeedFew, LiveAmong}
 use Rattle.kr_rewrite.specs.Drives.{EndsByOver, FindsRow, StayLinks, WalksOver, last_of, path_of}
-use Rattle.kr_rewrite.specs.Rewrites.{RowReads, UnsealsRow}
+use Rattle.kr_rewrite.specs.Rewrites.{ReadsFoundRow, UnsealsRow}
 use Rattle.kr_rewrite.specs.declared.outcome.Report.{Report}
 use Rattle.kr_rewrite.specs.declared.outcome.Step.{Step}
 use Rattle.kr_rewrite.specs.declared.outcome.Step.TheVariants as step
@@ -60,7 +60,7 @@ module _ (paths : List (List ℕ)) where
       (sym (g.opening_is ∙ opening))
       (subst (λ x. IsSome x) (sym l.next.1) refl))
 
-  module _ {S D : Type 0} (Reads : RowReads S) (left : D → Option (List ℕ))
+  module _ {S D : Type 0} (Reads : ReadsFoundRow S) (left : D → Option (List ℕ))
       (count : D → ℕ) (replica : ℕ) where
     walks_grow : (above : List ℕ) (steps : List Step) (old : Caller) (from : S) (dice : D)
         (new : Caller) (to : S) (after : D)

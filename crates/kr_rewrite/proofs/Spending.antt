@@ -16,7 +16,7 @@ use Rattle.kr_rollout.specs.declared.event.Event.TheVariants as event
 use Rattle.kr_history.specs.Acting.{Caller, AddsEntry}
 use Rattle.kr_history.specs.Calls.{AddsNothing, AdoptsNothing, EndsEarly, LetsGo}
 use Rattle.kr_history.proofs.Nexts.{opening_is}
-use Rattle.kr_rewrite.specs.Rewrites.{FindsNone, IsStepOver, ReplacesBy, ResealsBy, RewritesBy, RewritesData, RewritesOver, RowReads, StepsOver, unread_step, unsealed_step}
+use Rattle.kr_rewrite.specs.Rewrites.{FindsNone, IsStepOver, ReplacesBy, ResealsBy, RewritesBy, RewritesData, RewritesOver, ReadsFoundRow, StepsOver, unread_step, unsealed_step}
 use Rattle.kr_rewrite.specs.declared.outcome.Step.{Step}
 use Rattle.kr_rewrite.specs.declared.outcome.Step.TheVariants as step
 use Rattle.kr_rewrite.proofs.Growing.{LooksAt, after_finds, grows_then, lets_go_grows, looks_from, rewrites_grow}
@@ -137,7 +137,7 @@ module _ {D : Type 0} (left : D → Option (List ℕ)) (count : D → ℕ) (p : 
   opened_spends (Err why) r =
       spends_same old new result r.1 (unread_other row.path why result r.0)
 
-rewrites_spend : {S D : Type 0} (Reads : RowReads S) (left : D → Option (List ℕ))
+rewrites_spend : {S D : Type 0} (Reads : ReadsFoundRow S) (left : D → Option (List ℕ))
     (count : D → ℕ) (p : Publication) (row : Row) (old new : Caller) (from to : S)
     (dice after : D) (result : Result Step CallNo)
     → RewritesOver Reads left count p row old from dice result new to after
@@ -204,7 +204,7 @@ pub data StepNeeds (above : List ℕ) (old new : Caller) (result : Result Step C
   at_row : (row : Row) → LooksAt above old new (Some row) → new.opening ≡ old.opening
       → Spends 4 old new result → StepNeeds above old new result
 
-module _ {S D : Type 0} (Reads : RowReads S) (left : D → Option (List ℕ))
+module _ {S D : Type 0} (Reads : ReadsFoundRow S) (left : D → Option (List ℕ))
     (count : D → ℕ) (replica : ℕ) (above : List ℕ) (old new : Caller) (from to : S)
     (dice after : D) (result : Result Step CallNo) where
   early_needs : (result : Result Step CallNo)

@@ -5,8 +5,8 @@ use Rattle.std.proofs.lemmas.List.Elements.{All-nil, All-cons}
 use Rattle.std.proofs.lemmas.List.Sums.{sum_by-append, sum_by-cons}
 use Rattle.kr_base.specs.Numbering.{next_number}
 use Rattle.kr_history.specs.Acting.{Caller}
-use Rattle.kr_rewrite.specs.Drives.{Counts, FindsRow, IsSettled, Settles, WalksOver, count_of, is_changed, is_fresh, is_left, is_rewritten, last_of, path_of}
-use Rattle.kr_rewrite.specs.Rewrites.{IsStepOver, RowReads}
+use Rattle.kr_rewrite.specs.Drives.{StepCounts, FindsRow, IsSettled, LeavesNoneStale, WalksOver, capped_count, is_changed, is_fresh, is_left, is_rewritten, last_of, path_of}
+use Rattle.kr_rewrite.specs.Rewrites.{IsStepOver, ReadsFoundRow}
 use Rattle.kr_rewrite.specs.declared.outcome.Report.{Report}
 use Rattle.kr_rewrite.specs.declared.outcome.Step.{Step}
 use Rattle.kr_rewrite.specs.declared.outcome.Step.TheVariants as step
@@ -22,7 +22,7 @@ last_more above (first ∷ steps) taken = last_more (path_of above first) steps 
 -- ---- counts
 
 module _ (p : Step → Bool) (steps : List Step) (taken : Step) (m : ℕ)
-    (is : m ≡ count_of (count_by p steps)) where
+    (is : m ≡ capped_count (count_by p steps)) where
   count_more : count_by p (steps ++ taken ∷ []) ≡ count_by p steps + cond (p taken) 1 0
   count_more = omega (
     arith,
@@ -30,25 +30,25 @@ module _ (p : Step → Bool) (steps : List Step) (taken : Step) (m : ℕ)
     sum_by-cons (λ x. cond (p x) 1 0) taken [],
   )
 
-  counts_it : p taken ≡ true → next_number m ≡ count_of (count_by p (steps ++ taken ∷ []))
+  counts_it : p taken ≡ true → next_number m ≡ capped_count (count_by p (steps ++ taken ∷ []))
   counts_it here =
       let one : cond (p taken) 1 0 ≡ 1 = ap {B = ℕ} (λ b. cond b 1 0) here in
       by m (count_by p steps) (count_by p (steps ++ taken ∷ [])) is (omega (arith, count_more, one))
     where
-      by : (m n k : ℕ) → m ≡ count_of n → k ≡ n + 1 → next_number m ≡ count_of k
+      by : (m n k : ℕ) → m ≡ capped_count n → k ≡ n + 1 → next_number m ≡ capped_count k
       by m n k e f = grind arith
 
-  counts_still : p taken ≡ false → m ≡ count_of (count_by p (steps ++ taken ∷ []))
+  counts_still : p taken ≡ false → m ≡ capped_count (count_by p (steps ++ taken ∷ []))
   counts_still not_here =
       let none : cond (p taken) 1 0 ≡ 0 = ap {B = ℕ} (λ b. cond b 1 0) not_here in
       let same : count_by p steps ≡ count_by p (steps ++ taken ∷ []) =
       omega (arith, count_more, none) in
-      is ∙ ap count_of same
+      is ∙ ap capped_count same
 
-module _ (above : List ℕ) (steps : List Step) (old new : Report) (c : Counts above steps old) where
+module _ (above : List ℕ) (steps : List Step) (old new : Report) (c : StepCounts above steps old) where
   counts_rewritten : (path : List ℕ)
       → new ≡ record old { rewritten = next_number old.rewritten; last = path }
-      → Counts above (steps ++ step.Rewritten path ∷ []) new
+      → StepCounts above (steps ++ step.Rewritten path ∷ []) new
   counts_rewritten path e =
       let s = step.Rewritten path in record {
         rewritten = ap (λ (r : Report). r.rewritten) e
@@ -62,7 +62,7 @@ module _ (above : List ℕ) (steps : List Step) (old new : Report) (c : Counts a
       }
 
   counts_fresh : (path : List ℕ) → new ≡ record old { fresh = next_number old.fresh; last = path }
-      → Counts above (steps ++ step.Fresh path ∷ []) new
+      → StepCounts above (steps ++ step.Fresh path ∷ []) new
   counts_fresh path e =
       let s = step.Fresh path in record {
         rewritten = ap (λ (r : Report). r.rewritten) e
@@ -77,7 +77,7 @@ module _ (above : List ℕ) (steps : List Step) (old new : Report) (c : Counts a
 
   counts_changed : (path : List ℕ)
       → new ≡ record old { changed = next_number old.changed; last = path }
-      → Counts above (steps ++ step.Changed path ∷ []) new
+      → StepCounts above (steps ++ step.Changed path ∷ []) new
   counts_changed path e =
       let s = step.Changed path in record {
         rewritten = ap (λ (r : Report). r.rewritten) e
@@ -91,7 +91,7 @@ module _ (above : List ℕ) (steps : List Step) (old new : Report) (c : Counts a
       }
 
   counts_left : (path : List ℕ) → new ≡ record old { left = next_number old.left; last = path }
-      → Counts above (steps ++ step.Left path ∷ []) new
+      → StepCounts above (steps ++ step.Left path ∷ []) new
   counts_left path e =
       let s = step.Left path in record {
         rewritten = ap (λ (r : Report). r.rewritten) e
@@ -105,8 +105,8 @@ module _ (above : List ℕ) (steps : List Step) (old new : Report) (c : Counts a
       }
 
 pub counts_more : (above : List ℕ) (steps : List Step) (taken : Step) (found : Bool)
-    (old new : Report) → CountsStep old taken found new → found ≡ true → Counts above steps old
-    → Counts above (steps ++ taken ∷ []) new
+    (old new : Report) → CountsStep old taken found new → found ≡ true → StepCounts above steps old
+    → StepCounts above (steps ++ taken ∷ []) new
 counts_more above steps step.End found old new s is c = cc (s.0, is)
 counts_more above steps (step.Rewritten path) found old new s is c =
     counts_rewritten above steps old new c path s.1
@@ -149,7 +149,7 @@ last_is (step.Left path) found old new s is = ap (λ (r : Report). r.last) s.1
 
 -- ---- steps
 
-module _ {S D : Type 0} (Reads : RowReads S) (left : D → Option (List ℕ))
+module _ {S D : Type 0} (Reads : ReadsFoundRow S) (left : D → Option (List ℕ))
     (count : D → ℕ) (replica : ℕ) where
   pub walks_more : (above : List ℕ) (steps : List Step) (taken : Step) (old middle new : Caller)
       (from mids to : S) (dice between after : D)
@@ -211,13 +211,13 @@ module _ {S D : Type 0} (Reads : RowReads S) (left : D → Option (List ℕ))
       (settles_all (path_of above taken) steps w.middle new w.mids to w.between after w.behind
       (omega (arith, one_left)) (omega (arith, one_changed)))
 
-  none_by : (m n : ℕ) → m ≡ count_of n → m ≡ 0 → n ≡ 0
+  none_by : (m n : ℕ) → m ≡ capped_count n → m ≡ 0 → n ≡ 0
   none_by m n e z = grind arith
 
   pub settles : (above : List ℕ) (steps : List Step) (report : Report) (old new : Caller)
-      (from to : S) (dice after : D) → Counts above steps report
+      (from to : S) (dice after : D) → StepCounts above steps report
       → WalksOver Reads left count replica above steps old from dice new to after
-      → Settles steps report
+      → LeavesNoneStale steps report
   settles above steps report old new from to dice after c w l h =
       settles_all above steps old new from to dice after w
       (none_by report.left (count_by is_left steps) c.left l)

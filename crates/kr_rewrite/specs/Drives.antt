@@ -17,7 +17,7 @@ use Rattle.kr_history.specs.Calls.{IsIdleAfter}
 use Rattle.kr_rollout.specs.Callers.{holding}
 use Rattle.kr_rollout.specs.Histories.{state_of}
 use Rattle.kr_history.specs.Parts.{AddsWithin}
-use Rattle.kr_rewrite.specs.Rewrites.{IsStepOver, RowReads, UnsealsRow}
+use Rattle.kr_rewrite.specs.Rewrites.{IsStepOver, ReadsFoundRow, UnsealsRow}
 use Rattle.kr_rewrite.specs.declared.outcome.Report.{Report}
 use Rattle.kr_rewrite.specs.declared.outcome.Step.{Step}
 use Rattle.kr_rewrite.specs.declared.outcome.Step.TheVariants as step
@@ -67,15 +67,15 @@ last_of above (taken ∷ steps) = last_of (path_of above taken) steps
 -- ---- the report
 
 -- a count stays at the greatest number
-abbrev pub count_of : ℕ → ℕ
-count_of n = min n (2 ^ 64 - 1)
+abbrev pub capped_count : ℕ → ℕ
+capped_count n = min n (2 ^ 64 - 1)
 
 -- each step is counted as what it did
-pub record Counts (above : List ℕ) (steps : List Step) (report : Report) : Type 0 where
-  pub rewritten : report.rewritten ≡ count_of (count_by is_rewritten steps)
-  pub fresh : report.fresh ≡ count_of (count_by is_fresh steps)
-  pub changed : report.changed ≡ count_of (count_by is_changed steps)
-  pub left : report.left ≡ count_of (count_by is_left steps)
+pub record StepCounts (above : List ℕ) (steps : List Step) (report : Report) : Type 0 where
+  pub rewritten : report.rewritten ≡ capped_count (count_by is_rewritten steps)
+  pub fresh : report.fresh ≡ capped_count (count_by is_fresh steps)
+  pub changed : report.changed ≡ capped_count (count_by is_changed steps)
+  pub left : report.left ≡ capped_count (count_by is_left steps)
   pub last : report.last ≡ last_of above steps
 
 -- that of no step
@@ -83,8 +83,8 @@ abbrev pub report_at : (last : List ℕ) → Report
 report_at last = record { rewritten = 0; fresh = 0; changed = 0; left = 0; last = last }
 
 -- where no row was left and none had changed, each step found its row not stale, or replaced it
-abbrev pub Settles : List Step → Report → Type 0
-Settles steps report = report.left ≡ 0 → report.changed ≡ 0 → All IsSettled steps
+abbrev pub LeavesNoneStale : List Step → Report → Type 0
+LeavesNoneStale steps report = report.left ≡ 0 → report.changed ≡ 0 → All IsSettled steps
 
 -- ---- that no row was passed by
 
@@ -110,7 +110,7 @@ pub record CopiesNoPath {S D : Type 0} (old : Caller) (from : S) (dice : D) (why
   pub links : to ≡ from
   pub dice_is : after ≡ dice
 
-module _ {S D : Type 0} (Reads : RowReads S) (left : D → Option (List ℕ)) (count : D → ℕ)
+module _ {S D : Type 0} (Reads : ReadsFoundRow S) (left : D → Option (List ℕ)) (count : D → ℕ)
     (replica : ℕ) where
   -- a step that found a row, and what comes behind it
   pub record GoesOver (above : List ℕ) (taken : Step) (old : Caller) (from : S) (dice : D)
@@ -130,14 +130,14 @@ module _ {S D : Type 0} (Reads : RowReads S) (left : D → Option (List ℕ)) (c
       GoesOver above taken old from dice (λ middle mids between.
       WalksOver (path_of above taken) steps middle mids between new to after)
 
-module _ {S D : Type 0} (Reads : RowReads S) (Meanwhile : S → S → Type 0)
+module _ {S D : Type 0} (Reads : ReadsFoundRow S) (Meanwhile : S → S → Type 0)
     (left : D → Option (List ℕ)) (count : D → ℕ) (replica : ℕ) where
   -- these steps, and one that ended so. Each adds at most four entries; meanwhile no count of
   -- faults falls, and this holds of what answers
   pub record EndsByOver (above : List ℕ) (steps : List Step) (old : Caller) (from : S) (dice : D)
       (ended : Result Step CallNo) (report : Report) (new : Caller) (to : S) (after : D)
       : Type 0 where
-    pub counts : Counts above steps report
+    pub counts : StepCounts above steps report
     pub middle : Caller
     pub mids : S
     pub between : D
@@ -156,7 +156,7 @@ module _ {S D : Type 0} (Reads : RowReads S) (Meanwhile : S → S → Type 0)
     pub steps : List Step
     pub ends : EndsByOver above steps old from dice (Ok step.End) report new to after
     pub covers : CoversLive above steps old new
-    pub settles : Settles steps report
+    pub settles : LeavesNoneStale steps report
 
   -- and of one that was cut short
   pub record IsCutOver (above : List ℕ) (old : Caller) (from : S) (dice : D) (why : CallNo)

@@ -56,7 +56,7 @@ ReplacesBy path answer.NoMemory result = result ≡ Err refusal.NoMemory
 ReplacesBy path given result = ⊥
 
 -- the value is a sealing of the row's data by the configuration, and was offered in its place
-pub record Replaces (p : Publication) (row : Row) (plain stored : List ℕ) (old : Caller)
+pub record OffersReplacement (p : Publication) (row : Row) (plain stored : List ℕ) (old : Caller)
     (result : Result Step CallNo) (new : Caller) : Type 0 where
   pub given : Answer
   pub sealing : IsSealing p row.resource row.path plain stored
@@ -66,7 +66,8 @@ pub record Replaces (p : Publication) (row : Row) (plain stored : List ℕ) (old
 -- what sealing the data gave decides
 abbrev pub ResealsBy : Publication → Row → (plain : List ℕ) → Result (List ℕ) SealNo → Caller
     → Result Step CallNo → Caller → Type 0
-ResealsBy p row plain (Ok stored) old result new = Replaces p row plain stored old result new
+ResealsBy p row plain (Ok stored) old result new = OffersReplacement p row plain stored old result
+    new
     ⊎ (AddsNothing old new × (result ≡ Err refusal.Spent))
 ResealsBy p row plain (Err why) old result new =
     (result ≡ unsealed_step row.path why) × (new ≡ old)
@@ -111,10 +112,10 @@ FindsNone above old (Err refusal.Spent) new = AddsNothing old new
 FindsNone above old result new = ⊥
 
 -- how a row's value is unsealed by a configuration: what answers it stands so before and so behind
-abbrev pub RowReads : Type 0 → Type 1
-RowReads S = Publication → Row → (from : S) → Result Opened UnsealNo → (to : S) → Type 0
+abbrev pub ReadsFoundRow : Type 0 → Type 1
+ReadsFoundRow S = Publication → Row → (from : S) → Result Opened UnsealNo → (to : S) → Type 0
 
-module _ {S D : Type 0} (Reads : RowReads S) (left : D → Option (List ℕ)) (count : D → ℕ) where
+module _ {S D : Type 0} (Reads : ReadsFoundRow S) (left : D → Option (List ℕ)) (count : D → ℕ) where
   -- the row's value is unsealed by the configuration
   pub record OpensOver (p : Publication) (row : Row) (old : Caller) (from : S) (dice : D)
       (result : Result Step CallNo) (new : Caller) (to : S) (after : D) : Type 0 where
@@ -157,7 +158,7 @@ module _ {S D : Type 0} (Reads : RowReads S) (left : D → Option (List ℕ)) (c
 -- ---- by the links, as a truth has it
 
 module _ {L : Type 0} (truth : Truth) (link : L → Link) where
-  abbrev pub UnsealsRow : RowReads (List L)
+  abbrev pub UnsealsRow : ReadsFoundRow (List L)
   UnsealsRow p row olds opened news = UnsealsBy truth link p.seeds (list_at p row.resource) row.path
       row.stored olds opened news
 

@@ -1,13 +1,14 @@
 //! All steps, one behind another.
 ghost use Rattle.std.specs.Prelude.{◌≡◌, ◌⊎◌, ◌<◌, ◌≤◌, length, None, []};
 ghost use Rattle.kr_base.specs.Rules.{IsPath};
-ghost use Rattle.kr_base.specs.Walks.{Talk};
+ghost use Rattle.kr_base.specs.Walks.{Talk, Walk};
 ghost use Rattle.kr_provider.specs.AskedLinks.{Among, AskedOnly};
-ghost use Rattle.kr_provider.specs.BenchKeys.{LeavesKeys};
+ghost use Rattle.kr_provider.specs.BenchKeys.{LeavesKeys, adoption_of};
 ghost use Rattle.kr_provider.specs.KeyPages.{size_of};
 ghost use Rattle.kr_provider.specs.Names.{names_of};
 ghost use Rattle.kr_rollout.specs.Callers.{holding};
 ghost use Rattle.kr_history.specs.Calls.{AreServed, KeepsToldHonesty};
+ghost use Rattle.kr_history.specs.KeyMoments.{Happens, call_moments, has_adopted};
 ghost use Rattle.kr_rewrite.specs.DriveExchanges.{IsDriveBy};
 ghost use Rattle.kr_rewrite.specs.Drives.{IsDrive, IsIdleAtEnd, report_at};
 ghost use Rattle.kr_rewrite.specs.inner.Stages.{GoesOn, GoesOnBy};
@@ -45,17 +46,20 @@ pub fn drive<A: Acts, L: Kms, D: Dice>(
         bench.new.links }
     ensures later { D.count bench.old.dice ≤ D.count bench.new.dice }
     ensures pages { size_of bench.new.pages ≡ size_of bench.old.pages }
-    ensures keys { LeavesKeys bench.old bench.new }
+    ensures keys { LeavesKeys (has_adopted (A.caller acts.old) (A.caller acts.new))
+        (adoption_of bench.old) (adoption_of bench.new) }
+    ensures moments { Walk Happens (adoption_of bench.old)
+        (call_moments (A.caller acts.old) (A.caller acts.new)) (adoption_of bench.new) }
     ensures place { A.place acts.new ≡ A.place acts.old }
 {
     let Ok(last) = Text::copy(alloc, after) else {
-        return Err((Report::at(Text::new(alloc)), CallNo::NoMemory));
+        return Err((Report::without_steps(Text::new(alloc)), CallNo::NoMemory));
     };
-    go_on(alloc, acts, replica, bench, Report::at(last))
+    take_steps(alloc, acts, replica, bench, Report::without_steps(last))
 }
 
 /// Takes steps from the report's last path on.
-fn go_on<A: Acts, L: Kms, D: Dice>(
+fn take_steps<A: Acts, L: Kms, D: Dice>(
     alloc: Global,
     acts: &mut A,
     replica: u32,
@@ -80,7 +84,10 @@ fn go_on<A: Acts, L: Kms, D: Dice>(
         bench.new.links }
     ensures later { D.count bench.old.dice ≤ D.count bench.new.dice }
     ensures pages { size_of bench.new.pages ≡ size_of bench.old.pages }
-    ensures keys { LeavesKeys bench.old bench.new }
+    ensures keys { LeavesKeys (has_adopted (A.caller acts.old) (A.caller acts.new))
+        (adoption_of bench.old) (adoption_of bench.new) }
+    ensures moments { Walk Happens (adoption_of bench.old)
+        (call_moments (A.caller acts.old) (A.caller acts.new)) (adoption_of bench.new) }
     ensures place { A.place acts.new ≡ A.place acts.old }
 {
     loop {

@@ -35,7 +35,7 @@ pub struct Report {
 
 impl Report {
     /// The report of a drive that took no step yet.
-    pub(crate) fn at(last: Text) -> Report
+    pub(crate) fn without_steps(last: Text) -> Report
         ensures { result ≡ report_at last }
     {
         Report {

@@ -1,14 +1,15 @@
 //! One step: the next live row above a path.
 ghost use Rattle.std.specs.Prelude.{◌≡◌, ◌⊎◌, ◌<◌, ◌≤◌, length, None, Some, IfOk, IfSome, IsSome, []};
 ghost use Rattle.kr_base.specs.Rules.{IsPath};
-ghost use Rattle.kr_base.specs.Walks.{Talk};
+ghost use Rattle.kr_base.specs.Walks.{Talk, Walk};
 ghost use Rattle.kr_provider.specs.AskedLinks.{Among, AskedOnly};
-ghost use Rattle.kr_provider.specs.BenchKeys.{LeavesKeys};
+ghost use Rattle.kr_provider.specs.BenchKeys.{LeavesKeys, adoption_of};
 ghost use Rattle.kr_provider.specs.KeyPages.{size_of};
 ghost use Rattle.kr_provider.specs.Names.{names_of};
 ghost use Rattle.kr_store.specs.Rows.{IsRow};
 ghost use Rattle.kr_rollout.specs.Callers.{found_in, holding};
 ghost use Rattle.kr_history.specs.Calls.{AreServed, IsIdle, KeepsHonesty, KeepsToldHonesty};
+ghost use Rattle.kr_history.specs.KeyMoments.{Happens, call_moments, has_adopted};
 ghost use Rattle.kr_history.specs.Parts.{AddsWithin};
 ghost use Rattle.kr_rewrite.specs.DriveExchanges.{IsStepBy};
 ghost use Rattle.kr_rewrite.specs.Rewrites.{IsStep, IsStepTo, Steps};
@@ -17,7 +18,7 @@ ghost use Rattle.kr_rewrite.specs.inner.Stages.{AnswersAfter, FindsBy, HoldsAdop
 use crate::outcome::Step;
 use crate::row::rewrite;
 use kr_base::{Dice, Shared, Spent, Text};
-use kr_history::{Acts, CallNo, adopt, lay_down, let_go, take_up};
+use kr_history::{Acts, CallNo, adopt, adopt_configuration, hand_back};
 use kr_kms::Kms;
 use kr_provider::Bench;
 use kr_rollout::{Answer, Event};
@@ -52,7 +53,10 @@ pub fn rewrite_next<A: Acts, L: Kms, D: Dice>(
         bench.new.links }
     ensures later { D.count bench.old.dice ≤ D.count bench.new.dice }
     ensures pages { size_of bench.new.pages ≡ size_of bench.old.pages }
-    ensures keys { LeavesKeys bench.old bench.new }
+    ensures keys { LeavesKeys (has_adopted (A.caller acts.old) (A.caller acts.new))
+        (adoption_of bench.old) (adoption_of bench.new) }
+    ensures moments { Walk Happens (adoption_of bench.old)
+        (call_moments (A.caller acts.old) (A.caller acts.new)) (adoption_of bench.new) }
     ensures place { A.place acts.new ≡ A.place acts.old }
 {
     let Ok(copy) = Text::copy(alloc, after) else {
@@ -63,10 +67,9 @@ pub fn rewrite_next<A: Acts, L: Kms, D: Dice>(
         Ok(held) => held,
         Err(why) => return Err(why),
     };
-    take_up(bench, held.1);
+    adopt_configuration(bench, held.1);
     let done = step(alloc, acts, bench, copy);
-    lay_down(bench);
-    let_go(acts, done)
+    hand_back(acts, bench, done)
 }
 
 /// Finds the next row above, and rewrites it by the configuration that the bench adopted.

@@ -10,7 +10,7 @@ use Rattle.kr_opening.specs.declared.generation.Generation.{Generation}
 use Rattle.kr_rollout.specs.declared.line.Line.{Line}
 use Rattle.kr_rollout.specs.declared.opening.Entry.{Entry}
 use Rattle.kr_rollout.specs.declared.opening.Opening.{Opening}
-use Rattle.kr_rollout.specs.Entries.{entry_of, generation_named_in, revision_in, revision_replaced_in, Reaches, seat_of}
+use Rattle.kr_rollout.specs.Entries.{entry_of, generation_named_in, revision_in, revision_replaced_in, HasWhatItNames, seat_of}
 use Rattle.kr_rollout.specs.States.{State}
 use Rattle.kr_rollout.specs.Openings.{start_of}
 use Rattle.kr_rollout.specs.Steps.{after, new_generations, new_rows, IsStep}
@@ -47,7 +47,7 @@ below_more (Some n) a b l w = omega arith
 
 reaches_more : (rows next : List LogRow) (generations later : List Generation) (line : Line)
     → length rows ≤ length next → length generations ≤ length later
-    → Reaches rows generations line → Reaches next later line
+    → HasWhatItNames rows generations line → HasWhatItNames next later line
 reaches_more rows next generations later line l m r = record {
   row = omega (arith, r.row);
   replaced = omega (arith, r.replaced);
@@ -57,7 +57,7 @@ reaches_more rows next generations later line l m r = record {
 -- all that the lines name is there
 abbrev AllReach : List LogRow → List Generation → List Line → Type 0
 AllReach rows generations [] = ⊤
-AllReach rows generations (line ∷ lines) = Reaches rows generations line
+AllReach rows generations (line ∷ lines) = HasWhatItNames rows generations line
     × AllReach rows generations lines
 
 all_reach : (o : Opening) (st : State) (rows : List LogRow) (generations : List Generation)
@@ -77,7 +77,7 @@ all_reach o st rows generations (line ∷ lines) r =
 -- ---- the entries stay
 
 entry_stays : (rows more : List LogRow) (generations others : List Generation) (line : Line)
-    → Reaches rows generations line
+    → HasWhatItNames rows generations line
     → entry_of (rows ++ more) (generations ++ others) line ≡ entry_of rows generations line
 entry_stays rows more generations others line r =
     let p = published_front generations others (generation_named_in line) r.generation in

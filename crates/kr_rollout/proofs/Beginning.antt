@@ -9,7 +9,7 @@ use Rattle.std.proofs.lemmas.List.Sums.{sum_by-cons}
 use Rattle.std.proofs.lemmas.Option.{none-some, same_Some}
 use Rattle.kr_store.specs.Rows.{AreRows}
 use Rattle.kr_store.specs.Stores.{Kept}
-use Rattle.kr_config.specs.Kept.{Row}
+use Rattle.kr_config.specs.Kept.{ConfigEntry}
 use Rattle.kr_provider.specs.Publication.{Publication, IsPublished}
 use Rattle.kr_judge.specs.declared.need.Need.{Need}
 use Rattle.kr_judge.specs.Boards.{BoardState}
@@ -190,14 +190,14 @@ start_rollout o few = record {
 
 -- ---- it fits
 
-fit_less : (Live More : List Row → Type 0) (needs : List Need)
-    → ((rows : List Row) → Live rows → More rows) → AreFit More needs → AreFit Live needs
+fit_less : (Live More : List ConfigEntry → Type 0) (needs : List Need)
+    → ((rows : List ConfigEntry) → Live rows → More rows) → AreFit More needs → AreFit Live needs
 fit_less Live More needs to f = record {
   writers = λ rows other class a b. f.writers rows other class (to rows a) (to other b);
   stored = λ rows need a there. f.stored rows need (to rows a) there;
 }
 
-is_replicas : (k : ℕ) (rs : List (Option Publication)) (n : ℕ) (rows : List Row)
+is_replicas : (k : ℕ) (rs : List (Option Publication)) (n : ℕ) (rows : List ConfigEntry)
     → option_map (λ (p : Publication). p.rows)
     (option_map (λ (g : Generation). g.published) (slice_get (generations_from k rs) n)) ≡ Some rows
     → Contains (settings_of rs) (Some rows)

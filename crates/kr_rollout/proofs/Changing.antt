@@ -10,7 +10,7 @@ use Rattle.std.proofs.lemmas.List.Sums.{sum_by-cons}
 use Rattle.std.proofs.lemmas.Option.{none-some, same_Some, slice_get_within}
 use Rattle.kr_provider.specs.Publication.{Publication}
 use Rattle.kr_store.specs.Stores.{Kept}
-use Rattle.kr_judge.specs.Boards.{BoardState, GenerationState, without_current, is_current_of}
+use Rattle.kr_judge.specs.Boards.{BoardState, GenerationState, without_current, is_replica_current}
 use Rattle.kr_opening.specs.declared.generation.Generation.{Generation}
 use Rattle.kr_rollout.specs.declared.opening.Opening.{Opening}
 use Rattle.kr_rollout.specs.States.{State, number_at, is_number, judged_generation, judged_generations}
@@ -274,7 +274,7 @@ judged_at current held k (suc i) (h ∷ gs) g e = judged_at current held (k + 1)
 may_leave : (current held : List (Option ℕ)) (replica number : ℕ) (gs : List Generation)
     → number < length gs → replica < length current → number_at current replica ≡ Some number
     → AreOwn current gs
-    → IsTrue (list_any (is_current_of replica) (judged_generations current held 0 gs))
+    → IsTrue (list_any (is_replica_current replica) (judged_generations current held 0 gs))
 may_leave current held replica number gs l r is own =
     let t = there gs number l in
     let live : list_any (is_number number) current ≡ true =
@@ -283,7 +283,7 @@ may_leave current held replica number gs l r is own =
     let owner : t.0.replica ≡ replica = same_Some t.0.replica replica
     (sym (ap (option_map (λ (x : Generation). x.replica)) t.1) ∙ own replica number is) in
     let same = eq-eqb t.0.replica replica owner in
-    any_there (is_current_of replica) (judged_generations current held 0 gs) number
+    any_there (is_replica_current replica) (judged_generations current held 0 gs) number
     (judged_generation current held number t.0)
     (judged_at current held 0 number gs t.0 t.1
     ∙ ap (λ n. Some (judged_generation current held n t.0))
@@ -405,9 +405,9 @@ module _ (o : Opening) (store : Kept) (kept next : BoardState) (gs : List Genera
 
   pub board_leaves : (replica number : ℕ) → replica < length o.replicas
       → number_at current replica ≡ Some number
-      → IsTrue (list_any (is_current_of replica) kept.generations)
+      → IsTrue (list_any (is_replica_current replica) kept.generations)
   board_leaves replica number l is =
-      subst (λ (b : BoardState). IsTrue (list_any (is_current_of replica) b.generations))
+      subst (λ (b : BoardState). IsTrue (list_any (is_replica_current replica) b.generations))
       (sym k.board_is)
       (may_leave current held replica number gs (k.current replica number is)
       (omega (arith, k.replicas, l)) is k.own)

@@ -5,7 +5,7 @@ use Rattle.std.proofs.lemmas.List.{take-append-drop}
 use Rattle.std.proofs.lemmas.List.Elements.{Contains-append_left}
 use Rattle.std.proofs.lemmas.Option.{none-some, same_Some}
 use Rattle.kr_config.specs.declared.class.Class.{Class}
-use Rattle.kr_config.specs.Kept.{Row}
+use Rattle.kr_config.specs.Kept.{ConfigEntry}
 use Rattle.kr_config.specs.Lists.{list_of, class_list}
 use Rattle.kr_judge.specs.declared.need.Need.{Need}
 use Rattle.kr_judge.specs.declared.verdict.Verdict.TheVariants.{Pass}
@@ -46,7 +46,7 @@ other_in replica generations n c = in_numbered 0 generations n
 -- ---- the verdict
 
 pub pass_by : (needs : List Need) (generations : List GenerationState) (replica : ℕ)
-    (rows : List Row)
+    (rows : List ConfigEntry)
     → ((need : Need) → Contains needs need → Contains (list_of rows need.resource) need.who)
     → ((t : GenerationState) → Contains generations t → (class : Class)
     → ReadsWriter (class_list t.rows class) (class_list rows class))
@@ -64,7 +64,7 @@ pass_by needs generations replica rows stored writers readers =
 
 -- ---- the replicas
 
-in_opening : (k : ℕ) (rs : List (Option (List Row))) (t : GenerationState)
+in_opening : (k : ℕ) (rs : List (Option (List ConfigEntry))) (t : GenerationState)
     → Contains (opening_generations k rs) t → Contains rs (Some t.rows)
 in_opening k [] t c = absurd (omega (arith, c.1))
 in_opening k (None ∷ rs) t c =
@@ -80,7 +80,7 @@ got_there (y ∷ ys) zero x e = (0, omega arith, same_Some y x e)
 got_there (y ∷ ys) (suc i) x e =
     let r = got_there ys i x e in (suc r.0, omega (arith, r.1), r.2)
 
-in_front : (rs : List (Option (List Row))) (i : ℕ) (rows : List Row)
+in_front : (rs : List (Option (List ConfigEntry))) (i : ℕ) (rows : List ConfigEntry)
     → Contains (take i rs) (Some rows) → Contains rs (Some rows)
 in_front rs i rows c = subst (λ l. Contains l (Some rows)) (take-append-drop i rs)
     (Contains-append_left (take i rs) (drop i rs) (Some rows) c)

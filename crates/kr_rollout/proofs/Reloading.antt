@@ -21,7 +21,7 @@ use Rattle.kr_rollout.specs.Entries.{generation_adopted_in, revision_in, revisio
 use Rattle.kr_rollout.specs.States.{State, number_at, current_of, held_by, verdict_on}
 use Rattle.kr_rollout.specs.Answers.{IsAnswer, IsExpected, IsUnexpected, HasExpected}
 use Rattle.kr_rollout.specs.Steps.{KeepsRules}
-use Rattle.kr_rollout.specs.Callers.{did_of, gave_of, Shows}
+use Rattle.kr_rollout.specs.Callers.{did_of, gave_of, ShowsEntry}
 use Rattle.kr_rollout.specs.inner.Rollouts.{RolloutState, IsRollout, line_now, state_with, MayServe, Serves}
 use Rattle.kr_rollout.specs.inner.Membership.{with_generation}
 use Rattle.kr_rollout.proofs.Serving.{IsStill, entry_now, told, held_in}
@@ -41,7 +41,7 @@ pub still_at : (here old : RolloutState) (kept : BoardState) (seat : ℕ) (asked
     → revision_in (gave_of given) ≡ 0 → revision_replaced_in (did_of asked) ≡ 0
     → generation_adopted_in (gave_of given) ≡ None → KeepsRules (did_of asked) old.opening
     → IsAnswer (did_of asked) (gave_of given) here.state (held_by here.state seat)
-    → ((e : Entry) → Shows given e)
+    → ((e : Entry) → ShowsEntry given e)
     → line ≡ line_now old.state seat (did_of asked) (gave_of given)
     → Serves old seat asked given line old
 still_at here old kept seat asked given line k view l s none before adopted rules is shows line_is =

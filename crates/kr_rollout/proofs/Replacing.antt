@@ -6,7 +6,10 @@ use Rattle.kr_store.specs.declared.answers.PutNo.TheVariants as no
 use Rattle.kr_store.specs.declared.format.Check.{Check}
 use Rattle.kr_store.specs.declared.rows.LogRow.{LogRow}
 use Rattle.kr_store.specs.declared.rows.Row.{Row}
-use Rattle.kr_store.specs.Rows.{live}
+use Rattle.kr_base.specs.Rules.{IsPath}
+use Rattle.kr_store.specs.declared.format.Format.{Format}
+use Rattle.kr_store.specs.Rows.{IsRow, live}
+use Rattle.kr_store.proofs.Places.{live_at_revision}
 use Rattle.kr_store.specs.Stores.{Kept, IsLatestPut, Wrote, Fails, Refusal, Replaces, put_over}
 use Rattle.kr_config.specs.declared.who.Who.{Who}
 use Rattle.kr_provider.specs.Publication.{Publication, list_at}
@@ -69,3 +72,25 @@ module _ (p : Publication) (old new : Kept) (path : List ℕ) (revision : ℕ) (
       ((r.0, r.1, subst (λ row. Refusal old new row (no.Full needed)) (over_is r.0 r.1) r.2), b)
   replaced_by resource before after (Err (no.Changed to)) resource_is r b = (r, b)
   replaced_by resource before after (Err no.NoMemory) resource_is r b = (r, b)
+
+  -- the same, of what was told of a path that is the row's own
+  pub replaced_here : (resource at : List ℕ) (before after : BoardState)
+      (result : Result ℕ PutNo) → resource ≡ own.resource → at ≡ own.path
+      → Replaces old new at revision stored (store_check who) result
+      → after ≡ record before {
+        needs = needs_with result
+            (record { path = at; resource = resource; who = who }) before.needs;
+      }
+      → ReplacesBy p old new path revision stored before after result
+  replaced_here resource at before after result resource_is at_is r b =
+      let same : at ≡ path = at_is ∙ (live_at_revision old.rows path own there).1 in
+      replaced_by resource before after result resource_is
+      (subst (λ q. Replaces old new q revision stored (store_check who) result) same r)
+      (subst (λ q. after ≡ record before {
+        needs = needs_with result
+            (record { path = q; resource = resource; who = who }) before.needs;
+      }) same b)
+
+pub own_path : (format : Format) (row : Row) (path : List ℕ) → path ≡ row.path → IsRow format row
+    → IsPath path
+own_path format row path is rules = subst IsPath (sym is) rules.0

@@ -18,12 +18,12 @@ use Rattle.kr_rollout.specs.declared.line.Gave.TheVariants.{Adopted, Found, Abse
 use Rattle.kr_rollout.specs.declared.line.Line.{Line}
 use Rattle.kr_rollout.specs.declared.opening.Entry.{Entry}
 use Rattle.kr_rollout.specs.declared.opening.Opening.{Opening}
-use Rattle.kr_rollout.specs.Entries.{entry_of, published_at, generation_named_by, Reaches}
+use Rattle.kr_rollout.specs.Entries.{entry_of, published_at, generation_named_by, HasWhatItNames}
 use Rattle.kr_rollout.specs.States.{State, number_at, current_of, held_by}
 use Rattle.kr_rollout.specs.Answers.{IsAnswer}
 use Rattle.kr_rollout.specs.Writes.{Writes}
 use Rattle.kr_rollout.specs.Steps.{after, HidesNoFault, IsStep, KeepsRules}
-use Rattle.kr_rollout.specs.Callers.{did_of, gave_of, Shows, StoresIt}
+use Rattle.kr_rollout.specs.Callers.{did_of, gave_of, ShowsEntry, StoresIt}
 use Rattle.kr_rollout.specs.inner.Rollouts.{RolloutState, IsRollout, AreNumbers, line_now, state_with, MayServe, Serves}
 use Rattle.kr_rollout.proofs.Revisions.{live_at}
 use Rattle.kr_rollout.proofs.Keeping.{with_board}
@@ -157,7 +157,7 @@ step_to : (o : Opening) (st next : State) (seat : ℕ) (did : Did) (gave : Gave)
     → IsAnswer did gave st (held_by st seat) → Writes gave o st (entry_now st seat did gave)
     → after st (entry_now st seat did gave) ≡ next → next.rows ≡ st.rows
     → next.generations ≡ st.generations
-    → Reaches st.rows st.generations (line_now st seat did gave)
+    → HasWhatItNames st.rows st.generations (line_now st seat did gave)
     → HidesNoFault gave st.count st.count
     → IsStep o st (entry_now st seat did gave)
 step_to o st next seat did gave l rules answer writes is rows generations reach faults =
@@ -174,9 +174,9 @@ step_to o st next seat did gave l rules answer writes is rows generations reach 
       counted = omega arith;
       faults = faults;
       payload = (λ i. entry_of (sym r i) (sym g i) (line_now st seat did gave));
-      reaches = subst (λ gs. Reaches (after st (entry_now st seat did gave)).rows gs
+      reaches = subst (λ gs. HasWhatItNames (after st (entry_now st seat did gave)).rows gs
           (line_now st seat did gave)) (sym g)
-          (subst (λ rs. Reaches rs st.generations (line_now st seat did gave)) (sym r) reach);
+          (subst (λ rs. HasWhatItNames rs st.generations (line_now st seat did gave)) (sym r) reach);
     }
 
 -- nothing but the journal changes
@@ -184,9 +184,9 @@ pub told : (c : RolloutState) (seat : ℕ) (event : Event) (answer : Answer) →
     → seat < length c.opening.reloads
     → KeepsRules (did_of event) c.opening → IsAnswer (did_of event) (gave_of answer) c.state
     (held_by c.state seat)
-    → Reaches c.state.rows c.state.generations
+    → HasWhatItNames c.state.rows c.state.generations
     (line_now c.state seat (did_of event) (gave_of answer))
-    → Shows answer (entry_now c.state seat (did_of event) (gave_of answer))
+    → ShowsEntry answer (entry_now c.state seat (did_of event) (gave_of answer))
     → Serves c seat event answer (line_now c.state seat (did_of event) (gave_of answer)) c
 told c seat event answer s l rules is reach shows =
     let a = still c.state seat (did_of event) (gave_of answer) s in

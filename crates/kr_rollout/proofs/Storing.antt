@@ -25,14 +25,14 @@ use Rattle.kr_rollout.specs.declared.line.Gave.{Gave}
 use Rattle.kr_rollout.specs.declared.line.Gave.TheVariants.{Absent, Written, Changed, StoreFailed, StoreFull, Nothing}
 use Rattle.kr_rollout.specs.declared.line.Line.{Line}
 use Rattle.kr_rollout.specs.declared.opening.Entry.{Entry}
-use Rattle.kr_rollout.specs.Entries.{entry_of, published_at, generation_named_by, generation_adopted_in, Reaches}
+use Rattle.kr_rollout.specs.Entries.{entry_of, published_at, generation_named_by, generation_adopted_in, HasWhatItNames}
 use Rattle.kr_rollout.specs.States.{State, number_at, held_by}
 use Rattle.kr_rollout.specs.Openings.{board}
 use Rattle.kr_rollout.specs.Answers.{IsAnswer}
 use Rattle.kr_opening.specs.Checks.{written_check}
 use Rattle.kr_rollout.specs.Writes.{Writes, IsSealedAnew}
 use Rattle.kr_rollout.specs.Steps.{after, put_need, put_row, HidesNoFault, KeepsRules}
-use Rattle.kr_rollout.specs.Callers.{did_of, gave_of, IsResealing, Shows, StoresIt}
+use Rattle.kr_rollout.specs.Callers.{did_of, gave_of, IsResealing, ShowsEntry, StoresIt}
 use Rattle.kr_rollout.specs.inner.Rollouts.{RolloutState, opening_of, state_with, IsRollout, line_now, Serves}
 use Rattle.kr_rollout.specs.inner.Writing.{written_as, deleted_as, needs_with, needs_without, sealed_over, ReplacesBy}
 use Rattle.std.proofs.lemmas.Option.{same_Some}
@@ -53,9 +53,9 @@ pub stepped : (c next : RolloutState) (seat : ℕ) (asked : Event) (given : Answ
     → IsAnswer (did_of asked) (gave_of given) c.state (held_by next.state seat)
     → Writes (gave_of given) c.opening c.state (entry_then next seat asked given)
     → c.state.count ≤ next.state.count
-    → HidesNoFault (gave_of given) c.state.count next.state.count → Reaches next.state.rows next.state.generations
+    → HidesNoFault (gave_of given) c.state.count next.state.count → HasWhatItNames next.state.rows next.state.generations
     (line_now next.state seat (did_of asked) (gave_of given))
-    → Shows given (entry_then next seat asked given)
+    → ShowsEntry given (entry_then next seat asked given)
     → StoresIt asked given (entry_then next seat asked given)
     → Serves c seat asked given (line_now next.state seat (did_of asked) (gave_of given)) next
 stepped c next seat asked given opening state l held rules is writes counted faults reach shows stores =
@@ -72,7 +72,7 @@ stepped c next seat asked given opening state l held rules is writes counted fau
         faults = faults;
         payload = ap (λ (s : State). entry_of s.rows s.generations
             (line_now next.state seat (did_of asked) (gave_of given))) state;
-        reaches = subst (λ (s : State). Reaches s.rows s.generations
+        reaches = subst (λ (s : State). HasWhatItNames s.rows s.generations
             (line_now next.state seat (did_of asked) (gave_of given))) state reach;
       };
       records = record {

@@ -15,20 +15,21 @@ use Rattle.kr_rollout.specs.declared.line.Gave.TheVariants.{Adopted, Found, Abse
 use Rattle.kr_rollout.specs.States.{State, current_of, verdict_on}
 
 -- the replica's current generation is adopted
-abbrev pub Adopts : ℕ → Gave → State → Option ℕ → Type 0
-Adopts replica (Adopted number) st held = (held ≡ None) × (current_of st replica ≡ Some number)
-Adopts replica (Gone other) st held =
+abbrev pub IsAdoptAnswer : ℕ → Gave → State → Option ℕ → Type 0
+IsAdoptAnswer replica (Adopted number) st held = (held ≡ None)
+    × (current_of st replica ≡ Some number)
+IsAdoptAnswer replica (Gone other) st held =
     (held ≡ None) × (other ≡ replica) × (current_of st replica ≡ None)
-Adopts replica Nothing st held = (held ≡ None) × IsSome (current_of st replica)
-Adopts replica gave st held = ⊥
+IsAdoptAnswer replica Nothing st held = (held ≡ None) × IsSome (current_of st replica)
+IsAdoptAnswer replica gave st held = ⊥
 
 -- the live row of the path is found
-abbrev pub Fetches : List ℕ → Gave → State → Option ℕ → Type 0
-Fetches path (Found revision) st held =
+abbrev pub IsFetchAnswer : List ℕ → Gave → State → Option ℕ → Type 0
+IsFetchAnswer path (Found revision) st held =
     IsSome held × (row : Row) × (live st.rows path ≡ Some row) × (row.revision ≡ revision)
-Fetches path Absent st held = IsSome held × (live st.rows path ≡ None)
-Fetches path Nothing st held = IsSome held
-Fetches path gave st held = ⊥
+IsFetchAnswer path Absent st held = IsSome held × (live st.rows path ≡ None)
+IsFetchAnswer path Nothing st held = IsSome held
+IsFetchAnswer path gave st held = ⊥
 
 -- the live row with the least path above this one is found
 abbrev pub FindsNext : List ℕ → Gave → State → Option ℕ → Type 0
@@ -71,9 +72,9 @@ ReplacesRow path revision Nothing st held = IsSome held
 ReplacesRow path revision gave st held = ⊥
 
 -- the held generation is let go; this never wants memory
-abbrev pub LetsGo : Gave → Option ℕ → Type 0
-LetsGo Released held = IsSome held
-LetsGo gave held = ⊥
+abbrev pub IsLetGoAnswer : Gave → Option ℕ → Type 0
+IsLetGoAnswer Released held = IsSome held
+IsLetGoAnswer gave held = ⊥
 
 -- a generation is expected or any
 abbrev pub IsExpected : Option ℕ → ℕ → Type 0
@@ -89,8 +90,9 @@ HasExpected st replica expect =
     (current : ℕ) × (current_of st replica ≡ Some current) × IsExpected expect current
 
 -- what is judged is refused by the first reason, or else is the next generation
-abbrev pub IsRefused : State → ℕ → Publication → Verdict → Type 0
-IsRefused st replica p verdict = (verdict ≡ verdict_on st replica p.rows) × (verdict ≢ Pass)
+abbrev pub IsRefusedByVerdict : State → ℕ → Publication → Verdict → Type 0
+IsRefusedByVerdict st replica p verdict = (verdict ≡ verdict_on st replica p.rows)
+    × (verdict ≢ Pass)
 
 abbrev pub IsNextGeneration : State → ℕ → Publication → ℕ → Type 0
 IsNextGeneration st replica p number =
@@ -103,7 +105,7 @@ Reloads replica p expect (Gone other) st = (other ≡ replica) × (current_of st
 Reloads replica p expect (Moved current) st =
     (current_of st replica ≡ Some current) × IsUnexpected expect current
 Reloads replica p expect (Refused verdict) st =
-    HasExpected st replica expect × IsRefused st replica p verdict
+    HasExpected st replica expect × IsRefusedByVerdict st replica p verdict
 Reloads replica p expect (Reloaded number) st =
     HasExpected st replica expect × IsNextGeneration st replica p number
 Reloads replica p expect Nothing st = HasExpected st replica expect
@@ -113,7 +115,7 @@ Reloads replica p expect gave st = ⊥
 abbrev pub Joins : ℕ → Publication → Gave → State → Type 0
 Joins replica p (Present current) st = current_of st replica ≡ Some current
 Joins replica p (Refused verdict) st =
-    (current_of st replica ≡ None) × IsRefused st replica p verdict
+    (current_of st replica ≡ None) × IsRefusedByVerdict st replica p verdict
 Joins replica p (Joined number) st =
     (current_of st replica ≡ None) × IsNextGeneration st replica p number
 Joins replica p Nothing st = current_of st replica ≡ None
@@ -127,13 +129,13 @@ Leaves replica gave st = ⊥
 
 -- one line for each event
 abbrev pub IsAnswer : Did → Gave → State → (held : Option ℕ) → Type 0
-IsAnswer (Adopt replica) gave st held = Adopts replica gave st held
-IsAnswer (Fetch path) gave st held = Fetches path gave st held
+IsAnswer (Adopt replica) gave st held = IsAdoptAnswer replica gave st held
+IsAnswer (Fetch path) gave st held = IsFetchAnswer path gave st held
 IsAnswer (After path) gave st held = FindsNext path gave st held
 IsAnswer (Put path resource plain) gave st held = PutsRow gave st held
 IsAnswer (Delete path) gave st held = DeletesRow path gave st
 IsAnswer (Replace path revision) gave st held = ReplacesRow path revision gave st held
-IsAnswer LetGo gave st held = LetsGo gave held
+IsAnswer LetGo gave st held = IsLetGoAnswer gave held
 IsAnswer (Reload replica p expect) gave st held = Reloads replica p expect gave st
 IsAnswer (Join replica p) gave st held = Joins replica p gave st
 IsAnswer (Leave replica) gave st held = Leaves replica gave st

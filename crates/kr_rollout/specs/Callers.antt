@@ -150,23 +150,23 @@ gave_of (answer.Departed number) = Departed number
 gave_of answer.NoMemory = Nothing
 
 -- what was handed out is what the entry names
-abbrev pub Shows : Answer → Entry → Type 0
-Shows (answer.Adopted number p) e = e.published ≡ Some p
-Shows (answer.Gone replica) e = ⊤
-Shows (answer.Found row) e = e.row ≡ Some row
-Shows answer.Absent e = ⊤
-Shows (answer.Written revision) e = ⊤
-Shows (answer.Changed revision) e = ⊤
-Shows answer.StoreFailed e = ⊤
-Shows (answer.StoreFull needed) e = ⊤
-Shows answer.Released e = ⊤
-Shows (answer.Reloaded number) e = ⊤
-Shows (answer.Joined number) e = ⊤
-Shows (answer.Refused verdict) e = ⊤
-Shows (answer.Moved number) e = ⊤
-Shows (answer.Present number) e = ⊤
-Shows (answer.Departed number) e = ⊤
-Shows answer.NoMemory e = ⊤
+abbrev pub ShowsEntry : Answer → Entry → Type 0
+ShowsEntry (answer.Adopted number p) e = e.published ≡ Some p
+ShowsEntry (answer.Gone replica) e = ⊤
+ShowsEntry (answer.Found row) e = e.row ≡ Some row
+ShowsEntry answer.Absent e = ⊤
+ShowsEntry (answer.Written revision) e = ⊤
+ShowsEntry (answer.Changed revision) e = ⊤
+ShowsEntry answer.StoreFailed e = ⊤
+ShowsEntry (answer.StoreFull needed) e = ⊤
+ShowsEntry answer.Released e = ⊤
+ShowsEntry (answer.Reloaded number) e = ⊤
+ShowsEntry (answer.Joined number) e = ⊤
+ShowsEntry (answer.Refused verdict) e = ⊤
+ShowsEntry (answer.Moved number) e = ⊤
+ShowsEntry (answer.Present number) e = ⊤
+ShowsEntry (answer.Departed number) e = ⊤
+ShowsEntry answer.NoMemory e = ⊤
 
 -- the value that was handed in, where one was
 abbrev pub stored_in : Event → Option (List ℕ)
@@ -184,5 +184,5 @@ pub record Records (seat : ℕ) (event : Event) (answer : Answer) (e : Entry) : 
   pub seat_is : e.line.seat ≡ seat
   pub did_is : e.line.did ≡ did_of event
   pub gave_is : e.line.gave ≡ gave_of answer
-  pub shows : Shows answer e
+  pub shows : ShowsEntry answer e
   pub stores : StoresIt event answer e

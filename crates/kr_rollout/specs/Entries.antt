@@ -52,7 +52,8 @@ entry_of rows generations line = record {
 }
 
 -- what the line names is there
-pub record Reaches (rows : List LogRow) (generations : List Generation) (line : Line) : Type 0 where
+pub record HasWhatItNames (rows : List LogRow) (generations : List Generation) (line : Line)
+    : Type 0 where
   pub row : revision_in line.gave ≤ length rows
   pub replaced : revision_replaced_in line.did ≤ length rows
   pub generation : IfSome (generation_named_in line) (λ number. number < length generations)

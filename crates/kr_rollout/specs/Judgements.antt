@@ -18,10 +18,10 @@ with_configuration st replica p = record st {
 
 -- a Reload is judged where the replica is in and no other generation is expected of it, and a Join
 -- where the replica isn't in
-abbrev pub IsJudged : Did → State → Type 0
-IsJudged (Reload replica p expect) st = HasExpected st replica expect
-IsJudged (Join replica p) st = current_of st replica ≡ None
-IsJudged did st = ⊥
+abbrev pub MayBeJudged : Did → State → Type 0
+MayBeJudged (Reload replica p expect) st = HasExpected st replica expect
+MayBeJudged (Join replica p) st = current_of st replica ≡ None
+MayBeJudged did st = ⊥
 
 -- the state that it would leave
 abbrev pub judged_state : Did → State → State

@@ -2,7 +2,7 @@
 use Rattle.std.specs.Prelude.{◌≡◌, ℕ, ◌<◌, ◌++◌, List, length, Option, Some, Ok}
 use Rattle.kr_store.specs.declared.rows.Row as stored_row
 use Rattle.kr_store.specs.Rows.{put_at}
-use Rattle.kr_config.specs.Kept.{Row}
+use Rattle.kr_config.specs.Kept.{ConfigEntry}
 use Rattle.kr_judge.specs.declared.need.Need.{Need}
 use Rattle.kr_judge.specs.declared.verdict.Verdict.{Verdict}
 use Rattle.kr_rollout.specs.declared.opening.Entry.{Entry}
@@ -19,7 +19,7 @@ use Rattle.kr_opening.specs.Replicas.{settings_of}
 
 -- a replica that is named as unfit doesn't fit with the others
 abbrev pub UnfitIsUnfit : Type 0
-UnfitIsUnfit = (replicas : List (Option (List Row))) (needs : List Need) (replica : ℕ)
+UnfitIsUnfit = (replicas : List (Option (List ConfigEntry))) (needs : List Need) (replica : ℕ)
     (verdict : Verdict) → IsUnfit replicas needs replica verdict → AllFit replicas needs → ⊥
 
 -- a front of a legal history is legal

@@ -2,7 +2,7 @@
 use Rattle.std.specs.Prelude.{ℕ, ◌+◌, List, length, sum, replicate, All, Contains, Option, None, IfSome}
 use Rattle.kr_store.specs.Rows.{AreRows}
 use Rattle.kr_store.specs.Stores.{Kept}
-use Rattle.kr_config.specs.Kept.{Row, plugins_in}
+use Rattle.kr_config.specs.Kept.{ConfigEntry, plugins_in}
 use Rattle.kr_provider.specs.Publication.{Publication, IsPublished}
 use Rattle.kr_judge.specs.Boards.{BoardState}
 use Rattle.kr_rollout.specs.declared.opening.Opening.{Opening}
@@ -12,7 +12,7 @@ use Rattle.kr_opening.specs.Needs.{needs_of, HasNoStray, HasNoOtherSecret}
 
 -- ---- the state
 
-abbrev pub first_of : Opening → List Row
+abbrev pub first_of : Opening → List ConfigEntry
 first_of o = first_rows (settings_of o.replicas)
 
 abbrev pub start_of : Opening → State
@@ -53,7 +53,7 @@ board o st = record {
 }
 
 -- the settings name no other plugins than these
-abbrev pub NamesAmong : (names : List (List ℕ)) → List Row → Type 0
+abbrev pub NamesAmong : (names : List (List ℕ)) → List ConfigEntry → Type 0
 NamesAmong names rows = All (λ name. Contains names name) (plugins_in rows)
 
 -- nor do those of the replicas that are in

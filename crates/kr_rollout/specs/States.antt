@@ -3,7 +3,7 @@ use Rattle.std.specs.Prelude.{◌≡◌, ℕ, ◌+◌, ◌==◌, ◌⊎◌, Bool
 use Rattle.std.specs.List.{list_any}
 use Rattle.std.specs.Option.{option_map}
 use Rattle.kr_store.specs.declared.rows.LogRow.{LogRow}
-use Rattle.kr_config.specs.Kept.{Row}
+use Rattle.kr_config.specs.Kept.{ConfigEntry}
 use Rattle.kr_judge.specs.declared.need.Need.{Need}
 use Rattle.kr_judge.specs.declared.verdict.Verdict.{Verdict}
 use Rattle.kr_judge.specs.Boards.{GenerationState}
@@ -38,7 +38,7 @@ abbrev pub IsLiveNumber : State → ℕ → Type 0
 IsLiveNumber st number = Contains st.current (Some number) ⊎ Contains st.held (Some number)
 
 -- the settings of a live generation
-abbrev pub IsLive : State → List Row → Type 0
+abbrev pub IsLive : State → List ConfigEntry → Type 0
 IsLive st rows = (number : ℕ) × IsLiveNumber st number
     × (option_map (λ p. p.rows) (published_at st.generations (Some number)) ≡ Some rows)
 
@@ -68,5 +68,5 @@ abbrev pub board_generations : State → List GenerationState
 board_generations st = judged_generations st.current st.held 0 st.generations
 
 -- the verdict on new settings of a replica
-abbrev pub verdict_on : State → ℕ → List Row → Verdict
+abbrev pub verdict_on : State → ℕ → List ConfigEntry → Verdict
 verdict_on st replica rows = verdict_of st.needs (board_generations st) replica rows

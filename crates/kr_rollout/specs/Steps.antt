@@ -17,7 +17,7 @@ use Rattle.kr_rollout.specs.declared.line.Gave.{Gave}
 use Rattle.kr_rollout.specs.declared.line.Gave.TheVariants.{Adopted, Written, Released, Reloaded, Joined, Departed, StoreFailed}
 use Rattle.kr_rollout.specs.declared.opening.Entry.{Entry}
 use Rattle.kr_rollout.specs.declared.opening.Opening.{Opening}
-use Rattle.kr_rollout.specs.Entries.{entry_of, Reaches}
+use Rattle.kr_rollout.specs.Entries.{entry_of, HasWhatItNames}
 use Rattle.kr_rollout.specs.States.{State, held_by}
 use Rattle.kr_rollout.specs.Openings.{IsAdmitted}
 use Rattle.kr_rollout.specs.Answers.{IsAnswer}
@@ -113,8 +113,8 @@ KeepsRules (Reload replica p expect) o = (replica < length o.replicas) × IsAdmi
 KeepsRules (Join replica p) o = (replica < length o.replicas) × IsAdmitted o.names p
 KeepsRules (Leave replica) o = replica < length o.replicas
 
--- no fault of the store is hidden: the count of its faults is one higher where the answer tells that
--- the store failed, and else as before
+-- no fault of the store is hidden: the count of its faults is one higher where the answer tells
+-- that the store failed, and else as before
 abbrev pub HidesNoFault : Gave → (before now : ℕ) → Type 0
 HidesNoFault StoreFailed before now = now ≡ next_number before
 HidesNoFault gave before now = now ≡ before
@@ -130,4 +130,4 @@ pub record IsStep (o : Opening) (st : State) (e : Entry) : Type 0 where
   pub counted : st.count ≤ e.line.faults
   pub faults : HidesNoFault e.line.gave st.count e.line.faults
   pub payload : e ≡ entry_of (after st e).rows (after st e).generations e.line
-  pub reaches : Reaches (after st e).rows (after st e).generations e.line
+  pub reaches : HasWhatItNames (after st e).rows (after st e).generations e.line

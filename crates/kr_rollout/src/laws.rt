@@ -22,8 +22,8 @@ pub fn found_is_there()
     ensures { FoundIsThere }
 {}
 
-/// What `board_of` makes of a store and of replicas' settings is the board of the core that begins
-/// with them, if there is room for as many generations.
+/// What `make_opening_board` makes of a store and of replicas' settings is the board of the core
+/// that begins with them, if there is room for as many generations.
 pub fn board_at_start()
     ensures { BoardAtStart }
 {}

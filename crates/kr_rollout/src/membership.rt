@@ -92,7 +92,7 @@ impl<T: Tape> Rollout<T> {
                     published,
                 },
             ) => {
-                let generation = self.take_up(replica, settings, published);
+                let generation = self.push_generation(replica, settings, published);
                 let line = self.line(seat, did, Gave::Reloaded { generation });
                 return (Answer::Reloaded { generation }, line);
             }
@@ -130,7 +130,7 @@ impl<T: Tape> Rollout<T> {
                     published,
                 },
             ) => {
-                let generation = self.take_up(replica, settings, published);
+                let generation = self.push_generation(replica, settings, published);
                 let line = self.line(seat, did, Gave::Joined { generation });
                 return (Answer::Joined { generation }, line);
             }
@@ -163,7 +163,7 @@ impl<T: Tape> Rollout<T> {
     }
 
     /// The configuration is the replica's next generation. It takes no memory.
-    fn take_up(
+    fn push_generation(
         &mut self,
         replica: u32,
         settings: Shared<Settings>,

@@ -8,7 +8,7 @@ use kr_provider::Published;
 
 /// The configuration of the generation with this number.
 #[tactic(auto, using(crate::proofs::Keeping::read_published))]
-pub(crate) fn published_of(generations: &[Generation], number: u32) -> &Shared<Published>
+pub(crate) fn published_generation(generations: &[Generation], number: u32) -> &Shared<Published>
     requires { number < length generations.now }
     ensures { published_at generations.now (Some number) ≡ Some result.now }
 {

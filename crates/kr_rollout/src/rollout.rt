@@ -8,7 +8,7 @@ ghost use Rattle.kr_rollout.specs.inner.Rollouts.{line_now, MayServe, Serves};
 use crate::answer::Answer;
 use crate::event::Event;
 use crate::line::{Did, Gave, Line};
-use crate::published::published_of;
+use crate::published::published_generation;
 use kr_base::{List, NoMemory, Shared, Tape, Text};
 use kr_judge::Board;
 use kr_opening::Generation;
@@ -141,7 +141,7 @@ impl<T: Tape> Rollout<T> {
             let line = self.line(seat, did, Gave::Gone { replica });
             return (Answer::Gone { replica }, line);
         };
-        match published_of(self.generations.as_slice(), generation).share() {
+        match published_generation(self.generations.as_slice(), generation).share() {
             Ok(published) => {
                 let line = self.line(seat, did, Gave::Adopted { generation });
                 self.board.hold(generation);
@@ -192,7 +192,7 @@ impl<T: Tape> Rollout<T> {
         requires may { MayServe self.old seat (event.After path) }
         ensures { Serves self.old seat (event.After path) result.0 result.1 self.new }
     {
-        let found = self.store.next_after(path.as_str());
+        let found = self.store.successor(path.as_str());
         let did = Did::After { path };
         match found {
             Ok(Some(row)) => {

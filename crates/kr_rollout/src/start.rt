@@ -7,7 +7,7 @@ ghost use Rattle.kr_rollout.specs.inner.RolloutStarts.{StartsRollout};
 use crate::rollout::Rollout;
 use kr_base::{List, NoMemory, Shared, Tape, Text};
 use kr_opening::start_parts::{StartParts, make};
-use kr_opening::{StartNo, board_of};
+use kr_opening::{StartNo, make_opening_board};
 use kr_provider::Published;
 use kr_store::Store;
 use std::alloc::Global;
@@ -35,7 +35,7 @@ impl<T: Tape> Rollout<T> {
             Ok(made) => made,
             Err(NoMemory) => return Err((StartNo::NoMemory, store)),
         };
-        let board = match board_of(alloc, &store, &made.settings, made.room) {
+        let board = match make_opening_board(alloc, &store, &made.settings, made.room) {
             Ok(board) => board,
             Err(why) => {
                 drop((replicas, names, made));

@@ -15,15 +15,17 @@ ghost use Rattle.kr_rollout.specs.inner.Writing.{refused_as, written_as, deleted
 
 use crate::answer::Answer;
 use crate::line::{Did, Gave, Line};
-use crate::published::published_of;
+use crate::published::published_generation;
 use crate::rollout::Rollout;
 use kr_base::{Bytes, NoMemory, Tape, Text};
 use kr_config::Who;
 use kr_judge::Board;
 use kr_opening::store_check;
+use kr_paths::Path;
 use kr_provider::Published;
 use kr_provider::laws::size_of_sealing;
 use kr_store::{Check, PutNo, Store};
+use std::alloc::Global;
 
 /// Keeps the proposed need where the row was written, and else lets it go.
 fn settle(board: &mut Board, wrote: &Result<u64, PutNo>)
@@ -42,7 +44,7 @@ fn settle(board: &mut Board, wrote: &Result<u64, PutNo>)
 fn put_value<T: Tape>(
     store: &mut Store<T>,
     board: &mut Board,
-    path: &str,
+    path: &Path,
     resource: &str,
     who: &Who,
     stored: Bytes,
@@ -66,9 +68,40 @@ fn put_value<T: Tape>(
             return Err(PutNo::NoMemory);
         }
     }
-    let wrote = store.put(path, resource, stored, store_check(who));
+    let wrote = store.put_shared(path, resource, stored, store_check(who));
     settle(board, &wrote);
     wrote
+}
+
+/// The same at a path of which one copy is made, for all that keeps it.
+fn put_copied_path<T: Tape>(
+    store: &mut Store<T>,
+    board: &mut Board,
+    alloc: Global,
+    path: &str,
+    resource: &str,
+    who: &Who,
+    stored: Bytes,
+) -> Result<u64, PutNo>
+    requires idle { board.old.proposal ≡ None }
+    requires path { IsPath path.now }
+    requires resource { IsResource resource.now }
+    requires stored { length stored ≤ longest_value }
+    ensures store { Puts store.old store.new
+        (put_of path.now resource.now stored (check_in store.old.format (store_check who.now)))
+        result }
+    ensures board { board.new ≡ record board.old {
+      needs = needs_with result
+          (record { path = path.now; resource = resource.now; who = who.now }) board.old.needs;
+    } }
+{
+    match Path::copy(alloc, path) {
+        Ok(own) => put_value(store, board, &own, resource, who, stored),
+        Err(NoMemory) => {
+            drop(stored);
+            Err(PutNo::NoMemory)
+        }
+    }
 }
 
 /// Puts a value that needs the provider in the place of the row with this revision, where that is
@@ -76,7 +109,7 @@ fn put_value<T: Tape>(
 fn replace_value<T: Tape>(
     store: &mut Store<T>,
     board: &mut Board,
-    path: &str,
+    path: &Path,
     resource: &str,
     revision: u64,
     who: &Who,
@@ -99,7 +132,7 @@ fn replace_value<T: Tape>(
             return Err(PutNo::NoMemory);
         }
     }
-    let wrote = store.replace_if(path, revision, stored, store_check(who));
+    let wrote = store.replace_if(path.as_str(), revision, stored, store_check(who));
     settle(board, &wrote);
     wrote
 }
@@ -221,11 +254,11 @@ fn delete_line(wrote: &Result<Option<u64>, PutNo>) -> Gave
 
 /// The provider by which the configuration writes values of the resource.
 #[tactic(auto, using(crate::proofs::Writers::list_some, crate::proofs::Writers::first_writes))]
-fn writer_of<'a>(published: &'a Published, resource: &str) -> &'a Who
+fn configured_writer<'a>(published: &'a Published, resource: &str) -> &'a Who
     ensures writer { result.now ≡ writer_of (list_at published.now resource.now) }
     ensures kept { IsPublished published.now }
 {
-    let list = published.list_for(resource);
+    let list = published.resource_list(resource);
     &list[0]
 }
 
@@ -255,12 +288,13 @@ impl<T: Tape> Rollout<T> {
         let Some(number) = self.held[seat as usize] else {
             unreachable!()
         };
-        let published = published_of(self.generations.as_slice(), number).get();
+        let published = published_generation(self.generations.as_slice(), number).get();
         known(published);
-        let who = writer_of(published, resource.as_str());
-        let result = put_value(
+        let who = configured_writer(published, resource.as_str());
+        let result = put_copied_path(
             &mut self.store,
             &mut self.board,
+            self.alloc,
             path.as_str(),
             resource.as_str(),
             who,
@@ -301,7 +335,7 @@ impl<T: Tape> Rollout<T> {
         let Some(number) = self.held[seat as usize] else {
             unreachable!()
         };
-        let published = published_of(self.generations.as_slice(), number).get();
+        let published = published_generation(self.generations.as_slice(), number).get();
         known(published);
         let result = replace_live(
             &mut self.store,
@@ -320,7 +354,7 @@ impl<T: Tape> Rollout<T> {
 
 /// Puts a value in the place of the row with this revision, for the same resource, where that is
 /// still the path's last one. The value needs the provider by which the configuration writes.
-#[tactic(auto, using(crate::proofs::Replacing::replaced_by))]
+#[tactic(auto, using(crate::proofs::Replacing::replaced_here, crate::proofs::Replacing::own_path))]
 fn replace_live<T: Tape>(
     store: &mut Store<T>,
     board: &mut Board,
@@ -347,6 +381,14 @@ fn replace_live<T: Tape>(
     if row.get().revision != revision {
         return Err(refuse_replacing(published, store, path, revision, stored));
     }
-    let who = writer_of(published, resource);
-    replace_value(store, board, path, resource, revision, who, stored)
+    let who = configured_writer(published, resource);
+    replace_value(
+        store,
+        board,
+        &row.get().path,
+        resource,
+        revision,
+        who,
+        stored,
+    )
 }

@@ -8,7 +8,7 @@ use Rattle.std.proofs.lemmas.Fmt.{decimal_by_steps}
 use Rattle.kr_rollout.specs.declared.line.Line.{Line}
 use Rattle.kr_script.specs.Fleets.{Fleet}
 use Rattle.kr_script.specs.Output.{journal_texts, all_texts, lines_text}
-use Rattle.kr_script.specs.Output.{output_texts, worker_at, event_text, two}
+use Rattle.kr_script.specs.Output.{output_texts, seat_worker, event_text, two}
 use Rattle.kr_script.specs.Laws.{is_one_line, ToldApart}
 
 heads : {T : Type 0} {x y : T} {xs ys : List T} → x ∷ xs ≡ y ∷ ys → x ≡ y
@@ -104,7 +104,7 @@ no_replies : (fleet : Fleet) (n : ℕ) (lines : List Line) → n + length lines 
     → IsNot (codes "replies") (journal_texts fleet n lines)
 no_replies fleet n [] h = tt
 no_replies fleet n (line ∷ lines) h = (
-  λ e. not_replies (decimal n) (codes " " ++ two (worker_at fleet.workers line.seat)
+  λ e. not_replies (decimal n) (codes " " ++ two (seat_worker fleet.workers line.seat)
       (event_text fleet.replicas line.did line.gave)) (begins_low n (omega (arith, h))) e,
   no_replies fleet (n + 1) lines (omega (arith, h)),
 )

@@ -13,7 +13,7 @@ use Rattle.kr_script.specs.declared.statement.Statement.{Statement}
 use Rattle.kr_script.specs.declared.statement.Statement.TheVariants as statement
 use Rattle.kr_script.specs.Fleets.{Fleet, Worker}
 use Rattle.kr_script.specs.Rows.{Row}
-use Rattle.kr_script.specs.Statements.{Writes, WriteAll, replica_statement, worker_statements}
+use Rattle.kr_script.specs.Statements.{WritesStatement, WriteAll, replica_statement, worker_statements}
 use Rattle.kr_script.specs.Statements.{statements_of}
 use Rattle.kr_script.specs.Rules.{IsFleet, are_distinct, first_is_in, is_gap, is_line, is_worker}
 use Rattle.kr_script.specs.inner.Drafts.{Draft, start, fleet_in, workers_in}
@@ -33,7 +33,7 @@ after draft (said ∷ more) = after (with_statement draft said) more
 record Suits (rs : Replicas) (d : Draft) (st : Statement) : Type 0 where
   may : MayCome d st
   apart : are_distinct (map (λ replica. replica.0) d.replicas) ≡ true
-  same : (row : Row) → Writes rs row st → Writes d.replicas row st
+  same : (row : Row) → WritesStatement rs row st → WritesStatement d.replicas row st
 
 abbrev Follow : Replicas → Draft → List Statement → Type 0
 Follow rs d [] = ⊤
@@ -195,7 +195,7 @@ follow_worker rs ws d w h apart rule new =
         );
         apart = subst (λ (x : Replicas). are_distinct (map (λ replica. replica.0) x) ≡ true)
             (sym h.replicas) apart;
-        same = λ row s. subst (λ (x : Replicas). Writes x row (statement.Worker w.name w.replica))
+        same = λ row s. subst (λ (x : Replicas). WritesStatement x row (statement.Worker w.name w.replica))
             (sym h.replicas) s;
       },
       subst (λ (x : Draft). Follow rs x (map statement.Line w.lines))

@@ -7,8 +7,8 @@ use Rattle.std.proofs.lemmas.Str.{IsUtf8-from_is_utf8, is_utf8-from_IsUtf8}
 use Rattle.kr_script.specs.declared.script.Script.{Script}
 use Rattle.kr_script.specs.declared.script.ScriptNo.{ScriptNo}
 use Rattle.kr_script.specs.declared.script.ScriptNo.TheVariants.{Breach}
-use Rattle.kr_script.specs.declared.line_error.LineError.{LineError}
-use Rattle.kr_script.specs.declared.line_error.LineError.TheVariants as line_error
+use Rattle.kr_script.specs.declared.line_error.ScriptLineError.{ScriptLineError}
+use Rattle.kr_script.specs.declared.line_error.ScriptLineError.TheVariants as line_error
 use Rattle.kr_script.specs.Fleets.{Fleet}
 use Rattle.kr_script.specs.Rows.{words_of}
 use Rattle.kr_script.specs.inner.Drafts.{Draft}
@@ -43,8 +43,8 @@ pub reading_no_text : (whole : Result Fleet ScriptNo) (n : ℕ) (d : Draft) (ls 
 reading_no_text whole n d ls line more inv split none =
     sym inv ∙ next n d ls line more false split (not_utf8 line (is_utf8 line) refl none)
 
-stops : (whole : Result Fleet ScriptNo) (n : ℕ) (wanted : Result Draft LineError) (new : Draft)
-    (why : LineError) (T : Type 0) (rest : Draft → Result Fleet ScriptNo)
+stops : (whole : Result Fleet ScriptNo) (n : ℕ) (wanted : Result Draft ScriptLineError) (new : Draft)
+    (why : ScriptLineError) (T : Type 0) (rest : Draft → Result Fleet ScriptNo)
     → goes_on n wanted rest ≡ whole → Moves {T = T} wanted new (Err why)
     → Gives whole (Err (at_line n why))
 stops whole n wanted new line_error.Form T rest is moved =
@@ -58,7 +58,7 @@ stops whole n wanted new line_error.TooLarge T rest is moved =
 stops whole n wanted new line_error.NoMemory T rest is moved = tt
 
 pub reading_stops : (whole : Result Fleet ScriptNo) (n : ℕ) (d new : Draft) (ls : List (List ℕ))
-    (line text : List ℕ) (more : List (List ℕ)) (why : LineError) (T : Type 0)
+    (line text : List ℕ) (more : List (List ℕ)) (why : ScriptLineError) (T : Type 0)
     → answer n d ls ≡ whole → ls ≡ line ∷ more → text ≡ line → IsUtf8 line
     → Moves {T = T} (row_step d (words_of text)) new (Err why)
     → Gives whole (Err (at_line n why))

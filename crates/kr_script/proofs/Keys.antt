@@ -8,9 +8,9 @@ use Rattle.std.proofs.lemmas.Bool.{and_parts, not-true}
 use Rattle.kr_script.specs.declared.statement.Keyword.{Keyword}
 use Rattle.kr_script.specs.declared.statement.Keyword.TheVariants as keyword
 use Rattle.kr_script.specs.Rows.{Row}
-use Rattle.kr_script.specs.Statements.{name_at}
+use Rattle.kr_script.specs.Statements.{replica_name}
 use Rattle.kr_script.specs.Rules.{are_distinct}
-use Rattle.kr_script.specs.inner.Drafts.{word_of, keyword_of, place_from, place_of}
+use Rattle.kr_script.specs.inner.Drafts.{word_of, keyword_of, place_from, replica_number}
 use Rattle.kr_script.specs.inner.Drafts.{one_word, two_words, three_words, is_empty}
 use Rattle.kr_script.proofs.Lists.{same_text, text_same, none_some, any_at}
 
@@ -74,15 +74,15 @@ abbrev pub Replicas : Type 0
 Replicas = List (List ℕ × List ℕ)
 
 placed : (n : ℕ) (rs : Replicas) (name : List ℕ) (k : ℕ) → place_from n rs name ≡ Some k
-    → (j : ℕ) × (k ≡ n + j) × (j < length rs) × (name_at rs j ≡ name)
+    → (j : ℕ) × (k ≡ n + j) × (j < length rs) × (replica_name rs j ≡ name)
 placed n [] name k e = absurd (none_some k e)
 placed n (r ∷ rs) name k e = by (bytes_eq r.0 name) refl e (placed (n + 1) rs name k)
   where
     by : (b : Bool) → bytes_eq r.0 name ≡ b → (if b then Some n else place_from (n + 1) rs name)
         ≡ Some k
         → (place_from (n + 1) rs name ≡ Some k
-        → (j : ℕ) × (k ≡ n + 1 + j) × (j < length rs) × (name_at rs j ≡ name))
-        → (j : ℕ) × (k ≡ n + j) × (j < length (r ∷ rs)) × (name_at (r ∷ rs) j ≡ name)
+        → (j : ℕ) × (k ≡ n + 1 + j) × (j < length rs) × (replica_name rs j ≡ name))
+        → (j : ℕ) × (k ≡ n + j) × (j < length (r ∷ rs)) × (replica_name (r ∷ rs) j ≡ name)
     by true t e more = let same : n ≡ k = cc in (
       0,
       omega (arith, same),
@@ -96,18 +96,18 @@ placed n (r ∷ rs) name k e = by (bytes_eq r.0 name) refl e (placed (n + 1) rs 
       found.3,
     )
 
-pub place_is : (rs : Replicas) (name : List ℕ) (k : ℕ) → place_of rs name ≡ Some k
-    → (k < length rs) × (name_at rs k ≡ name)
+pub place_is : (rs : Replicas) (name : List ℕ) (k : ℕ) → replica_number rs name ≡ Some k
+    → (k < length rs) × (replica_name rs k ≡ name)
 place_is rs name k e =
     let found = placed 0 rs name k e in
     let same : k ≡ found.0 = omega (arith, found.1) in
-    (omega (arith, same, found.2), ap (name_at rs) same ∙ found.3)
+    (omega (arith, same, found.2), ap (replica_name rs) same ∙ found.3)
 
 names_of : Replicas → List (List ℕ)
 names_of rs = map (λ replica. replica.0) rs
 
 place_there : (n : ℕ) (rs : Replicas) (k : ℕ) → are_distinct (map (λ replica. replica.0) rs) ≡ true
-    → k < length rs → place_from n rs (name_at rs k) ≡ Some (n + k)
+    → k < length rs → place_from n rs (replica_name rs k) ≡ Some (n + k)
 place_there n [] k e h = absurd (omega (arith, h))
 place_there n (r ∷ rs) zero e h =
     ap (λ b. if b then Some n else place_from (n + 1) rs r.0) (text_same r.0)
@@ -118,10 +118,10 @@ place_there n (r ∷ rs) (suc k) e h =
     let below : k < length rs = omega (arith, h) in
     let differs = any_at (bytes_eq r.0) (λ (replica : List ℕ × List ℕ). replica.0) rs k ([], [])
     (not-true (list_any (bytes_eq r.0) (map (λ replica. replica.0) rs)) parts.0) below in
-    ap (λ b. if b then Some n else place_from (n + 1) rs (name_at rs k)) differs
+    ap (λ b. if b then Some n else place_from (n + 1) rs (replica_name rs k)) differs
     ∙ place_there (n + 1) rs k parts.1 below
     ∙ ap Some (let same : n + 1 + k ≡ n + suc k = omega arith in same)
 
 pub place_at : (rs : Replicas) (k : ℕ) → are_distinct (map (λ replica. replica.0) rs) ≡ true
-    → k < length rs → place_of rs (name_at rs k) ≡ Some k
+    → k < length rs → replica_number rs (replica_name rs k) ≡ Some k
 place_at rs k e h = place_there 0 rs k e h ∙ ap Some (let same : 0 + k ≡ k = omega arith in same)

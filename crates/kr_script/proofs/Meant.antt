@@ -18,15 +18,15 @@ use Rattle.kr_script.specs.declared.script.ScriptNo.TheVariants.{NoMemory}
 use Rattle.kr_script.specs.declared.script.ScriptLine.{ScriptLine}
 use Rattle.kr_script.specs.declared.statement.Statement.{Statement}
 use Rattle.kr_script.specs.declared.statement.Statement.TheVariants as statement
-use Rattle.kr_script.specs.declared.line_error.LineError.{LineError}
-use Rattle.kr_script.specs.declared.line_error.LineError.TheVariants as line_error
+use Rattle.kr_script.specs.declared.line_error.ScriptLineError.{ScriptLineError}
+use Rattle.kr_script.specs.declared.line_error.ScriptLineError.TheVariants as line_error
 use Rattle.kr_script.specs.Fleets.{Fleet, Worker}
-use Rattle.kr_script.specs.Rows.{Row, words_of, rows_of, is_spoken}
+use Rattle.kr_script.specs.Rows.{Row, words_of, word_rows, is_spoken}
 use Rattle.kr_script.specs.Statements.{WriteAll, statements_of}
-use Rattle.kr_script.specs.Rules.{IsWhole, IsWithin, is_long, replica_limit}
+use Rattle.kr_script.specs.Rules.{IsWhole, KeepsFleetLimits, is_long, replica_limit}
 use Rattle.kr_script.specs.Rules.{worker_limit, is_worker, is_line}
-use Rattle.kr_script.specs.Meanings.{Say, IsBegun, IsNone, Passes, HasReplicas}
-use Rattle.kr_script.specs.Meanings.{HasWorkers, HasData, LinesMean, Means, ReadsScript}
+use Rattle.kr_script.specs.Meanings.{Say, IsBegun, IsNone, ExceedsLimit, HasReplicas}
+use Rattle.kr_script.specs.Meanings.{HasWorkers, HasData, LinesMean, MeansScript, ReadsScript}
 use Rattle.kr_script.specs.inner.Drafts.{Draft, start, fleet_in, workers_in, statement_of, step}
 use Rattle.kr_script.specs.inner.Drafts.{with_statement, with_line, new_worker, passes, draft_within}
 use Rattle.kr_script.specs.inner.Drafts.{step_by}
@@ -54,15 +54,15 @@ filter_append p (x ∷ xs) ys = by (p x) (filter_append p xs ys)
     by true more = ap (λ (l : List Row). x ∷ l) more
     by false more = more
 
-pub rows_append : (text more : Text) → rows_of (text ++ more) ≡ rows_of text ++ rows_of more
+pub rows_append : (text more : Text) → word_rows (text ++ more) ≡ word_rows text ++ word_rows more
 rows_append text more = ap (filter is_spoken) (map-append words_of text more)
     ∙ filter_append is_spoken (map words_of text) (map words_of more)
 
 spoken : (line : List ℕ) → is_spoken (words_of line) ≡ true
-    → rows_of (line ∷ []) ≡ words_of line ∷ []
+    → word_rows (line ∷ []) ≡ words_of line ∷ []
 spoken line e = ap (λ b. if b then words_of line ∷ [] else []) e
 
-silent : (line : List ℕ) → is_spoken (words_of line) ≡ false → rows_of (line ∷ []) ≡ []
+silent : (line : List ℕ) → is_spoken (words_of line) ≡ false → word_rows (line ∷ []) ≡ []
 silent line e = ap (λ b. if b then words_of line ∷ [] else []) e
 
 pub utf8_push : (text : Text) (line : List ℕ) → list_all is_utf8 text ≡ true → is_utf8 line ≡ true
@@ -80,7 +80,7 @@ utf8_last text line e =
 
 -- ---- limits
 
-pub within_start : IsWithin (fleet_in start)
+pub within_start : KeepsFleetLimits (fleet_in start)
 within_start = record { replicas = omega arith; workers = omega arith; lines = refl }
 
 pub long_push : (ws : List Worker) (w : Worker) → list_any (λ (x : Worker). list_any is_long x.lines) ws
@@ -123,8 +123,8 @@ pub one_more : {T : Type 0} (xs : List T) (x : T) → length (xs ++ x ∷ []) �
 one_more xs x = length-append xs (x ∷ [])
 
 -- what a step leaves: within the limits, or past the one that it names
-abbrev pub Left : Option LineError → Fleet → Type 0
-Left None fleet = IsWithin fleet
+abbrev pub Left : Option ScriptLineError → Fleet → Type 0
+Left None fleet = KeepsFleetLimits fleet
 Left (Some line_error.Form) fleet = ⊥
 Left (Some line_error.Replicas) fleet = HasReplicas fleet
 Left (Some line_error.Workers) fleet = HasWorkers fleet
@@ -132,7 +132,7 @@ Left (Some line_error.TooLarge) fleet = HasData fleet
 Left (Some line_error.NoMemory) fleet = ⊥
 
 left_replica : (d : Draft) (name file : List ℕ) (b : Bool)
-    → nat_lt (length d.replicas) replica_limit ≡ b → IsWithin (fleet_in d)
+    → nat_lt (length d.replicas) replica_limit ≡ b → KeepsFleetLimits (fleet_in d)
     → Left (if b then None else Some line_error.Replicas)
     (fleet_in (with_statement d (statement.Replica name file)))
 left_replica d name file true e h = record {
@@ -146,7 +146,7 @@ left_replica d name file false e h =
     let m = one_more d.replicas (name, file) in omega (arith, l, m)
 
 left_worker : (d : Draft) (name : List ℕ) (k : ℕ) (b : Bool)
-    → nat_lt (length (workers_in d)) worker_limit ≡ b → IsWithin (fleet_in d)
+    → nat_lt (length (workers_in d)) worker_limit ≡ b → KeepsFleetLimits (fleet_in d)
     → Left (if b then None else Some line_error.Workers)
     (fleet_in (with_statement d (statement.Worker name k)))
 left_worker d name k true e h = record {
@@ -160,7 +160,7 @@ left_worker d name k false e h =
     let m = one_more (workers_in d) (new_worker name k) in (h.replicas, omega (arith, l, m))
 
 left_last : (rs : Listed) (ws : List Worker) (w : Worker) (line : ScriptLine) (b : Bool)
-    → is_long line ≡ b → IsWithin (record { replicas = rs; workers = ws ++ w ∷ [] })
+    → is_long line ≡ b → KeepsFleetLimits (record { replicas = rs; workers = ws ++ w ∷ [] })
     → Left (if b then Some line_error.TooLarge else None)
     (record { replicas = rs; workers = ws ++ with_line line w ∷ [] })
 left_last rs ws w line b e h =
@@ -185,13 +185,13 @@ left_last rs ws w line b e h =
 
 left_line : (rs : Listed) (ws : List Worker) (last : Option Worker) (line : ScriptLine)
     → is_some last ≡ true
-    → IsWithin (record { replicas = rs; workers = ws ++ option_to_list last })
+    → KeepsFleetLimits (record { replicas = rs; workers = ws ++ option_to_list last })
     → Left (if is_long line then Some line_error.TooLarge else None)
     (record { replicas = rs; workers = ws ++ option_to_list (option_map (with_line line) last) })
 left_line rs ws None line some h = absurd (both_ways false refl some)
 left_line rs ws (Some w) line some h = left_last rs ws w line (is_long line) refl h
 
-pub left_by : (d : Draft) (st : Statement) → IsWithin (fleet_in d)
+pub left_by : (d : Draft) (st : Statement) → KeepsFleetLimits (fleet_in d)
     → MayCome d st
     → Left (passes d st) (fleet_in (with_statement d st))
 left_by d statement.Head h may = record {
@@ -210,17 +210,17 @@ left_by d (statement.Line line) h may = left_line d.replicas d.workers d.last li
 -- the first lines, as they were read
 pub record Stood (text : Text) (d : Draft) : Type 0 where
   pub utf8 : list_all is_utf8 text ≡ true
-  pub ran : run start (rows_of text) ≡ Some d
-  pub within : IsWithin (fleet_in d)
+  pub ran : run start (word_rows text) ≡ Some d
+  pub within : KeepsFleetLimits (fleet_in d)
 
-stands_text : (text : Text) (d : Draft) → list_all is_utf8 text ≡ true → Stands (rows_of text) d
-    → IsWithin (fleet_in d) → IsBegun text
+stands_text : (text : Text) (d : Draft) → list_all is_utf8 text ≡ true → Stands (word_rows text) d
+    → KeepsFleetLimits (fleet_in d) → IsBegun text
 stands_text text d utf8 (inl (none, is)) within = inl (record { utf8 = utf8; blank = none })
 stands_text text d utf8 (inr h) within =
     inr (fleet_in d, record { utf8 = utf8; written = h.written; rules = h.rules }, within)
 
 pub begun : (text : Text) (d : Draft) → Stood text d → IsBegun text
-begun text d s = stands_text text d s.utf8 (sound (rows_of text) d s.ran) s.within
+begun text d s = stands_text text d s.utf8 (sound (word_rows text) d s.ran) s.within
 
 run_append : (d : Draft) (rows more : List Row) (e : Draft) → run d rows ≡ Some e
     → run d (rows ++ more) ≡ run e more
@@ -231,27 +231,27 @@ run_append d (row ∷ rows) more e ran =
     ap (option_and_then (λ said. run (with_statement d said) (rows ++ more))) read
     ∙ run_append (with_statement d st) rows more e after
 
-pub run_push : (text : Text) (line : List ℕ) (d : Draft) → run start (rows_of text) ≡ Some d
+pub run_push : (text : Text) (line : List ℕ) (d : Draft) → run start (word_rows text) ≡ Some d
     → is_spoken (words_of line) ≡ true
-    → run start (rows_of (text ++ line ∷ []))
+    → run start (word_rows (text ++ line ∷ []))
     ≡ option_and_then (λ said. Some (with_statement d said)) (statement_of d (words_of line))
 run_push text line d ran spoke =
     ap (run start) (rows_append text (line ∷ []))
-    ∙ run_append start (rows_of text) (rows_of (line ∷ [])) d ran
+    ∙ run_append start (word_rows text) (word_rows (line ∷ [])) d ran
     ∙ ap (run d) (spoken line spoke)
 
-pub run_silent : (text : Text) (line : List ℕ) (d : Draft) → run start (rows_of text) ≡ Some d
-    → is_spoken (words_of line) ≡ false → run start (rows_of (text ++ line ∷ [])) ≡ Some d
+pub run_silent : (text : Text) (line : List ℕ) (d : Draft) → run start (word_rows text) ≡ Some d
+    → is_spoken (words_of line) ≡ false → run start (word_rows (text ++ line ∷ [])) ≡ Some d
 run_silent text line d ran silence =
-    ap (run start) (rows_append text (line ∷ []) ∙ ap (λ (l : List Row). rows_of text ++ l)
-    (silent line silence) ∙ append-nil (rows_of text)) ∙ ran
+    ap (run start) (rows_append text (line ∷ []) ∙ ap (λ (l : List Row). word_rows text ++ l)
+    (silent line silence) ∙ append-nil (word_rows text)) ∙ ran
 
 -- where reading stops, no fleet is written
-none_written : (text : Text) → run start (rows_of text) ≡ None → IsNone text
+none_written : (text : Text) → run start (word_rows text) ≡ None → IsNone text
 none_written text stop = (
   λ s. let bad : None ≡ Some start = sym stop ∙ ap (run start) s.blank in
       none_some start bad,
-  λ fleet s. let r = complete (rows_of text) fleet s.written s.rules in
+  λ fleet s. let r = complete (word_rows text) fleet s.written s.rules in
       none_some r.draft (sym stop ∙ r.ran),
 )
 
@@ -292,7 +292,7 @@ breach_at text line more d n s number none = (
 
 limit_at : (text : Text) (line : List ℕ) (more : Text) (d : Draft) (Limit : Fleet → Type 0)
     (fleet : Fleet) → Stood text d → Say (text ++ line ∷ []) fleet → Limit fleet
-    → (at : ℕ) × IsBegun (take at (text ++ line ∷ more)) × Passes (text ++ line ∷ more) at Limit
+    → (at : ℕ) × IsBegun (take at (text ++ line ∷ more)) × ExceedsLimit (text ++ line ∷ more) at Limit
 limit_at text line more d Limit fleet s say limit = (
   length text,
   subst IsBegun (sym (taken_front text (line ∷ more))) (begun text d s),
@@ -307,7 +307,7 @@ limit_at text line more d Limit fleet s say limit = (
 )
 
 stopped : (text : Text) (line : List ℕ) (more : Text) (d : Draft) (n : ℕ) (fleet : Fleet)
-    (why : LineError) → Stood text d → Say (text ++ line ∷ []) fleet → Left (Some why) fleet
+    (why : ScriptLineError) → Stood text d → Say (text ++ line ∷ []) fleet → Left (Some why) fleet
     → LinesMean (text ++ line ∷ more) (Err (at_line n why))
 stopped text line more d n fleet line_error.Form s say left = absurd left
 stopped text line more d n fleet line_error.Replicas s say left =
@@ -323,14 +323,14 @@ stopped text line more d n fleet line_error.NoMemory s say left = absurd left
 one_fleet : (text : Text) (d : Draft) (fleet : Fleet) → Stood text d → Say text fleet
     → fleet_in d ≡ fleet
 one_fleet text d fleet s say =
-    let r = complete (rows_of text) fleet say.written say.rules in
+    let r = complete (word_rows text) fleet say.written say.rules in
     let both : Some d ≡ Some r.draft = sym s.ran ∙ r.ran in
     let same : d ≡ r.draft = cc in ap fleet_in same ∙ r.is
 
 pub ends_by : (text : Text) (d : Draft) (n : ℕ) (b : Bool) → is_some d.last ≡ b → Stood text d
     → n ≡ length text + 1
     → LinesMean text (if b then Ok (fleet_in d) else Err (Breach n))
-ends_by text d n true some s number = whole (sound (rows_of text) d s.ran)
+ends_by text d n true some s number = whole (sound (word_rows text) d s.ran)
   where
     first : (o : Option Worker) (ws : List Worker) → is_some o ≡ true
         → 1 ≤ length (ws ++ option_to_list o)
@@ -348,7 +348,7 @@ ends_by text d n true some s number = whole (sound (rows_of text) d s.ran)
         two.0 in
         let l = ltb-true w.replica count three.1 in omega (arith, l)
 
-    whole : Stands (rows_of text) d → LinesMean text (Ok (fleet_in d))
+    whole : Stands (word_rows text) d → LinesMean text (Ok (fleet_in d))
     whole (inl (none, is)) = let e : is_some d.last ≡ false = ap (λ (x : Draft). is_some x.last) is in
         absurd (both_ways (is_some d.last) e some)
     whole (inr h) = (
@@ -367,7 +367,7 @@ ends_by text d n false none s number = (
   inr (refl, λ fleet say whole. no_worker fleet say whole),
 )
   where
-    empty : Stands (rows_of text) d → workers_in d ≡ []
+    empty : Stands (word_rows text) d → workers_in d ≡ []
     empty (inl (blank, is)) = ap workers_in is
     empty (inr h) = ap (λ (l : List Worker). l ++ option_to_list d.last) (h.closed none)
         ∙ no_last d.last none
@@ -380,7 +380,7 @@ ends_by text d n false none s number = (
     no_worker fleet say whole =
         let same = one_fleet text d fleet s say in
         let none : length fleet.workers ≡ 0 = sym (ap (λ (f : Fleet). length f.workers) same)
-        ∙ ap (λ (ws : List Worker). length ws) (empty (sound (rows_of text) d s.ran)) in
+        ∙ ap (λ (ws : List Worker). length ws) (empty (sound (word_rows text) d s.ran)) in
         let some = whole.workers in omega (arith, none, some)
 
 shifted : (text : Text) (line : List ℕ) (n : ℕ) → n ≡ length text + 1
@@ -407,35 +407,35 @@ spoken_line text line more n d (Some st) read s number utf8 spoke rest =
     by (passes d st) (left_by d st s.within
     (reads_next d (words_of line) st read).0)
   where
-    ran : run start (rows_of (text ++ line ∷ [])) ≡ Some (with_statement d st)
+    ran : run start (word_rows (text ++ line ∷ [])) ≡ Some (with_statement d st)
     ran = run_push text line d s.ran spoke
         ∙ ap (option_and_then (λ said. Some (with_statement d said))) read
 
-    holds : Stands (rows_of (text ++ line ∷ [])) (with_statement d st)
-    holds = sound (rows_of (text ++ line ∷ [])) (with_statement d st) ran
+    holds : Stands (word_rows (text ++ line ∷ [])) (with_statement d st)
+    holds = sound (word_rows (text ++ line ∷ [])) (with_statement d st) ran
 
     texts : list_all is_utf8 (text ++ line ∷ []) ≡ true
     texts = utf8_push text line s.utf8 utf8
 
-    says : Holds (rows_of text ++ words_of line ∷ []) (with_statement d st)
+    says : Holds (word_rows text ++ words_of line ∷ []) (with_statement d st)
         → Say (text ++ line ∷ []) (fleet_in (with_statement d st))
     says h = record {
       utf8 = texts;
       written = subst (λ (rows : List Row). WriteAll
           (with_statement d st).replicas rows (statements_of (fleet_in (with_statement d st))))
-          (sym (rows_append text (line ∷ []) ∙ ap (λ (l : List Row). rows_of text ++ l)
+          (sym (rows_append text (line ∷ []) ∙ ap (λ (l : List Row). word_rows text ++ l)
           (spoken line spoke))) h.written;
       rules = h.rules;
     }
 
-    by : (limit : Option LineError) → Left limit (fleet_in (with_statement d st))
+    by : (limit : Option ScriptLineError) → Left limit (fleet_in (with_statement d st))
         → LinesMean (text ++ line ∷ more)
         (goes_on n (draft_within d st limit) (λ e. answer (n + 1) e more))
     by None left = rest (with_statement d st)
         (record { utf8 = texts; ran = ran; within = left })
     by (Some why) left = stopped text line more d n (fleet_in (with_statement d st)) why s
-        (says (sound_step (rows_of text) d (words_of line) st
-        (sound (rows_of text) d s.ran) read)) left
+        (says (sound_step (word_rows text) d (words_of line) st
+        (sound (word_rows text) d s.ran) read)) left
 
 line_by : (text : Text) (line : List ℕ) (more : Text) (n : ℕ) (d : Draft) (u v : Bool)
     → is_utf8 line ≡ u → is_spoken (words_of line) ≡ v → Stood text d → n ≡ length text + 1
@@ -466,7 +466,7 @@ lines_mean text (line ∷ more) n d s number =
     (append_assoc text (line ∷ []) more)
     (lines_mean (text ++ line ∷ []) more (n + 1) e t (shifted text line n number)))
 
-pub answer_meant : (bytes : List ℕ) → Means bytes (answer 1 start (lines bytes))
+pub answer_meant : (bytes : List ℕ) → MeansScript bytes (answer 1 start (lines bytes))
 answer_meant bytes = lines_mean [] (lines bytes) 1 start
     (record { utf8 = refl; ran = refl; within = within_start }) refl
 
@@ -474,9 +474,9 @@ answer_meant bytes = lines_mean [] (lines bytes) 1 start
 
 pub reads : (bytes : List ℕ) (result : Result Script ScriptNo)
     → Gives (answer 1 start (lines bytes)) result → ReadsScript bytes result
-reads bytes (Ok script) e = subst (Means bytes) e (answer_meant bytes)
-reads bytes (Err (Breach line)) e = subst (Means bytes) e (answer_meant bytes)
-reads bytes (Err Replicas) e = subst (Means bytes) e (answer_meant bytes)
-reads bytes (Err Workers) e = subst (Means bytes) e (answer_meant bytes)
-reads bytes (Err TooLarge) e = subst (Means bytes) e (answer_meant bytes)
+reads bytes (Ok script) e = subst (MeansScript bytes) e (answer_meant bytes)
+reads bytes (Err (Breach line)) e = subst (MeansScript bytes) e (answer_meant bytes)
+reads bytes (Err Replicas) e = subst (MeansScript bytes) e (answer_meant bytes)
+reads bytes (Err Workers) e = subst (MeansScript bytes) e (answer_meant bytes)
+reads bytes (Err TooLarge) e = subst (MeansScript bytes) e (answer_meant bytes)
 reads bytes (Err NoMemory) e = tt

@@ -13,9 +13,9 @@ use Rattle.kr_script.specs.declared.statement.Statement.TheVariants as statement
 use Rattle.kr_script.specs.declared.statement.Keyword.{Keyword}
 use Rattle.kr_script.specs.declared.statement.Keyword.TheVariants as keyword
 use Rattle.kr_script.specs.Rows.{Row}
-use Rattle.kr_script.specs.Statements.{name_at, data_of, Writes, WritesLine}
+use Rattle.kr_script.specs.Statements.{replica_name, data_of, WritesStatement, WritesLine}
 use Rattle.kr_script.specs.Rules.{are_distinct, is_line}
-use Rattle.kr_script.specs.inner.Drafts.{Draft, word_of, place_of, one_word, two_words, is_empty}
+use Rattle.kr_script.specs.inner.Drafts.{Draft, word_of, replica_number, one_word, two_words, is_empty}
 use Rattle.kr_script.specs.inner.Drafts.{three_words, may_be_replica, may_be_worker, replica_in}
 use Rattle.kr_script.specs.inner.Drafts.{worker_in, put_in, get_in, delete_in, reload_in, join_in}
 use Rattle.kr_script.specs.inner.Drafts.{leave_in, line_in, line_of_worker, said_behind, head_of}
@@ -36,7 +36,7 @@ MayCome draft (statement.Line line) =
     × (is_line (length draft.replicas) line ≡ true)
 
 abbrev pub IsNext : Draft → Row → Statement → Type 0
-IsNext draft row said = MayCome draft said × Writes draft.replicas row said
+IsNext draft row said = MayCome draft said × WritesStatement draft.replicas row said
 
 -- ---- what was read is written
 
@@ -87,7 +87,7 @@ reload_is : (rs : Replicas) (row : Row) (line : ScriptLine)
     → line_in rs keyword.Reload row ≡ Some line → IsLineOf rs (codes "reload" ∷ row) line
 reload_is rs row line e =
     let (words, there, reload) = then_some (reload_in rs) (two_words row) line e in
-    let (number, found, is) = map_some (λ n. Reload n words.1) (place_of rs words.0) line reload in
+    let (number, found, is) = map_some (λ n. Reload n words.1) (replica_number rs words.0) line reload in
     let place = place_is rs words.0 number found in
     subst (IsLineOf rs (codes "reload" ∷ row)) is (
       ap (λ r. codes "reload" ∷ r) (two_words_are row words there)
@@ -99,7 +99,7 @@ join_is : (rs : Replicas) (row : Row) (line : ScriptLine)
     → line_in rs keyword.Join row ≡ Some line → IsLineOf rs (codes "join" ∷ row) line
 join_is rs row line e =
     let (words, there, join) = then_some (join_in rs) (two_words row) line e in
-    let (number, found, is) = map_some (λ n. Join n words.1) (place_of rs words.0) line join in
+    let (number, found, is) = map_some (λ n. Join n words.1) (replica_number rs words.0) line join in
     let place = place_is rs words.0 number found in
     subst (IsLineOf rs (codes "join" ∷ row)) is (
       ap (λ r. codes "join" ∷ r) (two_words_are row words there)
@@ -111,7 +111,7 @@ leave_is : (rs : Replicas) (row : Row) (line : ScriptLine)
     → line_in rs keyword.Leave row ≡ Some line → IsLineOf rs (codes "leave" ∷ row) line
 leave_is rs row line e =
     let (name, there, leave) = then_some (leave_in rs) (one_word row) line e in
-    let (number, found, is) = map_some Leave (place_of rs name) line leave in
+    let (number, found, is) = map_some Leave (replica_number rs name) line leave in
     let place = place_is rs name number found in
     subst (IsLineOf rs (codes "leave" ∷ row)) is (
       ap (λ r. codes "leave" ∷ r) (one_word_is row name there)
@@ -154,8 +154,8 @@ behind_is d keyword.Replica row st begun e =
 behind_is d keyword.Worker row st begun e =
     let (words, there, made) = then_some (worker_in d) (two_words row) st e in
     let (may, mapped) = if_some (may_be_worker d words.0)
-    (option_map (statement.Worker words.0) (place_of d.replicas words.1)) st made in
-    let (number, found, is) = map_some (statement.Worker words.0) (place_of d.replicas words.1)
+    (option_map (statement.Worker words.0) (replica_number d.replicas words.1)) st made in
+    let (number, found, is) = map_some (statement.Worker words.0) (replica_number d.replicas words.1)
     st mapped in
     let place = place_is d.replicas words.1 number found in
     subst (IsNext d (codes "worker" ∷ row)) is (
@@ -273,7 +273,7 @@ line_read rs row Refresh apart is rule = record {
 }
 line_read rs row (Reload replica file) apart is rule = record {
   key = keyword.Reload;
-  rest = name_at rs replica ∷ (file ∷ []);
+  rest = replica_name rs replica ∷ (file ∷ []);
   split = is;
   known = refl;
   behind = λ d. refl;
@@ -282,7 +282,7 @@ line_read rs row (Reload replica file) apart is rule = record {
 }
 line_read rs row (Join replica file) apart is rule = record {
   key = keyword.Join;
-  rest = name_at rs replica ∷ (file ∷ []);
+  rest = replica_name rs replica ∷ (file ∷ []);
   split = is;
   known = refl;
   behind = λ d. refl;
@@ -291,7 +291,7 @@ line_read rs row (Join replica file) apart is rule = record {
 }
 line_read rs row (Leave replica) apart is rule = record {
   key = keyword.Leave;
-  rest = name_at rs replica ∷ [];
+  rest = replica_name rs replica ∷ [];
   split = is;
   known = refl;
   behind = λ d. refl;
@@ -318,10 +318,10 @@ next_reads d row (statement.Replica name file) apart ((begun, may), is) =
     (if_true (may_be_replica d name file) (statement.Replica name file) may)
 next_reads d row (statement.Worker name replica) apart ((begun, may, there), is) =
     ap (statement_of d) is
-    ∙ by_key d keyword.Worker (name ∷ (name_at d.replicas replica ∷ []))
+    ∙ by_key d keyword.Worker (name ∷ (replica_name d.replicas replica ∷ []))
     (statement.Worker name replica) refl begun
     (if_then (may_be_worker d name)
-    (option_map (statement.Worker name) (place_of d.replicas (name_at d.replicas replica)))
+    (option_map (statement.Worker name) (replica_number d.replicas (replica_name d.replicas replica)))
     (statement.Worker name replica) may
     (ap (option_map (statement.Worker name)) (place_at d.replicas replica apart there)))
 next_reads d row (statement.Line line) apart ((begun, some, rule), is) =

@@ -17,14 +17,14 @@ use Rattle.kr_script.specs.declared.script.ScriptNo.TheVariants.{NoMemory}
 use Rattle.kr_script.specs.declared.script.ScriptLine.{ScriptLine}
 use Rattle.kr_script.specs.declared.statement.Statement.{Statement}
 use Rattle.kr_script.specs.declared.statement.Statement.TheVariants as statement
-use Rattle.kr_script.specs.declared.line_error.LineError.{LineError}
-use Rattle.kr_script.specs.declared.line_error.LineError.TheVariants as line_error
+use Rattle.kr_script.specs.declared.line_error.ScriptLineError.{ScriptLineError}
+use Rattle.kr_script.specs.declared.line_error.ScriptLineError.TheVariants as line_error
 use Rattle.kr_script.specs.Fleets.{Fleet, Worker}
-use Rattle.kr_script.specs.Rows.{words_of, rows_of, is_spoken}
-use Rattle.kr_script.specs.Rules.{IsWhole, IsWithin, is_long}
+use Rattle.kr_script.specs.Rows.{words_of, word_rows, is_spoken}
+use Rattle.kr_script.specs.Rules.{IsWhole, KeepsFleetLimits, is_long}
 use Rattle.kr_script.specs.Meanings.{Say, IsBegun, IsNone, HasReplicas}
 use Rattle.kr_script.specs.Meanings.{HasWorkers, HasData, LinesMean}
-use Rattle.kr_script.specs.Laws.{OneMeaning, SomeMeaning}
+use Rattle.kr_script.specs.Laws.{OneFleetMeaning, SomeFleetMeaning}
 use Rattle.kr_script.specs.inner.Drafts.{Draft, start, fleet_in, workers_in, statement_of, step}
 use Rattle.kr_script.specs.inner.Drafts.{with_statement, with_line, new_worker, passes, draft_within}
 use Rattle.kr_script.specs.inner.Drafts.{step_by}
@@ -41,8 +41,8 @@ use Rattle.kr_script.proofs.Meant.{answer_meant}
 -- ---- limits that aren't passed weren't before
 
 back_last : (rs : Listed) (ws : List Worker) (w : Worker) (line : ScriptLine)
-    → IsWithin (record { replicas = rs; workers = ws ++ with_line line w ∷ [] })
-    → IsWithin (record { replicas = rs; workers = ws ++ w ∷ [] })
+    → KeepsFleetLimits (record { replicas = rs; workers = ws ++ with_line line w ∷ [] })
+    → KeepsFleetLimits (record { replicas = rs; workers = ws ++ w ∷ [] })
 back_last rs ws w line h =
     let parts = long_parts ws (with_line line w) h.lines in
     let front = any_parts is_long w.lines (line ∷ []) parts.1 in
@@ -55,16 +55,16 @@ back_last rs ws w line h =
     }
 
 back_line : (rs : Listed) (ws : List Worker) (last : Option Worker) (line : ScriptLine)
-    → IsWithin (record {
+    → KeepsFleetLimits (record {
       replicas = rs;
       workers = ws ++ option_to_list (option_map (with_line line) last);
     })
-    → IsWithin (record { replicas = rs; workers = ws ++ option_to_list last })
+    → KeepsFleetLimits (record { replicas = rs; workers = ws ++ option_to_list last })
 back_line rs ws None line h = h
 back_line rs ws (Some w) line h = back_last rs ws w line h
 
-back : (d : Draft) (st : Statement) → IsWithin (fleet_in (with_statement d st))
-    → IsWithin (fleet_in d)
+back : (d : Draft) (st : Statement) → KeepsFleetLimits (fleet_in (with_statement d st))
+    → KeepsFleetLimits (fleet_in d)
 back d statement.Head h = record {
   replicas = h.replicas;
   workers = h.workers;
@@ -83,7 +83,7 @@ back d (statement.Worker name number) h =
     }
 back d (statement.Line line) h = back_line d.replicas d.workers d.last line h
 
-not_within : (why : LineError) (fleet : Fleet) → Left (Some why) fleet → IsWithin fleet → ⊥
+not_within : (why : ScriptLineError) (fleet : Fleet) → Left (Some why) fleet → KeepsFleetLimits fleet → ⊥
 not_within line_error.Form fleet left h = left
 not_within line_error.Replicas fleet left h = let k = h.replicas in omega (arith, left, k)
 not_within line_error.Workers fleet left h =
@@ -92,19 +92,19 @@ not_within line_error.TooLarge fleet left h =
     both_ways _ h.lines left.2
 not_within line_error.NoMemory fleet left h = left
 
-not_passed : (d : Draft) (st : Statement) → MayCome d st → IsWithin (fleet_in (with_statement d st))
+not_passed : (d : Draft) (st : Statement) → MayCome d st → KeepsFleetLimits (fleet_in (with_statement d st))
     → passes d st ≡ None
 not_passed d st may h = by (passes d st) (left_by d st (back d st h) may)
   where
-    by : (o : Option LineError) → Left o (fleet_in (with_statement d st)) → o ≡ None
+    by : (o : Option ScriptLineError) → Left o (fleet_in (with_statement d st)) → o ≡ None
     by None left = refl
     by (Some why) left = absurd (not_within why (fleet_in (with_statement d st)) left h)
 
 -- ---- lines that were read
 
 rows_cons : (line : List ℕ) (front : Text) (v : Bool) → is_spoken (words_of line) ≡ v
-    → rows_of (line ∷ front) ≡ (if v then words_of line ∷ rows_of front else rows_of front)
-rows_cons line front v e = ap (λ b. if b then words_of line ∷ rows_of front else rows_of front) e
+    → word_rows (line ∷ front) ≡ (if v then words_of line ∷ word_rows front else word_rows front)
+rows_cons line front v e = ap (λ b. if b then words_of line ∷ word_rows front else word_rows front) e
 
 step_is : (d : Draft) (line : List ℕ) (st : Statement) → is_utf8 line ≡ true
     → is_spoken (words_of line) ≡ true → statement_of d (words_of line) ≡ Some st
@@ -122,19 +122,19 @@ stays d line utf8 silence =
 
 record Ran (n : ℕ) (d : Draft) (front : Text) (e : Draft) : Type 0 where
   goes : (rest : Text) → answer n d (front ++ rest) ≡ answer (n + length front) e rest
-  within : IsWithin (fleet_in d)
+  within : KeepsFleetLimits (fleet_in d)
 
 moved : (n k : ℕ) (e : Draft) (rest : Text)
     → answer (n + 1 + k) e rest ≡ answer (n + suc k) e rest
 moved n k e rest = ap (λ m. answer m e rest) (omega arith)
 
 answer_runs : (n : ℕ) (d : Draft) (front : Text) (e : Draft) → list_all is_utf8 front ≡ true
-    → run d (rows_of front) ≡ Some e → IsWithin (fleet_in e) → Ran n d front e
+    → run d (word_rows front) ≡ Some e → KeepsFleetLimits (fleet_in e) → Ran n d front e
 answer_runs n d [] e utf8 ran within =
     let same : d ≡ e = cc in record {
       goes = λ rest. ap (λ (x : Draft). answer n x rest) same
           ∙ ap (λ m. answer m e rest) (omega arith);
-      within = subst (λ (x : Draft). IsWithin (fleet_in x)) (sym same) within;
+      within = subst (λ (x : Draft). KeepsFleetLimits (fleet_in x)) (sym same) within;
     }
 answer_runs n d (line ∷ front) e utf8 ran within =
     by (is_spoken (words_of line)) refl
@@ -144,11 +144,11 @@ answer_runs n d (line ∷ front) e utf8 ran within =
     texts = and_parts (is_utf8 line) (list_all is_utf8 front) utf8
 
     by : (v : Bool) → is_spoken (words_of line) ≡ v
-        → ((f : Draft) → run f (rows_of front) ≡ Some e → Ran (n + 1) f front e)
+        → ((f : Draft) → run f (word_rows front) ≡ Some e → Ran (n + 1) f front e)
         → Ran n d (line ∷ front) e
     by true spoke more =
         let (st, read, after) = then_some
-        (λ said. run (with_statement d said) (rows_of front)) (statement_of d (words_of line)) e
+        (λ said. run (with_statement d said) (word_rows front)) (statement_of d (words_of line)) e
         (sym (ap (run d) (rows_cons line front true spoke)) ∙ ran) in
         let r = more (with_statement d st) after in
         let may = (reads_next d (words_of line) st read).0 in
@@ -176,26 +176,26 @@ stood text (inl h) = record {
   stood = record { utf8 = h.utf8; ran = ap (run start) h.blank; within = within_start };
 }
 stood text (inr (fleet, say, within)) =
-    let r = complete (rows_of text) fleet say.written say.rules in record {
+    let r = complete (word_rows text) fleet say.written say.rules in record {
       draft = r.draft;
       stood = record {
         utf8 = say.utf8;
         ran = r.ran;
-        within = subst IsWithin (sym r.is) within;
+        within = subst KeepsFleetLimits (sym r.is) within;
       };
     }
 
 -- ---- refusals
 
-says : (text : Text) (d : Draft) → list_all is_utf8 text ≡ true → Stands (rows_of text) d
+says : (text : Text) (d : Draft) → list_all is_utf8 text ≡ true → Stands (word_rows text) d
     → IsNone text → ⊥
 says text d utf8 (inl (blank, is)) none = none.0 (record { utf8 = utf8; blank = blank })
 says text d utf8 (inr h) none =
     none.1 (fleet_in d) (record { utf8 = utf8; written = h.written; rules = h.rules })
 
 ran_none : (text : Text) (d : Draft) → list_all is_utf8 text ≡ true
-    → run start (rows_of text) ≡ Some d → IsNone text → ⊥
-ran_none text d utf8 ran none = says text d utf8 (sound (rows_of text) d ran) none
+    → run start (word_rows text) ≡ Some d → IsNone text → ⊥
+ran_none text d utf8 ran none = says text d utf8 (sound (word_rows text) d ran) none
 
 none_stops : (front : Text) (line : List ℕ) (d : Draft) → Stood front d
     → IsNone (front ++ line ∷ []) → line_step d line ≡ Err line_error.Form
@@ -220,7 +220,7 @@ none_stops front line d s none = by (is_utf8 line) refl
     by false e = refl
     by true e = spoken e (is_spoken (words_of line)) refl
 
-same_replicas : (why : LineError) (f : Fleet) → Left (Some why) f → HasReplicas f
+same_replicas : (why : ScriptLineError) (f : Fleet) → Left (Some why) f → HasReplicas f
     → why ≡ line_error.Replicas
 same_replicas line_error.Form f left h = absurd left
 same_replicas line_error.Replicas f left h = refl
@@ -228,7 +228,7 @@ same_replicas line_error.Workers f left h = let k = left.0 in absurd (omega (ari
 same_replicas line_error.TooLarge f left h = let k = left.0 in absurd (omega (arith, k, h))
 same_replicas line_error.NoMemory f left h = absurd left
 
-same_workers : (why : LineError) (f : Fleet) → Left (Some why) f → HasWorkers f
+same_workers : (why : ScriptLineError) (f : Fleet) → Left (Some why) f → HasWorkers f
     → why ≡ line_error.Workers
 same_workers line_error.Form f left h = absurd left
 same_workers line_error.Replicas f left h = let k = h.0 in absurd (omega (arith, k, left))
@@ -237,7 +237,7 @@ same_workers line_error.TooLarge f left h =
     let k = left.1 in let l = h.1 in absurd (omega (arith, k, l))
 same_workers line_error.NoMemory f left h = absurd left
 
-same_data : (why : LineError) (f : Fleet) → Left (Some why) f → HasData f → why ≡ line_error.TooLarge
+same_data : (why : ScriptLineError) (f : Fleet) → Left (Some why) f → HasData f → why ≡ line_error.TooLarge
 same_data line_error.Form f left h = absurd left
 same_data line_error.Replicas f left h = let k = h.0 in absurd (omega (arith, k, left))
 same_data line_error.Workers f left h =
@@ -246,9 +246,9 @@ same_data line_error.TooLarge f left h = refl
 same_data line_error.NoMemory f left h = absurd left
 
 -- the fleet that a line more writes, past a limit
-limit_stops : (front : Text) (line : List ℕ) (d : Draft) (fleet : Fleet) (limit : LineError)
-    → Stood front d → Say (front ++ line ∷ []) fleet → (IsWithin fleet → ⊥)
-    → ((why : LineError) → Left (Some why) fleet → why ≡ limit)
+limit_stops : (front : Text) (line : List ℕ) (d : Draft) (fleet : Fleet) (limit : ScriptLineError)
+    → Stood front d → Say (front ++ line ∷ []) fleet → (KeepsFleetLimits fleet → ⊥)
+    → ((why : ScriptLineError) → Left (Some why) fleet → why ≡ limit)
     → line_step d line ≡ Err limit
 limit_stops front line d fleet limit s say past only =
     ap (λ b. if b then row_step d (words_of line) else Err line_error.Form) utf8
@@ -257,12 +257,12 @@ limit_stops front line d fleet limit s say past only =
     utf8 : is_utf8 line ≡ true
     utf8 = utf8_last front line say.utf8
 
-    reaches : Reaches (rows_of (front ++ line ∷ [])) fleet
-    reaches = complete (rows_of (front ++ line ∷ [])) fleet say.written say.rules
+    reaches : Reaches (word_rows (front ++ line ∷ [])) fleet
+    reaches = complete (word_rows (front ++ line ∷ [])) fleet say.written say.rules
 
-    by_limit : (st : Statement) → fleet_in (with_statement d st) ≡ fleet → (o : Option LineError)
+    by_limit : (st : Statement) → fleet_in (with_statement d st) ≡ fleet → (o : Option ScriptLineError)
         → Left o (fleet_in (with_statement d st)) → draft_within d st o ≡ Err limit
-    by_limit st same None left = absurd (past (subst IsWithin same left))
+    by_limit st same None left = absurd (past (subst KeepsFleetLimits same left))
     by_limit st same (Some why) left =
         ap (λ w. Err w) (only why (subst (Left (Some why)) same left))
 
@@ -285,7 +285,7 @@ limit_stops front line d fleet limit s say past only =
         let both : Some d ≡ Some reaches.draft =
         sym (run_silent front line d s.ran silence) ∙ reaches.ran in
         let same : d ≡ reaches.draft = cc in
-        absurd (past (subst IsWithin (ap fleet_in same ∙ reaches.is) s.within))
+        absurd (past (subst KeepsFleetLimits (ap fleet_in same ∙ reaches.is) s.within))
 
 -- ---- a text at a line
 
@@ -321,7 +321,7 @@ at_line_of (first ∷ text) (suc at) h =
       size = ap suc a.size;
     }
 
-answered_at : (text : Text) (at : ℕ) (a : At text at) (d : Draft) (why : LineError)
+answered_at : (text : Text) (at : ℕ) (a : At text at) (d : Draft) (why : ScriptLineError)
     → Stood a.front d → line_step d a.line ≡ Err why
     → answer 1 start text ≡ Err (at_line (1 + at) why)
 answered_at text at a d why s stops =
@@ -330,7 +330,7 @@ answered_at text at a d why s stops =
     ∙ ap (λ x. goes_on (1 + length a.front) x (λ f. answer (1 + length a.front + 1) f a.more)) stops
     ∙ ap (λ n. Err (at_line (1 + n) why)) a.size
 
-whole_text : (text : Text) (fleet : Fleet) (d : Draft) → Stands (rows_of text) d
+whole_text : (text : Text) (fleet : Fleet) (d : Draft) → Stands (word_rows text) d
     → fleet_in d ≡ fleet → IsWhole fleet → is_some d.last ≡ true
 whole_text text fleet d stands is whole = by (is_some d.last) refl stands
   where
@@ -343,7 +343,7 @@ whole_text text fleet d stands is whole = by (is_some d.last) refl stands
         ∙ ap (λ (ws : List Worker). length ws) empty in
         let k = whole.workers in omega (arith, e, k)
 
-    by : (b : Bool) → is_some d.last ≡ b → Stands (rows_of text) d → is_some d.last ≡ true
+    by : (b : Bool) → is_some d.last ≡ b → Stands (word_rows text) d → is_some d.last ≡ true
     by true e s = e
     by false e (inl (blank, same)) = absurd (none (ap workers_in same))
     by false e (inr h) = absurd (none (ap (λ (l : List Worker). l ++ option_to_list d.last)
@@ -351,9 +351,9 @@ whole_text text fleet d stands is whole = by (is_some d.last) refl stands
 
 answered : (text : Text) (x : Result Fleet ScriptNo) → LinesMean text x → answer 1 start text ≡ x
 answered text (Ok fleet) (say, within, whole) =
-    let r = complete (rows_of text) fleet say.written say.rules in
-    let ran = answer_runs 1 start text r.draft say.utf8 r.ran (subst IsWithin (sym r.is) within) in
-    let last = whole_text text fleet r.draft (sound (rows_of text) r.draft r.ran) r.is whole in
+    let r = complete (word_rows text) fleet say.written say.rules in
+    let ran = answer_runs 1 start text r.draft say.utf8 r.ran (subst KeepsFleetLimits (sym r.is) within) in
+    let last = whole_text text fleet r.draft (sound (word_rows text) r.draft r.ran) r.is whole in
     ap (answer 1 start) (sym (append-nil text)) ∙ ran.goes []
     ∙ ap (λ b. if b then Ok (fleet_in r.draft) else Err (Breach (1 + length text))) last
     ∙ ap (λ f. Ok f) r.is
@@ -403,9 +403,9 @@ answered text (Err TooLarge) (at, front, (inside, (fleet, say, past))) =
     (λ why left. same_data why fleet left past))
 answered text (Err NoMemory) h = absurd h
 
-pub one_meaning : OneMeaning
+pub one_meaning : OneFleetMeaning
 one_meaning bytes one other a b =
     sym (answered (lines bytes) one a) ∙ answered (lines bytes) other b
 
-pub some_meaning : SomeMeaning
+pub some_meaning : SomeFleetMeaning
 some_meaning bytes = (answer 1 start (lines bytes), answer_meant bytes)

@@ -15,7 +15,7 @@ use Rattle.kr_script.specs.declared.statement.Statement.{Statement}
 use Rattle.kr_script.specs.declared.statement.Statement.TheVariants as statement
 use Rattle.kr_script.specs.Fleets.{Worker}
 use Rattle.kr_script.specs.Rows.{Row}
-use Rattle.kr_script.specs.Statements.{Writes, WriteAll, replica_statement, worker_statements}
+use Rattle.kr_script.specs.Statements.{WritesStatement, WriteAll, replica_statement, worker_statements}
 use Rattle.kr_script.specs.Statements.{statements_of}
 use Rattle.kr_script.specs.Rules.{IsFleet, are_distinct, first_is_in, is_gap, is_line, is_worker}
 use Rattle.kr_script.specs.inner.Drafts.{Draft, start, fleet_in, workers_in, statement_of}
@@ -41,7 +41,7 @@ abbrev pub Stands : List Row → Draft → Type 0
 Stands rows d = ((rows ≡ []) × (d ≡ start)) ⊎ Holds rows d
 
 pub write_push : (rs : Replicas) (rows : List Row) (ss : List Statement) (row : Row)
-    (s : Statement) → WriteAll rs rows ss → Writes rs row s
+    (s : Statement) → WriteAll rs rows ss → WritesStatement rs row s
     → WriteAll rs (rows ++ row ∷ []) (ss ++ s ∷ [])
 write_push rs [] [] row s h w = (w, tt)
 write_push rs (r ∷ rows) (t ∷ ss) row s h w = (h.0, write_push rs rows ss row s h.1 w)
@@ -77,7 +77,7 @@ first_push [] name file e h = h
 first_push (r ∷ rs) name file e h = e
 
 sound_replica : (rows : List Row) (d : Draft) (row : Row) (name file : List ℕ) → Holds rows d
-    → may_be_replica d name file ≡ true → Writes d.replicas row (statement.Replica name file)
+    → may_be_replica d name file ≡ true → WritesStatement d.replicas row (statement.Replica name file)
     → Holds (rows ++ row ∷ []) (with_statement d (statement.Replica name file))
 sound_replica rows d row name file h may w =
     let rs = d.replicas in
@@ -133,7 +133,7 @@ worker_push rs ws w = ap (λ (l : List Statement). statement.Head ∷ l)
 
 sound_worker : (rows : List Row) (d : Draft) (row : Row) (name : List ℕ) (k : ℕ) → Holds rows d
     → may_be_worker d name ≡ true → k < length d.replicas
-    → Writes d.replicas row (statement.Worker name k)
+    → WritesStatement d.replicas row (statement.Worker name k)
     → Holds (rows ++ row ∷ []) (with_statement d (statement.Worker name k))
 sound_worker rows d row name k h may there w =
     let rs = d.replicas in
@@ -202,7 +202,7 @@ same_names ws w line = map-append (λ (x : Worker). x.name) ws (w ∷ [])
 sound_last : (rows : List Row) (rs : Replicas) (ws : List Worker) (w : Worker) (row : Row)
     (line : ScriptLine)
     → Holds rows (record { begun = true; replicas = rs; workers = ws; last = Some w })
-    → is_line (length rs) line ≡ true → Writes rs row (statement.Line line)
+    → is_line (length rs) line ≡ true → WritesStatement rs row (statement.Line line)
     → Holds (rows ++ row ∷ [])
     (record { begun = true; replicas = rs; workers = ws; last = Some (with_line line w) })
 sound_last rows rs ws w row line h rule writes = record {
@@ -225,7 +225,7 @@ sound_by : (rows : List Row) (rs : Replicas) (ws : List Worker) (last : Option W
     (line : ScriptLine)
     → Holds rows (record { begun = true; replicas = rs; workers = ws; last = last })
     → is_some last ≡ true → is_line (length rs) line ≡ true
-    → Writes rs row (statement.Line line)
+    → WritesStatement rs row (statement.Line line)
     → Holds (rows ++ row ∷ [])
     (record { begun = true; replicas = rs; workers = ws; last = option_map (with_line line) last })
 sound_by rows rs ws None row line h some rule writes = absurd (both_ways false refl some)
@@ -236,7 +236,7 @@ sound_line : (rows : List Row) (b : Bool) (rs : Replicas) (ws : List Worker)
     (last : Option Worker) (row : Row) (line : ScriptLine)
     → Holds rows (record { begun = b; replicas = rs; workers = ws; last = last })
     → is_some last ≡ true → is_line (length rs) line ≡ true
-    → Writes rs row (statement.Line line)
+    → WritesStatement rs row (statement.Line line)
     → Holds (rows ++ row ∷ [])
     (record { begun = b; replicas = rs; workers = ws; last = option_map (with_line line) last })
 sound_line rows true rs ws last row line h some rule writes =
@@ -244,7 +244,7 @@ sound_line rows true rs ws last row line h some rule writes =
 sound_line rows false rs ws last row line h some rule writes =
     absurd (both_ways false refl h.begun)
 
-sound_head : (rows : List Row) (row : Row) → rows ≡ [] → Writes [] row statement.Head
+sound_head : (rows : List Row) (row : Row) → rows ≡ [] → WritesStatement [] row statement.Head
     → Holds (rows ++ row ∷ []) (with_statement start statement.Head)
 sound_head rows row none w = record {
   written = subst (λ (l : List Row). WriteAll [] (l ++ row ∷ []) (statement.Head ∷ [])) (sym none)

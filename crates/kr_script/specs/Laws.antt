@@ -5,16 +5,16 @@ use Rattle.kr_rollout.specs.declared.line.Line.{Line}
 use Rattle.kr_script.specs.Output.{Replies, journal_texts, all_texts, output_texts, fleet_output}
 use Rattle.kr_script.specs.declared.script.ScriptNo.{ScriptNo}
 use Rattle.kr_script.specs.Fleets.{Fleet}
-use Rattle.kr_script.specs.Meanings.{Means}
+use Rattle.kr_script.specs.Meanings.{MeansScript}
 
 -- a text means one thing alone
-abbrev pub OneMeaning : Type 0
-OneMeaning = (bytes : List ℕ) (one other : Result Fleet ScriptNo)
-    → Means bytes one → Means bytes other → one ≡ other
+abbrev pub OneFleetMeaning : Type 0
+OneFleetMeaning = (bytes : List ℕ) (one other : Result Fleet ScriptNo)
+    → MeansScript bytes one → MeansScript bytes other → one ≡ other
 
 -- and each text means some thing
-abbrev pub SomeMeaning : Type 0
-SomeMeaning = (bytes : List ℕ) → (meaning : Result Fleet ScriptNo) × Means bytes meaning
+abbrev pub SomeFleetMeaning : Type 0
+SomeFleetMeaning = (bytes : List ℕ) → (meaning : Result Fleet ScriptNo) × MeansScript bytes meaning
 
 -- The lines of the output can be told apart: where no line holds an LF, which names, paths and
 -- providers never do, one text is that of one list of journal lines and of replies, as they are

@@ -16,7 +16,7 @@ use Rattle.kr_rollout.specs.declared.line.Line.{Line}
 use Rattle.kr_script.specs.declared.told.Told.{Told}
 use Rattle.kr_script.specs.declared.told.Told.TheVariants as told
 use Rattle.kr_script.specs.Fleets.{Fleet, Worker}
-use Rattle.kr_script.specs.Statements.{name_at}
+use Rattle.kr_script.specs.Statements.{replica_name}
 
 -- words with a space between
 abbrev pub two : List ℕ → List ℕ → List ℕ
@@ -33,30 +33,30 @@ four a b c d = a ++ (codes " " ++ three b c d)
 abbrev pub Replicas : Type 0
 Replicas = List (List ℕ × List ℕ)
 
-abbrev pub kind_of : Did → List ℕ
-kind_of (did.Adopt replica) = codes "adopt"
-kind_of (did.Fetch path) = codes "fetch"
-kind_of (did.After path) = codes "after"
-kind_of (did.Put path resource plain) = codes "put"
-kind_of (did.Delete path) = codes "delete"
-kind_of (did.Replace path revision) = codes "replace"
-kind_of did.LetGo = codes "letgo"
-kind_of (did.Reload replica published expect) = codes "reload"
-kind_of (did.Join replica published) = codes "join"
-kind_of (did.Leave replica) = codes "leave"
+abbrev pub event_kind : Did → List ℕ
+event_kind (did.Adopt replica) = codes "adopt"
+event_kind (did.Fetch path) = codes "fetch"
+event_kind (did.After path) = codes "after"
+event_kind (did.Put path resource plain) = codes "put"
+event_kind (did.Delete path) = codes "delete"
+event_kind (did.Replace path revision) = codes "replace"
+event_kind did.LetGo = codes "letgo"
+event_kind (did.Reload replica published expect) = codes "reload"
+event_kind (did.Join replica published) = codes "join"
+event_kind (did.Leave replica) = codes "leave"
 
 -- the path that an event is about, if it is about one
-abbrev pub path_of : Did → List ℕ
-path_of (did.Adopt replica) = []
-path_of (did.Fetch path) = path
-path_of (did.After path) = path
-path_of (did.Put path resource plain) = path
-path_of (did.Delete path) = path
-path_of (did.Replace path revision) = path
-path_of did.LetGo = []
-path_of (did.Reload replica published expect) = []
-path_of (did.Join replica published) = []
-path_of (did.Leave replica) = []
+abbrev pub event_path : Did → List ℕ
+event_path (did.Adopt replica) = []
+event_path (did.Fetch path) = path
+event_path (did.After path) = path
+event_path (did.Put path resource plain) = path
+event_path (did.Delete path) = path
+event_path (did.Replace path revision) = path
+event_path did.LetGo = []
+event_path (did.Reload replica published expect) = []
+event_path (did.Join replica published) = []
+event_path (did.Leave replica) = []
 
 -- an empty path is `-`
 abbrev pub path_text : List ℕ → List ℕ
@@ -64,72 +64,73 @@ path_text [] = codes "-"
 path_text (byte ∷ bytes) = byte ∷ bytes
 
 -- the name of the replica that an event is about, if it is about one
-abbrev pub replica_of : Replicas → Did → List ℕ
-replica_of replicas (did.Adopt replica) = name_at replicas replica
-replica_of replicas (did.Fetch path) = []
-replica_of replicas (did.After path) = []
-replica_of replicas (did.Put path resource plain) = []
-replica_of replicas (did.Delete path) = []
-replica_of replicas (did.Replace path revision) = []
-replica_of replicas did.LetGo = []
-replica_of replicas (did.Reload replica published expect) = name_at replicas replica
-replica_of replicas (did.Join replica published) = name_at replicas replica
-replica_of replicas (did.Leave replica) = name_at replicas replica
+abbrev pub event_replica : Replicas → Did → List ℕ
+event_replica replicas (did.Adopt replica) = replica_name replicas replica
+event_replica replicas (did.Fetch path) = []
+event_replica replicas (did.After path) = []
+event_replica replicas (did.Put path resource plain) = []
+event_replica replicas (did.Delete path) = []
+event_replica replicas (did.Replace path revision) = []
+event_replica replicas did.LetGo = []
+event_replica replicas (did.Reload replica published expect) = replica_name replicas replica
+event_replica replicas (did.Join replica published) = replica_name replicas replica
+event_replica replicas (did.Leave replica) = replica_name replicas replica
 
 -- the path, and for a replace also the revision of the row that it replaced
-abbrev pub object_of : Did → List ℕ
-object_of (did.Adopt replica) = path_text []
-object_of (did.Fetch path) = path_text path
-object_of (did.After path) = path_text path
-object_of (did.Put path resource plain) = path_text path
-object_of (did.Delete path) = path_text path
-object_of (did.Replace path revision) = two (path_text path) (decimal revision)
-object_of did.LetGo = path_text []
-object_of (did.Reload replica published expect) = path_text []
-object_of (did.Join replica published) = path_text []
-object_of (did.Leave replica) = path_text []
+abbrev pub did_object : Did → List ℕ
+did_object (did.Adopt replica) = path_text []
+did_object (did.Fetch path) = path_text path
+did_object (did.After path) = path_text path
+did_object (did.Put path resource plain) = path_text path
+did_object (did.Delete path) = path_text path
+did_object (did.Replace path revision) = two (path_text path) (decimal revision)
+did_object did.LetGo = path_text []
+did_object (did.Reload replica published expect) = path_text []
+did_object (did.Join replica published) = path_text []
+did_object (did.Leave replica) = path_text []
 
 -- An event by its answer. A revision of 0 says that there was none.
 abbrev pub event_text : Replicas → Did → Gave → List ℕ
 event_text rs asked (gave.Adopted generation) =
-    three (codes "adopt") (replica_of rs asked) (decimal generation)
+    three (codes "adopt") (event_replica rs asked) (decimal generation)
 event_text rs asked (gave.Found revision) =
-    three (kind_of asked) (path_text (path_of asked)) (decimal revision)
-event_text rs asked gave.Absent = three (kind_of asked) (path_text (path_of asked)) (codes "0")
+    three (event_kind asked) (path_text (event_path asked)) (decimal revision)
+event_text rs asked gave.Absent = three (event_kind asked) (path_text (event_path asked))
+    (codes "0")
 event_text rs asked (gave.Written revision) =
-    three (kind_of asked) (object_of asked) (decimal revision)
+    three (event_kind asked) (did_object asked) (decimal revision)
 event_text rs asked (gave.Changed revision) =
-    three (codes "changed") (object_of asked) (decimal revision)
+    three (codes "changed") (did_object asked) (decimal revision)
 event_text rs asked gave.Released = codes "letgo"
 event_text rs asked (gave.Reloaded generation) =
-    three (codes "reload") (replica_of rs asked) (decimal generation)
+    three (codes "reload") (event_replica rs asked) (decimal generation)
 event_text rs asked (gave.Joined generation) =
-    three (codes "join") (replica_of rs asked) (decimal generation)
+    three (codes "join") (event_replica rs asked) (decimal generation)
 event_text rs asked (gave.Refused verdict) =
-    three (codes "refused") (replica_of rs asked) (verdict_text verdict)
+    three (codes "refused") (event_replica rs asked) (verdict_text verdict)
 event_text rs asked (gave.Moved generation) =
-    three (codes "moved") (replica_of rs asked) (decimal generation)
+    three (codes "moved") (event_replica rs asked) (decimal generation)
 event_text rs asked (gave.Present generation) =
-    three (codes "present") (replica_of rs asked) (decimal generation)
+    three (codes "present") (event_replica rs asked) (decimal generation)
 event_text rs asked (gave.Departed generation) =
-    three (codes "leave") (replica_of rs asked) (decimal generation)
+    three (codes "leave") (event_replica rs asked) (decimal generation)
 event_text rs asked (gave.Gone replica) =
-    three (codes "gone") (kind_of asked) (name_at rs replica)
+    three (codes "gone") (event_kind asked) (replica_name rs replica)
 event_text rs asked gave.StoreFailed =
-    three (codes "failed") (kind_of asked) (path_text (path_of asked))
+    three (codes "failed") (event_kind asked) (path_text (event_path asked))
 event_text rs asked (gave.StoreFull needed) =
-    three (codes "full") (kind_of asked) (path_text (path_of asked))
-event_text rs asked gave.Nothing = two (codes "nothing") (kind_of asked)
+    three (codes "full") (event_kind asked) (path_text (event_path asked))
+event_text rs asked gave.Nothing = two (codes "nothing") (event_kind asked)
 
 -- the name of the worker of a seat
-abbrev pub worker_at : List Worker → ℕ → List ℕ
-worker_at workers seat =
+abbrev pub seat_worker : List Worker → ℕ → List ℕ
+seat_worker workers seat =
     (slice_index_or workers seat (record { name = []; replica = 0; lines = [] })).name
 
 -- a line by its number, from 0, the worker and the event
 abbrev pub journal_text : Fleet → ℕ → Line → List ℕ
 journal_text fleet number line =
-    three (decimal number) (worker_at fleet.workers line.seat)
+    three (decimal number) (seat_worker fleet.workers line.seat)
     (event_text fleet.replicas line.did line.gave)
 
 abbrev pub journal_texts : Fleet → ℕ → List Line → List (List ℕ)

@@ -24,5 +24,5 @@ is_spoken [] = false
 is_spoken (word ∷ words) = not (is_comment word)
 
 -- the words of the lines that aren't blank and no comments
-abbrev pub rows_of : List (List ℕ) → List Row
-rows_of lines = filter is_spoken (map words_of lines)
+abbrev pub word_rows : List (List ℕ) → List Row
+word_rows lines = filter is_spoken (map words_of lines)

@@ -39,8 +39,8 @@ abbrev pub is_worker : ℕ → Worker → Bool
 is_worker count worker = is_name worker.name && nat_lt worker.replica count
     && list_all (is_line count) worker.lines
 
-abbrev pub replica_names : Fleet → List (List ℕ)
-replica_names fleet = map (λ replica. replica.0) fleet.replicas
+abbrev pub fleet_replica_names : Fleet → List (List ℕ)
+fleet_replica_names fleet = map (λ replica. replica.0) fleet.replicas
 
 abbrev pub worker_names : Fleet → List (List ℕ)
 worker_names fleet = map (λ worker. worker.name) fleet.workers
@@ -48,8 +48,8 @@ worker_names fleet = map (λ worker. worker.name) fleet.workers
 -- Replicas and workers have names by their rule, distinct among their kind; the first replica is
 -- in; workers stand at replicas that there are, and their lines are of their form.
 pub record IsFleet (fleet : Fleet) : Type 0 where
-  pub replicas : list_all is_name (replica_names fleet) ≡ true
-  pub apart : are_distinct (replica_names fleet) ≡ true
+  pub replicas : list_all is_name (fleet_replica_names fleet) ≡ true
+  pub apart : are_distinct (fleet_replica_names fleet) ≡ true
   pub first : first_is_in fleet.replicas ≡ true
   pub workers : list_all (is_worker (length fleet.replicas)) fleet.workers ≡ true
   pub workers_apart : are_distinct (worker_names fleet) ≡ true
@@ -80,7 +80,7 @@ is_long (Leave replica) = false
 abbrev pub has_long_line : Fleet → Bool
 has_long_line fleet = list_any (λ worker. list_any is_long worker.lines) fleet.workers
 
-pub record IsWithin (fleet : Fleet) : Type 0 where
+pub record KeepsFleetLimits (fleet : Fleet) : Type 0 where
   pub replicas : length fleet.replicas ≤ replica_limit
   pub workers : length fleet.workers ≤ worker_limit
   pub lines : has_long_line fleet ≡ false

@@ -20,8 +20,8 @@ abbrev pub data_of : List ℕ → Option (List ℕ)
 data_of word = if bytes_eq word (codes "-") then Some [] else result_ok (decode_of standard word)
 
 -- the name of the replica with this number
-abbrev pub name_at : List (List ℕ × List ℕ) → ℕ → List ℕ
-name_at replicas number = (slice_index_or replicas number ([], [])).0
+abbrev pub replica_name : List (List ℕ × List ℕ) → ℕ → List ℕ
+replica_name replicas number = (slice_index_or replicas number ([], [])).0
 
 -- the words are how the line is written, where these are the replicas
 abbrev pub WritesLine : List (List ℕ × List ℕ) → Row → ScriptLine → Type 0
@@ -32,25 +32,25 @@ WritesLine replicas row (Get path) = row ≡ codes "get" ∷ (path ∷ [])
 WritesLine replicas row (Delete path) = row ≡ codes "delete" ∷ (path ∷ [])
 WritesLine replicas row Rewrite = row ≡ codes "rewrite" ∷ []
 WritesLine replicas row (Reload replica file) =
-    row ≡ codes "reload" ∷ (name_at replicas replica ∷ (file ∷ []))
+    row ≡ codes "reload" ∷ (replica_name replicas replica ∷ (file ∷ []))
 WritesLine replicas row Refresh = row ≡ codes "refresh" ∷ []
 WritesLine replicas row (Join replica file) =
-    row ≡ codes "join" ∷ (name_at replicas replica ∷ (file ∷ []))
-WritesLine replicas row (Leave replica) = row ≡ codes "leave" ∷ (name_at replicas replica ∷ [])
+    row ≡ codes "join" ∷ (replica_name replicas replica ∷ (file ∷ []))
+WritesLine replicas row (Leave replica) = row ≡ codes "leave" ∷ (replica_name replicas replica ∷ [])
 
 -- the words are how the statement is written
-abbrev pub Writes : List (List ℕ × List ℕ) → Row → Statement → Type 0
-Writes replicas row Head = row ≡ codes "fleet" ∷ (codes "1" ∷ [])
-Writes replicas row (Replica name file) = row ≡ codes "replica" ∷ (name ∷ (file ∷ []))
-Writes replicas row (Worker name replica) =
-    row ≡ codes "worker" ∷ (name ∷ (name_at replicas replica ∷ []))
-Writes replicas row (Line line) = WritesLine replicas row line
+abbrev pub WritesStatement : List (List ℕ × List ℕ) → Row → Statement → Type 0
+WritesStatement replicas row Head = row ≡ codes "fleet" ∷ (codes "1" ∷ [])
+WritesStatement replicas row (Replica name file) = row ≡ codes "replica" ∷ (name ∷ (file ∷ []))
+WritesStatement replicas row (Worker name replica) =
+    row ≡ codes "worker" ∷ (name ∷ (replica_name replicas replica ∷ []))
+WritesStatement replicas row (Line line) = WritesLine replicas row line
 
 -- row by row
 abbrev pub WriteAll : List (List ℕ × List ℕ) → List Row → List Statement → Type 0
 WriteAll replicas [] [] = ⊤
 WriteAll replicas (row ∷ rows) (said ∷ more) =
-    Writes replicas row said × WriteAll replicas rows more
+    WritesStatement replicas row said × WriteAll replicas rows more
 WriteAll replicas rows statements = ⊥
 
 abbrev pub replica_statement : List ℕ × List ℕ → Statement

@@ -2,9 +2,9 @@
 ghost use Rattle.std.specs.Prelude.{◌≤◌, length};
 
 use crate::head::{head, knows};
-use crate::line_error::LineError;
+use crate::line_error::ScriptLineError;
 use crate::script::{Part, Script, ScriptLine, ScriptNo};
-use crate::script_line::{place_of, read_line};
+use crate::script_line::{read_line, replica_number};
 use crate::statement::{Keyword, Statement};
 use crate::words::{first_word, is_comment, two_words};
 use kr_base::{List, Text, name_ok};
@@ -54,7 +54,7 @@ impl Draft {
     }
 
     /// Takes one line more, which may be blank or a comment.
-    pub fn take_line(&mut self, alloc: Global, line: &str) -> Result<(), LineError>
+    pub fn take_line(&mut self, alloc: Global, line: &str) -> Result<(), ScriptLineError>
         ensures { Moves (row_step (draft_of self.old) (words_of line.now)) (draft_of self.new)
             result }
     {
@@ -65,38 +65,48 @@ impl Draft {
             return Ok(());
         }
         let Some(keyword) = Keyword::read(word) else {
-            return Err(LineError::Form);
+            return Err(ScriptLineError::Form);
         };
         let statement = self.said(alloc, keyword, rest)?;
         self.take(alloc, statement)
     }
 
     /// What a line says behind what was said so far.
-    fn said(&self, alloc: Global, keyword: Keyword, rest: &str) -> Result<Statement, LineError>
+    fn said(
+        &self,
+        alloc: Global,
+        keyword: Keyword,
+        rest: &str,
+    ) -> Result<Statement, ScriptLineError>
         ensures { Finds (said_by (draft_of self.now) keyword (words_of rest.now)) result }
     {
         if !self.begun {
             return head(keyword, rest);
         }
         match keyword {
-            Keyword::Fleet => Err(LineError::Form),
+            Keyword::Fleet => Err(ScriptLineError::Form),
             Keyword::Replica => match two_words(rest) {
                 Some((name, file)) => self.replica(alloc, name, file),
-                None => Err(LineError::Form),
+                None => Err(ScriptLineError::Form),
             },
             Keyword::Worker => match two_words(rest) {
                 Some((name, replica)) => self.worker(alloc, name, replica),
-                None => Err(LineError::Form),
+                None => Err(ScriptLineError::Form),
             },
             _ => self.line(alloc, keyword, rest),
         }
     }
 
-    fn line(&self, alloc: Global, keyword: Keyword, rest: &str) -> Result<Statement, LineError>
+    fn line(
+        &self,
+        alloc: Global,
+        keyword: Keyword,
+        rest: &str,
+    ) -> Result<Statement, ScriptLineError>
         ensures { Finds (line_of_worker (draft_of self.now) keyword (words_of rest.now)) result }
     {
         if self.last.is_none() {
-            return Err(LineError::Form);
+            return Err(ScriptLineError::Form);
         }
         match read_line(alloc, self.replicas.as_slice(), keyword, rest) {
             Ok(line) => Ok(Statement::Line(line)),
@@ -104,11 +114,11 @@ impl Draft {
         }
     }
 
-    fn replica(&self, alloc: Global, name: &str, file: &str) -> Result<Statement, LineError>
+    fn replica(&self, alloc: Global, name: &str, file: &str) -> Result<Statement, ScriptLineError>
         ensures { Finds (replica_in (draft_of self.now) (name.now, file.now)) result }
     {
         if !self.may_be_replica(name, file) {
-            return Err(LineError::Form);
+            return Err(ScriptLineError::Form);
         }
         Ok(Statement::Replica {
             name: Text::copy(alloc, name)?,
@@ -134,18 +144,18 @@ impl Draft {
             .any(|replica| replica.0.as_str() == name)
     }
 
-    fn worker(&self, alloc: Global, name: &str, replica: &str) -> Result<Statement, LineError>
+    fn worker(&self, alloc: Global, name: &str, replica: &str) -> Result<Statement, ScriptLineError>
         ensures { Finds (worker_in (draft_of self.now) (name.now, replica.now)) result }
     {
         if !self.may_be_worker(name) {
-            return Err(LineError::Form);
+            return Err(ScriptLineError::Form);
         }
-        match place_of(self.replicas.as_slice(), replica) {
+        match replica_number(self.replicas.as_slice(), replica) {
             Some(replica) => Ok(Statement::Worker {
                 name: Text::copy(alloc, name)?,
                 replica,
             }),
-            None => Err(LineError::Form),
+            None => Err(ScriptLineError::Form),
         }
     }
 
@@ -167,7 +177,7 @@ impl Draft {
     }
 
     /// Takes a statement up, unless it passes a limit.
-    fn take(&mut self, alloc: Global, statement: Statement) -> Result<(), LineError>
+    fn take(&mut self, alloc: Global, statement: Statement) -> Result<(), ScriptLineError>
         ensures { Moves (draft_within (draft_of self.old) statement
             (passes (draft_of self.old) statement)) (draft_of self.new) result }
     {
@@ -182,26 +192,26 @@ impl Draft {
         }
     }
 
-    fn add_replica(&mut self, name: Text, file: Text) -> Result<(), LineError>
+    fn add_replica(&mut self, name: Text, file: Text) -> Result<(), ScriptLineError>
         ensures { Moves (draft_within (draft_of self.old) (Replica name file)
             (passes (draft_of self.old) (Replica name file))) (draft_of self.new) result }
     {
         if self.replicas.as_slice().len() >= REPLICA_LIMIT {
-            return Err(LineError::Replicas);
+            return Err(ScriptLineError::Replicas);
         }
         match self.replicas.push((name, file)) {
             Ok(()) => Ok(()),
-            Err(_) => Err(LineError::NoMemory),
+            Err(_) => Err(ScriptLineError::NoMemory),
         }
     }
 
-    fn add_worker(&mut self, alloc: Global, name: Text, replica: u32) -> Result<(), LineError>
+    fn add_worker(&mut self, alloc: Global, name: Text, replica: u32) -> Result<(), ScriptLineError>
         ensures { Moves (draft_within (draft_of self.old) (Worker name replica)
             (passes (draft_of self.old) (Worker name replica))) (draft_of self.new) result }
     {
         self.close_last()?;
         if self.workers.as_slice().len() >= WORKER_LIMIT {
-            return Err(LineError::Workers);
+            return Err(ScriptLineError::Workers);
         }
         self.last = Some(Part {
             name,
@@ -212,29 +222,29 @@ impl Draft {
     }
 
     /// Puts the last worker behind the others.
-    fn close_last(&mut self) -> Result<(), LineError>
+    fn close_last(&mut self) -> Result<(), ScriptLineError>
         ensures { Closes (draft_of self.old) (draft_of self.new) result }
     {
         match self.last.take() {
             Some(worker) => match self.workers.push(worker) {
                 Ok(()) => Ok(()),
-                Err(_) => Err(LineError::NoMemory),
+                Err(_) => Err(ScriptLineError::NoMemory),
             },
             None => Ok(()),
         }
     }
 
-    fn add_line(&mut self, line: ScriptLine) -> Result<(), LineError>
+    fn add_line(&mut self, line: ScriptLine) -> Result<(), ScriptLineError>
         ensures { Moves (draft_within (draft_of self.old) (Line line)
             (passes (draft_of self.old) (Line line))) (draft_of self.new) result }
     {
         if line.is_long() {
-            return Err(LineError::TooLarge);
+            return Err(ScriptLineError::TooLarge);
         }
         match &mut self.last {
             Some(worker) => match worker.lines.push(line) {
                 Ok(()) => Ok(()),
-                Err(_) => Err(LineError::NoMemory),
+                Err(_) => Err(ScriptLineError::NoMemory),
             },
             None => Ok(()),
         }

@@ -150,7 +150,7 @@ fn write_replies<K: Sink>(
         (lines_text (all_texts 0 replies.now (map worker_of workers.now))) result }
 {
     for (place, worker) in workers.iter().enumerate() {
-        let told = replies_at(replies, place);
+        let told = worker_replies(replies, place);
         match write_worker(alloc, sink, text, worker.name.as_str(), told) {
             Ok(()) => {}
             Err(why) => return Err(why),
@@ -160,7 +160,7 @@ fn write_replies<K: Sink>(
 }
 
 /// What the worker at this place told.
-fn replies_at(replies: &[List<Told>], place: usize) -> &[Told]
+fn worker_replies(replies: &[List<Told>], place: usize) -> &[Told]
     ensures { result.now ≡ told_at replies.now place }
 {
     match replies.get(place) {

@@ -7,21 +7,21 @@ ghost use Rattle.kr_script.specs.Rows.{words_of};
 ghost use Rattle.kr_script.specs.inner.Drafts.{head_of, knows_worker};
 ghost use Rattle.kr_script.specs.inner.Reading.{Finds};
 
-use crate::line_error::LineError;
+use crate::line_error::ScriptLineError;
 use crate::script::Part;
 use crate::statement::{Keyword, Statement};
 use crate::words::one_word;
 
 /// The statement of a file's first line.
-pub fn head(keyword: Keyword, rest: &str) -> Result<Statement, LineError>
+pub fn head(keyword: Keyword, rest: &str) -> Result<Statement, ScriptLineError>
     ensures { Finds (head_of keyword (words_of rest.now)) result }
 {
     match keyword {
         Keyword::Fleet => match one_word(rest) {
             Some("1") => Ok(Statement::Head),
-            _ => Err(LineError::Form),
+            _ => Err(ScriptLineError::Form),
         },
-        _ => Err(LineError::Form),
+        _ => Err(ScriptLineError::Form),
     }
 }
 

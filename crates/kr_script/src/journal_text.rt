@@ -1,10 +1,10 @@
 //! The text of a line of the journal.
 ghost use Rattle.std.specs.Prelude.{◌≡◌, ◌++◌, IfOk, codes, decimal, map};
 ghost use Rattle.kr_script.specs.Fleets.{fleet_of, worker_of};
-ghost use Rattle.kr_script.specs.Statements.{name_at};
-ghost use Rattle.kr_script.specs.Output.{two, three, kind_of, path_of, path_text, replica_of, object_of};
+ghost use Rattle.kr_script.specs.Statements.{replica_name};
+ghost use Rattle.kr_script.specs.Output.{two, three, event_kind, event_path, path_text, event_replica, did_object};
 ghost use Rattle.kr_judge.specs.Texts.{verdict_text};
-ghost use Rattle.kr_script.specs.Output.{event_text, worker_at, journal_text};
+ghost use Rattle.kr_script.specs.Output.{event_text, seat_worker, journal_text};
 
 use crate::line_text::LineText;
 use crate::script::{Part, Script};
@@ -13,8 +13,8 @@ use kr_judge::Verdict;
 use kr_rollout::{Did, Gave, Line};
 
 /// The word of an event's kind.
-fn kind_of(did: &Did) -> &'static str
-    ensures { result.now ≡ kind_of did.now }
+fn event_kind(did: &Did) -> &'static str
+    ensures { result.now ≡ event_kind did.now }
 {
     match did {
         Did::Adopt { .. } => "adopt",
@@ -31,8 +31,8 @@ fn kind_of(did: &Did) -> &'static str
 }
 
 /// The path that an event is about, or nothing.
-fn path_of(did: &Did) -> &str
-    ensures { result.now ≡ path_of did.now }
+fn event_path(did: &Did) -> &str
+    ensures { result.now ≡ event_path did.now }
 {
     match did {
         Did::Fetch { path } => path.as_str(),
@@ -59,8 +59,8 @@ fn path_text(path: &str) -> &str
 }
 
 /// The name of the replica with this number.
-fn name_at(replicas: &[(Text, Text)], number: u32) -> &str
-    ensures { result.now ≡ name_at replicas.now number }
+fn replica_name(replicas: &[(Text, Text)], number: u32) -> &str
+    ensures { result.now ≡ replica_name replicas.now number }
 {
     match replicas.get(number as usize) {
         Some(replica) => replica.0.as_str(),
@@ -70,8 +70,8 @@ fn name_at(replicas: &[(Text, Text)], number: u32) -> &str
 
 /// The name of the worker of a seat.
 #[tactic(auto, using(crate::proofs::Seats::worker_there, crate::proofs::Seats::worker_missing))]
-fn worker_at(workers: &[Part], seat: u32) -> &str
-    ensures { result.now ≡ worker_at (map worker_of workers.now) seat }
+fn seat_worker(workers: &[Part], seat: u32) -> &str
+    ensures { result.now ≡ seat_worker (map worker_of workers.now) seat }
 {
     let seat = seat as usize;
     if seat < workers.len() {
@@ -82,14 +82,14 @@ fn worker_at(workers: &[Part], seat: u32) -> &str
 }
 
 /// The name of the replica that an event is about, or nothing.
-fn replica_of<'a>(replicas: &'a [(Text, Text)], did: &Did) -> &'a str
-    ensures { result.now ≡ replica_of replicas.now did.now }
+fn event_replica<'a>(replicas: &'a [(Text, Text)], did: &Did) -> &'a str
+    ensures { result.now ≡ event_replica replicas.now did.now }
 {
     match did {
-        Did::Adopt { replica } => name_at(replicas, *replica),
-        Did::Reload { replica, .. } => name_at(replicas, *replica),
-        Did::Join { replica, .. } => name_at(replicas, *replica),
-        Did::Leave { replica } => name_at(replicas, *replica),
+        Did::Adopt { replica } => replica_name(replicas, *replica),
+        Did::Reload { replica, .. } => replica_name(replicas, *replica),
+        Did::Join { replica, .. } => replica_name(replicas, *replica),
+        Did::Leave { replica } => replica_name(replicas, *replica),
         Did::Fetch { .. } => "",
         Did::After { .. } => "",
         Did::Put { .. } => "",
@@ -102,7 +102,7 @@ fn replica_of<'a>(replicas: &'a [(Text, Text)], did: &Did) -> &'a str
 /// Adds the path of an event, and for a replace the revision that it replaced.
 fn add_object(text: &mut LineText, did: &Did) -> Result<(), NoMemory>
     ensures { IfOk result (λ done. text.new.bytes.items
-        ≡ text.old.bytes.items ++ object_of did.now) }
+        ≡ text.old.bytes.items ++ did_object did.now) }
 {
     match did {
         Did::Replace { path, revision } => { text.add_counted(path_text(path.as_str()), *revision) }
@@ -121,7 +121,7 @@ fn add_object(text: &mut LineText, did: &Did) -> Result<(), NoMemory>
 /// Adds a word, the object of an event and a revision.
 fn add_write(text: &mut LineText, word: &str, did: &Did, revision: u64) -> Result<(), NoMemory>
     ensures { IfOk result (λ done. text.new.bytes.items ≡ text.old.bytes.items
-        ++ three word.now (object_of did.now) (decimal revision)) }
+        ++ three word.now (did_object did.now) (decimal revision)) }
 {
     text.add(word)?;
     text.add(" ")?;
@@ -153,47 +153,51 @@ fn add_event(
 {
     match gave {
         Gave::Adopted { generation } => {
-            text.add_placed("adopt", replica_of(replicas, did), *generation as u64)
+            text.add_placed("adopt", event_replica(replicas, did), *generation as u64)
         }
         Gave::Found { revision } => {
-            text.add_placed(kind_of(did), path_text(path_of(did)), *revision)
+            text.add_placed(event_kind(did), path_text(event_path(did)), *revision)
         }
-        Gave::Absent => text.add_three(kind_of(did), path_text(path_of(did)), "0"),
-        Gave::Written { revision } => add_write(text, kind_of(did), did, *revision),
+        Gave::Absent => text.add_three(event_kind(did), path_text(event_path(did)), "0"),
+        Gave::Written { revision } => add_write(text, event_kind(did), did, *revision),
         Gave::Changed { revision } => add_write(text, "changed", did, *revision),
         Gave::Released => text.add("letgo"),
         Gave::Reloaded { generation } => {
-            text.add_placed("reload", replica_of(replicas, did), *generation as u64)
+            text.add_placed("reload", event_replica(replicas, did), *generation as u64)
         }
         Gave::Joined { generation } => {
-            text.add_placed("join", replica_of(replicas, did), *generation as u64)
+            text.add_placed("join", event_replica(replicas, did), *generation as u64)
         }
-        Gave::Refused(verdict) => add_refusal(text, replica_of(replicas, did), verdict),
+        Gave::Refused(verdict) => add_refusal(text, event_replica(replicas, did), verdict),
         Gave::Moved { generation } => {
-            text.add_placed("moved", replica_of(replicas, did), *generation as u64)
+            text.add_placed("moved", event_replica(replicas, did), *generation as u64)
         }
         Gave::Present { generation } => {
-            text.add_placed("present", replica_of(replicas, did), *generation as u64)
+            text.add_placed("present", event_replica(replicas, did), *generation as u64)
         }
         Gave::Departed { generation } => {
-            text.add_placed("leave", replica_of(replicas, did), *generation as u64)
+            text.add_placed("leave", event_replica(replicas, did), *generation as u64)
         }
         Gave::Gone { replica } => {
-            text.add_three("gone", kind_of(did), name_at(replicas, *replica))
+            text.add_three("gone", event_kind(did), replica_name(replicas, *replica))
         }
-        Gave::StoreFailed => text.add_three("failed", kind_of(did), path_text(path_of(did))),
-        Gave::StoreFull { .. } => text.add_three("full", kind_of(did), path_text(path_of(did))),
-        Gave::Nothing => text.add_two("nothing", kind_of(did)),
+        Gave::StoreFailed => text.add_three("failed", event_kind(did), path_text(event_path(did))),
+        Gave::StoreFull { .. } => text.add_three(
+            "full",
+            event_kind(did),
+            path_text(event_path(did)),
+        ),
+        Gave::Nothing => text.add_two("nothing", event_kind(did)),
     }
 }
 
 /// Adds the worker's name and the event.
 fn add_seen(text: &mut LineText, script: &Script, line: &Line) -> Result<(), NoMemory>
     ensures { IfOk result (λ done. text.new.bytes.items ≡ text.old.bytes.items
-        ++ two (worker_at (fleet_of script.now).workers line.now.seat)
+        ++ two (seat_worker (fleet_of script.now).workers line.now.seat)
         (event_text (fleet_of script.now).replicas line.now.did line.now.gave)) }
 {
-    text.add(worker_at(script.workers.as_slice(), line.seat))?;
+    text.add(seat_worker(script.workers.as_slice(), line.seat))?;
     text.add(" ")?;
     add_event(text, script.replicas.as_slice(), &line.did, &line.gave)
 }

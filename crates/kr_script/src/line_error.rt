@@ -7,7 +7,7 @@ use kr_base::NoMemory;
 
 /// Why a line isn't taken.
 #[derive(Clone, Copy)]
-pub enum LineError {
+pub enum ScriptLineError {
     /// It can't stand there.
     Form,
     /// It is the 17th replica.
@@ -19,27 +19,27 @@ pub enum LineError {
     NoMemory,
 }
 
-impl LineError {
+impl ScriptLineError {
     /// The refusal of the file, where the line has this number.
-    pub fn at(self, line: u64) -> ScriptNo
+    pub fn refusal_on_line(self, line: u64) -> ScriptNo
         ensures { result ≡ at_line line self }
     {
         match self {
-            LineError::Form => ScriptNo::Breach { line },
-            LineError::Replicas => ScriptNo::Replicas,
-            LineError::Workers => ScriptNo::Workers,
-            LineError::TooLarge => ScriptNo::TooLarge,
-            LineError::NoMemory => ScriptNo::NoMemory,
+            ScriptLineError::Form => ScriptNo::Breach { line },
+            ScriptLineError::Replicas => ScriptNo::Replicas,
+            ScriptLineError::Workers => ScriptNo::Workers,
+            ScriptLineError::TooLarge => ScriptNo::TooLarge,
+            ScriptLineError::NoMemory => ScriptNo::NoMemory,
         }
     }
 }
 
-impl From<NoMemory> for LineError {
-    ghost use Rattle.kr_script.specs.declared.line_error.LineError.{LineError};
+impl From<NoMemory> for ScriptLineError {
+    ghost use Rattle.kr_script.specs.declared.line_error.ScriptLineError.{ScriptLineError};
 
-    ghost from_gives = { λ _ why. why ≡ LineError.NoMemory };
+    ghost from_gives = { λ _ why. why ≡ ScriptLineError.NoMemory };
 
-    fn from(_none: NoMemory) -> LineError {
-        LineError::NoMemory
+    fn from(_none: NoMemory) -> ScriptLineError {
+        ScriptLineError::NoMemory
     }
 }

@@ -34,7 +34,7 @@ fn read_lines(alloc: Global, bytes: &[u8]) -> Result<Script, ScriptNo>
         };
         match draft.take_line(alloc, line) {
             Ok(()) => {}
-            Err(why) => return Err(why.at(number)),
+            Err(why) => return Err(why.refusal_on_line(number)),
         }
         rest = more;
         number += 1;

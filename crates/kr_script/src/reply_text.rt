@@ -112,12 +112,12 @@ fn add_why(text: &mut LineText, why: ValueNo) -> Result<(), NoMemory>
     ensures { IfOk result (λ done. text.new.bytes.items ≡ text.old.bytes.items
         ++ two (decimal (number_of why)) (name_of why)) }
 {
-    add_number_of(text, why)?;
+    add_refusal_number(text, why)?;
     text.add(" ")?;
     text.add(why.name())
 }
 
-fn add_number_of(text: &mut LineText, why: ValueNo) -> Result<(), NoMemory>
+fn add_refusal_number(text: &mut LineText, why: ValueNo) -> Result<(), NoMemory>
     ensures { IfOk result (λ done. text.new.bytes.items
         ≡ text.old.bytes.items ++ decimal (number_of why)) }
 {

@@ -1,5 +1,5 @@
 -- The entry with the least key above a path, among those in order.
-use Rattle.std.proofs.Common.{◌≡◌, ℕ, Bool, true, false, not, ◌&&◌, cond, List, [], ◌∷◌, None, Some, refl, sym, ◌∙◌, ap, subst, inl, inr, ◌⊎◌}
+use Rattle.std.proofs.Common.{◌≡◌, ℕ, Bool, true, false, cond, List, [], ◌∷◌, None, Some, refl, sym, ◌∙◌, ap, subst, inl, inr, ◌⊎◌}
 use Rattle.std.specs.declared.cmp.Ordering.{Ordering}
 use Rattle.std.specs.declared.cmp.Ordering.TheVariants.{Less, Equal, Greater}
 use Rattle.std.specs.Ordering.{nat_cmp, is_lt, is_eq}
@@ -49,7 +49,7 @@ module _ {K : Type 0} (b : K → List ℕ) where
   at q k = is_eq (compare q (b k))
 
   abbrev above : List ℕ → K × ℕ → Bool
-  above p e = is_lt (compare p (b e.0)) && not false
+  above p e = is_lt (compare p (b e.0))
 
   -- a path below a first key is below all
   below_all : (q k : List ℕ) (es : List (K × ℕ)) → compare q k ≡ Less → AllByRecursion
@@ -68,11 +68,11 @@ module _ {K : Type 0} (b : K → List ℕ) where
           → (filter (above p) es ≡ [] → (q : List ℕ) → compare p q ≡ Less
           → lookup (at q) es ≡ None) → lookup (at q) (e ∷ es) ≡ None
       by (inl t) again = let x : e ∷ filter (above p) es ≡ [] = sym
-          (ap (λ z. cond (z && not false) (e ∷ filter (above p) es) (filter (above p) es)) t)
+          (ap (λ z. cond z (e ∷ filter (above p) es) (filter (above p) es)) t)
           ∙ f in cc
       by (inr n) again =
           let rest : filter (above p) es ≡ [] = sym
-          (ap (λ z. cond (z && not false) (e ∷ filter (above p) es) (filter (above p) es)) n)
+          (ap (λ z. cond z (e ∷ filter (above p) es) (filter (above p) es)) n)
           ∙ f in
           ap (λ z. cond z (Some e.1) (lookup (at q) es)) (apart p q (b e.0) l n) ∙ again rest q l
 
@@ -101,7 +101,7 @@ module _ {K : Type 0} (b : K → List ℕ) where
           → filter (above p) es ≡ first ∷ rest → IsFirst p es first) → IsFirst p (e ∷ es) first
       by (inl t) s again =
           let x : e ∷ filter (above p) es ≡ first ∷ rest = sym
-          (ap (λ z. cond (z && not false) (e ∷ filter (above p) es) (filter (above p) es)) t)
+          (ap (λ z. cond z (e ∷ filter (above p) es) (filter (above p) es)) t)
           ∙ f in
           let same : e ≡ first = ap (head_or e) x in
           subst (λ (z : K × ℕ). IsFirst p (e ∷ es) z) same (record {
@@ -112,7 +112,7 @@ module _ {K : Type 0} (b : K → List ℕ) where
           })
       by (inr n) s again =
           let x : filter (above p) es ≡ first ∷ rest = sym
-          (ap (λ z. cond (z && not false) (e ∷ filter (above p) es) (filter (above p) es)) n)
+          (ap (λ z. cond z (e ∷ filter (above p) es) (filter (above p) es)) n)
           ∙ f in
           let i = again s.1 x in
           record {

@@ -16,15 +16,15 @@ use Rattle.kr_store.specs.declared.format.Format.TheVariants.{One, Two}
 use Rattle.kr_store.specs.declared.rows.Change.{Change}
 use Rattle.kr_store.specs.declared.rows.Change.TheVariants.{Put, Delete}
 use Rattle.kr_store.specs.declared.rows.LogRow.{LogRow}
-use Rattle.kr_store.specs.declared.kept_row.Kind.{Kind}
-use Rattle.kr_store.specs.declared.kept_row.Kind.TheVariants as kind
+use Rattle.kr_store.specs.declared.kept_row.RowKind.{RowKind}
+use Rattle.kr_store.specs.declared.kept_row.RowKind.TheVariants as kind
 use Rattle.kr_store.specs.declared.answers.Cause.{Cause}
 use Rattle.kr_store.specs.declared.answers.Cause.TheVariants.{Torn, BadRow, Order}
 use Rattle.kr_store.specs.declared.answers.StoreNo.{StoreNo}
 use Rattle.kr_store.specs.declared.answers.StoreNo.TheVariants as no
 use Rattle.kr_store.specs.Rows.{longest_value, HasCheck, MayChange, MayFollow, AreRows}
-use Rattle.kr_store.specs.File.{magic, text_bytes, value_bytes, check_bytes, byte_of, kind_of, change_bytes, row_bytes, file_bytes, IsFile}
-use Rattle.kr_store.specs.Breaches.{Read, behind, part, kept_if, number_16, number_32, number_64, sized_part, path_part, resource_part, value_part, kind_by, kind_part, revision_part, check_part, put_part, change_part, head_part, row_part, next_row, may_change, BreaksAt, IsOther, IsBreach}
+use Rattle.kr_store.specs.File.{magic, text_bytes, value_bytes, check_bytes, kind_byte, byte_kind, change_bytes, row_bytes, file_bytes, IsFile}
+use Rattle.kr_store.specs.Breaches.{Read, behind, part, kept_if, number_16, number_32, number_64, sized_part, path_part, resource_part, value_part, kind_by, kind_part, revision_part, check_part, put_part, change_part, head_part, row_part, next_row, may_change, BreaksFileAt, IsOther, IsBreach}
 use Rattle.kr_store.specs.inner.KeptRows.{IsChange}
 use Rattle.kr_store.proofs.Parts.{above_most, put_parts}
 use Rattle.kr_store.proofs.Steps.{begins_name}
@@ -209,26 +209,26 @@ single [] e = absurd (omega (arith, e))
 single (b ∷ []) e = refl
 single (b ∷ (c ∷ x)) e = absurd (omega (arith, e))
 
-abbrev kind_at : Bool → Bool → List ℕ → Read Kind
+abbrev kind_at : Bool → Bool → List ℕ → Read RowKind
 kind_at one two mid = if one then Ok (kind.Put, mid) else
     (if two then Ok (kind.Delete, mid) else Err BadRow)
 
-kind_chosen : (byte : ℕ) (mid : List ℕ) (kd : Kind) (rest : List ℕ) → kind_by byte mid ≡ Ok
-    (kd, rest) → (byte ≡ byte_of kd) × (mid ≡ rest)
+kind_chosen : (byte : ℕ) (mid : List ℕ) (kd : RowKind) (rest : List ℕ) → kind_by byte mid ≡ Ok
+    (kd, rest) → (byte ≡ kind_byte kd) × (mid ≡ rest)
 kind_chosen byte mid kd rest e = by (eqb byte 1) (eqb byte 2) refl refl e
   where
     by : (one two : Bool) → eqb byte 1 ≡ one → eqb byte 2 ≡ two → kind_at one two mid ≡ Ok
-        (kd, rest) → (byte ≡ byte_of kd) × (mid ≡ rest)
+        (kd, rest) → (byte ≡ kind_byte kd) × (mid ≡ rest)
     by true two o t e = let s = same_found kind.Put kd mid rest _ refl e in
-        ((Decides-eqb byte 1).0 o ∙ ap byte_of s.0, s.1)
+        ((Decides-eqb byte 1).0 o ∙ ap kind_byte s.0, s.1)
     by false true o t e = let s = same_found kind.Delete kd mid rest _ refl e in
-        ((Decides-eqb byte 2).0 t ∙ ap byte_of s.0, s.1)
+        ((Decides-eqb byte 2).0 t ∙ ap kind_byte s.0, s.1)
     by false false o t e = cc
 
-abbrev kind_bytes : Kind → List ℕ
-kind_bytes kd = byte_of kd ∷ []
+abbrev kind_bytes : RowKind → List ℕ
+kind_bytes kd = kind_byte kd ∷ []
 
-found_kind : (bytes : List ℕ) (kd : Kind) (rest : List ℕ) → AreBytes bytes → kind_part bytes ≡ Ok
+found_kind : (bytes : List ℕ) (kd : RowKind) (rest : List ℕ) → AreBytes bytes → kind_part bytes ≡ Ok
     (kd, rest) → Found bytes kind_bytes (λ k. Unit {0}) kd rest
 found_kind bytes kd rest all e =
     let b = both (part 1 bytes) (λ byte rest. kind_by (get_or byte 0 0) rest) kd rest e in
@@ -236,7 +236,7 @@ found_kind bytes kd rest all e =
     let c = kind_chosen (get_or b.x 0 0) b.mid kd rest b.next_is in
     record {
       split = p.split ∙ ap (λ l. l ++ b.mid) (single b.x p.ruled.0) ∙ ap (λ n. n ∷ b.mid) c.0
-          ∙ ap (λ l. byte_of kd ∷ l) c.1;
+          ∙ ap (λ l. kind_byte kd ∷ l) c.1;
       ruled = tt;
       bytes_are = subst AreBytes c.1 p.bytes_are;
     }
@@ -275,8 +275,8 @@ found_check Two bytes check rest all e =
     })
 
 -- what a change of this kind keeps
-abbrev IsOfKind : Format → Kind → Change → Type 0
-IsOfKind format kd change = IsChange format change × (kind_of change ≡ kd)
+abbrev IsOfKind : Format → RowKind → Change → Type 0
+IsOfKind format kd change = IsChange format change × (byte_kind change ≡ kd)
 
 found_put : (format : Format) (bytes : List ℕ) (change : Change) (rest : List ℕ)
     → AreBytes bytes → put_part format bytes ≡ Ok (change, rest)
@@ -304,7 +304,7 @@ found_put format bytes change rest all e =
       bytes_are = subst AreBytes same.1 v.bytes_are;
     })
 
-found_change : (format : Format) (kd : Kind) (bytes : List ℕ) (change : Change) (rest : List ℕ)
+found_change : (format : Format) (kd : RowKind) (bytes : List ℕ) (change : Change) (rest : List ℕ)
     → AreBytes bytes → change_part format kd bytes ≡ Ok (change, rest)
     → Found bytes change_bytes (IsOfKind format kd) change rest
 found_change format kind.Put bytes change rest all e = found_put format bytes change rest all e
@@ -313,10 +313,10 @@ found_change format kind.Delete bytes change rest all e =
     subst (λ (z : Change). Found bytes change_bytes (IsOfKind format kind.Delete) z rest) same.0
     (record { split = same.1; ruled = (tt, refl); bytes_are = subst AreBytes same.1 all })
 
-abbrev front_bytes : ℕ → Kind × List ℕ → List ℕ
-front_bytes k head = byte_of head.0 ∷ (to_be_bytes w64 k ++ text_bytes head.1)
+abbrev front_bytes : ℕ → RowKind × List ℕ → List ℕ
+front_bytes k head = kind_byte head.0 ∷ (to_be_bytes w64 k ++ text_bytes head.1)
 
-found_head : (k : ℕ) (bytes : List ℕ) (head : Kind × List ℕ) (rest : List ℕ) → AreBytes bytes
+found_head : (k : ℕ) (bytes : List ℕ) (head : RowKind × List ℕ) (rest : List ℕ) → AreBytes bytes
     → head_part k bytes ≡ Ok (head, rest) → Found bytes (front_bytes k) (λ h. IsPath h.1) head rest
 found_head k bytes head rest all e =
     let b = both (kind_part bytes) (λ kind rest. behind (revision_part k rest)
@@ -328,9 +328,9 @@ found_head k bytes head rest all e =
     let f = both (path_part d.mid) (λ path rest. Ok ((b.x, path), rest)) head rest d.next_is in
     let p = found_path d.mid f.x f.mid n.bytes_are f.first_is in
     let same = same_found (b.x, f.x) head f.mid rest _ refl f.next_is in
-    subst (λ (h : Kind × List ℕ). Found bytes (front_bytes k) (λ h. IsPath h.1) h rest) same.0
+    subst (λ (h : RowKind × List ℕ). Found bytes (front_bytes k) (λ h. IsPath h.1) h rest) same.0
     (record {
-      split = kd.split ∙ ap (λ l. byte_of b.x ∷ l)
+      split = kd.split ∙ ap (λ l. kind_byte b.x ∷ l)
           (n.split ∙ ap (λ m. to_be_bytes w64 m ++ d.mid) n.ruled
           ∙ ap (λ l. to_be_bytes w64 k ++ l) (p.split ∙ ap (λ l. text_bytes f.x ++ l) same.1)
           ∙ sym (append_assoc (to_be_bytes w64 k) (text_bytes f.x) rest));
@@ -338,11 +338,11 @@ found_head k bytes head rest all e =
       bytes_are = subst AreBytes same.1 p.bytes_are;
     })
 
-regrouped : (k : ℕ) (kd : Kind) (path more rest : List ℕ) → front_bytes k (kd, path) ++
-    (more ++ rest) ≡ (byte_of kd ∷ (to_be_bytes w64 k ++ (text_bytes path ++ more))) ++ rest
+regrouped : (k : ℕ) (kd : RowKind) (path more rest : List ℕ) → front_bytes k (kd, path) ++
+    (more ++ rest) ≡ (kind_byte kd ∷ (to_be_bytes w64 k ++ (text_bytes path ++ more))) ++ rest
 regrouped k kd path more rest =
-    ap (λ l. byte_of kd ∷ l) (sym (append_assoc (to_be_bytes w64 k ++ text_bytes path) more rest))
-    ∙ ap (λ l. byte_of kd ∷ (l ++ rest)) (append_assoc (to_be_bytes w64 k) (text_bytes path) more)
+    ap (λ l. kind_byte kd ∷ l) (sym (append_assoc (to_be_bytes w64 k ++ text_bytes path) more rest))
+    ∙ ap (λ l. kind_byte kd ∷ (l ++ rest)) (append_assoc (to_be_bytes w64 k) (text_bytes path) more)
 
 abbrev IsRowOf : Format → LogRow → Type 0
 IsRowOf format row = IsPath row.path × IsChange format row.change
@@ -362,9 +362,9 @@ found_row format k bytes row rest all e =
     subst (λ (r : LogRow). Found bytes (row_bytes k) (IsRowOf format) r rest) same.0 (record {
       split = h.split ∙ ap (λ l. front_bytes k b.x ++ l)
           (c.split ∙ ap (λ l. change_bytes d.x ++ l) same.1)
-          ∙ ap (λ (kd : Kind). front_bytes k (kd, b.x.1) ++ (change_bytes d.x ++ rest))
+          ∙ ap (λ (kd : RowKind). front_bytes k (kd, b.x.1) ++ (change_bytes d.x ++ rest))
           (sym c.ruled.1)
-          ∙ regrouped k (kind_of d.x) b.x.1 (change_bytes d.x) rest;
+          ∙ regrouped k (byte_kind d.x) b.x.1 (change_bytes d.x) rest;
       ruled = (h.ruled, c.ruled.0);
       bytes_are = subst AreBytes same.1 c.bytes_are;
     })
@@ -406,7 +406,7 @@ Answer bytes =
     ((format : Format) × (rows : List LogRow) × IsFile format rows bytes)
     ⊎ ((why : StoreNo) × IsBreach bytes why)
 
-broken : (bytes : List ℕ) (at : ℕ) (cause : Cause) → BreaksAt bytes at cause → Answer bytes
+broken : (bytes : List ℕ) (at : ℕ) (cause : Cause) → BreaksFileAt bytes at cause → Answer bytes
 broken bytes at Torn b = inr (no.Torn at, inr b)
 broken bytes at BadRow b = inr (no.BadRow at, b)
 broken bytes at Order b = inr (no.Order at, b)

@@ -7,7 +7,7 @@ use Rattle.kr_store.specs.declared.rows.Change.TheVariants.{Put, Delete}
 use Rattle.kr_store.specs.declared.rows.LogRow.{LogRow}
 use Rattle.kr_store.specs.Rows.{latest_from, latest, live_row, row_of, MayChange}
 use Rattle.kr_store.specs.inner.KeptRows.{log_row_of}
-use Rattle.kr_store.specs.File.{kind_of}
+use Rattle.kr_store.specs.File.{byte_kind}
 use Rattle.kr_store.specs.Breaches.{may_change}
 use Rattle.kr_store.specs.inner.Index.{IsIndexOf, Stands, StandsAt, Adds, AddsAs, allows, live_at, gone_at}
 use Rattle.kr_store.specs.declared.index.Index.{Index}
@@ -30,7 +30,7 @@ latest_other k [] line path e = rw e refl
 latest_other k (row ∷ rows) line path e = rw (latest_other (k + 1) rows line path e) refl
 
 added_at : (old new : Index) (k : ℕ) (path q : List ℕ) (change : Change) → AddsAs old new k path
-    (kind_of change) → bytes_eq path q ≡ true → StandsAt k change (live_at new q) (gone_at new q)
+    (byte_kind change) → bytes_eq path q ≡ true → StandsAt k change (live_at new q) (gone_at new q)
 added_at old new k path q (Put resource stored check) a e = a.0 q
     ∙ ap (λ b. cond b (Some k) (live_at old q)) e
 added_at old new k path q Delete a e = (
@@ -40,13 +40,13 @@ added_at old new k path q Delete a e = (
 )
 
 kept_live : (old new : Index) (k : ℕ) (path q : List ℕ) (change : Change) → AddsAs old new k path
-    (kind_of change) → bytes_eq path q ≡ false → live_at new q ≡ live_at old q
+    (byte_kind change) → bytes_eq path q ≡ false → live_at new q ≡ live_at old q
 kept_live old new k path q (Put resource stored check) a e = a.0 q
     ∙ ap (λ b. cond b (Some k) (live_at old q)) e
 kept_live old new k path q Delete a e = a.0 q ∙ ap (λ b. cond b None (live_at old q)) e
 
 kept_gone : (old new : Index) (k : ℕ) (path q : List ℕ) (change : Change) → AddsAs old new k path
-    (kind_of change) → bytes_eq path q ≡ false → gone_at new q ≡ gone_at old q
+    (byte_kind change) → bytes_eq path q ≡ false → gone_at new q ≡ gone_at old q
 kept_gone old new k path q (Put resource stored check) a e = a.1 q
 kept_gone old new k path q Delete a e = a.1 q ∙ ap (λ b. cond b (Some k) (gone_at old q)) e
 

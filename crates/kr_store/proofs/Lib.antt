@@ -7,6 +7,7 @@ pub mod Refusals
 pub mod Written
 pub mod Places
 pub mod Shared
+pub mod Entries
 pub mod Listings
 pub mod Above
 pub mod Lookahead

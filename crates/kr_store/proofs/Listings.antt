@@ -8,17 +8,13 @@ use Rattle.std.specs.List.{AllByRecursion}
 use Rattle.std.specs.List.Sorted.{IsStrictlySortedBy}
 use Rattle.std.specs.Option.{unwrap_or}
 use Rattle.std.specs.Map.{keys_of, lookup}
-use Rattle.std.specs.BTreeMap as tree
-use Rattle.std.specs.declared.string.String.{String}
-use Rattle.std.specs.String.{string_bytes, string_cmp, string_cmp_total}
 use Rattle.std.proofs.lemmas.Cmp.{nat_list_cmp_total}
 use Rattle.std.proofs.lemmas.List.{length-map, get_or-map}
 use Rattle.std.proofs.lemmas.List.Elements.{All-map, All-cons, All-nil, All-head, All-tail, All-contains, Contains-append_right}
 use Rattle.std.proofs.lemmas.Map.Lookups.{exact_bytes}
 use Rattle.std.proofs.lemmas.Map.Views.{All-after_first}
 use Rattle.std.proofs.lemmas.Map.Keys.{sorted_tail}
-use Rattle.std.proofs.lemmas.Map.Entries.{btree_map_get_place}
-use Rattle.std.proofs.lemmas.Option.{same_Some, none-some, slice_get-get_or}
+use Rattle.std.proofs.lemmas.Option.{same_Some, none-some}
 use Rattle.kr_base.specs.Rules.{IsPath}
 use Rattle.kr_store.specs.declared.format.Format.{Format}
 use Rattle.kr_store.specs.declared.index.Index.{Index}
@@ -28,6 +24,8 @@ use Rattle.kr_store.specs.Rows.{latest, live, live_row, AreRows}
 use Rattle.kr_store.specs.Stores.{IsListing, IsLiveCount}
 use Rattle.kr_store.specs.Laws.{OneListing, FollowEachOther, NextsAreListing}
 use Rattle.kr_store.specs.inner.Index.{IsIndexOf, live_at, gone_at}
+use Rattle.kr_paths.specs.Paths as paths
+use Rattle.kr_store.proofs.Entries.{found_at}
 use Rattle.kr_store.proofs.Indexes.{some_live}
 use Rattle.kr_store.proofs.Places.{live_at_revision, found_in, follows_at}
 use Rattle.kr_store.proofs.Written.{was_live}
@@ -205,70 +203,55 @@ some_is : (found : Option Row) → IsSome found → found ≡ Some (unwrap_or fo
 some_is None s = cc
 some_is (Some row) s = refl
 
-module _ {Y : Type 0} where
-  abbrev row_for : List LogRow → String Y × ℕ → Row
-  row_for rows entry = unwrap_or (live rows (string_bytes entry.0)) nothing
+abbrev row_for : List LogRow → List ℕ × ℕ → Row
+row_for rows entry = unwrap_or (live rows entry.0) nothing
 
-  abbrev IsLiveEntry : List LogRow → String Y × ℕ → Type 0
-  IsLiveEntry rows entry =
-      live rows (string_bytes entry.0) ≡ Some (row_for rows entry)
+abbrev IsLiveEntry : List LogRow → List ℕ × ℕ → Type 0
+IsLiveEntry rows entry = live rows entry.0 ≡ Some (row_for rows entry)
 
-  -- a row that is found has the path
-  entry_path : (rows : List LogRow) (entry : String Y × ℕ) → IsLiveEntry rows entry
-      → (row_for rows entry).path ≡ string_bytes entry.0
-  entry_path rows entry e =
-      (live_at_revision rows (string_bytes entry.0) (row_for rows entry) e).1
+-- a row that is found has the path
+entry_path : (rows : List LogRow) (entry : List ℕ × ℕ) → IsLiveEntry rows entry
+    → (row_for rows entry).path ≡ entry.0
+entry_path rows entry e = (live_at_revision rows entry.0 (row_for rows entry) e).1
 
-  paths_are : (rows : List LogRow) (entries : List (String Y × ℕ))
-      → All (IsLiveEntry rows) entries
-      → map (λ row. row.path) (map (row_for rows) entries) ≡ map string_bytes (keys_of entries)
-  paths_are rows [] all = refl
-  paths_are rows (entry ∷ more) all =
-      let first = entry_path rows entry (All-head (IsLiveEntry rows) entry more all) in
-      let rest = paths_are rows more (All-tail (IsLiveEntry rows) entry more all) in
-      λ i. first i ∷ rest i
+paths_are : (rows : List LogRow) (entries : List (List ℕ × ℕ))
+    → All (IsLiveEntry rows) entries
+    → map (λ row. row.path) (map (row_for rows) entries) ≡ keys_of entries
+paths_are rows [] all = refl
+paths_are rows (entry ∷ more) all =
+    let first = entry_path rows entry (All-head (IsLiveEntry rows) entry more all) in
+    let rest = paths_are rows more (All-tail (IsLiveEntry rows) entry more all) in
+    λ i. first i ∷ rest i
 
-  texts_above : (key : String Y) (keys : List (String Y))
-      → AllByRecursion (λ k. string_cmp key k ≡ Less) keys
-      → AllByRecursion (λ q. path_cmp (string_bytes key) q ≡ Less) (map string_bytes keys)
-  texts_above key [] a = tt
-  texts_above key (k ∷ keys) a = (a.0, texts_above key keys a.1)
+abbrev HasEntry : List (List ℕ × ℕ) → List ℕ → Type 0
+HasEntry entries path =
+    (entry : List ℕ × ℕ) × Contains entries entry × (entry.0 ≡ path)
 
-  texts_sorted : (keys : List (String Y)) → IsStrictlySortedBy string_cmp keys
-      → IsStrictlySortedBy path_cmp (map string_bytes keys)
-  unfolding IsStrictlySortedBy
-  texts_sorted [] s = tt
-  texts_sorted (key ∷ keys) s = (texts_above key keys s.0, texts_sorted keys s.1)
+looked_further : (entry : List ℕ × ℕ) (more : List (List ℕ × ℕ)) (path : List ℕ)
+    → HasEntry more path → HasEntry (entry ∷ more) path
+looked_further entry more path h =
+    (h.0, Contains-append_right (entry ∷ []) more h.0 h.1, h.2)
 
-  abbrev HasEntry : List (String Y × ℕ) → List ℕ → Type 0
-  HasEntry entries path =
-      (entry : String Y × ℕ) × Contains entries entry × (string_bytes entry.0 ≡ path)
-
-  looked_further : (entry : String Y × ℕ) (more : List (String Y × ℕ)) (path : List ℕ)
-      → HasEntry more path → HasEntry (entry ∷ more) path
-  looked_further entry more path h =
-      (h.0, Contains-append_right (entry ∷ []) more h.0 h.1, h.2)
-
-  looked_up : (entries : List (String Y × ℕ)) (path : List ℕ) (v : ℕ)
-      → lookup (λ k. is_eq (path_cmp path (string_bytes k))) entries ≡ Some v
-      → HasEntry entries path
-  looked_up [] path v e = absurd (none-some v e)
-  looked_up (entry ∷ more) path v e =
-      by (path_cmp path (string_bytes entry.0)) refl e (looked_up more path v)
-    where
-      by : (o : Ordering) → path_cmp path (string_bytes entry.0) ≡ o
-          → cond (is_eq (path_cmp path (string_bytes entry.0))) (Some entry.1)
-          (lookup (λ k. is_eq (path_cmp path (string_bytes k))) more) ≡ Some v
-          → (lookup (λ k. is_eq (path_cmp path (string_bytes k))) more ≡ Some v
-          → HasEntry more path) → HasEntry (entry ∷ more) path
-      by Equal c e again =
-          (entry, (0, omega arith, refl), sym (exact_bytes path (string_bytes entry.0) c))
-      by Less c e again = looked_further entry more path (again (sym (ap (λ (o : Ordering).
-          cond (is_eq o) (Some entry.1)
-          (lookup (λ k. is_eq (path_cmp path (string_bytes k))) more)) c) ∙ e))
-      by Greater c e again = looked_further entry more path (again (sym (ap (λ (o : Ordering).
-          cond (is_eq o) (Some entry.1)
-          (lookup (λ k. is_eq (path_cmp path (string_bytes k))) more)) c) ∙ e))
+looked_up : (entries : List (List ℕ × ℕ)) (path : List ℕ) (v : ℕ)
+    → lookup (λ k. is_eq (path_cmp path k)) entries ≡ Some v
+    → HasEntry entries path
+looked_up [] path v e = absurd (none-some v e)
+looked_up (entry ∷ more) path v e =
+    by (path_cmp path entry.0) refl e (looked_up more path v)
+  where
+    by : (o : Ordering) → path_cmp path entry.0 ≡ o
+        → cond (is_eq (path_cmp path entry.0)) (Some entry.1)
+        (lookup (λ k. is_eq (path_cmp path k)) more) ≡ Some v
+        → (lookup (λ k. is_eq (path_cmp path k)) more ≡ Some v
+        → HasEntry more path) → HasEntry (entry ∷ more) path
+    by Equal c e again =
+        (entry, (0, omega arith, refl), sym (exact_bytes path entry.0 c))
+    by Less c e again = looked_further entry more path (again (sym (ap (λ (o : Ordering).
+        cond (is_eq o) (Some entry.1)
+        (lookup (λ k. is_eq (path_cmp path k)) more)) c) ∙ e))
+    by Greater c e again = looked_further entry more path (again (sym (ap (λ (o : Ordering).
+        cond (is_eq o) (Some entry.1)
+        (lookup (λ k. is_eq (path_cmp path k)) more)) c) ∙ e))
 
 some_of : (found : Option ℕ) (lives : Option Row) (row : Row) → is_some found ≡ is_some lives
     → lives ≡ Some row → (v : ℕ) × (found ≡ Some v)
@@ -277,19 +260,17 @@ some_of (Some v) lives row s e = (v, refl)
 
 -- the index has as many live entries as rows are live
 pub counted : (rows : List LogRow) (index : Index) → IsIndexOf rows index
-    → tree.IsOrdered string_cmp index.live
-    → IsLiveCount rows (tree.btree_map_len index.live)
+    → paths.AreSorted index.live → IsLiveCount rows (length index.live)
 counted rows index i o =
-    let entries = index.live.entries in
+    let entries = index.live in
     let all : All (IsLiveEntry rows) entries = λ k d l.
-    some_is (live rows (string_bytes (get_or entries k d).0))
-    (was_live rows index (string_bytes (get_or entries k d).0) (get_or entries k d).1 i
-    (btree_map_get_place string_cmp_total index.live k (get_or entries k d).0
-    (get_or entries k d).1 o (slice_get-get_or entries k d l))) in (
+    some_is (live rows (get_or entries k d).0)
+    (was_live rows index (get_or entries k d).0 (get_or entries k d).1 i
+    (found_at entries k d o l)) in (
       map (row_for rows) entries,
       record {
         sorted = subst (IsStrictlySortedBy path_cmp) (sym (paths_are rows entries all))
-            (texts_sorted (keys_of entries) o);
+            o;
         are_live = All-map (λ (row : Row). live rows row.path ≡ Some row) (row_for rows) entries
             (λ k d l. ap (live rows) (entry_path rows (get_or entries k d) (all k d l))
             ∙ all k d l);

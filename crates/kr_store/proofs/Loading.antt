@@ -8,13 +8,13 @@ use Rattle.kr_store.specs.declared.rows.LogRow.{LogRow}
 use Rattle.kr_store.specs.Rows.{MayFollow, AllFollow, AreRows}
 use Rattle.kr_store.specs.inner.KeptRows.{log_row_of, log_rows_of, IsKeptRow, AreKeptRows}
 use Rattle.kr_store.specs.File.{magic, row_bytes, rows_bytes, file_bytes}
-use Rattle.kr_store.specs.Breaches.{Read, behind, row_part, next_row, may_change, kept_if, BreaksAt}
+use Rattle.kr_store.specs.Breaches.{Read, behind, row_part, next_row, may_change, kept_if, BreaksFileAt}
 use Rattle.kr_store.specs.inner.Index.{IsIndexOf, Adds, allows}
-use Rattle.kr_store.specs.inner.Reading.{Ahead, Moves, Gives, Takes, MayBreak, AreLoaded, LoadsRows, kept_bytes, no_at}
+use Rattle.kr_store.specs.inner.Reading.{Ahead, Moves, Gives, Takes, MayBreak, AreLoaded, LoadsRows, kept_bytes, load_refusal}
 use Rattle.kr_store.specs.declared.answers.Cause.{Cause}
 use Rattle.kr_store.specs.declared.answers.Cause.TheVariants.{Torn, BadRow, Order}
-use Rattle.kr_store.specs.declared.answers.Stop.{Stop}
-use Rattle.kr_store.specs.declared.answers.Stop.TheVariants.{Breach, Failed, NoMemory}
+use Rattle.kr_store.specs.declared.answers.LoadStop.{LoadStop}
+use Rattle.kr_store.specs.declared.answers.LoadStop.TheVariants.{Breach, Failed, NoMemory}
 use Rattle.kr_store.specs.declared.answers.StoreNo.TheVariants as no
 use Rattle.kr_store.proofs.Parts.{reads_kept}
 use Rattle.kr_store.proofs.Indexes.{adds_indexed, allowed}
@@ -170,7 +170,7 @@ rows_before first now format rows index l = omega (
 abbrev BreaksIn : Ahead → ℕ → Cause → Type 0
 BreaksIn first at cause =
     (bytes : List ℕ) × Agrees first.left bytes × (length bytes ≤ first.end)
-    × BreaksAt bytes at cause
+    × BreaksFileAt bytes at cause
 
 -- what breaks at the next row breaks the file there
 broken : (first now : Ahead) (format : Format) (rows : List KeptRow) (index : Index)
@@ -197,7 +197,7 @@ broken first now format rows index cause rest l a w n b at p =
     )
 
 as_breach : (first : Ahead) (cause : Cause) (at : ℕ) → BreaksIn first at cause
-    → MayBreak first (no_at (Breach cause) at)
+    → MayBreak first (load_refusal (Breach cause) at)
 as_breach first Torn at b =
     record { bytes = b.0; agrees = b.1; within = b.2; breach = inr b.3 }
 as_breach first BadRow at b =
@@ -231,12 +231,12 @@ told_out now held e a known =
 untold_breaks : (first now : Ahead) (format : Format) (rows : List KeptRow) (index : Index)
     (k : ℕ) (cause : Cause) (at : ℕ) → IsReadTo first now format rows index
     → k ≡ length rows + 1 → (now.place ≡ now.end → ⊥) → at ≡ now.place → now.left ≡ None
-    → cause ≡ Torn → MayBreak first (no_at (Breach cause) at)
+    → cause ≡ Torn → MayBreak first (load_refusal (Breach cause) at)
 untold_breaks first now format rows index k cause at l is more p e t =
     let lines : List LogRow = log_rows_of rows in
     let breaks : next_row format lines (1 ∷ []) ≡ Err Torn =
     next_breaks format lines k (1 ∷ []) Torn (omega (arith, log_rows_length rows)) refl in
-    subst (λ (c : Cause). MayBreak first (no_at (Breach c) at)) (sym t)
+    subst (λ (c : Cause). MayBreak first (load_refusal (Breach c) at)) (sym t)
     (as_breach first Torn at
     (broken first now format rows index Torn (1 ∷ []) l
     (subst (λ o. Agrees o (1 ∷ [])) (sym e) tt) (omega (arith, l.moves.within)) (λ e. cc)
@@ -246,7 +246,7 @@ row_breaks : (first now : Ahead) (format : Format) (rows : List KeptRow) (index 
     (k : ℕ) (cause : Cause) (at : ℕ) (rest : List ℕ) → IsReadTo first now format rows index
     → k ≡ length rows + 1 → (now.place ≡ now.end → ⊥) → at ≡ now.place
     → Agrees now.left rest → now.place + length rest ≤ now.end
-    → row_part format k rest ≡ Err cause → MayBreak first (no_at (Breach cause) at)
+    → row_part format k rest ≡ Err cause → MayBreak first (load_refusal (Breach cause) at)
 row_breaks first now format rows index k cause at (x ∷ rest) l is more p a w b =
     as_breach first cause at
     (broken first now format rows index cause (x ∷ rest) l a w (λ e. cc)
@@ -255,18 +255,18 @@ row_breaks first now format rows index k cause at (x ∷ rest) l is more p a w b
 row_breaks first now format rows index k cause at [] l is more p a w b = by_left now.left refl a
   where
     by_left : (left : Option (List ℕ)) → now.left ≡ left → Agrees left []
-        → MayBreak first (no_at (Breach cause) at)
+        → MayBreak first (load_refusal (Breach cause) at)
     by_left None e a =
         untold_breaks first now format rows index k cause at l is more p e
         (reads_none format k cause b)
     by_left (Some held) e a = absurd (more (told_out now held e a l.moves.known))
 
 pub row_stops : {A : Type 0} (first now next : Ahead) (format : Format) (rows : List KeptRow)
-    (index : Index) (k : ℕ) (w : A → List ℕ) (stop : Stop) (at : ℕ)
+    (index : Index) (k : ℕ) (w : A → List ℕ) (stop : LoadStop) (at : ℕ)
     → IsReadTo first now format rows index → k ≡ length rows + 1
     → (now.place ≡ now.end → ⊥) → at ≡ now.place
     → Gives {A = A} now next w (row_part format k) (Err stop)
-    → LoadsRows first (Err (no_at stop at))
+    → LoadsRows first (Err (load_refusal stop at))
 row_stops first now next format rows index k w (Breach Torn) at l is more p b =
     row_breaks first now format rows index k Torn at b.bytes l is more p b.agrees b.within b.breaks
 row_stops first now next format rows index k w (Breach BadRow) at l is more p b =

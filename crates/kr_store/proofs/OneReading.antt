@@ -7,13 +7,13 @@ use Rattle.kr_store.specs.declared.format.Format.TheVariants.{One}
 use Rattle.kr_store.specs.declared.rows.LogRow.{LogRow}
 use Rattle.kr_store.specs.declared.answers.Cause.{Cause}
 use Rattle.kr_store.specs.declared.answers.Cause.TheVariants.{Torn, BadRow, Order}
-use Rattle.kr_store.specs.declared.answers.Stop.TheVariants.{Breach}
+use Rattle.kr_store.specs.declared.answers.LoadStop.TheVariants.{Breach}
 use Rattle.kr_store.specs.declared.answers.StoreNo.{StoreNo}
 use Rattle.kr_store.specs.declared.answers.StoreNo.TheVariants as no
 use Rattle.kr_store.specs.Rows.{AllFollow}
 use Rattle.kr_store.specs.File.{magic, rows_bytes, file_bytes, IsFile}
-use Rattle.kr_store.specs.Breaches.{Read, next_row, BreaksAt, IsTornMagic, IsOther, IsBreach}
-use Rattle.kr_store.specs.inner.Reading.{no_at}
+use Rattle.kr_store.specs.Breaches.{Read, next_row, BreaksFileAt, IsTornMagic, IsOther, IsBreach}
+use Rattle.kr_store.specs.inner.Reading.{load_refusal}
 use Rattle.kr_store.proofs.Refusals.{stop_once, magic_once}
 use Rattle.kr_store.proofs.Steps.{begins_name}
 
@@ -47,8 +47,8 @@ err_once : (read : Read LogRow) (cause other : Cause) → read ≡ Err cause →
     → cause ≡ other
 err_once read cause other e f = cc
 
-breaks_once : (bytes : List ℕ) (at to : ℕ) (cause other : Cause) → BreaksAt bytes at cause
-    → BreaksAt bytes to other → (at ≡ to) × (cause ≡ other)
+breaks_once : (bytes : List ℕ) (at to : ℕ) (cause other : Cause) → BreaksFileAt bytes at cause
+    → BreaksFileAt bytes to other → (at ≡ to) × (cause ≡ other)
 breaks_once bytes at to cause other b d =
     let once = magic_once b.format d.format (rows_bytes 1 b.rows ++ b.rest)
     (rows_bytes 1 d.rows ++ d.rest)
@@ -67,7 +67,7 @@ breaks_once bytes at to cause other b d =
           (sym same.0) breaks)),
     )
 
-long_before : (bytes : List ℕ) (at : ℕ) (cause : Cause) → BreaksAt bytes at cause
+long_before : (bytes : List ℕ) (at : ℕ) (cause : Cause) → BreaksFileAt bytes at cause
     → 8 ≤ length bytes
 long_before bytes at cause b = omega (
   arith,
@@ -78,7 +78,7 @@ long_before bytes at cause b = omega (
 
 -- bytes that break at a row, or end inside a magic, begin a magic
 
-begins : (bytes : List ℕ) (at : ℕ) (cause : Cause) (b : BreaksAt bytes at cause)
+begins : (bytes : List ℕ) (at : ℕ) (cause : Cause) (b : BreaksFileAt bytes at cause)
     → IsOther b.format bytes → ⊥
 begins bytes at cause b o =
     let named : List ℕ = magic b.format in
@@ -97,7 +97,7 @@ abbrev BreachKind : List ℕ → StoreNo → Type 0
 BreachKind bytes why =
     ((why ≡ no.Magic) × ((format : Format) → IsOther format bytes))
     ⊎ (((why ≡ no.Torn 0) × IsTornMagic bytes)
-    ⊎ ((at : ℕ) × (cause : Cause) × (why ≡ no_at (Breach cause) at) × BreaksAt bytes at cause))
+    ⊎ ((at : ℕ) × (cause : Cause) × (why ≡ load_refusal (Breach cause) at) × BreaksFileAt bytes at cause))
 
 kind_of_breach : (bytes : List ℕ) (why : StoreNo) → IsBreach bytes why → BreachKind bytes why
 kind_of_breach bytes no.Magic b = inl (refl, b)
@@ -123,8 +123,8 @@ kind_once bytes why other (inr (inr r)) (inr (inl u)) =
     absurd (omega (arith, u.1.1, long_before bytes r.0 r.1 r.3))
 kind_once bytes why other (inr (inr r)) (inr (inr s)) =
     let same = breaks_once bytes r.0 s.0 r.1 s.1 r.3 s.3 in
-    r.2 ∙ ap (λ (n : ℕ). no_at (Breach r.1) n) same.0
-    ∙ ap (λ (c : Cause). no_at (Breach c) s.0) same.1 ∙ sym s.2
+    r.2 ∙ ap (λ (n : ℕ). load_refusal (Breach r.1) n) same.0
+    ∙ ap (λ (c : Cause). load_refusal (Breach c) s.0) same.1 ∙ sym s.2
 
 pub breach_once : (bytes : List ℕ) (why other : StoreNo) → IsBreach bytes why
     → IsBreach bytes other → why ≡ other

@@ -21,9 +21,9 @@ use Rattle.kr_store.specs.inner.KeptRows.{IsKeptRow, log_row_of}
 use Rattle.kr_store.specs.declared.kept_row.KeptRow.{KeptRow}
 use Rattle.kr_store.specs.declared.kept_row.KeptRow.TheVariants as kept
 use Rattle.kr_store.specs.inner.Reading.{head_bytes, put_bytes, kept_bytes}
-use Rattle.kr_store.specs.declared.kept_row.Kind.{Kind}
-use Rattle.kr_store.specs.declared.kept_row.Kind.TheVariants as kind
-use Rattle.kr_store.specs.File.{text_bytes, value_bytes, check_bytes, byte_of, row_bytes}
+use Rattle.kr_store.specs.declared.kept_row.RowKind.{RowKind}
+use Rattle.kr_store.specs.declared.kept_row.RowKind.TheVariants as kind
+use Rattle.kr_store.specs.File.{text_bytes, value_bytes, check_bytes, kind_byte, row_bytes}
 use Rattle.kr_store.specs.declared.answers.Cause.TheVariants.{Torn, BadRow, Order}
 
 not_below : (m n : ℕ) → n ≤ m → nat_lt m n ≡ false
@@ -152,7 +152,7 @@ not_resource resource h = to_false (is_resource resource)
 
 -- what is written for each part is read back
 
-pub reads_kind : (kind : Kind) (rest : List ℕ) → kind_part ((byte_of kind ∷ []) ++ rest) ≡ Ok
+pub reads_kind : (kind : RowKind) (rest : List ℕ) → kind_part ((kind_byte kind ∷ []) ++ rest) ≡ Ok
     (kind, rest)
 reads_kind kind.Put rest = behind_read _ _ _ _ (part_reads (1 ∷ []) rest 1 refl)
 reads_kind kind.Delete rest = behind_read _ _ _ _ (part_reads (2 ∷ []) rest 1 refl)
@@ -171,10 +171,10 @@ pub reads_resource : (resource rest : List ℕ) → IsResource resource → reso
 reads_resource resource rest p = behind_read _ _ _ _ (reads_sized 253 resource rest p.0
     (omega (arith, p.0))) ∙ rw ((kr_resource resource).1 p) refl
 
-pub reads_head : (k : ℕ) (kind : Kind) (path rest : List ℕ) → k < 2 ^ 64 → IsPath path
+pub reads_head : (k : ℕ) (kind : RowKind) (path rest : List ℕ) → k < 2 ^ 64 → IsPath path
     → head_part k (head_bytes k (kind, path) ++ rest) ≡ Ok ((kind, path), rest)
 reads_head k kind path rest h p =
-    ap (head_part k) (ap (λ l. byte_of kind ∷ l) (append_assoc (to_be_bytes w64 k)
+    ap (head_part k) (ap (λ l. kind_byte kind ∷ l) (append_assoc (to_be_bytes w64 k)
     (text_bytes path) rest))
     ∙ behind_read _ _ _ _ (reads_kind kind (to_be_bytes w64 k ++ (text_bytes path ++ rest)))
     ∙ behind_read _ _ _ _ (reads_revision k (text_bytes path ++ rest) h)
@@ -209,13 +209,13 @@ reads_put format resource check stored rest r l h =
     ∙ behind_read _ _ _ _ (reads_value stored rest l)
 
 -- a row is its head and what it does
-regroup : (k : ℕ) (kd : Kind) (path more rest : List ℕ)
-    → (byte_of kd ∷ (to_be_bytes w64 k ++ (text_bytes path ++ more))) ++ rest ≡ head_bytes k
+regroup : (k : ℕ) (kd : RowKind) (path more rest : List ℕ)
+    → (kind_byte kd ∷ (to_be_bytes w64 k ++ (text_bytes path ++ more))) ++ rest ≡ head_bytes k
     (kd, path) ++ (more ++ rest)
 regroup k kd path more rest =
-    ap (λ l. byte_of kd ∷ (l ++ rest))
+    ap (λ l. kind_byte kd ∷ (l ++ rest))
     (sym (append_assoc (to_be_bytes w64 k) (text_bytes path) more))
-    ∙ ap (λ l. byte_of kd ∷ l) (append_assoc (to_be_bytes w64 k ++ text_bytes path) more rest)
+    ∙ ap (λ l. kind_byte kd ∷ l) (append_assoc (to_be_bytes w64 k ++ text_bytes path) more rest)
 
 pub reads_kept : (format : Format) (k : ℕ) (e : KeptRow) (rest : List ℕ)
     → k < 2 ^ 64 → IsKeptRow format k e

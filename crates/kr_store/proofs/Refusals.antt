@@ -8,7 +8,7 @@ use Rattle.kr_store.specs.declared.format.Format.TheVariants.{One, Two}
 use Rattle.kr_store.specs.declared.rows.LogRow.{LogRow}
 use Rattle.kr_store.specs.Rows.{MayFollow, AllFollow}
 use Rattle.kr_store.specs.File.{digit_of, magic, row_bytes, rows_bytes, file_bytes, IsFile}
-use Rattle.kr_store.specs.Breaches.{Read, behind, row_part, next_row, may_change, kept_if, BreaksAt, IsTornMagic, IsOther, IsBreach}
+use Rattle.kr_store.specs.Breaches.{Read, behind, row_part, next_row, may_change, kept_if, BreaksFileAt, IsTornMagic, IsOther, IsBreach}
 use Rattle.kr_store.specs.Stores.{Loads, HasBreach}
 use Rattle.kr_store.specs.inner.Reading.{Ahead, MayBreak, LoadsRows}
 use Rattle.kr_store.specs.declared.answers.Cause.{Cause}
@@ -114,7 +114,7 @@ stop_once format k before (r ∷ rows) (o ∷ others) rest more cause other is f
     let rows_same : rows ≡ others = tail.0 in
     (cc, tail.1)
 
-breaks_no_file : (bytes : List ℕ) (at : ℕ) (cause : Cause) → BreaksAt bytes at cause
+breaks_no_file : (bytes : List ℕ) (at : ℕ) (cause : Cause) → BreaksFileAt bytes at cause
     → (format : Format) (rows : List LogRow) → IsFile format rows bytes → ⊥
 breaks_no_file bytes at cause b format rows f = elim f.1 [
   | inl none ↦ absurd (omega (

@@ -16,8 +16,8 @@ use Rattle.kr_store.specs.File.{store_name, magic}
 use Rattle.kr_store.specs.declared.answers.StoreNo.{StoreNo}
 use Rattle.kr_store.specs.declared.answers.StoreNo.TheVariants as no
 use Rattle.kr_store.proofs.Parts.{part_torn}
-use Rattle.kr_store.specs.declared.answers.Stop.{Stop}
-use Rattle.kr_store.specs.declared.answers.Stop.TheVariants.{Breach, Failed, NoMemory}
+use Rattle.kr_store.specs.declared.answers.LoadStop.{LoadStop}
+use Rattle.kr_store.specs.declared.answers.LoadStop.TheVariants.{Breach, Failed, NoMemory}
 use Rattle.kr_store.specs.declared.answers.Cause.{Cause}
 use Rattle.kr_store.specs.declared.answers.Cause.TheVariants.{Torn}
 
@@ -241,7 +241,7 @@ rest_length into done = omega (
 
 -- the next part stops, and so does the whole
 pub stops_behind : {A B C D : Type 0} (old mid new : Ahead) (front : List ℕ) (first : List ℕ
-    → Read A) (next : A → List ℕ → Read B) (x : A) (w : C → List ℕ) (v : D → List ℕ) (stop : Stop)
+    → Read A) (next : A → List ℕ → Read B) (x : A) (w : C → List ℕ) (v : D → List ℕ) (stop : LoadStop)
     → Takes old mid front → Moves old mid → ((rest : List ℕ) → first (front ++ rest) ≡ Ok
     (x, rest)) → Reads {A = C} {B = B} mid new w (next x) (Err stop)
     → Reads {A = D} {B = B} old new v (λ bytes. behind (first bytes) next) (Err stop)
@@ -262,7 +262,7 @@ stops_behind old mid new front first next x w v NoMemory t m r b = record {
 
 -- the first part stops
 pub stops_first : {A B C D : Type 0} (old new : Ahead) (first : List ℕ → Read A) (next : A → List ℕ
-    → Read B) (w : C → List ℕ) (v : D → List ℕ) (stop : Stop)
+    → Read B) (w : C → List ℕ) (v : D → List ℕ) (stop : LoadStop)
     → Reads {A = C} {B = A} old new w first (Err stop) → Reads {A = D} {B = B} old new v
     (λ bytes. behind (first bytes) next) (Err stop)
 stops_first old new first next w v (Breach cause) b = was_broken old new v
@@ -279,7 +279,7 @@ stops_first old new first next w v NoMemory b = record {
 
 -- a buffer that wasn't filled
 pub short_behind : (first now next : Ahead) (into : List ℕ) (done n : ℕ) (piece : List ℕ)
-    (stop : Stop) → Filling first now into done → Begins now next piece (Err stop)
+    (stop : LoadStop) → Filling first now into done → Begins now next piece (Err stop)
     → IsShort {A = Unit {0}} first n (Err stop)
 short_behind first now next into done n piece (Breach cause) f b = inr
     (untold_first first.left now.left (take done into) f.takes.consumed b.0)

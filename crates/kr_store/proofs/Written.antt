@@ -14,14 +14,14 @@ use Rattle.kr_store.specs.declared.rows.Change.TheVariants.{Put, Delete}
 use Rattle.kr_store.specs.declared.rows.LogRow.{LogRow}
 use Rattle.kr_store.specs.Rows.{latest, live, live_row, row_of, MayChange, MayFollow}
 use Rattle.kr_store.specs.inner.KeptRows.{log_row_of, log_rows_of, IsKeptRow, IsChange}
-use Rattle.kr_store.specs.File.{kind_of, magic, row_bytes, rows_bytes, file_bytes, IsFile}
+use Rattle.kr_store.specs.File.{byte_kind, magic, row_bytes, rows_bytes, file_bytes, IsFile}
 use Rattle.kr_store.specs.inner.Log.{Tail, Tears, Extends}
 use Rattle.kr_store.specs.inner.Store.{IsStore, kept_of}
 use Rattle.kr_store.specs.inner.Writing.{lead}
 use Rattle.kr_store.specs.inner.Index.{IsIndexOf, Stands, StandsAt, Adds, StaysAs, Same, SameBut, live_at, gone_at}
 use Rattle.kr_store.specs.Stores.{Kept, length_with, Wrote, Fails}
 use Rattle.kr_store.specs.declared.index.Index.{Index}
-use Rattle.kr_store.specs.declared.kept_row.Kind.{Kind}
+use Rattle.kr_store.specs.declared.kept_row.RowKind.{RowKind}
 use Rattle.kr_store.specs.declared.kept_row.KeptRow.{KeptRow}
 use Rattle.kr_store.proofs.Indexes.{adds_indexed, stands_as, bool_cases, some_live}
 use Rattle.kr_store.proofs.Loading.{log_rows_more, log_rows_length, file_more, rows_follow, kept_rows_more, rows_long}
@@ -118,14 +118,14 @@ stays_deleted rows path before after s same i q = elim (bool_cases (bytes_eq pat
 
 -- whatever row was to be written, the index stands for the same rows
 pub stays : (format : Format) (rows : List LogRow) (path : List ℕ) (change : Change)
-    (kind : Kind) (before after : Index) → kind ≡ kind_of change
+    (kind : RowKind) (before after : Index) → kind ≡ byte_kind change
     → MayChange format rows path change → StaysAs before after path kind
     → IsIndexOf rows before → IsIndexOf rows after
 stays format rows path (Put resource stored check) kind before after e m s i =
-    stays_put rows before after (subst (λ (k : Kind). StaysAs before after path k) e s) i
+    stays_put rows before after (subst (λ (k : RowKind). StaysAs before after path k) e s) i
 stays format rows path Delete kind before after e m s i =
     stays_deleted rows path before after m
-    (subst (λ (k : Kind). StaysAs before after path k) e s) i
+    (subst (λ (k : RowKind). StaysAs before after path k) e s) i
 
 pub change_rules : (format : Format) (rows : List LogRow) (path : List ℕ) (change : Change)
     → MayChange format rows path change → IsChange format change

@@ -13,8 +13,8 @@ use Rattle.kr_store.specs.Rows.{live, AreRows, longest_value}
 use Rattle.kr_store.specs.File.{store_name, magic, file_bytes}
 use Rattle.kr_store.specs.declared.answers.StoreNo.{StoreNo}
 use Rattle.kr_store.specs.declared.answers.StoreNo.TheVariants as no
-use Rattle.kr_store.specs.declared.kept_row.Kind.{Kind}
-use Rattle.kr_store.specs.declared.kept_row.Kind.TheVariants as kind
+use Rattle.kr_store.specs.declared.kept_row.RowKind.{RowKind}
+use Rattle.kr_store.specs.declared.kept_row.RowKind.TheVariants as kind
 use Rattle.kr_store.specs.declared.answers.Cause.{Cause}
 use Rattle.kr_store.specs.declared.answers.Cause.TheVariants.{Torn, BadRow, Order}
 
@@ -70,12 +70,12 @@ value_part bytes =
     behind (number_32 bytes) (λ n rest. if nat_le n longest_value then part n rest else Err BadRow)
 
 -- the kind of a row: 1 is a put, 2 a delete
-abbrev pub kind_by : ℕ → List ℕ → Read Kind
+abbrev pub kind_by : ℕ → List ℕ → Read RowKind
 kind_by byte rest =
     if byte == 1 then Ok (kind.Put, rest)
     else (if byte == 2 then Ok (kind.Delete, rest) else Err BadRow)
 
-abbrev pub kind_part : List ℕ → Read Kind
+abbrev pub kind_part : List ℕ → Read RowKind
 kind_part bytes = behind (part 1 bytes) (λ byte rest. kind_by (get_or byte 0 0) rest)
 
 -- the revision, which has to be k
@@ -90,12 +90,12 @@ put_part format bytes =
     (λ check rest. behind (value_part rest) (λ stored rest. Ok (Put resource stored check, rest))))
 
 -- what a row does, by its kind
-abbrev pub change_part : Format → Kind → List ℕ → Read Change
+abbrev pub change_part : Format → RowKind → List ℕ → Read Change
 change_part format kind.Put bytes = put_part format bytes
 change_part format kind.Delete bytes = Ok (Delete, bytes)
 
 -- the kind and the path of the row with revision k
-abbrev pub head_part : ℕ → List ℕ → Read (Kind × List ℕ)
+abbrev pub head_part : ℕ → List ℕ → Read (RowKind × List ℕ)
 head_part k bytes =
     behind (kind_part bytes) (λ kind rest. behind (revision_part k rest)
     (λ _ rest. behind (path_part rest) (λ path rest. Ok ((kind, path), rest))))
@@ -118,7 +118,7 @@ next_row format before bytes =
     (λ row rest. kept_if (may_change before row.path row.change) BadRow row rest)
 
 -- the bytes are a file of some rows, and then what breaks at this place
-pub record BreaksAt (bytes : List ℕ) (at : ℕ) (cause : Cause) : Type 0 where
+pub record BreaksFileAt (bytes : List ℕ) (at : ℕ) (cause : Cause) : Type 0 where
   pub format : Format
   pub rows : List LogRow
   pub rest : List ℕ
@@ -141,9 +141,9 @@ IsOther format bytes = take (length (magic format)) bytes ≢ take (length bytes
 -- the first breach, by its kind
 abbrev pub IsBreach : List ℕ → StoreNo → Type 0
 IsBreach bytes no.Magic = (format : Format) → IsOther format bytes
-IsBreach bytes (no.Torn at) = ((at ≡ 0) × IsTornMagic bytes) ⊎ BreaksAt bytes at Torn
-IsBreach bytes (no.BadRow at) = BreaksAt bytes at BadRow
-IsBreach bytes (no.Order at) = BreaksAt bytes at Order
+IsBreach bytes (no.Torn at) = ((at ≡ 0) × IsTornMagic bytes) ⊎ BreaksFileAt bytes at Torn
+IsBreach bytes (no.BadRow at) = BreaksFileAt bytes at BadRow
+IsBreach bytes (no.Order at) = BreaksFileAt bytes at Order
 IsBreach bytes no.TooLong = ⊥
 IsBreach bytes no.Failed = ⊥
 IsBreach bytes no.NoMemory = ⊥

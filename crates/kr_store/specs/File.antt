@@ -5,8 +5,8 @@ use Rattle.std.specs.Int.{w16, w32, w64, to_be_bytes}
 use Rattle.kr_store.specs.declared.format.Check.{Check}
 use Rattle.kr_store.specs.declared.format.Format.{Format}
 use Rattle.kr_store.specs.declared.format.Format.TheVariants.{One, Two}
-use Rattle.kr_store.specs.declared.kept_row.Kind.{Kind}
-use Rattle.kr_store.specs.declared.kept_row.Kind.TheVariants as kind
+use Rattle.kr_store.specs.declared.kept_row.RowKind.{RowKind}
+use Rattle.kr_store.specs.declared.kept_row.RowKind.TheVariants as kind
 use Rattle.kr_store.specs.declared.rows.Change.{Change}
 use Rattle.kr_store.specs.declared.rows.Change.TheVariants.{Put, Delete}
 use Rattle.kr_store.specs.declared.rows.LogRow.{LogRow}
@@ -38,13 +38,13 @@ abbrev pub check_bytes : Option Check → List ℕ
 check_bytes None = []
 check_bytes (Some check) = to_be_bytes w64 check.value
 
-abbrev pub byte_of : Kind → ℕ
-byte_of kind.Put = 1
-byte_of kind.Delete = 2
+abbrev pub kind_byte : RowKind → ℕ
+kind_byte kind.Put = 1
+kind_byte kind.Delete = 2
 
-abbrev pub kind_of : Change → Kind
-kind_of (Put resource stored check) = kind.Put
-kind_of Delete = kind.Delete
+abbrev pub byte_kind : Change → RowKind
+byte_kind (Put resource stored check) = kind.Put
+byte_kind Delete = kind.Delete
 
 abbrev pub change_bytes : Change → List ℕ
 change_bytes (Put resource stored check) =
@@ -55,7 +55,7 @@ change_bytes Delete = []
 -- value
 abbrev pub row_bytes : ℕ → LogRow → List ℕ
 row_bytes k row =
-    byte_of (kind_of row.change)
+    kind_byte (byte_kind row.change)
     ∷ (to_be_bytes w64 k ++ (text_bytes row.path ++ change_bytes row.change))
 
 -- rows of which the first has revision k

@@ -43,7 +43,7 @@ pub(crate) enum Cause {
 
 /// Why reading stops.
 #[derive(Clone, Copy, Debug, PartialEq, Eq)]
-pub(crate) enum Stop {
+pub(crate) enum LoadStop {
     Breach(Cause),
     Failed,
     NoMemory,

@@ -2,7 +2,7 @@
 ghost use Rattle.std.specs.Prelude.{◌≡◌, ℕ, ◌∷◌, ◌++◌, ◌+◌, ◌^◌, ◌<◌, ◌≤◌, length, IfOk, OnOk};
 ghost use Rattle.std.specs.Int.{w64, to_be_bytes};
 ghost use Rattle.kr_store.specs.Rows.{longest_value, delete_of};
-ghost use Rattle.kr_store.specs.File.{row_bytes, change_bytes, check_bytes, value_bytes, text_bytes, byte_of, kind_of};
+ghost use Rattle.kr_store.specs.File.{row_bytes, change_bytes, check_bytes, value_bytes, text_bytes, kind_byte, byte_kind};
 ghost use Rattle.kr_store.specs.inner.KeptRows.{IsChange};
 ghost use Rattle.kr_store.specs.inner.Writing.{lead};
 

@@ -1,13 +1,14 @@
 //! What a store keeps of each row.
 ghost use Rattle.std.specs.Prelude.{◌≡◌};
-ghost use Rattle.kr_store.specs.File.{kind_of};
+ghost use Rattle.kr_store.specs.File.{byte_kind};
 
 use crate::rows::Row;
-use kr_base::{Shared, Text};
+use kr_base::Shared;
+use kr_paths::Path;
 
 /// What a row does, as its first byte says.
 #[derive(Clone, Copy, Debug, PartialEq, Eq)]
-pub(crate) enum Kind {
+pub(crate) enum RowKind {
     Put,
     Delete,
 }
@@ -16,19 +17,19 @@ pub(crate) enum Kind {
 #[derive(Drop)]
 pub(crate) enum KeptRow {
     Put(Shared<Row>),
-    Delete(Text),
+    Delete(Path),
 }
 
 impl KeptRow {
     ghost use Rattle.kr_store.specs.inner.KeptRows.{log_row_of};
 
     /// What the row does.
-    pub fn kind(&self) -> Kind
-        ensures { result ≡ kind_of (log_row_of self.now).change }
+    pub fn kind(&self) -> RowKind
+        ensures { result ≡ byte_kind (log_row_of self.now).change }
     {
         match self {
-            KeptRow::Put(_) => Kind::Put,
-            KeptRow::Delete(_) => Kind::Delete,
+            KeptRow::Put(_) => RowKind::Put,
+            KeptRow::Delete(_) => RowKind::Delete,
         }
     }
 }

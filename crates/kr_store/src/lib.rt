@@ -13,6 +13,7 @@ mod log;
 mod reader;
 mod rows;
 mod store;
+mod stored;
 mod write;
 
 pub use answers::{PutNo, StoreNo};
@@ -20,3 +21,4 @@ pub use format::{Check, Format};
 pub use laws::{one_breach, one_file, one_listing, one_row, some_answer};
 pub use rows::{Change, LogRow, Row, RowRef};
 pub use store::Store;
+pub use stored::Stored;

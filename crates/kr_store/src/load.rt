@@ -1,8 +1,8 @@
 //! Loading the rows of a file.
 ghost use Rattle.std.specs.Prelude.{◌≡◌};
-ghost use Rattle.kr_store.specs.inner.Reading.{Advances, LoadsRows, no_at};
+ghost use Rattle.kr_store.specs.inner.Reading.{Advances, LoadsRows, load_refusal};
 
-use crate::answers::{Cause, Stop, StoreNo};
+use crate::answers::{Cause, LoadStop, StoreNo};
 use crate::format::Format;
 use crate::index::Index;
 use crate::kept_row::KeptRow;
@@ -39,12 +39,12 @@ pub(crate) fn load_rows<T: Tape>(alloc: Global, reader: &mut Reader<T>) -> Resul
         let revision = rows.as_slice().len() as u64 + 1;
         let row = match reader.row(alloc, format, revision) {
             Ok(row) => row,
-            Err(stop) => return Err(no_at(stop, at)),
+            Err(stop) => return Err(load_refusal(stop, at)),
         };
         if !index.allows(&row) {
             return Err(StoreNo::BadRow { at });
         }
-        match index.note(alloc, &row, revision) {
+        match index.note(&row, revision) {
             Ok(()) => {}
             Err(_) => return Err(StoreNo::NoMemory),
         }
@@ -61,14 +61,14 @@ pub(crate) fn load_rows<T: Tape>(alloc: Global, reader: &mut Reader<T>) -> Resul
 }
 
 /// Why a row that begins at this place can't be loaded.
-fn no_at(stop: Stop, at: u64) -> StoreNo
-    ensures { result ≡ no_at stop at }
+fn load_refusal(stop: LoadStop, at: u64) -> StoreNo
+    ensures { result ≡ load_refusal stop at }
 {
     match stop {
-        Stop::Breach(Cause::Torn) => StoreNo::Torn { at },
-        Stop::Breach(Cause::BadRow) => StoreNo::BadRow { at },
-        Stop::Breach(Cause::Order) => StoreNo::Order { at },
-        Stop::Failed => StoreNo::Failed,
-        Stop::NoMemory => StoreNo::NoMemory,
+        LoadStop::Breach(Cause::Torn) => StoreNo::Torn { at },
+        LoadStop::Breach(Cause::BadRow) => StoreNo::BadRow { at },
+        LoadStop::Breach(Cause::Order) => StoreNo::Order { at },
+        LoadStop::Failed => StoreNo::Failed,
+        LoadStop::NoMemory => StoreNo::NoMemory,
     }
 }

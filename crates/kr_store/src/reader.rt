@@ -4,16 +4,18 @@ ghost use Rattle.std.specs.Int.{w16, w32, w64, to_be_bytes};
 ghost use Rattle.kr_base.specs.Rules.{IsPath, IsResource};
 ghost use Rattle.kr_store.specs.Rows.{longest_value, HasCheck};
 ghost use Rattle.kr_store.specs.inner.KeptRows.{IsKeptRow};
-ghost use Rattle.kr_store.specs.File.{text_bytes, value_bytes, check_bytes, byte_of};
+ghost use Rattle.kr_store.specs.File.{text_bytes, value_bytes, check_bytes, kind_byte};
 ghost use Rattle.kr_store.specs.Breaches.{part, number_16, number_32, number_64, sized_part, path_part, resource_part, check_part, value_part, kind_part, revision_part, head_part, put_part, row_part};
 ghost use Rattle.kr_store.specs.inner.Reading.{Moves, Advances, Begins, Fills, IsShort, IsNamed, Names, Reads, items_of, sized_bytes, head_bytes, put_bytes, kept_bytes};
 
-use crate::answers::{Cause, Stop, StoreNo};
+use crate::answers::{Cause, LoadStop, StoreNo};
 use crate::format::{Check, Format, MAGIC_LENGTH, STORE_NAME};
-use crate::kept_row::{KeptRow, Kind};
+use crate::kept_row::{KeptRow, RowKind};
 use crate::limits::{LONGEST_PATH, LONGEST_RESOURCE, LONGEST_VALUE};
 use crate::rows::Row;
+use crate::stored::Stored;
 use kr_base::{Bytes, Failed, NoMemory, Shared, Tape, Text, path_ok, resource_ok};
+use kr_paths::Path;
 use std::alloc::Global;
 use std::marker::Model;
 
@@ -23,7 +25,7 @@ fn known(bytes: &[u8])
 {}
 
 /// The format that the front of a file names; these are its first bytes, at most 8.
-fn format_of(front: &[u8]) -> Result<Format, StoreNo>
+fn named_format(front: &[u8]) -> Result<Format, StoreNo>
     requires { length front.now ≤ 8 }
     ensures { IsNamed front.now result }
 {
@@ -42,12 +44,12 @@ fn format_of(front: &[u8]) -> Result<Format, StoreNo>
     Err(StoreNo::Torn { at: 0 })
 }
 
-fn kind_of(byte: u8) -> Option<Kind>
-    ensures { MatchOption result ((byte ≢ 1) × (byte ≢ 2)) (λ kind. byte_of kind ≡ byte) }
+fn byte_kind(byte: u8) -> Option<RowKind>
+    ensures { MatchOption result ((byte ≢ 1) × (byte ≢ 2)) (λ kind. kind_byte kind ≡ byte) }
 {
     match byte {
-        1 => Some(Kind::Put),
-        2 => Some(Kind::Delete),
+        1 => Some(RowKind::Put),
+        2 => Some(RowKind::Delete),
         _ => None,
     }
 }
@@ -65,7 +67,7 @@ fn room(alloc: Global) -> Result<Vec<u8>, NoMemory>
 }
 
 /// As many bytes as there are and fit.
-fn hand_out(bytes: &[u8], into: &mut [u8]) -> usize
+fn fill_front(bytes: &[u8], into: &mut [u8]) -> usize
     ensures count { result ≡ min (length bytes.now) (length into.old) }
     ensures same { take result into.new ≡ take result bytes.now }
 {
@@ -167,15 +169,15 @@ impl<T: Tape> Reader<T> {
     }
 
     /// The next bytes, at least one.
-    fn some(&mut self, into: &mut [u8]) -> Result<usize, Stop>
+    fn some(&mut self, into: &mut [u8]) -> Result<usize, LoadStop>
         requires some { 0 < length into.old }
         requires within { self.old.place + length into.old ≤ self.old.end }
-        ensures advances { Advances Stop.Failed self.old self.new result }
+        ensures advances { Advances LoadStop.Failed self.old self.new result }
         ensures read { Begins self.old self.new into.new result }
     {
         let used = (self.place - self.start) as usize;
         if used < self.filled {
-            let n = hand_out(&self.ahead[used..self.filled], into);
+            let n = fill_front(&self.ahead[used..self.filled], into);
             self.place += n as u64;
             return Ok(n);
         }
@@ -184,10 +186,10 @@ impl<T: Tape> Reader<T> {
         if into.len() >= self.ahead.len() {
             let n = match self.tape.read_at(self.place, into) {
                 Ok(n) => n,
-                Err(Failed) => return Err(Stop::Failed),
+                Err(Failed) => return Err(LoadStop::Failed),
             };
             if n == 0 {
-                return Err(Stop::Breach(Cause::Torn));
+                return Err(LoadStop::Breach(Cause::Torn));
             }
             self.place += n as u64;
             self.start = self.place;
@@ -195,25 +197,25 @@ impl<T: Tape> Reader<T> {
         }
         let found = match self.tape.read_at(self.place, &mut self.ahead) {
             Ok(n) => n,
-            Err(Failed) => return Err(Stop::Failed),
+            Err(Failed) => return Err(LoadStop::Failed),
         };
         if found == 0 {
-            return Err(Stop::Breach(Cause::Torn));
+            return Err(LoadStop::Breach(Cause::Torn));
         }
         self.filled = found;
-        let n = hand_out(&self.ahead[..found], into);
+        let n = fill_front(&self.ahead[..found], into);
         self.place += n as u64;
         Ok(n)
     }
 
     /// The next bytes, as many as the buffer holds.
-    fn fill(&mut self, into: &mut [u8]) -> Result<(), Stop>
-        ensures advances { Advances Stop.Failed self.old self.new result }
+    fn fill(&mut self, into: &mut [u8]) -> Result<(), LoadStop>
+        ensures advances { Advances LoadStop.Failed self.old self.new result }
         ensures read { Fills self.old self.new into.new result }
         ensures short { IsShort self.old (length into.old) result }
     {
         if self.end - self.place < into.len() as u64 {
-            return Err(Stop::Breach(Cause::Torn));
+            return Err(LoadStop::Breach(Cause::Torn));
         }
         let mut done = 0;
         while done < into.len() {
@@ -247,15 +249,15 @@ impl<T: Tape> Reader<T> {
     {
         match self.fill(front) {
             Ok(()) => {}
-            Err(Stop::Breach(_)) => return Err(StoreNo::Torn { at: 0 }),
-            Err(Stop::Failed) => return Err(StoreNo::Failed),
-            Err(Stop::NoMemory) => unreachable!(),
+            Err(LoadStop::Breach(_)) => return Err(StoreNo::Torn { at: 0 }),
+            Err(LoadStop::Failed) => return Err(StoreNo::Failed),
+            Err(LoadStop::NoMemory) => unreachable!(),
         }
-        format_of(front)
+        named_format(front)
     }
 
     /// A number of 2 bytes, the highest first.
-    fn number_16(&mut self) -> Result<u16, Stop>
+    fn number_16(&mut self) -> Result<u16, LoadStop>
         ensures reads { Reads self.old self.new (to_be_bytes w16) number_16 result }
         ensures fits { IfOk result (λ n. n < 2 ^ 16) }
     {
@@ -266,7 +268,7 @@ impl<T: Tape> Reader<T> {
     }
 
     /// A number of 4 bytes, the highest first.
-    fn number_32(&mut self) -> Result<u32, Stop>
+    fn number_32(&mut self) -> Result<u32, LoadStop>
         ensures reads { Reads self.old self.new (to_be_bytes w32) number_32 result }
         ensures fits { IfOk result (λ n. n < 2 ^ 32) }
     {
@@ -277,7 +279,7 @@ impl<T: Tape> Reader<T> {
     }
 
     /// A number of 8 bytes, the highest first.
-    fn number_64(&mut self) -> Result<u64, Stop>
+    fn number_64(&mut self) -> Result<u64, LoadStop>
         ensures reads { Reads self.old self.new (to_be_bytes w64) number_64 result }
         ensures fits { IfOk result (λ n. n < 2 ^ 64) }
     {
@@ -288,16 +290,16 @@ impl<T: Tape> Reader<T> {
     }
 
     /// The next n bytes.
-    fn part(&mut self, alloc: Global, n: usize) -> Result<Vec<u8>, Stop>
+    fn part(&mut self, alloc: Global, n: usize) -> Result<Vec<u8>, LoadStop>
         ensures reads { Reads self.old self.new items_of (part n) result }
         ensures length { IfOk result (λ bytes. length bytes.items ≡ n) }
     {
         if self.end - self.place < n as u64 {
-            return Err(Stop::Breach(Cause::Torn));
+            return Err(LoadStop::Breach(Cause::Torn));
         }
         let mut bytes = match vec![in alloc; 0; n] {
             Ok(bytes) => bytes,
-            Err(_) => return Err(Stop::NoMemory),
+            Err(_) => return Err(LoadStop::NoMemory),
         };
         match self.fill(&mut bytes) {
             Ok(()) => Ok(bytes),
@@ -306,13 +308,13 @@ impl<T: Tape> Reader<T> {
     }
 
     /// Bytes behind their length.
-    fn sized(&mut self, alloc: Global, most: u16) -> Result<Vec<u8>, Stop>
+    fn sized(&mut self, alloc: Global, most: u16) -> Result<Vec<u8>, LoadStop>
         ensures reads { Reads self.old self.new sized_bytes (sized_part most) result }
         ensures length { IfOk result (λ bytes. length bytes.items ≤ most) }
     {
         let n = self.number_16()?;
         if n > most {
-            return Err(Stop::Breach(Cause::BadRow));
+            return Err(LoadStop::Breach(Cause::BadRow));
         }
         match self.part(alloc, n as usize) {
             Ok(bytes) => Ok(bytes),
@@ -321,13 +323,13 @@ impl<T: Tape> Reader<T> {
     }
 
     /// A value behind its length.
-    fn value(&mut self, alloc: Global) -> Result<Bytes, Stop>
+    fn value_as_read(&mut self, alloc: Global) -> Result<Bytes, LoadStop>
         ensures reads { Reads self.old self.new value_bytes value_part result }
         ensures length { IfOk result (λ value. length value ≤ longest_value) }
     {
         let n = self.number_32()?;
         if n > LONGEST_VALUE {
-            return Err(Stop::Breach(Cause::BadRow));
+            return Err(LoadStop::Breach(Cause::BadRow));
         }
         match self.part(alloc, n as usize) {
             Ok(bytes) => Ok(Bytes::from_vec(bytes)),
@@ -335,62 +337,92 @@ impl<T: Tape> Reader<T> {
         }
     }
 
+    /// The same, as it is kept.
+    fn value(&mut self, alloc: Global) -> Result<Stored, LoadStop>
+        ensures reads { Reads self.old self.new value_bytes value_part result }
+        ensures length { IfOk result (λ stored. length stored ≤ longest_value) }
+    {
+        let bytes = match self.value_as_read(alloc) {
+            Ok(bytes) => bytes,
+            Err(stop) => return Err(stop),
+        };
+        match Stored::from_bytes(alloc, bytes) {
+            Ok(stored) => Ok(stored),
+            Err(NoMemory) => Err(LoadStop::NoMemory),
+        }
+    }
+
     /// A path behind its length.
-    fn path(&mut self, alloc: Global) -> Result<Text, Stop>
+    fn path_text(&mut self, alloc: Global) -> Result<Text, LoadStop>
         ensures reads { Reads self.old self.new text_bytes path_part result }
         ensures rule { IfOk result (λ path. IsPath path) }
     {
         let bytes = self.sized(alloc, LONGEST_PATH)?;
         let Ok(text) = String::from_utf8(bytes) else {
-            return Err(Stop::Breach(Cause::BadRow));
+            return Err(LoadStop::Breach(Cause::BadRow));
         };
         if !path_ok(text.as_str()) {
-            return Err(Stop::Breach(Cause::BadRow));
+            return Err(LoadStop::Breach(Cause::BadRow));
         }
         Ok(Text::from_string(text))
     }
 
+    /// The same, as it is kept.
+    fn path(&mut self, alloc: Global) -> Result<Path, LoadStop>
+        ensures reads { Reads self.old self.new text_bytes path_part result }
+        ensures rule { IfOk result (λ path. IsPath path) }
+    {
+        let text = match self.path_text(alloc) {
+            Ok(text) => text,
+            Err(stop) => return Err(stop),
+        };
+        match Path::from_text(alloc, text) {
+            Ok(path) => Ok(path),
+            Err(NoMemory) => Err(LoadStop::NoMemory),
+        }
+    }
+
     /// A resource behind its length.
-    fn resource(&mut self, alloc: Global) -> Result<Text, Stop>
+    fn resource(&mut self, alloc: Global) -> Result<Text, LoadStop>
         ensures reads { Reads self.old self.new text_bytes resource_part result }
         ensures rule { IfOk result (λ resource. IsResource resource) }
     {
         let bytes = self.sized(alloc, LONGEST_RESOURCE)?;
         let Ok(text) = String::from_utf8(bytes) else {
-            return Err(Stop::Breach(Cause::BadRow));
+            return Err(LoadStop::Breach(Cause::BadRow));
         };
         if !resource_ok(text.as_str()) {
-            return Err(Stop::Breach(Cause::BadRow));
+            return Err(LoadStop::Breach(Cause::BadRow));
         }
         Ok(Text::from_string(text))
     }
 
     /// The kind of a row.
-    fn kind(&mut self) -> Result<Kind, Stop>
-        ensures reads { Reads self.old self.new (λ kind. byte_of kind ∷ []) kind_part result }
+    fn kind(&mut self) -> Result<RowKind, LoadStop>
+        ensures reads { Reads self.old self.new (λ kind. kind_byte kind ∷ []) kind_part result }
     {
         let mut byte = [0; 1];
         self.fill(&mut byte)?;
-        match kind_of(byte[0]) {
+        match byte_kind(byte[0]) {
             Some(kind) => Ok(kind),
-            None => Err(Stop::Breach(Cause::BadRow)),
+            None => Err(LoadStop::Breach(Cause::BadRow)),
         }
     }
 
     /// The revision, which has to be this one.
-    fn revision(&mut self, revision: u64) -> Result<(), Stop>
+    fn revision(&mut self, revision: u64) -> Result<(), LoadStop>
         ensures reads { Reads self.old self.new
             (λ _. to_be_bytes w64 revision) (revision_part revision) result }
     {
         let found = self.number_64()?;
         if found != revision {
-            return Err(Stop::Breach(Cause::Order));
+            return Err(LoadStop::Breach(Cause::Order));
         }
         Ok(())
     }
 
     /// The kind and the path of the row with this revision.
-    fn head(&mut self, alloc: Global, revision: u64) -> Result<(Kind, Text), Stop>
+    fn head(&mut self, alloc: Global, revision: u64) -> Result<(RowKind, Path), LoadStop>
         ensures reads { Reads self.old self.new (head_bytes revision) (head_part revision) result }
         ensures rule { IfOk result (λ head. IsPath head.1) }
     {
@@ -406,7 +438,7 @@ impl<T: Tape> Reader<T> {
     }
 
     /// The check of a put, where the format has one.
-    fn check(&mut self, format: Format) -> Result<Option<Check>, Stop>
+    fn check(&mut self, format: Format) -> Result<Option<Check>, LoadStop>
         ensures reads { Reads self.old self.new check_bytes (check_part format) result }
         ensures rule { IfOk result (λ check. HasCheck format check) }
     {
@@ -421,7 +453,11 @@ impl<T: Tape> Reader<T> {
     }
 
     /// The resource, the check and the value of a put.
-    fn put(&mut self, alloc: Global, format: Format) -> Result<(Text, Option<Check>, Bytes), Stop>
+    fn put(
+        &mut self,
+        alloc: Global,
+        format: Format,
+    ) -> Result<(Text, Option<Check>, Stored), LoadStop>
         ensures reads { Reads self.old self.new put_bytes (put_part format) result }
         ensures resource { IfOk result (λ put. IsResource put.0) }
         ensures check { IfOk result (λ put. HasCheck format put.1) }
@@ -439,7 +475,7 @@ impl<T: Tape> Reader<T> {
     }
 
     /// The row with this revision.
-    pub fn row(&mut self, alloc: Global, format: Format, revision: u64) -> Result<KeptRow, Stop>
+    pub fn row(&mut self, alloc: Global, format: Format, revision: u64) -> Result<KeptRow, LoadStop>
         ensures reads { Reads self.old self.new
             (kept_bytes revision) (row_part format revision) result }
         ensures rule { IfOk result (λ row. IsKeptRow format revision row) }
@@ -449,8 +485,8 @@ impl<T: Tape> Reader<T> {
             Err(stop) => return Err(stop),
         };
         match kind {
-            Kind::Delete => Ok(KeptRow::Delete(path)),
-            Kind::Put => {
+            RowKind::Delete => Ok(KeptRow::Delete(path)),
+            RowKind::Put => {
                 let (resource, check, stored) = match self.put(alloc, format) {
                     Ok(put) => put,
                     Err(stop) => return Err(stop),
@@ -464,7 +500,7 @@ impl<T: Tape> Reader<T> {
                 };
                 match Shared::new(alloc, row) {
                     Ok(row) => Ok(KeptRow::Put(row)),
-                    Err(_) => Err(Stop::NoMemory),
+                    Err(_) => Err(LoadStop::NoMemory),
                 }
             }
         }

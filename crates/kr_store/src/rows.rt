@@ -1,15 +1,17 @@
 //! Rows: a put as it is handed out, and each row as the file has it.
 use crate::format::Check;
-use kr_base::{Bytes, Text};
+use crate::stored::Stored;
+use kr_base::Text;
+use kr_paths::Path;
 
 /// A value that was put for a resource at a path, with its revision: the number of its row, from 1.
 /// A store of the first format has no checks.
 #[derive(Debug, Drop)]
 pub struct Row {
-    pub path: Text,
+    pub path: Path,
     pub resource: Text,
     pub revision: u64,
-    pub stored: Bytes,
+    pub stored: Stored,
     pub check: Option<Check>,
 }
 
@@ -26,7 +28,7 @@ pub enum Change {
     /// It puts a value for a resource.
     Put {
         resource: Text,
-        stored: Bytes,
+        stored: Stored,
         check: Option<Check>,
     },
     /// It deletes what was there.

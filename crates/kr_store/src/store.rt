@@ -2,9 +2,9 @@
 ghost use Rattle.std.specs.Prelude.{◌≡◌, ℕ, ◌≤◌, ◌^◌, ◌<◌, ◌+◌, ◌++◌, ◌-◌, get_or, false, length, IfOk, IfErr, IfSome, IsSome};
 ghost use Rattle.kr_base.specs.Faults.{Rose};
 ghost use Rattle.kr_base.specs.Rules.{IsPath, IsResource};
-ghost use Rattle.std.specs.String.{string_bytes};
 ghost use Rattle.kr_store.specs.declared.format.Format.{Format};
 ghost use Rattle.kr_store.specs.declared.kept_row.KeptRow.{KeptRow};
+ghost use Rattle.kr_store.specs.declared.rows.Change.TheVariants as changes;
 ghost use Rattle.kr_store.specs.Rows.{longest_value, live, put_of, check_in, MayChange, IsRow};
 ghost use Rattle.kr_store.specs.inner.KeptRows.{log_row_of, shared_row, IsKeptRow, IsChange};
 ghost use Rattle.kr_store.specs.inner.Writing.{lead};
@@ -14,14 +14,16 @@ ghost use Rattle.kr_store.specs.Stores.{Loads, Holds, Puts, Deletes, Replaces, I
 use crate::answers::{PutNo, StoreNo};
 use crate::encode::{row_bytes, row_length};
 use crate::format::{Check, Format};
-use crate::index::{Index, key_of};
+use crate::index::Index;
 use crate::kept_row::KeptRow;
 use crate::load::{Contents, load_rows};
 use crate::log::Log;
 use crate::reader::Reader;
 use crate::rows::{Change, Row, RowRef};
-use crate::write::{WriteNo, write_row};
+use crate::stored::Stored;
+use crate::write::{RowWriteNo, write_row};
 use kr_base::{Bytes, Failed, List, NoMemory, Shared, Tape, Text};
+use kr_paths::Path;
 use std::alloc::Global;
 use std::marker::Model;
 
@@ -29,7 +31,7 @@ use std::marker::Model;
 #[derive(Drop)]
 struct Made {
     bytes: Bytes,
-    key: String,
+    key: Path,
     row: KeptRow,
 }
 
@@ -39,22 +41,23 @@ fn make_row(
     empty: bool,
     revision: u64,
     path: &str,
+    own: Path,
     change: Change,
 ) -> Result<Made, NoMemory>
     requires path { IsPath path.now }
+    requires own { own ≡ path.now }
     requires change { IsChange format change }
     ensures bytes { IfOk result (λ made. made.bytes
         ≡ lead format empty
         ++ row_bytes revision (record { path = path.now; change = change })) }
-    ensures key { IfOk result (λ made. string_bytes made.key ≡ path.now) }
+    ensures key { IfOk result (λ made. made.key ≡ path.now) }
     ensures row { IfOk result (λ made. log_row_of made.row
         ≡ record { path = path.now; change = change }) }
     ensures rule { IfOk result (λ made. IsKeptRow format revision made.row) }
 {
     let bytes = row_bytes(alloc, format, empty, revision, path, &change)?;
-    let key = key_of(alloc, path)?;
-    let path = Text::copy(alloc, path)?;
-    let row = kept_row(alloc, revision, path, change)?;
+    let key = own.share()?;
+    let row = kept_row(alloc, revision, own, change)?;
     Ok(Made {
         bytes: Bytes::from_vec(bytes),
         key,
@@ -62,7 +65,7 @@ fn make_row(
     })
 }
 
-fn kept_row(alloc: Global, revision: u64, path: Text, change: Change) -> Result<KeptRow, NoMemory>
+fn kept_row(alloc: Global, revision: u64, path: Path, change: Change) -> Result<KeptRow, NoMemory>
     requires { IsPath path }
     ensures row { IfOk result (λ row. log_row_of row ≡ record { path = path; change = change }) }
     ensures rule { IfOk result (λ row.
@@ -90,16 +93,21 @@ fn kept_row(alloc: Global, revision: u64, path: Text, change: Change) -> Result<
     }
 }
 
-/// A copy of the resource of the row with this revision, a put.
-fn resource_at(alloc: Global, rows: &[KeptRow], revision: u64) -> Result<Text, NoMemory>
+/// The path, shared, and a copy of the resource of the row with this revision, a put.
+fn row_names(alloc: Global, rows: &[KeptRow], revision: u64) -> Result<(Path, Text), NoMemory>
     requires first { 1 ≤ revision }
     requires last { revision ≤ length rows.now }
     requires put { (d : KeptRow) → IsSome (shared_row (get_or rows.now (revision - 1) d)) }
-    ensures { IfOk result (λ resource. (d : KeptRow)
-        → IfSome (shared_row (get_or rows.now (revision - 1) d)) (λ row. row.resource ≡ resource)) }
+    ensures { IfOk result (λ names. (d : KeptRow)
+        → IfSome (shared_row (get_or rows.now (revision - 1) d))
+        (λ row. (row.path ≡ names.0) × (row.resource ≡ names.1))) }
 {
     match &rows[revision as usize - 1] {
-        KeptRow::Put(row) => Text::copy(alloc, row.get().resource.as_str()),
+        KeptRow::Put(row) => {
+            let path = row.get().path.share()?;
+            let resource = Text::copy(alloc, row.get().resource.as_str())?;
+            Ok((path, resource))
+        }
         KeptRow::Delete(_) => unreachable!(),
     }
 }
@@ -203,10 +211,98 @@ impl<T: Tape> Store<T> {
         ensures { Puts self.old self.new
             (put_of path.now resource.now stored (check_in self.old.format check)) result }
     {
+        match Path::copy(self.alloc, path) {
+            Ok(own) => self.put_new(path, own, resource, stored, check),
+            Err(NoMemory) => {
+                drop(stored);
+                Err(PutNo::NoMemory)
+            }
+        }
+    }
+
+    /// The same at a path that is shared, and not copied.
+    pub fn put_shared(
+        &mut self,
+        path: &Path,
+        resource: &str,
+        stored: Bytes,
+        check: Check,
+    ) -> Result<u64, PutNo>
+        requires path { IsPath path.now }
+        requires resource { IsResource resource.now }
+        requires stored { length stored ≤ longest_value }
+        ensures { Puts self.old self.new
+            (put_of path.now resource.now stored (check_in self.old.format check)) result }
+    {
+        match path.share() {
+            Ok(own) => self.put_new(path.as_str(), own, resource, stored, check),
+            Err(NoMemory) => {
+                drop(stored);
+                Err(PutNo::NoMemory)
+            }
+        }
+    }
+
+    /// Appends a put of what a row puts, whose path and value are shared, and not copied.
+    pub fn put_row(&mut self, row: &Row, check: Check) -> Result<u64, PutNo>
+        requires path { IsPath row.now.path }
+        requires resource { IsResource row.now.resource }
+        requires stored { length row.now.stored ≤ longest_value }
+        ensures { Puts self.old self.new (put_of row.now.path row.now.resource row.now.stored
+            (check_in self.old.format check)) result }
+    {
+        let Ok(own) = row.path.share() else {
+            return Err(PutNo::NoMemory);
+        };
+        let Ok(stored) = row.stored.share() else {
+            return Err(PutNo::NoMemory);
+        };
+        self.put_own(row.path.as_str(), own, row.resource.as_str(), stored, check)
+    }
+
+    /// The same at a path of which the row takes `own` over, of a value that has no owner yet.
+    fn put_new(
+        &mut self,
+        path: &str,
+        own: Path,
+        resource: &str,
+        stored: Bytes,
+        check: Check,
+    ) -> Result<u64, PutNo>
+        requires path { IsPath path.now }
+        requires own { own ≡ path.now }
+        requires resource { IsResource resource.now }
+        requires stored { length stored ≤ longest_value }
+        ensures { Puts self.old self.new
+            (put_of path.now resource.now stored (check_in self.old.format check)) result }
+    {
+        match Stored::from_bytes(self.alloc, stored) {
+            Ok(stored) => self.put_own(path, own, resource, stored, check),
+            Err(NoMemory) => Err(PutNo::NoMemory),
+        }
+    }
+
+    /// The same, of a value that the row takes over.
+    fn put_own(
+        &mut self,
+        path: &str,
+        own: Path,
+        resource: &str,
+        stored: Stored,
+        check: Check,
+    ) -> Result<u64, PutNo>
+        requires path { IsPath path.now }
+        requires own { own ≡ path.now }
+        requires resource { IsResource resource.now }
+        requires stored { length stored ≤ longest_value }
+        ensures { Puts self.old self.new
+            (put_of path.now resource.now stored (check_in self.old.format check)) result }
+    {
         let check = self.format.keep(check);
         match Text::copy(self.alloc, resource) {
             Ok(resource) => self.append(
                 path,
+                own,
                 Change::Put {
                     resource,
                     stored,
@@ -228,7 +324,11 @@ impl<T: Tape> Store<T> {
         let Some(_live) = self.index.live(path) else {
             return Ok(None);
         };
-        match self.append(path, Change::Delete) {
+        let own = match Path::copy(self.alloc, path) {
+            Ok(own) => own,
+            Err(NoMemory) => return Err(PutNo::NoMemory),
+        };
+        match self.append(path, own, Change::Delete) {
             Ok(revision) => Ok(Some(revision)),
             Err(why) => Err(why),
         }
@@ -257,15 +357,8 @@ impl<T: Tape> Store<T> {
             return Err(PutNo::Changed { revision: last });
         }
         let check = self.format.keep(check);
-        match resource_at(self.alloc, self.rows.as_slice(), last) {
-            Ok(resource) => self.append(
-                path,
-                Change::Put {
-                    resource,
-                    stored,
-                    check,
-                },
-            ),
+        match row_names(self.alloc, self.rows.as_slice(), last) {
+            Ok((own, resource)) => self.append_put(path, own, resource, stored, check),
             Err(NoMemory) => {
                 drop(stored);
                 Err(PutNo::NoMemory)
@@ -273,9 +366,40 @@ impl<T: Tape> Store<T> {
         }
     }
 
-    /// Appends a row that may stand behind the others, and answers its revision.
-    fn append(&mut self, path: &str, change: Change) -> Result<u64, PutNo>
+    /// Appends a put that may stand behind the others.
+    fn append_put(
+        &mut self,
+        path: &str,
+        own: Path,
+        resource: Text,
+        stored: Bytes,
+        check: Option<Check>,
+    ) -> Result<u64, PutNo>
         requires path { IsPath path.now }
+        requires own { own ≡ path.now }
+        requires change { MayChange self.old.format self.old.rows path.now
+            (changes.Put resource stored check) }
+        ensures { Puts self.old self.new (put_of path.now resource stored check) result }
+    {
+        match Stored::from_bytes(self.alloc, stored) {
+            Ok(stored) => self.append(
+                path,
+                own,
+                Change::Put {
+                    resource,
+                    stored,
+                    check,
+                },
+            ),
+            Err(NoMemory) => Err(PutNo::NoMemory),
+        }
+    }
+
+    /// Appends a row that may stand behind the others, and answers its revision. It takes over the
+    /// path in `own`.
+    fn append(&mut self, path: &str, own: Path, change: Change) -> Result<u64, PutNo>
+        requires path { IsPath path.now }
+        requires own { own ≡ path.now }
         requires change { MayChange self.old.format self.old.rows path.now change }
         ensures { Puts self.old self.new (record { path = path.now; change = change }) result }
     {
@@ -290,7 +414,7 @@ impl<T: Tape> Store<T> {
             Err(NoMemory) => return Err(PutNo::NoMemory),
         }
         let revision = self.rows.as_slice().len() as u64 + 1;
-        let made = match make_row(self.alloc, self.format, empty, revision, path, change) {
+        let made = match make_row(self.alloc, self.format, empty, revision, path, own, change) {
             Ok(made) => made,
             Err(NoMemory) => return Err(PutNo::NoMemory),
         };
@@ -306,11 +430,11 @@ impl<T: Tape> Store<T> {
             bytes.as_slice(),
         ) {
             Ok(()) => {}
-            Err(WriteNo::Failed) => {
+            Err(RowWriteNo::Failed) => {
                 drop((bytes, row));
                 return Err(PutNo::Failed);
             }
-            Err(WriteNo::NoMemory) => {
+            Err(RowWriteNo::NoMemory) => {
                 drop((bytes, row));
                 return Err(PutNo::NoMemory);
             }
@@ -333,19 +457,18 @@ impl<T: Tape> Store<T> {
 
     /// The live row with the least path above this one, which may be empty. It is shared, not
     /// copied.
-    pub fn next_after(&self, path: &str) -> Result<Option<Shared<Row>>, NoMemory>
+    pub fn successor(&self, path: &str) -> Result<Option<Shared<Row>>, NoMemory>
         ensures next { IfOk result (λ found. IsNext self.now.rows path.now found) }
         ensures rules { IfOk result (λ found. IfSome found (IsRow self.now.format)) }
     {
-        let key = key_of(self.alloc, path)?;
-        match self.index.next_after(&key) {
+        match self.index.successor(path) {
             Some(revision) => share(self.rows.as_slice(), revision),
             None => Ok(None),
         }
     }
 
     /// Lends the row with this revision, if there is one.
-    pub fn row_at(&self, revision: u64) -> Option<RowRef<'_>>
+    pub fn row_by_revision(&self, revision: u64) -> Option<RowRef<'_>>
         ensures row { LendsRow self.now.rows revision result }
         ensures rules { IfSome result (IsLent self.now.format) }
     {

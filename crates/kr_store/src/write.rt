@@ -1,16 +1,16 @@
 //! Writing one row.
 ghost use Rattle.std.specs.Prelude.{◌≡◌, ◌+◌, ◌^◌, ◌<◌, length};
-ghost use Rattle.std.specs.String.{string_bytes};
 ghost use Rattle.kr_store.specs.inner.Writing.{Writes};
 
 use crate::index::Index;
-use crate::kept_row::Kind;
+use crate::kept_row::RowKind;
 use crate::log::Log;
 use kr_base::{Failed, NoMemory, Tape};
+use kr_paths::Path;
 
 /// Why a row wasn't written.
 #[derive(Clone, Copy, Debug, PartialEq, Eq)]
-pub(crate) enum WriteNo {
+pub(crate) enum RowWriteNo {
     Failed,
     NoMemory,
 }
@@ -19,20 +19,20 @@ pub(crate) enum WriteNo {
 pub(crate) fn write_row<T: Tape>(
     log: &mut Log<T>,
     index: &mut Index,
-    kind: Kind,
+    kind: RowKind,
     path: &str,
-    key: String,
+    key: Path,
     revision: u64,
     bytes: &[u8],
-) -> Result<(), WriteNo>
+) -> Result<(), RowWriteNo>
     requires fits { log.old.end + length bytes.now < 2 ^ 64 }
-    requires key { string_bytes key ≡ path.now }
+    requires key { key ≡ path.now }
     ensures { Writes
         log.old log.new index.old index.new revision path.now kind bytes.now result }
 {
     match kind {
-        Kind::Put => write_put(log, index, path, key, revision, bytes),
-        Kind::Delete => write_delete(log, index, path, key, revision, bytes),
+        RowKind::Put => write_put(log, index, path, key, revision, bytes),
+        RowKind::Delete => write_delete(log, index, path, key, revision, bytes),
     }
 }
 
@@ -42,19 +42,19 @@ fn write_put<T: Tape>(
     log: &mut Log<T>,
     index: &mut Index,
     path: &str,
-    key: String,
+    key: Path,
     revision: u64,
     bytes: &[u8],
-) -> Result<(), WriteNo>
+) -> Result<(), RowWriteNo>
     requires fits { log.old.end + length bytes.now < 2 ^ 64 }
-    requires key { string_bytes key ≡ path.now }
+    requires key { key ≡ path.now }
     ensures { Writes
-        log.old log.new index.old index.new revision path.now Kind.Put bytes.now result }
+        log.old log.new index.old index.new revision path.now RowKind.Put bytes.now result }
 {
     if index.live(path).is_some() {
         match log.append(bytes) {
             Ok(()) => {}
-            Err(Failed) => return Err(WriteNo::Failed),
+            Err(Failed) => return Err(RowWriteNo::Failed),
         }
         match index.set_live(key, revision) {
             Ok(()) => return Ok(()),
@@ -63,13 +63,13 @@ fn write_put<T: Tape>(
     }
     match index.set_live(key, revision) {
         Ok(()) => {}
-        Err(NoMemory) => return Err(WriteNo::NoMemory),
+        Err(NoMemory) => return Err(RowWriteNo::NoMemory),
     }
     match log.append(bytes) {
         Ok(()) => Ok(()),
         Err(Failed) => {
             index.unset_live(path);
-            Err(WriteNo::Failed)
+            Err(RowWriteNo::Failed)
         }
     }
 }
@@ -79,22 +79,22 @@ fn write_delete<T: Tape>(
     log: &mut Log<T>,
     index: &mut Index,
     path: &str,
-    key: String,
+    key: Path,
     revision: u64,
     bytes: &[u8],
-) -> Result<(), WriteNo>
+) -> Result<(), RowWriteNo>
     requires fits { log.old.end + length bytes.now < 2 ^ 64 }
-    requires key { string_bytes key ≡ path.now }
+    requires key { key ≡ path.now }
     ensures { Writes
-        log.old log.new index.old index.new revision path.now Kind.Delete bytes.now result }
+        log.old log.new index.old index.new revision path.now RowKind.Delete bytes.now result }
 {
     match index.set_gone(key, revision) {
         Ok(()) => {}
-        Err(NoMemory) => return Err(WriteNo::NoMemory),
+        Err(NoMemory) => return Err(RowWriteNo::NoMemory),
     }
     match log.append(bytes) {
         Ok(()) => {}
-        Err(Failed) => return Err(WriteNo::Failed),
+        Err(Failed) => return Err(RowWriteNo::Failed),
     }
     index.unset_live(path);
     Ok(())

@@ -1,6 +1,6 @@
 -- What `run` promises by what its words were read as: a fleet, a load, a watch, another command; or
 -- by why they weren't.
-use Rattle.std.proofs.Common.{◌≡◌, ℕ, ◌≤◌, List, Option, Err, refl, inl, arith}
+use Rattle.std.proofs.Common.{◌≡◌, ℕ, ◌≤◌, List, [], Option, Err, refl, inl, arith}
 use Rattle.kr_kms.specs.Calls.{Link}
 use Rattle.kr_kms.specs.Exchanges.{Exchange}
 use Rattle.kr_kms.specs.Truth.{Truth}
@@ -19,8 +19,9 @@ use Rattle.kr_cmd_messages.specs.inner.LoadAnswers.{IsLoadAsked}
 use Rattle.kr_cmd_messages.specs.inner.WatchAnswers.{IsWatchAsked}
 use Rattle.kr_cmd_messages.proofs.LoadAsked.{asked_small, not_both, one_load}
 use Rattle.kr_cmd_messages.proofs.WatchAsked.{not_fleet_and_watch, not_load_and_watch, one_watch}
-use Rattle.kr_cmd_steps.specs.Around.{Around}
-use Rattle.kr_cmd_steps.specs.Ran.{IsIdle, StopsAtOnce}
+use Rattle.kr_cmd_steps.specs.Around.{Around, with_exchanges}
+use Rattle.kr_cmd_steps.specs.Ran.{WroteNothing, StopsAtOnce}
+use Rattle.kr_cmd_steps.proofs.HeardLinks.{heard_nothing}
 use Rattle.kr_cmd_fleet.specs.Fleets.{RanFleet}
 use Rattle.kr_cmd_fleet.proofs.FleetRuns.{at_once, for_asked, one_fleet, unread}
 use Rattle.kr_cmd_gen.specs.GeneratedLoads.{RanLoad}
@@ -33,31 +34,34 @@ use Rattle.kr_cmd_laws.proofs.FleetReadings.{fleet_readings}
 use Rattle.kr_cmd_laws.proofs.Leaving.{tapes_left}
 use Rattle.kr_cmd_laws.proofs.Readings.{readings}
 use Rattle.kr_cmd_laws.proofs.RunHeads.{runs_have_headlines}
+use Rattle.kr_top.specs.Asked.{RanFleetHearing, listening}
 use Rattle.kr_top.specs.Run.{Runs}
 use Rattle.kr_top.specs.inner.Parts.{RunsAlone, RunsOther, RunsUnloaded}
 
 -- ---- the words were read
 
 module _ (T : Type 0) {L D : Type 0} (truth : Truth) (link : L → Link)
-    (step : L → Exchange → L → Type 0)
+    (step : L → Exchange → L → Type 0) (lent took : ℕ → L → Type 0)
     (left : D → Option (List ℕ)) (count : D → ℕ) (words : List (List ℕ)) (old new : Around)
     (output errors : Receipt) (status : ℕ) where
   -- as a watch
   pub watch_promised : (read : WatchWords) → AsksWatch words read
       → RanWatch T truth link step left count read old new output errors status
-      → RunsUnloaded T truth link step left count words old new output errors status
+      → RunsUnloaded T truth link step lent took left count words old new output errors status
   watch_promised read is ran = record {
     ran = λ none. absurd (none read is);
+    asked = λ none. absurd (none read is);
     readings = λ none. absurd (none read is);
     tapes = λ none. absurd (none read is);
     watch = λ asked asks. for_watch (one_watch words read asked is asks) ran;
   }
 
   -- as no watch
-  pub unwatched : AskNoWatch words → RunsAlone words old new output errors status
-      → RunsUnloaded T truth link step left count words old new output errors status
+  pub unwatched : AskNoWatch words → RunsAlone step lent took words old new output errors status
+      → RunsUnloaded T truth link step lent took left count words old new output errors status
   unwatched none alone = record {
     ran = λ _. alone.ran;
+    asked = λ _. alone.asked;
     readings = λ _. alone.readings;
     tapes = λ _. alone.tapes;
     watch = λ asked asks. absurd (none asked asks);
@@ -66,9 +70,10 @@ module _ (T : Type 0) {L D : Type 0} (truth : Truth) (link : L → Link)
   -- as a load
   pub load_promised : (read : LoadWords) → AsksLoad words read
       → RanLoad T truth link step read old new output errors status
-      → RunsOther T truth link step left count words old new output errors status
+      → RunsOther T truth link step lent took left count words old new output errors status
   load_promised read is ran = record {
     ran = λ none. absurd (none.0 read is);
+    asked = λ none. absurd (none.0 read is);
     readings = λ none. absurd (none.0 read is);
     tapes = λ none. absurd (none.0 read is);
     watch = λ asked asks. absurd (not_load_and_watch words read asked is asks);
@@ -81,10 +86,11 @@ module _ (T : Type 0) {L D : Type 0} (truth : Truth) (link : L → Link)
 
   -- as no load
   pub other_promised : AskNoLoad words
-      → RunsUnloaded T truth link step left count words old new output errors status
-      → RunsOther T truth link step left count words old new output errors status
+      → RunsUnloaded T truth link step lent took left count words old new output errors status
+      → RunsOther T truth link step lent took left count words old new output errors status
   other_promised none other = record {
     ran = λ asked. other.ran asked.1;
+    asked = λ asked. other.asked asked.1;
     readings = λ asked. other.readings asked.1;
     tapes = λ asked. other.tapes asked.1;
     watch = other.watch;
@@ -95,17 +101,25 @@ module _ (T : Type 0) {L D : Type 0} (truth : Truth) (link : L → Link)
 
   -- as a fleet
   pub fleet_promised : (read : FleetWords) → AsksFleet words read
-      → RanFleet T truth link step left count read old new output errors status
-      → Runs T truth link step left count words old new output errors status
-  fleet_promised read is ran = record {
-    headline = λ asked asks. runs_have_headlines T truth link step left count asked old new output
-        errors status (for_asked (one_fleet words read asked is asks) ran);
+      → RanFleet T truth link step lent took left count read old new output errors status
+      → RanFleetHearing T truth link step lent took left count read old new output errors status
+      → Runs T truth link step lent took left count words old new output errors status
+  fleet_promised read is ran heard = record {
+    headline = λ asked asks. (
+      heard.0,
+      runs_have_headlines T truth link step lent took left count asked (listening old)
+          (with_exchanges heard.0 (listening new)) output errors status
+          (for_asked (one_fleet words read asked is asks) heard.1),
+    );
     ran = λ none. absurd (none.0 read is);
+    asked = λ none. absurd (none.0 read is);
     readings = λ none. absurd (none.0 read is);
     tapes = λ none. absurd (none.0 read is);
     fleet = λ asked asks. for_asked (one_fleet words read asked is asks) ran;
+    fleet_asked = λ asked asks. (heard.0, for_asked (one_fleet words read asked is asks) heard.1);
     watch = λ asked asks. absurd (not_fleet_and_watch words read asked is asks);
-    fleet_readings = λ asked asks. fleet_readings T truth link step left count asked old new output
+    fleet_readings = λ asked asks. fleet_readings T truth link step lent took left count asked old
+        new output
         errors status (for_asked (one_fleet words read asked is asks) ran);
     load_headline = λ asked asks. absurd (not_both words read asked is asks);
     load = λ asked asks. absurd (not_both words read asked is asks);
@@ -114,14 +128,16 @@ module _ (T : Type 0) {L D : Type 0} (truth : Truth) (link : L → Link)
 
   -- as no fleet
   pub unfleeted : AskNoFleet words
-      → RunsOther T truth link step left count words old new output errors status
-      → Runs T truth link step left count words old new output errors status
+      → RunsOther T truth link step lent took left count words old new output errors status
+      → Runs T truth link step lent took left count words old new output errors status
   unfleeted none other = record {
     headline = λ asked asks. absurd (none asked asks);
     ran = λ alone. other.ran (alone.1, alone.2);
+    asked = λ alone. other.asked (alone.1, alone.2);
     readings = λ alone. other.readings (alone.1, alone.2);
     tapes = λ alone. other.tapes (alone.1, alone.2);
     fleet = λ asked asks. absurd (none asked asks);
+    fleet_asked = λ asked asks. absurd (none asked asks);
     watch = other.watch;
     fleet_readings = λ asked asks. absurd (none asked asks);
     load_headline = other.load_headline;
@@ -132,14 +148,15 @@ module _ (T : Type 0) {L D : Type 0} (truth : Truth) (link : L → Link)
 -- ---- they weren't: nothing around was touched, and the line tells why
 
 module _ (words : List (List ℕ)) (a : Around) (output errors : Receipt) (status : ℕ)
-    (stop : Stop) (idle : IsIdle output)
+    (stop : Stop) (idle : WroteNothing output)
     (tells : Tells (line_of (Err stop)) (status_of (Err stop)) errors status)
     (later : errors.old_faults ≤ errors.new_faults) where
   written_later : output.old_faults ≤ output.new_faults
   written_later = let same = idle.1 in omega (arith, same)
 
-  pub alone_unread : StopsAtOnce words (Err stop) → RunsAlone words a a output errors status
-  alone_unread stops = record {
+  pub alone_unread : {L : Type 0} (step : L → Exchange → L → Type 0) (lent took : ℕ → L → Type 0)
+      → StopsAtOnce words (Err stop) → RunsAlone step lent took words a a output errors status
+  alone_unread step lent took stops = record {
     ran = record {
       result = Err stop;
       answers = inl (stops, (refl, idle));
@@ -147,6 +164,13 @@ module _ (words : List (List ℕ)) (a : Around) (output errors : Receipt) (statu
       written = written_later;
       told = later;
     };
+    asked = heard_nothing lent took step 0 [] _ (record {
+      result = Err stop;
+      answers = inl (stops, (refl, idle));
+      tells = tells;
+      written = written_later;
+      told = later;
+    });
     readings = readings words a a output errors status (Err stop)
         (inl (stops, (refl, idle))) tells;
     tapes = tapes_left words a a output errors status (Err stop)
@@ -154,7 +178,7 @@ module _ (words : List (List ℕ)) (a : Around) (output errors : Receipt) (statu
   }
 
   module _ (T : Type 0) {L D : Type 0} (truth : Truth) (link : L → Link)
-      (step : L → Exchange → L → Type 0)
+      (step : L → Exchange → L → Type 0) (lent took : ℕ → L → Type 0)
       (left : D → Option (List ℕ)) (count : D → ℕ) where
     ran_watch : ((asked : WatchWords) → AsksWatch words asked → stop ≡ NoMemory)
         → (asked : WatchWords) → AsksWatch words asked
@@ -168,13 +192,15 @@ module _ (words : List (List ℕ)) (a : Around) (output errors : Receipt) (statu
     }
 
     pub watch_not_read : IsWatchAsked words (Err stop)
-        → RunsUnloaded T truth link step left count words a a output errors status
-    watch_not_read read = let alone = alone_unread (watch_at_once words stop read) in record {
-      ran = λ none. alone.ran;
-      readings = λ none. alone.readings;
-      tapes = λ none. alone.tapes;
-      watch = ran_watch (no_watch_by_watch words stop read);
-    }
+        → RunsUnloaded T truth link step lent took left count words a a output errors status
+    watch_not_read read = let alone = alone_unread step lent took (watch_at_once words stop read) in
+        record {
+          ran = λ none. alone.ran;
+          asked = λ none. alone.asked;
+          readings = λ none. alone.readings;
+          tapes = λ none. alone.tapes;
+          watch = ran_watch (no_watch_by_watch words stop read);
+        }
 
     ran_load : IsLoadAsked words (Err stop) → (asked : LoadWords) → AsksLoad words asked
         → RanLoad T truth link step asked a a output errors status
@@ -187,18 +213,20 @@ module _ (words : List (List ℕ)) (a : Around) (output errors : Receipt) (statu
     }
 
     pub other_unread : IsLoadAsked words (Err stop)
-        → RunsOther T truth link step left count words a a output errors status
-    other_unread read = let alone = alone_unread (load_at_once words stop read) in record {
-      ran = λ none. alone.ran;
-      readings = λ none. alone.readings;
-      tapes = λ none. alone.tapes;
-      watch = ran_watch (no_watch_by_load words stop read);
-      load_headline = λ asked asks. load_headline T truth link step asked a a output errors status
-          (ran_load read asked asks);
-      load = ran_load read;
-      load_readings = λ asked asks. load_readings T truth link step asked a a output errors status
-          (asked_small asks) (ran_load read asked asks);
-    }
+        → RunsOther T truth link step lent took left count words a a output errors status
+    other_unread read = let alone = alone_unread step lent took (load_at_once words stop read) in
+        record {
+          ran = λ none. alone.ran;
+          asked = λ none. alone.asked;
+          readings = λ none. alone.readings;
+          tapes = λ none. alone.tapes;
+          watch = ran_watch (no_watch_by_load words stop read);
+          load_headline = λ asked asks. load_headline T truth link step asked a a output errors status
+              (ran_load read asked asks);
+          load = ran_load read;
+          load_readings = λ asked asks. load_readings T truth link step asked a a output errors status
+              (asked_small asks) (ran_load read asked asks);
+        }
 
     -- read as a fleet's
     load_by_fleet : IsFleetAsked words (Err stop) → (asked : LoadWords) → AsksLoad words asked
@@ -212,27 +240,34 @@ module _ (words : List (List ℕ)) (a : Around) (output errors : Receipt) (statu
     }
 
     ran_fleet : IsFleetAsked words (Err stop) → (asked : FleetWords) → AsksFleet words asked
-        → RanFleet T truth link step left count asked a a output errors status
-    ran_fleet read asked asks = record {
+        → (b : Around)
+        → RanFleet T truth link step lent took left count asked b b output errors status
+    ran_fleet read asked asks b = record {
       result = Err stop;
-      did = unread T truth link step left count words asked asks stop read a output idle;
+      did = unread T truth link step lent took left count words asked asks stop read b output idle;
       tells = tells;
       written = written_later;
       told = later;
     }
 
     pub run_unread : IsFleetAsked words (Err stop)
-        → Runs T truth link step left count words a a output errors status
-    run_unread read = let alone = alone_unread (at_once words stop read) in record {
-      headline = λ asked asks. runs_have_headlines T truth link step left count asked a a output
-          errors status (ran_fleet read asked asks);
+        → Runs T truth link step lent took left count words a a output errors status
+    run_unread read = let alone = alone_unread step lent took (at_once words stop read) in record {
+      headline = λ asked asks. (
+        [],
+        runs_have_headlines T truth link step lent took left count asked (listening a) (listening a)
+            output errors status (ran_fleet read asked asks (listening a)),
+      );
       ran = λ none. alone.ran;
+      asked = λ none. alone.asked;
       readings = λ none. alone.readings;
       tapes = λ none. alone.tapes;
-      fleet = ran_fleet read;
+      fleet = λ asked asks. ran_fleet read asked asks a;
+      fleet_asked = λ asked asks. ([], ran_fleet read asked asks (listening a));
       watch = ran_watch (no_watch_by_fleet words stop read);
-      fleet_readings = λ asked asks. fleet_readings T truth link step left count asked a a output
-          errors status (ran_fleet read asked asks);
+      fleet_readings = λ asked asks. fleet_readings T truth link step lent took left count asked a a
+          output
+          errors status (ran_fleet read asked asks a);
       load_headline = λ asked asks. load_headline T truth link step asked a a output errors status
           (load_by_fleet read asked asks);
       load = load_by_fleet read;

@@ -1,3 +1,4 @@
 -- The definitions that contracts cite.
+pub mod Asked
 pub mod Run
 pub mod inner

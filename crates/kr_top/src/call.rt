@@ -1,7 +1,9 @@
 //! The call that does a command.
-ghost use Rattle.std.specs.Prelude.{◌≡◌, ◌≤◌, Some, None};
+ghost use Rattle.std.specs.Prelude.{◌≡◌, ◌≤◌, List, [], Some, None};
+ghost use Rattle.kr_kms.specs.Exchanges.{Exchange};
 ghost use Rattle.kr_words.specs.Grammar.{texts};
-ghost use Rattle.kr_cmd_steps.specs.Around.{Around, around, with_world};
+ghost use Rattle.kr_cmd_steps.specs.Around.{Around, IsUnheard, around, with_exchanges, with_world};
+ghost use Rattle.kr_cmd_steps.specs.Heard.{Heard};
 ghost use Rattle.kr_cmd_messages.specs.FleetAsked.{AskNoFleet};
 ghost use Rattle.kr_cmd_messages.specs.LoadAsked.{AskNoLoad};
 ghost use Rattle.kr_cmd_fleet.specs.Fleets.{RanAlone, RanFleet};
@@ -16,6 +18,7 @@ ghost use Rattle.kr_cmd_messages.specs.declared.load_words.LoadWords.{LoadWords}
 ghost use Rattle.kr_cmd_messages.specs.declared.watch_words.WatchWords.{WatchWords};
 ghost use Rattle.kr_cmd_messages.specs.inner.Asking.{KeepsRules};
 ghost use Rattle.kr_cmd_steps.specs.inner.Reporting.{DoesAll, saying};
+ghost use Rattle.kr_top.specs.Asked.{AloneHearing, listening};
 ghost use Rattle.kr_top.specs.Run.{Runs};
 ghost use Rattle.kr_top.specs.inner.Parts.{RunsAlone, RunsOther, RunsUnloaded};
 
@@ -59,7 +62,8 @@ pub fn run<R: Threads + Wait + Sync, W: World, I: Source, O: Sink, E: Sink>(
     output: &mut O,
     errors: &mut E,
 ) -> u8
-    ensures { Runs W.Tap W.Link.truth W.Link.link W.Link.step W.Rand.left W.Rand.count
+    ensures { Runs W.Tap W.Link.truth W.Link.link W.Link.step W.lent W.took W.Rand.left
+        W.Rand.count
         (texts words.now)
         (around W.Link.truth (W.told world.old) (I.left input.old) (I.count input.old))
         (around W.Link.truth (W.told world.new) (I.left input.new) (I.count input.new))
@@ -88,7 +92,8 @@ fn run_other<R: Threads + Wait + Sync, W: World, I: Source, O: Sink, E: Sink>(
     output: &mut O,
     errors: &mut E,
 ) -> u8
-    ensures { RunsOther W.Tap W.Link.truth W.Link.link W.Link.step W.Rand.left W.Rand.count
+    ensures { RunsOther W.Tap W.Link.truth W.Link.link W.Link.step W.lent W.took W.Rand.left
+        W.Rand.count
         (texts words.now)
         (around W.Link.truth (W.told world.old) (I.left input.old) (I.count input.old))
         (around W.Link.truth (W.told world.new) (I.left input.new) (I.count input.new))
@@ -117,7 +122,8 @@ fn run_unloaded<R: Threads + Wait + Sync, W: World, I: Source, O: Sink, E: Sink>
     output: &mut O,
     errors: &mut E,
 ) -> u8
-    ensures { RunsUnloaded W.Tap W.Link.truth W.Link.link W.Link.step W.Rand.left W.Rand.count
+    ensures { RunsUnloaded W.Tap W.Link.truth W.Link.link W.Link.step W.lent W.took W.Rand.left
+        W.Rand.count
         (texts words.now)
         (around W.Link.truth (W.told world.old) (I.left input.old) (I.count input.old))
         (around W.Link.truth (W.told world.new) (I.left input.new) (I.count input.new))
@@ -147,7 +153,7 @@ fn run_watch<R: Threads + Wait + Sync, W: World, O: Sink, E: Sink>(
     errors: &mut E,
 ) -> u8
     requires means { AsksWatch (texts words.now) asked.now }
-    ensures { (a : Around) → a.truth ≡ W.Link.truth
+    ensures { (a : Around) → IsUnheard W.Link.truth a
         → RanWatch W.Tap W.Link.truth W.Link.link W.Link.step W.Rand.left W.Rand.count asked.now
         (with_world (W.told world.old) a) (with_world (W.told world.new) a)
         (receipt (O.held output.old) (O.held output.new) (O.count output.old) (O.count output.new))
@@ -169,7 +175,7 @@ fn run_load<R: Threads + Wait + Sync, W: World, O: Sink, E: Sink>(
     output: &mut O,
     errors: &mut E,
 ) -> u8
-    ensures { (a : Around) → a.truth ≡ W.Link.truth
+    ensures { (a : Around) → IsUnheard W.Link.truth a
         → RanLoad W.Tap W.Link.truth W.Link.link W.Link.step asked.now
         (with_world (W.told world.old) a) (with_world (W.told world.new) a)
         (receipt (O.held output.old) (O.held output.new) (O.count output.old) (O.count output.new))
@@ -192,7 +198,13 @@ pub fn run_alone<W: World, I: Source, O: Sink, E: Sink>(
     output: &mut O,
     errors: &mut E,
 ) -> Option<u8>
-    ensures { RanAlone (texts words.now)
+    ensures ran { RanAlone (texts words.now)
+        (around W.Link.truth (W.told world.old) (I.left input.old) (I.count input.old))
+        (around W.Link.truth (W.told world.new) (I.left input.new) (I.count input.new))
+        (receipt (O.held output.old) (O.held output.new) (O.count output.old) (O.count output.new))
+        (receipt (E.held errors.old) (E.held errors.new) (E.count errors.old) (E.count errors.new))
+        result }
+    ensures asked { AloneHearing W.lent W.took W.Link.step (texts words.now)
         (around W.Link.truth (W.told world.old) (I.left input.old) (I.count input.old))
         (around W.Link.truth (W.told world.new) (I.left input.new) (I.count input.new))
         (receipt (O.held output.old) (O.held output.new) (O.count output.old) (O.count output.new))
@@ -219,7 +231,13 @@ fn other_alone<W: World, I: Source, O: Sink, E: Sink>(
     errors: &mut E,
 ) -> Option<u8>
     requires { AskNoFleet (texts words.now) }
-    ensures { RanAlone (texts words.now)
+    ensures ran { RanAlone (texts words.now)
+        (around W.Link.truth (W.told world.old) (I.left input.old) (I.count input.old))
+        (around W.Link.truth (W.told world.new) (I.left input.new) (I.count input.new))
+        (receipt (O.held output.old) (O.held output.new) (O.count output.old) (O.count output.new))
+        (receipt (E.held errors.old) (E.held errors.new) (E.count errors.old) (E.count errors.new))
+        result }
+    ensures asked { AloneHearing W.lent W.took W.Link.step (texts words.now)
         (around W.Link.truth (W.told world.old) (I.left input.old) (I.count input.old))
         (around W.Link.truth (W.told world.new) (I.left input.new) (I.count input.new))
         (receipt (O.held output.old) (O.held output.new) (O.count output.old) (O.count output.new))
@@ -247,7 +265,13 @@ fn unloaded_alone<W: World, I: Source, O: Sink, E: Sink>(
 ) -> Option<u8>
     requires fleet { AskNoFleet (texts words.now) }
     requires load { AskNoLoad (texts words.now) }
-    ensures { RanAlone (texts words.now)
+    ensures ran { RanAlone (texts words.now)
+        (around W.Link.truth (W.told world.old) (I.left input.old) (I.count input.old))
+        (around W.Link.truth (W.told world.new) (I.left input.new) (I.count input.new))
+        (receipt (O.held output.old) (O.held output.new) (O.count output.old) (O.count output.new))
+        (receipt (E.held errors.old) (E.held errors.new) (E.count errors.old) (E.count errors.new))
+        result }
+    ensures asked { AloneHearing W.lent W.took W.Link.step (texts words.now)
         (around W.Link.truth (W.told world.old) (I.left input.old) (I.count input.old))
         (around W.Link.truth (W.told world.new) (I.left input.new) (I.count input.new))
         (receipt (O.held output.old) (O.held output.new) (O.count output.old) (O.count output.new))
@@ -273,12 +297,13 @@ fn run_fleet<R: Threads + Wait + Sync, W: World, O: Sink, E: Sink>(
     output: &mut O,
     errors: &mut E,
 ) -> u8
-    ensures { (a : Around) → a.truth ≡ W.Link.truth
-        → RanFleet W.Tap W.Link.truth W.Link.link W.Link.step W.Rand.left W.Rand.count asked.now
-        (with_world (W.told world.old) a) (with_world (W.told world.new) a)
+    ensures { (es : List Exchange) × ((a : Around) → a.truth ≡ W.Link.truth
+        → RanFleet W.Tap W.Link.truth W.Link.link W.Link.step W.lent W.took W.Rand.left
+        W.Rand.count asked.now
+        (with_world (W.told world.old) a) (with_world (W.told world.new) (with_exchanges es a))
         (receipt (O.held output.old) (O.held output.new) (O.count output.old) (O.count output.new))
         (receipt (E.held errors.old) (E.held errors.new) (E.count errors.old) (E.count errors.new))
-        result }
+        result) }
 {
     match fleet(rt, alloc, asked, world, output) {
         Ok(ending) => ending.status(),
@@ -296,7 +321,7 @@ fn alone<W: World, I: Source, O: Sink, E: Sink>(
     output: &mut O,
     errors: &mut E,
 ) -> u8
-    ensures { RunsAlone (texts words.now)
+    ensures { RunsAlone W.Link.step W.lent W.took (texts words.now)
         (around W.Link.truth (W.told world.old) (I.left input.old) (I.count input.old))
         (around W.Link.truth (W.told world.new) (I.left input.new) (I.count input.new))
         (receipt (O.held output.old) (O.held output.new) (O.count output.old) (O.count output.new))
@@ -320,6 +345,12 @@ fn answer<W: World, I: Source, O: Sink>(
         (around W.Link.truth (W.told world.new) (I.left input.new) (I.count input.new))
         (receipt (O.held output.old) (O.held output.new) (O.count output.old) (O.count output.new))
         result }
+    ensures asked { Heard W.lent W.took W.Link.step 0 [] [] (λ es. Answers (texts words.now)
+        (listening (around W.Link.truth (W.told world.old) (I.left input.old) (I.count input.old)))
+        (with_exchanges es (listening
+        (around W.Link.truth (W.told world.new) (I.left input.new) (I.count input.new))))
+        (receipt (O.held output.old) (O.held output.new) (O.count output.old) (O.count output.new))
+        result) }
     ensures later { O.count output.old ≤ O.count output.new }
 {
     let command = match read_command(alloc, words) {
@@ -339,11 +370,16 @@ fn perform<W: World, I: Source>(
     input: &mut I,
 ) -> Ended
     requires path { KeepsRules (Some command.now) }
-    ensures { DoesAll command.now
+    ensures does { DoesAll command.now
         (around W.Link.truth (W.told world.old) (I.left input.old) (I.count input.old))
         (saying result.said
         (around W.Link.truth (W.told world.new) (I.left input.new) (I.count input.new)))
         result.made }
+    ensures asked { Heard W.lent W.took W.Link.step 0 [] [] (λ es. DoesAll command.now
+        (listening (around W.Link.truth (W.told world.old) (I.left input.old) (I.count input.old)))
+        (saying result.said (with_exchanges es (listening
+        (around W.Link.truth (W.told world.new) (I.left input.new) (I.count input.new)))))
+        result.made) }
 {
     match command {
         Command::Convert(words) => silent(convert(alloc, words, world, input)),

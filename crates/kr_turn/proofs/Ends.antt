@@ -10,7 +10,7 @@ use Rattle.kr_turn.specs.declared.view.Stage.{Stage}
 use Rattle.kr_turn.specs.declared.view.Stage.TheVariants.{Blank, Filling, Idle, Waiting, Holding}
 use Rattle.kr_turn.specs.declared.view.Stage.TheVariants.{Gone}
 use Rattle.kr_turn.specs.declared.view.Terms.{Terms}
-use Rattle.kr_turn.specs.declared.view.Part.{Part}
+use Rattle.kr_turn.specs.declared.view.ViewPart.{ViewPart}
 use Rattle.kr_turn.specs.declared.view.View.{View}
 use Rattle.kr_base.specs.Lines.{of_seat, Stands}
 use Rattle.kr_turn.specs.inner.Rule.{SpeaksFor, IsSeat, Knows, Has, IsOut, KeepsRule, lefts}
@@ -72,7 +72,7 @@ module _ {S L G : Type 0} (lines : S → List L) (basis : S → G) (room : S →
         itself = answers id far_id v.number v.seen v.mine seat.itself;
         ended = λ i part e. ⊎_elim (λ h.
             answers id far_id part.number part.seen part.mine (seat.ended h.0 part h.1))
-            (λ h. subst (λ (z : Part L).
+            (λ h. subst (λ (z : ViewPart L).
             SpeaksFor seat_of terms r.log r.made owner id z.number z.seen z.mine) h record {
               owned = put_here r.owner w.number id w.number refl;
               known = ending.itself.known;

@@ -16,7 +16,7 @@ use Rattle.kr_turn.specs.declared.view.Stage.{Stage}
 use Rattle.kr_turn.specs.declared.view.Stage.TheVariants.{Blank, Filling, Idle, Waiting, Holding}
 use Rattle.kr_turn.specs.declared.view.Stage.TheVariants.{Gone}
 use Rattle.kr_turn.specs.declared.view.Terms.{Terms}
-use Rattle.kr_turn.specs.declared.view.Part.{Part}
+use Rattle.kr_turn.specs.declared.view.ViewPart.{ViewPart}
 use Rattle.kr_turn.specs.declared.view.View.{View}
 use Rattle.kr_base.specs.Lines.{of_seat}
 use Rattle.kr_turn.specs.inner.Rule.{IsSeat, Knows, Has, IsOut, KeepsRule, lefts}
@@ -340,7 +340,7 @@ module _ {S L G : Type 0} (lines : S → List L) (basis : S → G) (room : S →
                       ap (of_seat seat_of v.number) held ∙ whole;
                 };
                 ended = λ i part e. absurd (some-ne-none part
-                    (sym e ∙ ap (λ (l : List (Part L)). get_elem? l i) k.1));
+                    (sym e ∙ ap (λ (l : List (ViewPart L)). get_elem? l i) k.1));
                 makes = seat.makes;
               }
               (λ j u other y. stays seat_of terms r.log after r.made r.made r.owner r.owner

@@ -18,7 +18,7 @@ use Rattle.kr_turn.specs.declared.view.View.{View}
 use Rattle.kr_base.specs.Lines.{of_seat}
 use Rattle.kr_turn.specs.inner.Rule.{IsSeat, Knows, Has, IsOut, KeepsRule, lefts, blank_view}
 use Rattle.kr_turn.specs.inner.Rule.{idle_view}
-use Rattle.kr_turn.specs.Keys.{budget_of}
+use Rattle.kr_turn.specs.Keys.{seat_budget}
 use Rattle.kr_turn.specs.inner.Steps.{SeatState, filling_view, opening_view, next_of, new_of}
 use Rattle.kr_turn.specs.inner.Steps.{Empties, Fills}
 use Rattle.kr_turn.proofs.Orders.{lefts_set, lefts_more, in_range, put, put_here, put_else}
@@ -166,12 +166,12 @@ module _ {S L G : Type 0} (lines : S → List L) (basis : S → G) (room : S →
       (ap (λ (u : View L G). u.stage) is) in
       let w : View L G = opening_view v in
       let none_made : r.made ≡ 0 = k.none_made in
-      let moved : lefts (set s.views id w) + v.left ≡ lefts s.views + budget_of v.terms 0 =
+      let moved : lefts (set s.views id w) + v.left ≡ lefts s.views + seat_budget v.terms 0 =
       lefts_set s.views id v w at in
       let none_left : v.left ≡ 0 = ap (λ (u : View L G). u.left) is in
       let terms_are : v.terms ≡ Some terms = ap (λ (u : View L G). u.terms) is in
-      let budget : budget_of v.terms 0 ≡ get_or terms.budgets 0 0 =
-      ap (λ (t : Option (Terms G)). budget_of t 0) terms_are in
+      let budget : seat_budget v.terms 0 ≡ get_or terms.budgets 0 0 =
+      ap (λ (t : Option (Terms G)). seat_budget t 0) terms_are in
       let all_left = r.left_is in
       let none_summed : sum (take r.made terms.budgets) ≡ sum (take 0 terms.budgets) =
       ap (λ (n : ℕ). sum (take n terms.budgets)) none_made in

@@ -13,9 +13,9 @@ use Rattle.atomic_table.specs.declared.shared.Seat.{Seat}
 use Rattle.atomic_table.proofs.Lists.{at_longer, at_last, at_snoc, at_map}
 use Rattle.kr_turn.specs.declared.view.View.{View}
 use Rattle.kr_turn.specs.declared.seat.Place.{Place}
-use Rattle.kr_turn.specs.declared.view.Part.{Part}
+use Rattle.kr_turn.specs.declared.view.ViewPart.{ViewPart}
 use Rattle.kr_turn.specs.declared.view.Terms.{Terms}
-use Rattle.kr_turn.specs.Keys.{budget_of}
+use Rattle.kr_turn.specs.Keys.{seat_budget}
 use Rattle.atomic_table.specs.Table.{Me}
 use Rattle.kr_turn.specs.inner.Endings.{Covers, IsEnd, IsGathered, part_in}
 use Rattle.kr_turn.specs.Keys.{Home}
@@ -127,7 +127,7 @@ module _ {S L G : Type 0} (home : Home G) where
   pub counted_of : (seat : Place S L G) → IsSeatOf home seat
       → length (mine seat) + left_of seat ≡ slice_index home.terms.budgets (number_of seat)
   counted_of seat its = seat.counted
-      ∙ ap (λ (terms : Option (Terms G)). budget_of terms seat.number) its.terms
+      ∙ ap (λ (terms : Option (Terms G)). seat_budget terms seat.number) its.terms
 
   pub none_fresh : (seats : List (Place S L G)) → seats ≡ [] → AreFresh home 0 seats
   none_fresh seats e = record {
@@ -214,7 +214,7 @@ module _ {S L G : Type 0} (home : Home G) (first : Place S L G) (rest all : List
     (gathered : IsGathered first rest [] m) where
   part_at : (k : ℕ) (seat : Place S L G) → get_elem? rest k ≡ some seat
       → get_elem? m.0.ended k ≡ some (part_in seat)
-  part_at k seat e = ap (λ (l : List (Part L)). get_elem? l k) gathered.ended
+  part_at k seat e = ap (λ (l : List (ViewPart L)). get_elem? l k) gathered.ended
       ∙ at_map part_in rest k seat e
 
   -- the first seat and those that ended in it are all seats of the turn

@@ -22,6 +22,6 @@ abbrev pub home_of : {S G : Type 0} → (S → G) → (S → ℕ) → TableId �
 home_of basis room table key = record { table = table; terms = terms_of basis room key }
 
 -- the budget of a seat, by its number
-abbrev pub budget_of : {G : Type 0} → Option (Terms G) → ℕ → ℕ
-budget_of (Some terms) seat = slice_index terms.budgets seat
-budget_of None seat = 0
+abbrev pub seat_budget : {G : Type 0} → Option (Terms G) → ℕ → ℕ
+seat_budget (Some terms) seat = slice_index terms.budgets seat
+seat_budget None seat = 0

@@ -4,7 +4,7 @@ ghost use Rattle.kr_turn.specs.declared.view.Stage.TheVariants.{Idle, Waiting, H
 ghost use Rattle.kr_turn.specs.declared.view.Terms.{Terms};
 ghost use Rattle.kr_base.specs.Lines.{of_seat};
 ghost use Rattle.kr_turn.specs.Lines.{IsTurn};
-ghost use Rattle.kr_turn.specs.Keys.{budget_of};
+ghost use Rattle.kr_turn.specs.Keys.{seat_budget};
 ghost use Rattle.kr_turn.specs.inner.Steps.{waiting_view, IsServed, IsTurned, carried_lines};
 ghost use Rattle.kr_turn.specs.inner.Steps.{view_after};
 ghost use Rattle.kr_turn.specs.inner.Tokens.{IsSized, resting_token};
@@ -60,7 +60,7 @@ fn wait<S: Turned, R: Wait>(
 }
 
 /// Gives the slot back, with the state after the turn, and serves the next ticket.
-fn pass_on<S: Turned>(lock: &Lock<S>, token: &mut Token<S>, ticket: u64)
+fn release_turn<S: Turned>(lock: &Lock<S>, token: &mut Token<S>, ticket: u64)
     requires lock { (token.old.table_id ≡ lock.now.table_id) × IsSized lock.now.table_id }
     requires small { ticket + 1 < 2 ^ 64 }
     requires turned { IsTurned S.lines S.basis S.room S.seat_of ticket token.old.me }
@@ -98,7 +98,7 @@ pub(crate) fn take_turn<S: Turned, R: Wait>(
     let answer = state.turn(number, event);
     let taken = lock.exchange(token, 0, Some(state));
     let None = taken else { unreachable!() };
-    pass_on(lock, token, ticket);
-    sleepers.wake_after(ticket);
+    release_turn(lock, token, ticket);
+    sleepers.wake_next(ticket);
     answer
 }

@@ -1,7 +1,7 @@
 //! How a lock and its seats are made.
 ghost use Rattle.std.specs.Prelude.{◌≡◌, ◌+◌, ◌<◌, ◌≤◌, [], length, Some};
 ghost use Rattle.kr_turn.specs.inner.Rule.{blank_view};
-ghost use Rattle.kr_turn.specs.Keys.{terms_of, home_of, budget_of};
+ghost use Rattle.kr_turn.specs.Keys.{terms_of, home_of, seat_budget};
 ghost use Rattle.kr_turn.specs.Seats.{AreFresh};
 ghost use Rattle.kr_turn.specs.inner.Steps.{maker};
 ghost use Rattle.kr_turn.specs.inner.Tokens.{IsSized, resting_token};
@@ -36,7 +36,7 @@ fn sit<S, L, G>(
     left: u64,
 ) -> Place<S, L, G>
     requires rests { token ≡ resting_token token number left }
-    requires counted { length token.me.0.mine + left ≡ budget_of token.me.0.terms number }
+    requires counted { length token.me.0.mine + left ≡ seat_budget token.me.0.terms number }
     ensures { (result.token ≡ token) × (result.number ≡ number) × (result.left ≡ left) }
 {
     Place {

@@ -1,6 +1,6 @@
 //! A seat of a turn.
 ghost use Rattle.std.specs.Prelude.{◌≡◌, ◌+◌, length};
-ghost use Rattle.kr_turn.specs.Keys.{budget_of};
+ghost use Rattle.kr_turn.specs.Keys.{seat_budget};
 ghost use Rattle.kr_turn.specs.inner.Tokens.{resting_token};
 
 use crate::turned::Turned;
@@ -14,7 +14,7 @@ pub struct Place<S, L, G> {
     pub(crate) number: u32,
     pub(crate) left: u64,
     pub ghost rests: { token ≡ resting_token token number left },
-    pub ghost counted: { length token.me.0.mine + left ≡ budget_of token.me.0.terms number },
+    pub ghost counted: { length token.me.0.mine + left ≡ seat_budget token.me.0.terms number },
 }
 
 /// A seat of a turn over the state `S`.

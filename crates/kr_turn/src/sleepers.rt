@@ -84,7 +84,7 @@ impl Sleepers {
 
     /// Wakes the seat that is served after this ticket, and the one that comes next: it spins while
     /// the other has its turn, and needn't be woken then.
-    pub(crate) fn wake_after(&self, ticket: u64) {
+    pub(crate) fn wake_next(&self, ticket: u64) {
         self.wake(ticket.wrapping_add(1));
         self.wake(ticket.wrapping_add(2));
     }

@@ -28,7 +28,7 @@ pub struct Terms<G> {
 }
 
 /// What an ended seat knew.
-pub struct Part<L> {
+pub struct ViewPart<L> {
     /// The seat's number.
     pub number: u32,
     /// The lines up to its latest one.
@@ -52,7 +52,7 @@ pub struct View<L, G> {
     /// How many turns are left.
     pub left: u64,
     /// The seats that were joined to this one.
-    pub ended: LinkedList<Part<L>>,
+    pub ended: LinkedList<ViewPart<L>>,
     /// How many seats there are, where this is the seat that makes them.
     pub made: Option<u32>,
 }

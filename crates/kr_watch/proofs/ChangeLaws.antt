@@ -17,8 +17,8 @@ use Rattle.kr_rollout.specs.declared.opening.Entry.{Entry}
 use Rattle.kr_rollout.specs.declared.opening.Opening.{Opening}
 use Rattle.kr_rollout.proofs.Appending.{front_law}
 use Rattle.kr_history.proofs.Effects.{entry_with}
-use Rattle.kr_watch.specs.declared.change.Change.{Change}
-use Rattle.kr_watch.specs.Changes.{FollowOn, change_by, changes_above, changes_in, earlier_ones, last_ones, revision_after}
+use Rattle.kr_watch.specs.declared.change.ObjectChange.{ObjectChange}
+use Rattle.kr_watch.specs.Changes.{FollowOn, told_change, changes_above, changes_in, earlier_ones, last_ones, revision_after}
 use Rattle.kr_watch.specs.Laws.{ChangesFollowOn, NewestIsLast, NextLineIsNext, NoneIsMissing}
 use Rattle.kr_watch.proofs.Following.{last_step}
 use Rattle.kr_watch.proofs.KeptChanges.{follow_front, kept_above, parts_of, revision_append}
@@ -82,9 +82,9 @@ step_counts o st e s = counts o st e.line.seat e.line.held e.line.faults e.publi
 
 -- ---- revisions of a run
 
-follow_step : (gave : Gave) (did : Did) (before now : ℕ) (more : List Change)
+follow_step : (gave : Gave) (did : Did) (before now : ℕ) (more : List ObjectChange)
     → CountsRows gave before now → FollowOn now more
-    → FollowOn before (cons_option (change_by gave did) more)
+    → FollowOn before (cons_option (told_change gave did) more)
 follow_step (Written revision) did before now more c f =
     (c.0, subst (λ n. FollowOn n more) (let e : now ≡ revision = omega (arith, c.0, c.1) in e) f)
 follow_step (Adopted number) did before now more c f = subst (λ n. FollowOn n more) c f
@@ -103,9 +103,9 @@ follow_step StoreFailed did before now more c f = subst (λ n. FollowOn n more) 
 follow_step (StoreFull needed) did before now more c f = subst (λ n. FollowOn n more) c f
 follow_step Nothing did before now more c f = subst (λ n. FollowOn n more) c f
 
-newest_step : (gave : Gave) (did : Did) (before now : ℕ) (more : List Change)
+newest_step : (gave : Gave) (did : Did) (before now : ℕ) (more : List ObjectChange)
     → CountsRows gave before now
-    → revision_after before (cons_option (change_by gave did) more) ≡ revision_after now more
+    → revision_after before (cons_option (told_change gave did) more) ≡ revision_after now more
 newest_step (Written revision) did before now more c =
     ap (λ n. revision_after n more) (let e : revision ≡ now = omega (arith, c.0, c.1) in e)
 newest_step (Adopted number) did before now more c = sym (ap (λ n. revision_after n more) c)
@@ -140,8 +140,8 @@ run_newest o st (e ∷ history) r =
 
 -- ---- the laws
 
-pub changes_follow_on : ChangesFollowOn
-changes_follow_on o history l =
+pub changes_follow_each_other : ChangesFollowOn
+changes_follow_each_other o history l =
     (run_follows o (start_of o) history l.runs, run_newest o (start_of o) history l.runs)
 
 pub newest_is_last : NewestIsLast

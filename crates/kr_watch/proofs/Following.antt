@@ -24,9 +24,9 @@ use Rattle.kr_rollout.proofs.Appending.{state_more}
 use Rattle.kr_history.specs.Contents.{puts, deletes, change_at, last_change}
 use Rattle.kr_history.proofs.ContentSteps.{change_kept, change_made, live_deleted, live_elsewhere, live_put, put_row_at}
 use Rattle.kr_history.proofs.Effects.{entry_with}
-use Rattle.kr_watch.specs.declared.change.Change.{Change}
+use Rattle.kr_watch.specs.declared.change.ObjectChange.{ObjectChange}
 use Rattle.kr_watch.specs.declared.item.Item.{Item}
-use Rattle.kr_watch.specs.Changes.{change_by, changes_in, earlier_ones, last_ones, revision_after}
+use Rattle.kr_watch.specs.Changes.{told_change, changes_in, earlier_ones, last_ones, revision_after}
 use Rattle.kr_watch.specs.Shown.{IsItemFor, item_at, plain_at, plain_then}
 use Rattle.kr_watch.specs.Watches.{Follows, GoesOn, WatchState}
 use Rattle.kr_watch.specs.Noting.{Notes, NotesItem, at_revision}
@@ -284,7 +284,7 @@ module _ (first : List Item) (o : Opening) (history : List Entry) (st : State) (
 -- ---- changes
 
 -- what is kept of a history's changes, with those of one more entry
-kept_more : (keep : ℕ) (all kept : List Change) (change : Option Change)
+kept_more : (keep : ℕ) (all kept : List ObjectChange) (change : Option ObjectChange)
     → kept ≡ last_ones keep all
     → last_ones keep (kept ++ option_to_list change)
     ≡ last_ones keep (all ++ option_to_list change)
@@ -295,7 +295,7 @@ kept_more keep all kept None e =
 kept_more keep all kept (Some change) e =
     ap (λ l. last_ones keep (l ++ change ∷ [])) e ∙ kept_next keep all change
 
-dropped_more : (keep from oldest : ℕ) (all kept : List Change) (change : Option Change)
+dropped_more : (keep from oldest : ℕ) (all kept : List ObjectChange) (change : Option ObjectChange)
     → kept ≡ last_ones keep all → oldest ≡ revision_after from (earlier_ones keep all)
     → revision_after oldest (earlier_ones keep (kept ++ option_to_list change))
     ≡ revision_after from (earlier_ones keep (all ++ option_to_list change))
@@ -319,8 +319,8 @@ module _ (line : Line) (old new : WatchState) (n : Notes line old new) where
   follows first o history e l same f =
       let st = state_of o history in
       let m : Notes e.line old new = subst (λ x. Notes x old new) (sym same) n in
-      let more = mapped_more (λ (x : Entry). change_by x.line.gave x.line.did) history e in
-      let change = change_by e.line.gave e.line.did in
+      let more = mapped_more (λ (x : Entry). told_change x.line.gave x.line.did) history e in
+      let change = told_change e.line.gave e.line.did in
       let kept_is = sym m.keep in
       let all_is = sym more in
       record {

@@ -1,11 +1,11 @@
 -- What the methods of the list of changes do, as their calls tell it.
 use Rattle.std.proofs.Common.{◌≡◌, ℕ, ◌<◌, ◌≤◌, ◌+◌, ◌-◌, List, [], ◌∷◌, ◌++◌, length, get_or, drop, refl, sym, ap, ◌∙◌, subst, arith, length-append}
-use Rattle.kr_watch.specs.declared.change.Change.{Change}
+use Rattle.kr_watch.specs.declared.change.ObjectChange.{ObjectChange}
 use Rattle.kr_watch.specs.Changes.{FollowOn, changes_above, earlier_ones, last_ones, revision_after}
 use Rattle.kr_watch.specs.inner.Keeping.{IsKept}
 use Rattle.kr_watch.proofs.KeptChanges.{above_from_place, first_goes, follow_append, kept_stays, newest_is_last, none_dropped}
 
-pub none_kept : (keep oldest : ℕ) (changes : List Change) → 1 ≤ keep → changes ≡ []
+pub none_kept : (keep oldest : ℕ) (changes : List ObjectChange) → 1 ≤ keep → changes ≡ []
     → IsKept keep oldest changes
 none_kept keep oldest changes some none = subst (IsKept keep oldest) (sym none) (record {
   some = some;
@@ -15,7 +15,7 @@ none_kept keep oldest changes some none = subst (IsKept keep oldest) (sym none) 
 
 -- ---- one more change
 
-module _ (keep oldest : ℕ) (old now : List Change) (change : Change)
+module _ (keep oldest : ℕ) (old now : List ObjectChange) (change : ObjectChange)
     (k : IsKept keep oldest old) (next : change.revision ≡ revision_after oldest old + 1)
     (is : now ≡ old ++ change ∷ []) where
   follows_now : FollowOn oldest (old ++ change ∷ [])
@@ -38,7 +38,7 @@ module _ (keep oldest : ℕ) (old now : List Change) (change : Change)
         ∙ ap (revision_after oldest) (none_dropped keep now few))
 
   -- the first one goes
-  module _ (first : Change) (rest : List Change) (whole : now ≡ first ∷ rest)
+  module _ (first : ObjectChange) (rest : List ObjectChange) (whole : now ≡ first ∷ rest)
       (many : keep < length now) where
     own : first ∷ rest ≡ old ++ change ∷ []
     own = sym whole ∙ is
@@ -67,21 +67,21 @@ module _ (keep oldest : ℕ) (old now : List Change) (change : Change)
 
 -- ---- the newest one
 
-pub none_newest : (oldest : ℕ) (changes : List Change) → length changes ≡ 0
+pub none_newest : (oldest : ℕ) (changes : List ObjectChange) → length changes ≡ 0
     → oldest ≡ revision_after oldest changes
 none_newest oldest [] e = refl
 none_newest oldest (x ∷ xs) e = absurd (omega (arith, e))
 
-pub last_newest : (oldest : ℕ) (changes : List Change) (last : Change) → 0 < length changes
+pub last_newest : (oldest : ℕ) (changes : List ObjectChange) (last : ObjectChange) → 0 < length changes
     → last ≡ get_or changes (length changes - 1) last
     → last.revision ≡ revision_after oldest changes
-last_newest oldest changes last some is = ap (λ (c : Change). c.revision) is
+last_newest oldest changes last some is = ap (λ (c : ObjectChange). c.revision) is
     ∙ sym (newest_is_last oldest changes last some)
 
 -- ---- those above a revision
 
 -- from the place that the revision tells on they are those above it
-pub told_above : (keep oldest revision place : ℕ) (changes told : List Change)
+pub told_above : (keep oldest revision place : ℕ) (changes told : List ObjectChange)
     → IsKept keep oldest changes → oldest ≤ revision → place ≡ revision - oldest
     → told ≡ drop place changes → told ≡ changes_above revision changes
 told_above keep oldest revision place changes told k l e is =

@@ -6,34 +6,34 @@ use Rattle.std.specs.Option.{option_to_list}
 use Rattle.std.proofs.lemmas.List.{append_assoc, drop_all, length-drop, take-append-drop}
 use Rattle.std.proofs.lemmas.List.Elements.{filter-append, filter_map-append}
 use Rattle.std.proofs.lemmas.Bool.{le-ltb, lt-ltb}
-use Rattle.kr_watch.specs.declared.change.Change.{Change}
+use Rattle.kr_watch.specs.declared.change.ObjectChange.{ObjectChange}
 use Rattle.kr_watch.specs.Changes.{FollowOn, changes_above, earlier_ones, last_ones, revision_after}
 
 -- ---- revisions
 
-pub revision_append : (revision : ℕ) (xs ys : List Change)
+pub revision_append : (revision : ℕ) (xs ys : List ObjectChange)
     → revision_after revision (xs ++ ys) ≡ revision_after (revision_after revision xs) ys
 revision_append revision [] ys = refl
 revision_append revision (x ∷ xs) ys = revision_append x.revision xs ys
 
-pub follow_append : (revision : ℕ) (xs ys : List Change) → FollowOn revision xs
+pub follow_append : (revision : ℕ) (xs ys : List ObjectChange) → FollowOn revision xs
     → FollowOn (revision_after revision xs) ys → FollowOn revision (xs ++ ys)
 follow_append revision [] ys h k = k
 follow_append revision (x ∷ xs) ys h k = (h.0, follow_append x.revision xs ys h.1 k)
 
-pub follow_front : (revision : ℕ) (xs ys : List Change) → FollowOn revision (xs ++ ys)
+pub follow_front : (revision : ℕ) (xs ys : List ObjectChange) → FollowOn revision (xs ++ ys)
     → FollowOn revision xs
 follow_front revision [] ys h = tt
 follow_front revision (x ∷ xs) ys h = (h.0, follow_front x.revision xs ys h.1)
 
-pub revision_counts : (revision : ℕ) (changes : List Change) → FollowOn revision changes
+pub revision_counts : (revision : ℕ) (changes : List ObjectChange) → FollowOn revision changes
     → revision_after revision changes ≡ revision + length changes
 revision_counts revision [] h = omega arith
 revision_counts revision (x ∷ xs) h =
     let rest = revision_counts x.revision xs h.1 in omega (arith, rest, h.0)
 
 -- the last one has the newest revision
-pub newest_is_last : (revision : ℕ) (changes : List Change) (d : Change) → 0 < length changes
+pub newest_is_last : (revision : ℕ) (changes : List ObjectChange) (d : ObjectChange) → 0 < length changes
     → revision_after revision changes ≡ (get_or changes (length changes - 1) d).revision
 newest_is_last revision [] d l = absurd (omega (arith, l))
 newest_is_last revision (x ∷ []) d l = refl
@@ -143,7 +143,7 @@ module _ {A : Type 0} (keep : ℕ) where
 
 -- ---- those above a revision
 
-all_above : (revision from : ℕ) (changes : List Change) → FollowOn from changes
+all_above : (revision from : ℕ) (changes : List ObjectChange) → FollowOn from changes
     → revision ≤ from → changes_above revision changes ≡ changes
 all_above revision from [] f l = refl
 all_above revision from (x ∷ xs) f l =
@@ -156,7 +156,7 @@ below : (m n : ℕ) → n ≤ m → nat_lt m n ≡ false
 below m n h = le-ltb m n h
 
 -- they stand from the place that the revision tells
-pub above_from_place : (revision from : ℕ) (changes : List Change) → FollowOn from changes
+pub above_from_place : (revision from : ℕ) (changes : List ObjectChange) → FollowOn from changes
     → from ≤ revision → drop (revision - from) changes ≡ changes_above revision changes
 above_from_place revision from [] f l = drop_all (revision - from) [] (omega arith)
 above_from_place revision from (x ∷ xs) f l =
@@ -179,7 +179,7 @@ above_from_place revision from (x ∷ xs) f l =
         under)
 
 -- none of those before is above
-none_above : (revision from : ℕ) (changes : List Change) → FollowOn from changes
+none_above : (revision from : ℕ) (changes : List ObjectChange) → FollowOn from changes
     → revision_after from changes ≤ revision → changes_above revision changes ≡ []
 none_above revision from [] f l = refl
 none_above revision from (x ∷ xs) f l =
@@ -189,11 +189,11 @@ none_above revision from (x ∷ xs) f l =
     ap (λ b. cond b (x ∷ changes_above revision xs) (changes_above revision xs)) under
     ∙ none_above revision x.revision xs f.1 l
 
-pub kept_above : (revision from : ℕ) (front kept : List Change) → FollowOn from front
+pub kept_above : (revision from : ℕ) (front kept : List ObjectChange) → FollowOn from front
     → revision_after from front ≤ revision
     → changes_above revision kept ≡ changes_above revision (front ++ kept)
 kept_above revision from front kept f l =
-    sym (filter-append (λ (change : Change). nat_lt revision change.revision) front kept
+    sym (filter-append (λ (change : ObjectChange). nat_lt revision change.revision) front kept
     ∙ ap (λ xs. xs ++ changes_above revision kept) (none_above revision from front f l))
 
 -- ---- a history with one more entry

@@ -4,7 +4,7 @@ use Rattle.std.specs.Prelude.{filter}
 use Rattle.std.specs.List.{last_or}
 use Rattle.std.specs.Option.{option_map}
 use Rattle.kr_watch.specs.declared.item.Item.{Item}
-use Rattle.kr_watch.specs.Pages.{is_of}
+use Rattle.kr_watch.specs.Pages.{has_resource}
 
 abbrev path_of : Item → List ℕ
 path_of item = item.path
@@ -17,7 +17,7 @@ last_path items = option_map path_of (last_or None items)
 -- those of the resource among the items are the found ones, and those of the resource that are left
 abbrev pub AreFound : (resource : List ℕ) → (all found left : List Item) → Type 0
 AreFound resource all found left =
-    filter (is_of resource) all ≡ found ++ filter (is_of resource) left
+    filter (has_resource resource) all ≡ found ++ filter (has_resource resource) left
 
 -- ---- parts
 

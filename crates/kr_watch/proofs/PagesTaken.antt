@@ -14,7 +14,7 @@ use Rattle.std.proofs.lemmas.Option.{none-some}
 use Rattle.kr_watch.specs.declared.item.Item.{Item}
 use Rattle.kr_watch.specs.declared.page.Listing.{Listing}
 use Rattle.kr_watch.specs.Laws.{IsThere, PagesAreAll, PagesHaveEach}
-use Rattle.kr_watch.specs.Pages.{AreTaken, IsFirstOf, Taken, is_above, is_of, items_above, items_taken}
+use Rattle.kr_watch.specs.Pages.{AreTaken, IsFirstOf, Taken, is_above, has_resource, items_above, items_taken}
 use Rattle.kr_watch.specs.Shown.{item_at}
 use Rattle.kr_watch.proofs.Items.{NoneHas, all_rest, before_apart, behind_apart, no_rest, own_item, path_found}
 use Rattle.kr_watch.proofs.Orders.{IsBelow, Rise, above_behind, above_less, all_append, all_back, all_front, all_weaker, below_apart, below_itself, below_trans, equal_paths, less_above, lt_less, path_cmp, rise, rise_back, rise_front, same_path, to_false}
@@ -96,12 +96,12 @@ passes p (x ∷ xs) = by (p x) refl (passes p xs)
 pub rise_above : (items : List Item) (resource after : List ℕ) → Rise items
     → Rise (items_above items resource after)
 rise_above items resource after r =
-    rise_filtered (is_of resource) (filter (is_above after) items)
+    rise_filtered (has_resource resource) (filter (is_above after) items)
     (rise_filtered (is_above after) items r)
 
 are_above : (items : List Item) (resource after : List ℕ)
     → AllByRecursion (λ x. is_above after x ≡ true) (items_above items resource after)
-are_above items resource after = all_filtered (λ x. is_above after x ≡ true) (is_of resource)
+are_above items resource after = all_filtered (λ x. is_above after x ≡ true) (has_resource resource)
     (filter (is_above after) items) (passes (is_above after) items)
 
 -- those above one of some items in order are those behind it
@@ -128,9 +128,9 @@ rest_behind items resource after front x back r e =
     let above : is_above after x ≡ true = (all_back (λ y. is_above after y ≡ true) front
     (x ∷ back) (subst (λ l. AllByRecursion (λ y. is_above after y ≡ true) l) e
     (are_above items resource after))).0 in
-    ap (filter (is_of resource)) (sym (filter_inside (is_above x.path) (is_above after)
+    ap (filter (has_resource resource)) (sym (filter_inside (is_above x.path) (is_above after)
     (λ y t. above_behind after x above y (above_less x.path y t)) items))
-    ∙ filters_turned (is_of resource) (is_above x.path) (filter (is_above after) items)
+    ∙ filters_turned (has_resource resource) (is_above x.path) (filter (is_above after) items)
     ∙ ap (filter (is_above x.path)) e
     ∙ above_one front x back (subst Rise e (rise_above items resource after r))
 
@@ -364,10 +364,10 @@ found_among : (path resource after : List ℕ) (items : List Item) (item : Item)
 found_among path resource after items item e own l =
     let above : is_above after item ≡ true = less_above after item
     (subst (λ p. path_cmp after p ≡ Less) (sym (path_found items path item e)) l) in
-    let mine : is_of resource item ≡ true = equal_paths item.resource resource own in
-    subst (Among path) (sym (both_pass (is_of resource) (is_above after) items))
-    (among_filtered path (λ x. is_above after x && is_of resource x) items item e
-    ((λ i. above i && is_of resource item) ∙ mine))
+    let mine : has_resource resource item ≡ true = equal_paths item.resource resource own in
+    subst (Among path) (sym (both_pass (has_resource resource) (is_above after) items))
+    (among_filtered path (λ x. is_above after x && has_resource resource x) items item e
+    ((λ i. above i && has_resource resource item) ∙ mine))
 
 -- ---- once
 

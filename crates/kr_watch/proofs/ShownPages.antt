@@ -22,7 +22,7 @@ use Rattle.kr_rollout.specs.declared.line.Gave.{Gave}
 use Rattle.kr_rollout.specs.declared.line.Gave.TheVariants.{Adopted, Found, Absent, Written, Changed, Released, Reloaded, Joined, Refused, Moved, Present, Departed, Gone, StoreFailed, StoreFull, Nothing}
 use Rattle.kr_history.proofs.Effects.{entry_with}
 use Rattle.kr_watch.specs.Laws.{ShownAreAbove}
-use Rattle.kr_watch.specs.Pages.{is_above, is_of}
+use Rattle.kr_watch.specs.Pages.{is_above, has_resource}
 use Rattle.kr_watch.specs.Shown.{IsItemFor, item_at, plain_in}
 use Rattle.kr_watch.proofs.Items.{all_rest, none_has}
 use Rattle.kr_watch.proofs.Orders.{all_weaker}
@@ -123,6 +123,6 @@ shown_are_above opens o history resource items l s =
     let empty : item_at items [] ≡ None =
     subst (λ r. IsItemFor [] r (plain_in own.0) (item_at items [])) (none_at_empty o history l)
     own.2 in
-    ap (filter (is_of resource)) (all_rest [] items
+    ap (filter (has_resource resource)) (all_rest [] items
     (all_weaker (λ x. bytes_eq x.path [] ≡ false) (λ x. is_above [] x ≡ true)
     (λ x e. above_empty x.path e) items (none_has [] items empty)))

@@ -13,7 +13,7 @@ use Rattle.kr_rollout.specs.declared.opening.Opening.{Opening}
 use Rattle.kr_watch.specs.declared.item.Item.{Item}
 use Rattle.kr_watch.specs.Changes.{FollowOn, changes_above, changes_in, revision_after}
 use Rattle.kr_watch.specs.Noting.{Notes}
-use Rattle.kr_watch.specs.Pages.{AreTaken, Taken, is_of, items_above, items_taken}
+use Rattle.kr_watch.specs.Pages.{AreTaken, Taken, has_resource, items_above, items_taken}
 use Rattle.kr_watch.specs.Shown.{AreInOrder, ChangesItem, IsItemFor, IsShown, IsShownSince, item_at, plain_at}
 use Rattle.kr_watch.specs.Watches.{Follows, IsNextLine, WatchState, new_watch, newest_of}
 
@@ -82,7 +82,7 @@ PagesAreAll = (resource after : List ℕ) (items : List Item) (pages : List Take
 abbrev pub ShownAreAbove : Type 0
 ShownAreAbove = (opens : Opens) (o : Opening) (history : List Entry) (resource : List ℕ)
     (items : List Item) → IsLegal o history → IsShown opens o history items
-    → items_above items resource [] ≡ filter (is_of resource) items
+    → items_above items resource [] ≡ filter (has_resource resource) items
 
 -- at this moment the path's item is one of the resource
 abbrev pub IsThere : (resource path : List ℕ) → Taken → Type 0

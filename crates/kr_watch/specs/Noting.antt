@@ -7,9 +7,9 @@ use Rattle.kr_rollout.specs.declared.line.Did.TheVariants.{Put, Delete}
 use Rattle.kr_rollout.specs.declared.line.Gave.{Gave}
 use Rattle.kr_rollout.specs.declared.line.Gave.TheVariants.{Written}
 use Rattle.kr_rollout.specs.declared.line.Line.{Line}
-use Rattle.kr_watch.specs.declared.change.Change.{Change}
+use Rattle.kr_watch.specs.declared.change.ObjectChange.{ObjectChange}
 use Rattle.kr_watch.specs.declared.item.Item.{Item}
-use Rattle.kr_watch.specs.Changes.{change_by, earlier_ones, last_ones, revision_after}
+use Rattle.kr_watch.specs.Changes.{told_change, earlier_ones, last_ones, revision_after}
 use Rattle.kr_watch.specs.Shown.{AreInOrder, ChangesItem, item_at}
 use Rattle.kr_watch.specs.Watches.{WatchState}
 
@@ -34,7 +34,7 @@ NotesItem (Written revision) did old new = ChangesItem (path_written did)
 NotesItem gave did old new = new ≡ old
 
 -- one more change is kept, if there is one, and the oldest one goes where that is too many
-pub record KeepsChange (change : Option Change) (old new : WatchState) : Type 0 where
+pub record KeepsChange (change : Option ObjectChange) (old new : WatchState) : Type 0 where
   pub kept : new.changes ≡ last_ones old.keep (old.changes ++ option_to_list change)
   pub dropped : new.oldest ≡ revision_after old.oldest
       (earlier_ones old.keep (old.changes ++ option_to_list change))
@@ -44,4 +44,4 @@ pub record Notes (line : Line) (old new : WatchState) : Type 0 where
   pub keep : new.keep ≡ old.keep
   pub in_order : AreInOrder new.items
   pub items : NotesItem line.gave line.did old.items new.items
-  pub changes : KeepsChange (change_by line.gave line.did) old new
+  pub changes : KeepsChange (told_change line.gave line.did) old new

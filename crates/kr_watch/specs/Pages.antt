@@ -9,15 +9,15 @@ use Rattle.kr_watch.specs.declared.item.Item.{Item}
 use Rattle.kr_watch.specs.declared.page.Listing.{Listing}
 use Rattle.kr_watch.specs.Shown.{AreInOrder}
 
-abbrev pub is_of : (resource : List ℕ) → Item → Bool
-is_of resource item = bytes_eq item.resource resource
+abbrev pub has_resource : (resource : List ℕ) → Item → Bool
+has_resource resource item = bytes_eq item.resource resource
 
 abbrev pub is_above : (path : List ℕ) → Item → Bool
 is_above path item = is_lt (slice_cmp nat_cmp path item.path)
 
 -- those of a resource with a path above this one
 abbrev pub items_above : List Item → (resource path : List ℕ) → List Item
-items_above items resource path = filter (is_of resource) (filter (is_above path) items)
+items_above items resource path = filter (has_resource resource) (filter (is_above path) items)
 
 -- the path of the last item of a page, where more items stand behind it
 abbrev pub next_behind : (limit : ℕ) → List Item → Option (List ℕ)

@@ -5,7 +5,7 @@ use Rattle.kr_rollout.specs.declared.line.Gave.TheVariants.{Written}
 use Rattle.kr_rollout.specs.declared.line.Line.{Line}
 use Rattle.kr_rollout.specs.declared.opening.Entry.{Entry}
 use Rattle.kr_rollout.specs.declared.opening.Opening.{Opening}
-use Rattle.kr_watch.specs.declared.change.Change.{Change}
+use Rattle.kr_watch.specs.declared.change.ObjectChange.{ObjectChange}
 use Rattle.kr_watch.specs.declared.item.Item.{Item}
 use Rattle.kr_watch.specs.declared.since_no.SinceNo.{SinceNo}
 use Rattle.kr_watch.specs.declared.since_no.SinceNo.TheVariants.{Gone, Ahead, NoMemory}
@@ -17,7 +17,7 @@ pub record WatchState : Type 0 where
   pub keep : ℕ
   pub items : List Item
   pub oldest : ℕ
-  pub changes : List Change
+  pub changes : List ObjectChange
 
 -- the revision of the last change
 abbrev pub newest_of : WatchState → ℕ
@@ -58,7 +58,8 @@ pub record GoesOn (line : Line) (old new : WatchState) : Type 0 where
 
 -- the kept changes above a revision; or some of those above it were dropped; or there is no such
 -- revision yet. Memory may lack for the changes alone
-abbrev pub TellsSince : WatchState → (revision : ℕ) → Result (List Change × ℕ) SinceNo → Type 0
+abbrev pub TellsSince : WatchState → (revision : ℕ) → Result (List ObjectChange × ℕ) SinceNo
+    → Type 0
 TellsSince watch revision (Ok changes) = (watch.oldest ≤ revision) × (revision ≤ newest_of watch)
     × (changes.0 ≡ changes_above revision watch.changes)
 TellsSince watch revision (Err (Gone oldest)) = (oldest ≡ watch.oldest) × (revision < oldest)

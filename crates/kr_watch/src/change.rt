@@ -19,25 +19,25 @@ pub enum What {
 
 /// A row that was written.
 #[derive(Drop)]
-pub struct Change {
+pub struct ObjectChange {
     pub revision: u64,
     pub path: Text,
     pub what: What,
 }
 
-impl Change {
+impl ObjectChange {
     /// A change with a copy of its path, and its first owner.
     pub(crate) fn shared(
         alloc: Global,
         revision: u64,
         path: &str,
         what: What,
-    ) -> Result<Shared<Change>, NoMemory>
+    ) -> Result<Shared<ObjectChange>, NoMemory>
         ensures { IfOk result (λ change. change
             ≡ record { revision = revision; path = path.now; what = what }) }
     {
         let path = Text::copy(alloc, path)?;
-        let change = Change {
+        let change = ObjectChange {
             revision,
             path,
             what,
@@ -51,7 +51,7 @@ impl Change {
 
 impl What {
     /// What an effect does at its path.
-    pub(crate) fn of(effect: &Effect<'_>) -> What
+    pub(crate) fn from_effect(effect: &Effect<'_>) -> What
         ensures { result ≡ kind_told effect.now }
     {
         match effect {

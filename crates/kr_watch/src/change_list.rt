@@ -3,7 +3,7 @@ ghost use Rattle.std.specs.Prelude.{◌≡◌, ◌≤◌, ◌<◌, ◌+◌, ◌�
 ghost use Rattle.kr_watch.specs.Changes.{earlier_ones, last_ones, revision_after};
 ghost use Rattle.kr_watch.specs.inner.Keeping.{IsKept, KeptState, TellsKept, new_changes};
 
-use crate::change::Change;
+use crate::change::ObjectChange;
 use crate::since_no::SinceNo;
 use kr_base::{List, NoMemory, Shared};
 use std::alloc::Global;
@@ -19,7 +19,7 @@ pub(crate) struct ChangeList {
     keep: u32,
     /// The revision before them.
     oldest: u64,
-    changes: VecDeque<Shared<Change>>,
+    changes: VecDeque<Shared<ObjectChange>>,
 }
 
 impl Model for ChangeList {
@@ -74,7 +74,7 @@ impl ChangeList {
 
     /// Puts the next change at the end, where there is room for it. Where these are too many then,
     /// the first one goes.
-    pub fn keep(&mut self, change: Shared<Change>)
+    pub fn keep(&mut self, change: Shared<ObjectChange>)
         requires room { 0 < self.old.1 }
         requires next { change.revision
             ≡ revision_after self.old.0.oldest self.old.0.changes + 1 }
@@ -106,7 +106,11 @@ impl ChangeList {
 
     /// The changes above a revision. They stand one behind another, so the revision tells the place
     /// of the first one.
-    pub fn since(&self, alloc: Global, revision: u64) -> Result<List<Shared<Change>>, SinceNo>
+    pub fn later_changes(
+        &self,
+        alloc: Global,
+        revision: u64,
+    ) -> Result<List<Shared<ObjectChange>>, SinceNo>
         ensures { TellsKept self.now.0 revision result }
     {
         if revision < self.oldest {
@@ -119,7 +123,7 @@ impl ChangeList {
             return Err(SinceNo::Ahead { newest });
         }
         let place = (revision - self.oldest) as usize;
-        match share_from(alloc, &self.changes, place) {
+        match share_tail(alloc, &self.changes, place) {
             Ok(changes) => Ok(changes),
             Err(NoMemory) => Err(SinceNo::NoMemory),
         }
@@ -127,11 +131,11 @@ impl ChangeList {
 }
 
 /// Shares the changes from this place on.
-fn share_from(
+fn share_tail(
     alloc: Global,
-    changes: &VecDeque<Shared<Change>>,
+    changes: &VecDeque<Shared<ObjectChange>>,
     place: usize,
-) -> Result<List<Shared<Change>>, NoMemory>
+) -> Result<List<Shared<ObjectChange>>, NoMemory>
     ensures { IfOk result (λ shared. shared.0 ≡ drop place changes.now.items) }
 {
     let mut shared = List::new(alloc);

@@ -71,7 +71,7 @@ impl ItemList {
         ensures ok { OnOk result (ChangesItem item.path (Some item) self.old self.new) }
         ensures err { OnErr result (self.new ≡ self.old) }
     {
-        let key = key_of(alloc, item.get().path.as_str())?;
+        let key = list_key(alloc, item.get().path.as_str())?;
         match self.items.insert(key, item) {
             Ok(_) => return Ok(()),
             Err(_) => return Err(NoMemory),
@@ -128,7 +128,7 @@ impl ItemList {
 }
 
 /// A path as the list keeps it.
-pub(crate) fn key_of(alloc: Global, path: &str) -> Result<String, NoMemory>
+pub(crate) fn list_key(alloc: Global, path: &str) -> Result<String, NoMemory>
     ensures { IfOk result (λ key. string_bytes key ≡ path.now) }
 {
     match String::from_str(alloc, path) {

@@ -52,7 +52,7 @@ pub fn live_is_listed()
 {}
 
 /// Each change of a history has the revision behind the one before it.
-pub fn changes_follow_on()
+pub fn changes_follow_each_other()
     ensures { ChangesFollowOn }
 {}
 

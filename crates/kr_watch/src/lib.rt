@@ -11,10 +11,10 @@ mod page;
 mod since_no;
 mod watch;
 
-pub use change::{Change, What};
+pub use change::{ObjectChange, What};
 pub use item::Item;
 pub use laws::{
-    changes_are_last, changes_follow_on, follows_all, live_is_listed, next_line_is_next,
+    changes_are_last, changes_follow_each_other, follows_all, live_is_listed, next_line_is_next,
     noted_is_newest, one_shown, pages_are_all, pages_have_each, seeds_follow, seeds_stand,
     shown_are_above, shown_since_is_shown,
 };

@@ -2,7 +2,7 @@
 ghost use Rattle.std.specs.Prelude.{◌≡◌, ◌≤◌, filter, IfOk, None};
 ghost use Rattle.std.specs.List.{last_or};
 ghost use Rattle.std.specs.Option.{option_map};
-ghost use Rattle.kr_watch.specs.Pages.{IsFirstOf, is_of};
+ghost use Rattle.kr_watch.specs.Pages.{IsFirstOf, has_resource};
 ghost use Rattle.kr_watch.specs.inner.Keyed.{items_in};
 ghost use Rattle.kr_watch.specs.declared.item.Item as shown;
 
@@ -22,7 +22,7 @@ pub struct Listing {
 }
 
 /// The first so many of the items that are of the resource.
-pub(crate) fn page_of(
+pub(crate) fn first_page(
     alloc: Global,
     mut above: Range<'_, String, Shared<Item>>,
     resource: &str,
@@ -30,11 +30,11 @@ pub(crate) fn page_of(
 ) -> Result<Listing, NoMemory>
     requires { 1 ≤ limit }
     ensures { IfOk result (λ page.
-        IsFirstOf limit (filter (is_of resource.now) (items_in above.entry)) page) }
+        IsFirstOf limit (filter (has_resource resource.now) (items_in above.entry)) page) }
 {
     let mut items = List::new(alloc);
     while let Some((_path, item)) = above.next() {
-        if is_of(item.get(), resource) {
+        if has_resource(item.get(), resource) {
             if items.as_slice().len() == limit as usize {
                 let next = last_path(alloc, items.as_slice())?;
                 return Ok(Listing { items, next });
@@ -49,8 +49,8 @@ pub(crate) fn page_of(
 }
 
 /// Whether the item is of the resource.
-fn is_of(item: &Item, resource: &str) -> bool
-    ensures { result ≡ is_of resource.now item.now }
+fn has_resource(item: &Item, resource: &str) -> bool
+    ensures { result ≡ has_resource resource.now item.now }
 {
     item.resource.as_str() == resource
 }

@@ -5,11 +5,11 @@ ghost use Rattle.kr_watch.specs.Shown.{AreInOrder};
 ghost use Rattle.kr_watch.specs.Watches.{GoesOn, IsNextLine, Seeds, TellsSince, new_watch};
 ghost use Rattle.kr_watch.specs.Noting.{Notes};
 
-use crate::change::{Change, What};
+use crate::change::{ObjectChange, What};
 use crate::change_list::ChangeList;
 use crate::item::Item;
-use crate::item_list::{ItemList, key_of};
-use crate::page::{Listing, page_of};
+use crate::item_list::{ItemList, list_key};
+use crate::page::{Listing, first_page};
 use crate::since_no::SinceNo;
 use kr_base::{List, NoMemory, Shared};
 use kr_rollout::Line;
@@ -81,7 +81,7 @@ impl Watch {
         let Some((revision, path, effect)) = line.written() else {
             return Ok(());
         };
-        let change = Change::shared(self.alloc, revision, path, What::of(&effect))?;
+        let change = ObjectChange::shared(self.alloc, revision, path, What::from_effect(&effect))?;
         self.changes.reserve()?;
         self.items.note(self.alloc, revision, path, &effect)?;
         self.items.known();
@@ -94,15 +94,15 @@ impl Watch {
         requires { 1 ≤ limit }
         ensures { IfOk result (λ page. IsPage self.now.items resource.now after.now limit page) }
     {
-        let after = key_of(self.alloc, after)?;
-        page_of(self.alloc, self.items.above(&after), resource, limit)
+        let after = list_key(self.alloc, after)?;
+        first_page(self.alloc, self.items.above(&after), resource, limit)
     }
 
     /// The changes above a revision, in order.
-    pub fn since(&self, revision: u64) -> Result<List<Shared<Change>>, SinceNo>
+    pub fn later_changes(&self, revision: u64) -> Result<List<Shared<ObjectChange>>, SinceNo>
         ensures { TellsSince self.now revision result }
     {
-        self.changes.since(self.alloc, revision)
+        self.changes.later_changes(self.alloc, revision)
     }
 
     /// What is known of each watch: its items are in order.

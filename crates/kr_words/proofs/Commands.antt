@@ -3,8 +3,8 @@ use Rattle.std.proofs.Common.{◌≡◌, ℕ, ◌≤◌, ◌⊎◌, List, [], �
 use Rattle.std.proofs.Common.{false, IsTrue, ◌↔◌, leb}
 use Rattle.std.proofs.lemmas.Bool.{leb-true, le-leb}
 use Rattle.kr_words.specs.declared.command.Verb.{Verb}
-use Rattle.kr_words.specs.Names.{text_of, required_options, IsRepeatable}
-use Rattle.kr_words.specs.Options.{count_of}
+use Rattle.kr_words.specs.Names.{option_text, required_options, IsRepeatable}
+use Rattle.kr_words.specs.Options.{count_options}
 use Rattle.kr_words.specs.Rules.{IsOption, HaveTwoNames, IsCommand}
 use Rattle.kr_words.specs.declared.name.OptionName.{OptionName}
 use Rattle.kr_words.specs.declared.name.OptionName.TheVariants.{Config, Resource, Path, Plugin}
@@ -43,9 +43,9 @@ or_few P b n m is no_p e = (
 )
 
 pub joins : {verb : Verb} {options : List (List ℕ × List ℕ)}
-    → All (IsOption verb (count_of options (text_of Replica))) options
-    → All (λ name. 1 ≤ count_of options (text_of name)) (required_options verb)
-    → ((name : OptionName) → IsRepeatable name ⊎ (count_of options (text_of name) ≤ 1))
+    → All (IsOption verb (count_options options (option_text Replica))) options
+    → All (λ name. 1 ≤ count_options options (option_text name)) (required_options verb)
+    → ((name : OptionName) → IsRepeatable name ⊎ (count_options options (option_text name) ≤ 1))
     → AllPairs HaveTwoNames options → IsCommand verb options
 joins each whole once plugins =
     record { each = each; whole = whole; once = once; plugins = plugins }

@@ -5,7 +5,7 @@ use Rattle.kr_words.specs.declared.command.Verb.{Verb}
 use Rattle.kr_words.specs.declared.command.Verb.TheVariants.{Judge, Plan, Gen, Watch}
 use Rattle.kr_words.specs.declared.name.OptionName.{OptionName}
 use Rattle.kr_words.specs.declared.name.OptionName.TheVariants.{Limit, Reload, Seed, Since, Size, Replicas}
-use Rattle.kr_words.specs.Names.{text_of, required_options}
+use Rattle.kr_words.specs.Names.{option_text, required_options}
 use Rattle.kr_words.specs.Numerals.{IsDecimal}
 use Rattle.kr_words.specs.Options.{value_of}
 use Rattle.kr_words.specs.Rules.{IsReload, IsCommand, after_equals}
@@ -20,9 +20,9 @@ both P (Some v) s p = p
 -- the value at a required option, by its rule
 given : (P : List ℕ → Type 0) (options : List (List ℕ × List ℕ)) (verb wanted : Verb)
     (name : OptionName) → IsCommand verb options → verb ≡ wanted → Contains (required_options wanted) name
-    → IfSome (value_of options (text_of name)) P → IsSomeAnd (value_of options (text_of name)) P
+    → IfSome (value_of options (option_text name)) P → IsSomeAnd (value_of options (option_text name)) P
 given P options verb wanted name command e has rule =
-    both P (value_of options (text_of name))
+    both P (value_of options (option_text name))
     (value_some {verb = verb} {options = options} name command
     (subst (λ v. Contains (required_options v) name) (sym e) has)) rule
 
@@ -36,19 +36,19 @@ some_number (Some t) None most small m h = absurd (omega (arith, m h.0 h.1, h.2)
 
 pub seed_given : (verb : Verb) (options : List (List ℕ × List ℕ)) (r : Option ℕ)
     → IsCommand verb options → verb ≡ Gen
-    → MatchOption r ((n : ℕ) → IsNumberAt options (text_of Seed) n → 2 ^ 64 ≤ n)
-    (λ n. IsNumberAt options (text_of Seed) n) → IsSome r
+    → MatchOption r ((n : ℕ) → IsNumberAt options (option_text Seed) n → 2 ^ 64 ≤ n)
+    (λ n. IsNumberAt options (option_text Seed) n) → IsSome r
 seed_given verb options r command e m =
-    some_number (value_of options (text_of Seed)) r 18446744073709551615 (omega arith) m
+    some_number (value_of options (option_text Seed)) r 18446744073709551615 (omega arith) m
     (given (λ t. (n : ℕ) × IsDecimal t n × (n ≤ 18446744073709551615)) options verb Gen Seed command
     e (0, omega arith, refl) (value_rule {verb = verb} {options = options} Seed command))
 
 pub size_given : (verb : Verb) (options : List (List ℕ × List ℕ)) (r : Option ℕ)
-    → IsCommand verb options → verb ≡ Gen → IsWithin options (text_of Size) 10000
-    → MatchOption r ((n : ℕ) → IsNumberAt options (text_of Size) n → 2 ^ 64 ≤ n)
-    (λ n. IsNumberAt options (text_of Size) n) → IsSome r
+    → IsCommand verb options → verb ≡ Gen → IsWithin options (option_text Size) 10000
+    → MatchOption r ((n : ℕ) → IsNumberAt options (option_text Size) n → 2 ^ 64 ≤ n)
+    (λ n. IsNumberAt options (option_text Size) n) → IsSome r
 size_given verb options r command e within m =
-    some_number (value_of options (text_of Size)) r 10000 (omega arith) m
+    some_number (value_of options (option_text Size)) r 10000 (omega arith) m
     (given (λ t. (n : ℕ) × IsDecimal t n × (n ≤ 10000)) options verb Gen Size command e
     (1, omega arith, refl) within)
 
@@ -64,32 +64,32 @@ some_between (Some t) (Some n) m h w =
 some_between (Some t) None m h w = absurd (omega (arith, m w.0 w.1, w.2))
 
 pub planned_given : (verb : Verb) (options : List (List ℕ × List ℕ)) (r : Option ℕ)
-    → IsCommand verb options → verb ≡ Plan → IsWithin options (text_of Replicas) 16
-    → MatchOption r ((n : ℕ) → IsNumberAt options (text_of Replicas) n → 2 ^ 64 ≤ n)
-    (λ n. IsNumberAt options (text_of Replicas) n)
+    → IsCommand verb options → verb ≡ Plan → IsWithin options (option_text Replicas) 16
+    → MatchOption r ((n : ℕ) → IsNumberAt options (option_text Replicas) n → 2 ^ 64 ≤ n)
+    (λ n. IsNumberAt options (option_text Replicas) n)
     → IsSomeAnd r (λ n. (1 ≤ n) × (n ≤ 16))
 planned_given verb options r command e within m =
-    some_between (value_of options (text_of Replicas)) r m
+    some_between (value_of options (option_text Replicas)) r m
     (given (λ t. (n : ℕ) × IsDecimal t n × (1 ≤ n)) options verb Plan Replicas command e
     (2, omega arith, refl) (value_rule {verb = verb} {options = options} Replicas command)) within
 
 pub limit_given : (verb : Verb) (options : List (List ℕ × List ℕ)) (r : Option ℕ)
-    → IsCommand verb options → verb ≡ Watch → IsWithin options (text_of Limit) 10000
-    → MatchOption r ((n : ℕ) → IsNumberAt options (text_of Limit) n → 2 ^ 64 ≤ n)
-    (λ n. IsNumberAt options (text_of Limit) n) → IsSome r
+    → IsCommand verb options → verb ≡ Watch → IsWithin options (option_text Limit) 10000
+    → MatchOption r ((n : ℕ) → IsNumberAt options (option_text Limit) n → 2 ^ 64 ≤ n)
+    (λ n. IsNumberAt options (option_text Limit) n) → IsSome r
 limit_given verb options r command e within m =
-    some_number (value_of options (text_of Limit)) r 10000 (omega arith) m
+    some_number (value_of options (option_text Limit)) r 10000 (omega arith) m
     (given (λ t. (n : ℕ) × IsDecimal t n × (n ≤ 10000)) options verb Watch Limit command e
     (3, omega arith, refl) within)
 
 pub since_given : (verb : Verb) (options : List (List ℕ × List ℕ)) (r : Option ℕ)
-    → IsCommand verb options → IsSome (value_of options (text_of Since))
-    → MatchOption r ((n : ℕ) → IsNumberAt options (text_of Since) n → 2 ^ 64 ≤ n)
-    (λ n. IsNumberAt options (text_of Since) n) → IsSome r
+    → IsCommand verb options → IsSome (value_of options (option_text Since))
+    → MatchOption r ((n : ℕ) → IsNumberAt options (option_text Since) n → 2 ^ 64 ≤ n)
+    (λ n. IsNumberAt options (option_text Since) n) → IsSome r
 since_given verb options r command some m =
-    some_number (value_of options (text_of Since)) r 18446744073709551615 (omega arith) m
+    some_number (value_of options (option_text Since)) r 18446744073709551615 (omega arith) m
     (both (λ t. (n : ℕ) × IsDecimal t n × (n ≤ 18446744073709551615))
-    (value_of options (text_of Since)) some
+    (value_of options (option_text Since)) some
     (value_rule {verb = verb} {options = options} Since command))
 
 small_reload : {R : Type 0} (number : R → ℕ) (file : R → List ℕ) (o : Option (List ℕ))
@@ -106,12 +106,12 @@ pub reload_given : {R : Type 0} (number : R → ℕ) (file : R → List ℕ) (ve
     (options : List (List ℕ × List ℕ)) (r : Option R) → IsCommand verb options → verb ≡ Judge
     → replicas_of options ≤ 16
     → MatchOption r ((n : ℕ) (f : List ℕ)
-    → IsSomeAnd (value_of options (text_of Reload)) (λ v. IsReloadOf v n × (f ≡ after_equals v))
+    → IsSomeAnd (value_of options (option_text Reload)) (λ v. IsReloadOf v n × (f ≡ after_equals v))
     → 2 ^ 64 ≤ n)
-    (λ x. IsSomeAnd (value_of options (text_of Reload))
+    (λ x. IsSomeAnd (value_of options (option_text Reload))
     (λ v. IsReloadOf v (number x) × (file x ≡ after_equals v)))
     → IsSomeAnd r (λ x. number x < replicas_of options)
 reload_given number file verb options r command e few m =
-    small_reload number file (value_of options (text_of Reload)) r (replicas_of options) few m
+    small_reload number file (value_of options (option_text Reload)) r (replicas_of options) few m
     (given (IsReload (replicas_of options)) options verb Judge Reload command e
     (2, omega arith, refl) (value_rule {verb = verb} {options = options} Reload command))

@@ -13,11 +13,11 @@ use Rattle.kr_words.specs.declared.name.OptionName.TheVariants.{Config, Resource
 use Rattle.kr_words.specs.declared.name.OptionName.TheVariants.{Store, Replica, Reload, File, Seed}
 use Rattle.kr_words.specs.declared.name.OptionName.TheVariants.{Size, To, From, Replicas, Show}
 use Rattle.kr_words.specs.declared.name.OptionName.TheVariants.{Limit, Since}
-use Rattle.kr_words.specs.Names.{word_of, text_of}
-use Rattle.kr_words.specs.Options.{value_of, count_of}
+use Rattle.kr_words.specs.Names.{word_of, option_text}
+use Rattle.kr_words.specs.Options.{value_of, count_options}
 use Rattle.kr_words.specs.Numerals.{IsDecimal}
 use Rattle.kr_words.specs.Rules.{IsOption, IsCommand}
-use Rattle.kr_words.specs.Grammar.{Spells, Means, HasManyReplicas, IsAbovePage, IsAboveSize}
+use Rattle.kr_words.specs.Grammar.{SpellsOptions, Means, HasManyReplicas, IsAbovePage, IsAboveSize}
 use Rattle.kr_words.specs.inner.Spelling.{IsPlain, ArePlain, HasNoSmall, HasNoFewReplicas}
 use Rattle.kr_words.proofs.Spellings.{spelled_once}
 use Rattle.kr_words.proofs.Values.{value_rule}
@@ -61,7 +61,7 @@ verb_at-word Watch = refl
 word_once : (verb verb' : Verb) → word_of verb ≡ word_of verb' → verb ≡ verb'
 word_once verb verb' e = sym (verb_at-word verb) ∙ ap verb_at e ∙ verb_at-word verb'
 
-plain_text : (name : OptionName) → IsPlain (text_of name)
+plain_text : (name : OptionName) → IsPlain (option_text name)
 plain_text Config = grind arith
 plain_text Resource = grind arith
 plain_text Path = grind arith
@@ -84,20 +84,20 @@ plain_options : {verb : Verb} {options : List (List ℕ × List ℕ)} → IsComm
     → ArePlain options
 plain_options {verb} {options} m =
     recursion_from_All (λ option. IsPlain option.0) options
-    (All-weaker (IsOption verb (count_of options (text_of Replica))) (λ option. IsPlain option.0)
+    (All-weaker (IsOption verb (count_options options (option_text Replica))) (λ option. IsPlain option.0)
     (λ option is. subst IsPlain (sym is.1) (plain_text is.0)) options m.each)
 
 -- words that mean a command mean no other
 agree : (words : List (List ℕ)) (verb verb' : Verb) (rest : List (List ℕ))
     (options options' : List (List ℕ × List ℕ)) → words ≡ word_of verb ∷ rest → ArePlain options
-    → Spells rest options → Means words verb' options' → (verb ≡ verb') × (options ≡ options')
+    → SpellsOptions rest options → Means words verb' options' → (verb ≡ verb') × (options ≡ options')
 agree words verb verb' rest options options' e plain spelled m =
     let f = m.word in
     let same_word : word_of verb ≡ word_of verb' = cc in
     let same_rest : m.rest ≡ rest = cc in (
       word_once verb verb' same_word,
       spelled_once rest options options' plain (plain_options m.command) spelled
-          (subst (λ r. Spells r options') same_rest m.spelled),
+          (subst (λ r. SpellsOptions r options') same_rest m.spelled),
     )
 
 pub mean_one : (words : List (List ℕ)) (verb verb' : Verb)
@@ -107,16 +107,16 @@ mean_one words verb verb' options options' m m' =
     agree words verb verb' m.rest options options' m.word (plain_options m.command) m.spelled m'
 
 pub unspelled : (words : List (List ℕ)) (word : List ℕ) (rest : List (List ℕ)) → words ≡ word ∷ rest
-    → ((options : List (List ℕ × List ℕ)) → ArePlain options → Spells rest options → ⊥)
+    → ((options : List (List ℕ × List ℕ)) → ArePlain options → SpellsOptions rest options → ⊥)
     → (verb : Verb) (options : List (List ℕ × List ℕ)) → Means words verb options → ⊥
 unspelled words word rest e none verb options m =
     let f = m.word in
     let same_rest : m.rest ≡ rest = cc in
-    none options (plain_options m.command) (subst (λ r. Spells r options) same_rest m.spelled)
+    none options (plain_options m.command) (subst (λ r. SpellsOptions r options) same_rest m.spelled)
 
 pub misruled : (words : List (List ℕ)) (verb : Verb) (rest : List (List ℕ))
     (options : List (List ℕ × List ℕ)) → words ≡ word_of verb ∷ rest → ArePlain options
-    → Spells rest options → (IsCommand verb options → ⊥)
+    → SpellsOptions rest options → (IsCommand verb options → ⊥)
     → (verb' : Verb) (options' : List (List ℕ × List ℕ)) → Means words verb' options' → ⊥
 misruled words verb rest options e plain spelled none verb' options' m =
     let same = agree words verb verb' rest options options' e plain spelled m in
@@ -132,19 +132,19 @@ larger limit (Some text) rule none = (rule.0, rule.1, none rule.0 rule.1)
 
 -- a size is a number, so that one with no small number is one above
 pub above : {verb : Verb} {options : List (List ℕ × List ℕ)} → IsCommand verb options
-    → HasNoSmall options (text_of Size) 10000 → IsAboveSize options
+    → HasNoSmall options (option_text Size) 10000 → IsAboveSize options
 above {verb} {options} m none =
-    larger 10000 (value_of options (text_of Size)) (value_rule Size m) none
+    larger 10000 (value_of options (option_text Size)) (value_rule Size m) none
 
 -- and where there are no few replicas there are many
 pub many : {verb : Verb} {options : List (List ℕ × List ℕ)} → IsCommand verb options
     → HasNoFewReplicas options → HasManyReplicas options
 many {verb} {options} m (inl files) = inl files
 many {verb} {options} m (inr none) =
-    inr (larger 16 (value_of options (text_of Replicas)) (value_rule Replicas m) none)
+    inr (larger 16 (value_of options (option_text Replicas)) (value_rule Replicas m) none)
 
 -- and so is the number of a page's items
 pub above_page : {verb : Verb} {options : List (List ℕ × List ℕ)} → IsCommand verb options
-    → HasNoSmall options (text_of Limit) 10000 → IsAbovePage options
+    → HasNoSmall options (option_text Limit) 10000 → IsAbovePage options
 above_page {verb} {options} m none =
-    larger 10000 (value_of options (text_of Limit)) (value_rule Limit m) none
+    larger 10000 (value_of options (option_text Limit)) (value_rule Limit m) none

@@ -8,7 +8,7 @@ use Rattle.std.proofs.lemmas.List.Elements.{All-from_get_or, recursion_from_All}
 use Rattle.std.specs.declared.alloc.Global.{Global}
 use Rattle.std.specs.declared.string.String.{String}
 use Rattle.std.specs.String.{string_bytes}
-use Rattle.kr_words.specs.Grammar.{texts, Begins, Spells}
+use Rattle.kr_words.specs.Grammar.{texts, BeginsWithOption, SpellsOptions}
 use Rattle.kr_words.specs.inner.Spelling.{IsPlain, ArePlain, BeginNoOption}
 
 pub plain_bytes : (name : List ℕ) → ((i : ℕ) → i < length name → get_or name i 0 ≢ 61)
@@ -31,7 +31,7 @@ parted_once (x ∷ a) (y ∷ b) v w p q e = let h = parted_once a b v w p.1 q.1 
     let h0 : a ≡ b = h.0 in (cc, h.1)
 
 pub begins_once : (words : List (List ℕ)) (o p : List ℕ × List ℕ) (r s : List (List ℕ))
-    → IsPlain o.0 → IsPlain p.0 → Begins words o r → Begins words p s → (o ≡ p) × (r ≡ s)
+    → IsPlain o.0 → IsPlain p.0 → BeginsWithOption words o r → BeginsWithOption words p s → (o ≡ p) × (r ≡ s)
 begins_once words (a, v) (b, w) r s p q (inl e) (inl f) = (cc, cc)
 begins_once words (a, v) (b, w) r s p q (inl e) (inr f) = let same : a ≡ b ++ (61 ∷ w) = cc in
     absurd (not_plain b w (subst IsPlain same p))
@@ -42,29 +42,29 @@ begins_once words (a, v) (b, w) r s p q (inr e) (inr f) =
     let h0 : a ≡ b = h.0 in
     let h1 : v ≡ w = h.1 in (cc, cc)
 
-begins_some : (words : List (List ℕ)) (o : List ℕ × List ℕ) (r : List (List ℕ)) → Begins words o r
+begins_some : (words : List (List ℕ)) (o : List ℕ × List ℕ) (r : List (List ℕ)) → BeginsWithOption words o r
     → words ≡ [] → ⊥
 begins_some words o r (inl e) h = cc
 begins_some words o r (inr e) h = cc
 
 pub spelled_once : (words : List (List ℕ)) (a b : List (List ℕ × List ℕ)) → ArePlain a → ArePlain b
-    → Spells words a → Spells words b → a ≡ b
+    → SpellsOptions words a → SpellsOptions words b → a ≡ b
 spelled_once words [] [] p q s t = refl
 spelled_once words [] (y ∷ b) p q s t = absurd (begins_some words y t.0 t.1 s)
 spelled_once words (x ∷ a) [] p q s t = absurd (begins_some words x s.0 s.1 t)
 spelled_once words (x ∷ a) (y ∷ b) p q s t =
     let h = begins_once words x y s.0 t.0 p.0 q.0 s.1 t.1 in
     let h0 : x ≡ y = h.0 in
-    let same : a ≡ b = spelled_once t.0 a b p.1 q.1 (subst (λ r. Spells r a) h.1 s.2) t.2 in
+    let same : a ≡ b = spelled_once t.0 a b p.1 q.1 (subst (λ r. SpellsOptions r a) h.1 s.2) t.2 in
     cc
 
 -- what is left to read of the words, behind the options so far
 pub record IsLeft (words : List (List ℕ)) (so_far : List (List ℕ × List ℕ)) (rest : List (List ℕ)) :
     Type 0 where
   pub plain : ArePlain so_far
-  pub forth : (tail : List (List ℕ × List ℕ)) → Spells rest tail → Spells words (so_far ++ tail)
-  pub back : (all : List (List ℕ × List ℕ)) → ArePlain all → Spells words all
-      → (tail : List (List ℕ × List ℕ)) × ArePlain tail × (all ≡ so_far ++ tail) × Spells rest tail
+  pub forth : (tail : List (List ℕ × List ℕ)) → SpellsOptions rest tail → SpellsOptions words (so_far ++ tail)
+  pub back : (all : List (List ℕ × List ℕ)) → ArePlain all → SpellsOptions words all
+      → (tail : List (List ℕ × List ℕ)) × ArePlain tail × (all ≡ so_far ++ tail) × SpellsOptions rest tail
 
 pub left_whole : (words : List (List ℕ)) → IsLeft words [] words
 left_whole words = record { plain = tt; forth = λ tail s. s; back = λ all p s. (all, p, refl, s) }
@@ -75,10 +75,10 @@ plain_push [] option p q = (q, tt)
 plain_push (x ∷ options) option p q = (p.0, plain_push options option p.1 q)
 
 one_less : (words : List (List ℕ)) (so_far : List (List ℕ × List ℕ)) (rest next : List (List ℕ))
-    (option : List ℕ × List ℕ) → IsPlain option.0 → Begins rest option next
-    → (all tail : List (List ℕ × List ℕ)) → ArePlain tail → all ≡ so_far ++ tail → Spells rest tail
+    (option : List ℕ × List ℕ) → IsPlain option.0 → BeginsWithOption rest option next
+    → (all tail : List (List ℕ × List ℕ)) → ArePlain tail → all ≡ so_far ++ tail → SpellsOptions rest tail
     → (less : List (List ℕ × List ℕ)) × ArePlain less
-    × (all ≡ (so_far ++ (option ∷ [])) ++ less) × Spells next less
+    × (all ≡ (so_far ++ (option ∷ [])) ++ less) × SpellsOptions next less
 one_less words so_far rest next option plain b all [] p e s =
     absurd (begins_some rest option next b s)
 one_less words so_far rest next option plain b all (x ∷ tail) p e s =
@@ -87,40 +87,40 @@ one_less words so_far rest next option plain b all (x ∷ tail) p e s =
       p.1,
       e ∙ ap (λ y. so_far ++ (y ∷ tail)) h.0
           ∙ sym (append_assoc so_far (option ∷ []) tail),
-      subst (λ r. Spells r tail) h.1 s.2,
+      subst (λ r. SpellsOptions r tail) h.1 s.2,
     )
 
 pub left_less : (words : List (List ℕ)) (so_far : List (List ℕ × List ℕ))
     (rest next : List (List ℕ)) (option : List ℕ × List ℕ) → IsPlain option.0
-    → Begins rest option next
+    → BeginsWithOption rest option next
     → IsLeft words so_far rest → IsLeft words (so_far ++ (option ∷ [])) next
 left_less words so_far rest next option plain b left = record {
   plain = plain_push so_far option left.plain plain;
-  forth = λ tail s. subst (Spells words) (sym (append_assoc so_far (option ∷ []) tail))
+  forth = λ tail s. subst (SpellsOptions words) (sym (append_assoc so_far (option ∷ []) tail))
       (left.forth (option ∷ tail) (next, b, s));
   back = λ all p s. let w = left.back all p s in
       one_less words so_far rest next option plain b all w.0 w.1 w.2 w.3;
 }
 
 pub left_none : (words : List (List ℕ)) (so_far : List (List ℕ × List ℕ)) → IsLeft words so_far []
-    → ArePlain so_far × Spells words so_far
+    → ArePlain so_far × SpellsOptions words so_far
 left_none words so_far left =
-    (left.plain, subst (Spells words) (append-nil so_far) (left.forth [] refl))
+    (left.plain, subst (SpellsOptions words) (append-nil so_far) (left.forth [] refl))
 
 no_tail : (rest : List (List ℕ)) → rest ≢ [] → BeginNoOption rest → (tail : List (List ℕ × List ℕ))
-    → ArePlain tail → Spells rest tail → ⊥
+    → ArePlain tail → SpellsOptions rest tail → ⊥
 no_tail rest some none [] p s = some s
 no_tail rest some none (x ∷ tail) p s = none x s.0 p.0 s.1
 
 pub left_refused : (words : List (List ℕ)) (so_far : List (List ℕ × List ℕ)) (rest : List (List ℕ))
     → rest ≢ [] → BeginNoOption rest → IsLeft words so_far rest
-    → (options : List (List ℕ × List ℕ)) → ArePlain options → Spells words options → ⊥
+    → (options : List (List ℕ × List ℕ)) → ArePlain options → SpellsOptions words options → ⊥
 left_refused words so_far rest some none left options p s = let w = left.back options p s in
     no_tail rest some none w.0 w.1 w.3
 
 -- what begins with an option is longer than what is behind it
 pub begins_longer : (words : List (List ℕ)) (option : List ℕ × List ℕ) (rest : List (List ℕ))
-    → Begins words option rest → length rest < length words
+    → BeginsWithOption words option rest → length rest < length words
 begins_longer words option rest (inl e) = omega (arith, ap length e)
 begins_longer words option rest (inr e) = omega (arith, ap length e)
 
@@ -144,12 +144,12 @@ dashed words rest word bytes option n e is front o = let f = ap texts e in cc
 
 pub joined : (words rest : List (List ℕ)) (option name value : List ℕ)
     → words ≡ (codes "--" ++ option) ∷ rest → option ≡ name ++ (61 ∷ value)
-    → Begins words (name, value) rest
+    → BeginsWithOption words (name, value) rest
 joined words rest option name value e f = inr (e ∙ ap (λ o. (codes "--" ++ o) ∷ rest) f)
 
 pub parted : (words rest : List (List ℕ)) (option value : List ℕ) (behind : List (List ℕ))
     → words ≡ (codes "--" ++ option) ∷ rest → rest ≡ value ∷ behind
-    → Begins words (option, value) behind
+    → BeginsWithOption words (option, value) behind
 parted words rest option value behind e f = inl (e ∙ ap (λ r. (codes "--" ++ option) ∷ r) f)
 
 pub some_left : (rest : List (String Global)) (b : Bool) → b ≡ eqb (length rest) 0 → b ≡ false

@@ -14,8 +14,8 @@ use Rattle.kr_words.specs.declared.name.OptionName.TheVariants.{Config, Resource
 use Rattle.kr_words.specs.declared.name.OptionName.TheVariants.{Store, Replica, Reload, File, Seed}
 use Rattle.kr_words.specs.declared.name.OptionName.TheVariants.{Size, To, From, Replicas, Show}
 use Rattle.kr_words.specs.declared.name.OptionName.TheVariants.{Limit, Since}
-use Rattle.kr_words.specs.Names.{text_of, required_options}
-use Rattle.kr_words.specs.Options.{is_named, value_of, count_of}
+use Rattle.kr_words.specs.Names.{option_text, required_options}
+use Rattle.kr_words.specs.Options.{is_named, value_of, count_options}
 use Rattle.kr_words.specs.Rules.{IsValue, IsOption, IsCommand}
 
 name_at : List ℕ → OptionName
@@ -36,7 +36,7 @@ name_at text =
     if bytes_eq text (codes "limit") then Limit else (
     if bytes_eq text (codes "since") then Since else Size))))))))))))))
 
-name_at-text : (name : OptionName) → name_at (text_of name) ≡ name
+name_at-text : (name : OptionName) → name_at (option_text name) ≡ name
 unfolding name_at
 name_at-text Config = refl
 name_at-text Resource = refl
@@ -56,11 +56,11 @@ name_at-text Limit = refl
 name_at-text Since = refl
 
 -- two names have two texts
-pub name_once : (a b : OptionName) → text_of a ≡ text_of b → a ≡ b
+pub name_once : (a b : OptionName) → option_text a ≡ option_text b → a ≡ b
 name_once a b e = sym (name_at-text a) ∙ ap name_at e ∙ name_at-text b
 
 option_rule : (verb : Verb) (replicas : ℕ) (name : OptionName) (option : List ℕ × List ℕ)
-    → IsOption verb replicas option → option.0 ≡ text_of name → IsValue verb replicas name option.1
+    → IsOption verb replicas option → option.0 ≡ option_text name → IsValue verb replicas name option.1
 option_rule verb replicas name option is e =
     subst (λ n. IsValue verb replicas n option.1) (name_once is.0 name (sym is.1 ∙ e)) is.3
 
@@ -73,22 +73,22 @@ first_rule P option false behind here next = next
 
 each_rule : (verb : Verb) (replicas : ℕ) (name : OptionName) (options : List (List ℕ × List ℕ))
     → All (IsOption verb replicas) options
-    → IfSome (value_of options (text_of name)) (IsValue verb replicas name)
+    → IfSome (value_of options (option_text name)) (IsValue verb replicas name)
 each_rule verb replicas name [] each = tt
 each_rule verb replicas name (option ∷ options) each =
-    first_rule (IsValue verb replicas name) option (is_named (text_of name) option)
-    (find (is_named (text_of name)) options)
+    first_rule (IsValue verb replicas name) option (is_named (option_text name) option)
+    (find (is_named (option_text name)) options)
     (λ e. option_rule verb replicas name option
     (All-head (IsOption verb replicas) option options each)
-    ((bytes_eq-Decides option.0 (text_of name)).0 e))
+    ((bytes_eq-Decides option.0 (option_text name)).0 e))
     (each_rule verb replicas name options (All-tail (IsOption verb replicas) option options each))
 
 -- the value at a name keeps the name's rule
 pub value_rule : {verb : Verb} {options : List (List ℕ × List ℕ)} (name : OptionName)
-    → IsCommand verb options → IfSome (value_of options (text_of name))
-    (IsValue verb (count_of options (text_of Replica)) name)
+    → IsCommand verb options → IfSome (value_of options (option_text name))
+    (IsValue verb (count_options options (option_text Replica)) name)
 value_rule {verb} {options} name m =
-    each_rule verb (count_of options (text_of Replica)) name options m.each
+    each_rule verb (count_options options (option_text Replica)) name options m.each
 
 first_some : (option : List ℕ × List ℕ) (found : Bool) (behind : Option (List ℕ × List ℕ)) (n : ℕ)
     → 1 ≤ cond found 1 0 + n → (1 ≤ n → IsSome (option_map (λ o. o.1) behind))
@@ -96,18 +96,18 @@ first_some : (option : List ℕ × List ℕ) (found : Bool) (behind : Option (Li
 first_some option true behind n h next = refl
 first_some option false behind n h next = next (omega (arith, h))
 
-counted_some : (name : List ℕ) (options : List (List ℕ × List ℕ)) → 1 ≤ count_of options name
+counted_some : (name : List ℕ) (options : List (List ℕ × List ℕ)) → 1 ≤ count_options options name
     → IsSome (value_of options name)
 counted_some name [] h = absurd (omega (arith, h))
 counted_some name (option ∷ options) h =
-    first_some option (is_named name option) (find (is_named name) options) (count_of options name)
+    first_some option (is_named name option) (find (is_named name) options) (count_options options name)
     (subst (λ n. 1 ≤ n) (sum_by-cons (λ o. cond (is_named name o) 1 0) option options) h)
     (counted_some name options)
 
 -- a command has a value at each name that it requires
 pub value_some : {verb : Verb} {options : List (List ℕ × List ℕ)} (name : OptionName)
     → IsCommand verb options → Contains (required_options verb) name
-    → IsSome (value_of options (text_of name))
+    → IsSome (value_of options (option_text name))
 value_some {verb} {options} name m has =
-    counted_some (text_of name) options
-    (All-contains (λ n. 1 ≤ count_of options (text_of n)) (required_options verb) name m.whole has)
+    counted_some (option_text name) options
+    (All-contains (λ n. 1 ≤ count_options options (option_text n)) (required_options verb) name m.whole has)

@@ -15,8 +15,8 @@ is_plugin plugin option = is_named (codes "plugin") option
     && bytes_eq (before_equals option.1) plugin
 
 -- the program of that plugin
-abbrev pub program_of : List (List ℕ × List ℕ) → List ℕ → Option (List ℕ)
-program_of options plugin = option_map (λ option. after_equals option.1)
+abbrev pub plugin_program : List (List ℕ × List ℕ) → List ℕ → Option (List ℕ)
+plugin_program options plugin = option_map (λ option. after_equals option.1)
     (find (is_plugin plugin) options)
 
 -- the number stands at the name

@@ -5,11 +5,11 @@ use Rattle.std.specs.declared.alloc.Global.{Global}
 use Rattle.std.specs.declared.string.String.{String}
 use Rattle.std.specs.String.{string_bytes}
 use Rattle.kr_words.specs.declared.command.Verb.{Verb}
-use Rattle.kr_words.specs.declared.command.Command.{Command}
+use Rattle.kr_words.specs.declared.command.CommandWords.{CommandWords}
 use Rattle.kr_words.specs.declared.command.WordsNo.{WordsNo}
 use Rattle.kr_words.specs.declared.command.WordsNo.TheVariants.{Usage, Replicas, Size, Page, NoMemory}
 use Rattle.kr_words.specs.Names.{word_of}
-use Rattle.kr_words.specs.Options.{count_of}
+use Rattle.kr_words.specs.Options.{count_options}
 use Rattle.kr_words.specs.Rules.{IsCommand}
 use Rattle.kr_words.specs.Arguments.{IsWithin, IsAbove}
 
@@ -19,16 +19,16 @@ texts words = map string_bytes words
 
 -- The words begin with the option: `--name` and the next word as its value, or `--name=value` in
 -- one word. No name of an option holds a `=`, so the first `=` parts that word.
-abbrev pub Begins : List (List ℕ) → List ℕ × List ℕ → List (List ℕ) → Type 0
-Begins words option rest =
+abbrev pub BeginsWithOption : List (List ℕ) → List ℕ × List ℕ → List (List ℕ) → Type 0
+BeginsWithOption words option rest =
     (words ≡ (codes "--" ++ option.0) ∷ (option.1 ∷ rest))
     ⊎ (words ≡ (codes "--" ++ option.0 ++ (0x3D ∷ option.1)) ∷ rest)
 
 -- the words spell the options, one behind another, and nothing else
-abbrev pub Spells : List (List ℕ) → List (List ℕ × List ℕ) → Type 0
-Spells words [] = words ≡ []
-Spells words (option ∷ options) =
-    (rest : List (List ℕ)) × Begins words option rest × Spells rest options
+abbrev pub SpellsOptions : List (List ℕ) → List (List ℕ × List ℕ) → Type 0
+SpellsOptions words [] = words ≡ []
+SpellsOptions words (option ∷ options) =
+    (rest : List (List ℕ)) × BeginsWithOption words option rest × SpellsOptions rest options
 
 -- the words mean the command with these options: its word, then spellings of options that make the
 -- command
@@ -36,7 +36,7 @@ pub record Means (words : List (List ℕ)) (verb : Verb) (options : List (List �
     : Type 0 where
   pub rest : List (List ℕ)
   pub word : words ≡ word_of verb ∷ rest
-  pub spelled : Spells rest options
+  pub spelled : SpellsOptions rest options
   pub command : IsCommand verb options
 
 -- the words of one command line mean at most one command with its options
@@ -59,7 +59,7 @@ page_limit = 10000
 
 -- how many replicas there are
 abbrev pub replicas_of : List (List ℕ × List ℕ) → ℕ
-replicas_of options = count_of options (codes "replica")
+replicas_of options = count_options options (codes "replica")
 
 -- there are at most 16 replicas, by their files and by a number that is given
 abbrev pub HasFewReplicas : List (List ℕ × List ℕ) → Type 0
@@ -90,19 +90,19 @@ IsAbovePage options = IsAbove options (codes "limit") page_limit
 -- What words are read as: the command that they mean, or the first refusal. More than 16 replicas,
 -- a size above 10,000 and pages of more than 10,000 items are refused only where the words mean a
 -- command. Want of memory may take any answer's place.
-abbrev pub Reads : List (List ℕ) → Result Command WordsNo → Type 0
-Reads words (Ok command) =
+abbrev pub ReadsWords : List (List ℕ) → Result CommandWords WordsNo → Type 0
+ReadsWords words (Ok command) =
     Means words command.verb command.options.0 × HasFewReplicas command.options.0
     × IsWithinSize command.options.0 × IsWithinPage command.options.0
-Reads words (Err Usage) =
+ReadsWords words (Err Usage) =
     (verb : Verb) (options : List (List ℕ × List ℕ)) → Means words verb options → ⊥
-Reads words (Err Replicas) =
+ReadsWords words (Err Replicas) =
     (verb : Verb) × (options : List (List ℕ × List ℕ)) × Means words verb options
     × HasManyReplicas options
-Reads words (Err Size) =
+ReadsWords words (Err Size) =
     (verb : Verb) × (options : List (List ℕ × List ℕ)) × Means words verb options
     × HasFewReplicas options × IsAboveSize options
-Reads words (Err Page) =
+ReadsWords words (Err Page) =
     (verb : Verb) × (options : List (List ℕ × List ℕ)) × Means words verb options
     × HasFewReplicas options × IsWithinSize options × IsAbovePage options
-Reads words (Err NoMemory) = ⊤
+ReadsWords words (Err NoMemory) = ⊤

@@ -17,5 +17,5 @@ abbrev pub values_of : List (List ℕ × List ℕ) → List ℕ → List (List �
 values_of options name = map (λ option. option.1) (filter (is_named name) options)
 
 -- how many options have that name
-abbrev pub count_of : List (List ℕ × List ℕ) → List ℕ → ℕ
-count_of options name = count_by (is_named name) options
+abbrev pub count_options : List (List ℕ × List ℕ) → List ℕ → ℕ
+count_options options name = count_by (is_named name) options

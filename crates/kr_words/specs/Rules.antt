@@ -10,8 +10,8 @@ use Rattle.kr_words.specs.declared.name.OptionName.TheVariants.{Config, Resource
 use Rattle.kr_words.specs.declared.name.OptionName.TheVariants.{Store, Replica, Reload, File, Seed}
 use Rattle.kr_words.specs.declared.name.OptionName.TheVariants.{Size, To, From, Replicas, Show}
 use Rattle.kr_words.specs.declared.name.OptionName.TheVariants.{Limit, Since}
-use Rattle.kr_words.specs.Names.{text_of, required_options, optional, IsRepeatable}
-use Rattle.kr_words.specs.Options.{count_of}
+use Rattle.kr_words.specs.Names.{option_text, required_options, optional, IsRepeatable}
+use Rattle.kr_words.specs.Options.{count_options}
 use Rattle.kr_words.specs.Numerals.{IsDecimal}
 
 -- a text is parted at its first `=`
@@ -32,8 +32,8 @@ IsReload replicas value =
     Contains value 0x3D × (n : ℕ) × IsDecimal (before_equals value) n × (n < replicas)
 
 -- the settings of a plan that may be shown
-abbrev pub IsShown : List ℕ → Type 0
-IsShown value = (value ≡ codes "wide") ⊎ (value ≡ codes "turned")
+abbrev pub MayBeShown : List ℕ → Type 0
+MayBeShown value = (value ≡ codes "wide") ⊎ (value ≡ codes "turned")
 
 -- the path of a value that stands in no store may be empty
 abbrev pub MayHaveEmptyPath : Verb → Type 0
@@ -54,26 +54,27 @@ IsValue verb replicas Size value = (n : ℕ) × IsDecimal value n × (1 ≤ n)
 IsValue verb replicas To value = ⊤
 IsValue verb replicas From value = ⊤
 IsValue verb replicas Replicas value = (n : ℕ) × IsDecimal value n × (1 ≤ n)
-IsValue verb replicas Show value = IsShown value
+IsValue verb replicas Show value = MayBeShown value
 IsValue verb replicas Limit value = (n : ℕ) × IsDecimal value n × (1 ≤ n)
 IsValue verb replicas Since value = (n : ℕ) × IsDecimal value n × (n ≤ 18446744073709551615)
 
 -- an option of the command, with a value that it may have
 abbrev pub IsOption : Verb → ℕ → List ℕ × List ℕ → Type 0
 IsOption verb replicas option =
-    (name : OptionName) × (option.0 ≡ text_of name)
+    (name : OptionName) × (option.0 ≡ option_text name)
     × (Contains (required_options verb) name ⊎ Contains (optional verb) name)
     × IsValue verb replicas name option.1
 
 -- two plugins have two names
 abbrev pub HaveTwoNames : List ℕ × List ℕ → List ℕ × List ℕ → Type 0
 HaveTwoNames a b =
-    a.0 ≡ text_of Plugin → b.0 ≡ text_of Plugin → before_equals a.1 ≢ before_equals b.1
+    a.0 ≡ option_text Plugin → b.0 ≡ option_text Plugin → before_equals a.1 ≢ before_equals b.1
 
 -- The options make the command: each is one of the command's with a value that it may have, none
 -- that it must have is missing, only plugins and replicas repeat, and no two plugins have one name.
 pub record IsCommand (verb : Verb) (options : List (List ℕ × List ℕ)) : Type 0 where
-  pub each : All (IsOption verb (count_of options (text_of Replica))) options
-  pub whole : All (λ name. 1 ≤ count_of options (text_of name)) (required_options verb)
-  pub once : (name : OptionName) → IsRepeatable name ⊎ (count_of options (text_of name) ≤ 1)
+  pub each : All (IsOption verb (count_options options (option_text Replica))) options
+  pub whole : All (λ name. 1 ≤ count_options options (option_text name)) (required_options verb)
+  pub once : (name : OptionName) → IsRepeatable name
+      ⊎ (count_options options (option_text name) ≤ 1)
   pub plugins : AllPairs HaveTwoNames options

@@ -2,18 +2,18 @@
 ghost use Rattle.std.specs.Prelude.{◌≡◌, ◌^◌, ◌<◌, ◌≤◌, ℕ, List, MatchOption, IsSome, IsSomeAnd};
 ghost use Rattle.std.specs.Prelude.{Contains, codes, slice_get};
 ghost use Rattle.std.specs.Option.{option_copied};
-ghost use Rattle.kr_words.specs.Options.{value_of, values_of, count_of};
-ghost use Rattle.kr_words.specs.Arguments.{is_plugin, program_of, IsNumberAt, IsReloadOf};
+ghost use Rattle.kr_words.specs.Options.{value_of, values_of, count_options};
+ghost use Rattle.kr_words.specs.Arguments.{is_plugin, plugin_program, IsNumberAt, IsReloadOf};
 ghost use Rattle.kr_words.specs.Arguments.{IsReloadAt};
 ghost use Rattle.kr_words.specs.Rules.{before_equals, after_equals, IsCommand};
 ghost use Rattle.kr_words.specs.Grammar.{replica_limit, replicas_of, HasFewReplicas, IsWithinPage};
 ghost use Rattle.kr_words.specs.Grammar.{IsWithinSize};
 ghost use Rattle.kr_words.specs.declared.command.Verb.{Verb};
 
-use crate::command::{Command, count_of, first_value};
+use crate::command::{CommandWords, count_options, first_value};
 use crate::name::OptionName;
-use crate::numeral::number_of;
-use crate::rules::name_of;
+use crate::numeral::parse_numeral;
+use crate::rules::name_before_equals;
 use kr_base::Text;
 
 /// A reload of one replica.
@@ -25,19 +25,19 @@ pub struct Reload<'a> {
     pub file: &'a str,
 }
 
-impl Command {
+impl CommandWords {
     /// The program of the plugin of that name.
     pub fn program(&self, plugin: &str) -> Option<&str>
-        ensures { option_copied result ≡ program_of self.now.options.0 plugin.now }
+        ensures { option_copied result ≡ plugin_program self.now.options.0 plugin.now }
     {
-        program_of(self.options.as_slice(), plugin)
+        plugin_program(self.options.as_slice(), plugin)
     }
 
     /// How many replicas there are.
     pub fn replicas(&self) -> usize
-        ensures { result ≡ count_of self.now.options.0 (codes "replica") }
+        ensures { result ≡ count_options self.now.options.0 (codes "replica") }
     {
-        count_of(self.options.as_slice(), OptionName::Replica.text())
+        count_options(self.options.as_slice(), OptionName::Replica.text())
     }
 
     /// The file of the replica with this number, counted from 0 in the order of the words.
@@ -45,7 +45,7 @@ impl Command {
         ensures { option_copied result
             ≡ slice_get (values_of self.now.options.0 (codes "replica")) number }
     {
-        value_at(self.options.as_slice(), OptionName::Replica.text(), number)
+        numbered_value(self.options.as_slice(), OptionName::Replica.text(), number)
     }
 
     /// The reload. `judge` has one, of a replica that there is.
@@ -58,7 +58,7 @@ impl Command {
             → replicas_of self.now.options.0 ≤ replica_limit
             → IsSomeAnd result (λ reload. reload.replica < replicas_of self.now.options.0) }
     {
-        reload_in(self.options.as_slice())
+        find_reload(self.options.as_slice())
     }
 
     /// The seed. `gen` has one.
@@ -69,7 +69,7 @@ impl Command {
         ensures given { IsCommand self.now.verb self.now.options.0 → self.now.verb ≡ Verb.Gen
             → IsSome result }
     {
-        number_at(self.options.as_slice(), OptionName::Seed.text())
+        option_number(self.options.as_slice(), OptionName::Seed.text())
     }
 
     /// The size. `gen` has one.
@@ -80,7 +80,7 @@ impl Command {
         ensures given { IsCommand self.now.verb self.now.options.0 → self.now.verb ≡ Verb.Gen
             → IsWithinSize self.now.options.0 → IsSome result }
     {
-        number_at(self.options.as_slice(), OptionName::Size.text())
+        option_number(self.options.as_slice(), OptionName::Size.text())
     }
 
     /// How many replicas a plan is for. `plan` has it.
@@ -92,7 +92,7 @@ impl Command {
             → HasFewReplicas self.now.options.0
             → IsSomeAnd result (λ n. (1 ≤ n) × (n ≤ replica_limit)) }
     {
-        number_at(self.options.as_slice(), OptionName::Replicas.text())
+        option_number(self.options.as_slice(), OptionName::Replicas.text())
     }
 
     /// How many items a page has. `watch` says it.
@@ -103,54 +103,54 @@ impl Command {
         ensures given { IsCommand self.now.verb self.now.options.0 → self.now.verb ≡ Verb.Watch
             → IsWithinPage self.now.options.0 → IsSome result }
     {
-        number_at(self.options.as_slice(), OptionName::Limit.text())
+        option_number(self.options.as_slice(), OptionName::Limit.text())
     }
 
     /// The revision since which changes are to be shown. `watch` may have one.
-    pub fn since(&self) -> Option<u64>
+    pub fn since_revision(&self) -> Option<u64>
         ensures number { MatchOption result
             ((n : ℕ) → IsNumberAt self.now.options.0 (codes "since") n → 2 ^ 64 ≤ n)
             (λ n. IsNumberAt self.now.options.0 (codes "since") n) }
         ensures given { IsCommand self.now.verb self.now.options.0
             → IsSome (value_of self.now.options.0 (codes "since")) → IsSome result }
     {
-        number_at(self.options.as_slice(), OptionName::Since.text())
+        option_number(self.options.as_slice(), OptionName::Since.text())
     }
 }
 
 /// The number at that name, if it is below 2^64.
-fn number_at(options: &[(Text, Text)], name: &str) -> Option<u64>
+fn option_number(options: &[(Text, Text)], name: &str) -> Option<u64>
     ensures { MatchOption result
         ((n : ℕ) → IsNumberAt options.now name.now n → 2 ^ 64 ≤ n)
         (λ n. IsNumberAt options.now name.now n) }
 {
     match first_value(options, name) {
-        Some(text) => number_of(text),
+        Some(text) => parse_numeral(text),
         None => None,
     }
 }
 
 /// The reload among the options.
-fn reload_in(options: &[(Text, Text)]) -> Option<Reload<'_>>
+fn find_reload(options: &[(Text, Text)]) -> Option<Reload<'_>>
     ensures { MatchOption result
         ((replica : ℕ) (file : List ℕ) → IsReloadAt options.now replica file → 2 ^ 64 ≤ replica)
         (λ reload. IsReloadAt options.now reload.replica reload.file.now) }
 {
     match first_value(options, OptionName::Reload.text()) {
-        Some(value) => reload_of(value),
+        Some(value) => parse_reload(value),
         None => None,
     }
 }
 
 /// The reload that the value says.
-fn reload_of(value: &str) -> Option<Reload<'_>>
+fn parse_reload(value: &str) -> Option<Reload<'_>>
     ensures { MatchOption result
         ((replica : ℕ) → IsReloadOf value.now replica → 2 ^ 64 ≤ replica)
         (λ reload. IsReloadOf value.now reload.replica
         × (reload.file.now ≡ after_equals value.now)) }
 {
-    match parts_of(value) {
-        Some((replica, file)) => match number_of(replica) {
+    match split_at_equals(value) {
+        Some((replica, file)) => match parse_numeral(replica) {
             Some(replica) => Some(Reload { replica, file }),
             None => None,
         },
@@ -159,7 +159,7 @@ fn reload_of(value: &str) -> Option<Reload<'_>>
 }
 
 /// What stands before and behind the first `=`.
-fn parts_of(value: &str) -> Option<(&str, &str)>
+fn split_at_equals(value: &str) -> Option<(&str, &str)>
     ensures { MatchOption result
         (Contains value.now 0x3D → ⊥)
         (λ parts. Contains value.now 0x3D × (parts.0.now ≡ before_equals value.now)
@@ -172,7 +172,7 @@ fn parts_of(value: &str) -> Option<(&str, &str)>
 }
 
 /// The value of the option of that name with this number, counted from 0.
-fn value_at<'a>(options: &'a [(Text, Text)], name: &str, number: usize) -> Option<&'a str>
+fn numbered_value<'a>(options: &'a [(Text, Text)], name: &str, number: usize) -> Option<&'a str>
     ensures { option_copied result ≡ slice_get (values_of options.now name.now) number }
 {
     let mut left = number;
@@ -188,24 +188,25 @@ fn value_at<'a>(options: &'a [(Text, Text)], name: &str, number: usize) -> Optio
 }
 
 /// The program of the plugin of that name.
-fn program_of<'a>(options: &'a [(Text, Text)], plugin: &str) -> Option<&'a str>
-    ensures { option_copied result ≡ program_of options.now plugin.now }
+fn plugin_program<'a>(options: &'a [(Text, Text)], plugin: &str) -> Option<&'a str>
+    ensures { option_copied result ≡ plugin_program options.now plugin.now }
 {
     options
         .iter()
         .find(|option| is_plugin(option, plugin))
-        .map(|option| program_in(option.1.as_str()))
+        .map(|option| text_past_equals(option.1.as_str()))
 }
 
 /// Whether the option is the plugin of that name.
 fn is_plugin(option: &(Text, Text), plugin: &str) -> bool
     ensures { result ≡ is_plugin plugin.now option.now }
 {
-    option.0.as_str() == OptionName::Plugin.text() && name_of(option.1.as_str()) == plugin
+    option.0.as_str() == OptionName::Plugin.text()
+        && name_before_equals(option.1.as_str()) == plugin
 }
 
 /// What stands behind the first `=`.
-fn program_in(value: &str) -> &str
+fn text_past_equals(value: &str) -> &str
     ensures { result.now ≡ after_equals value.now }
 {
     match value.split_once('=') {

@@ -1,7 +1,7 @@
 //! The commands, a command with its options, and first values.
 ghost use Rattle.std.specs.Prelude.{◌≡◌};
 ghost use Rattle.std.specs.Option.{option_copied};
-ghost use Rattle.kr_words.specs.Options.{value_of, count_of};
+ghost use Rattle.kr_words.specs.Options.{value_of, count_options};
 
 use kr_base::{List, Text};
 
@@ -43,7 +43,7 @@ pub enum Verb {
 /// What a command line means: a command and its options as pairs of a name without dashes and a
 /// value, in the order of the words.
 #[derive(Debug, Drop)]
-pub struct Command {
+pub struct CommandWords {
     /// Which command.
     pub verb: Verb,
     /// Its options, as they stand.
@@ -65,7 +65,7 @@ pub enum WordsNo {
     NoMemory,
 }
 
-impl Command {
+impl CommandWords {
     /// The value of the first option of that name.
     pub fn value(&self, name: &str) -> Option<&str>
         ensures { option_copied result ≡ value_of self.now.options.0 name.now }
@@ -85,8 +85,8 @@ pub fn first_value<'a>(options: &'a [(Text, Text)], name: &str) -> Option<&'a st
 }
 
 /// How many options have that name.
-pub fn count_of(options: &[(Text, Text)], name: &str) -> usize
-    ensures { result ≡ count_of options.now name.now }
+pub fn count_options(options: &[(Text, Text)], name: &str) -> usize
+    ensures { result ≡ count_options options.now name.now }
 {
     options
         .iter()

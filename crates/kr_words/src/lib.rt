@@ -11,5 +11,5 @@ mod rules;
 mod spelling;
 
 pub use arguments::Reload;
-pub use command::{Command, Verb, WordsNo};
+pub use command::{CommandWords, Verb, WordsNo};
 pub use read::{one_meaning, read_words};

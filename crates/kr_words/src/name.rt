@@ -1,6 +1,6 @@
 //! The commands and the names of their options.
 ghost use Rattle.std.specs.Prelude.{◌≡◌, ◌↔◌, ◌⊎◌, ℕ, IsTrue, MatchOption, Contains};
-ghost use Rattle.kr_words.specs.Names.{word_of, text_of, required_options, optional, IsRepeatable};
+ghost use Rattle.kr_words.specs.Names.{word_of, option_text, required_options, optional, IsRepeatable};
 
 use crate::command::Verb;
 
@@ -42,7 +42,7 @@ pub enum OptionName {
 }
 
 /// The command of a word.
-pub fn verb_of(word: &str) -> Option<Verb>
+pub fn parse_verb(word: &str) -> Option<Verb>
     ensures { MatchOption result
         ((verb : Verb) → word.now ≡ word_of verb → ⊥)
         (λ verb. word.now ≡ word_of verb) }
@@ -91,8 +91,8 @@ impl OptionName {
     /// The option of that name, without its dashes.
     pub fn read(text: &str) -> Option<OptionName>
         ensures { MatchOption result
-            ((name : OptionName) → text.now ≡ text_of name → ⊥)
-            (λ name. text.now ≡ text_of name) }
+            ((name : OptionName) → text.now ≡ option_text name → ⊥)
+            (λ name. text.now ≡ option_text name) }
     {
         match text {
             "config" => Some(OptionName::Config),
@@ -117,7 +117,7 @@ impl OptionName {
 
     /// The name without its dashes.
     pub fn text(self) -> &'static str
-        ensures { result.now ≡ text_of self }
+        ensures { result.now ≡ option_text self }
     {
         match self {
             OptionName::Config => "config",

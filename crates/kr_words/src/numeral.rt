@@ -13,7 +13,7 @@ pub fn is_numeral(text: &str) -> bool
 }
 
 /// The number that the text writes in decimal digits, if it is below 2^64.
-pub fn number_of(text: &str) -> Option<u64>
+pub fn parse_numeral(text: &str) -> Option<u64>
     ensures { MatchOption result
         ((n : ℕ) → IsDecimal text.now n → 2 ^ 64 ≤ n)
         (λ n. IsDecimal text.now n) }

@@ -1,14 +1,14 @@
 //! The reader of a command line.
-ghost use Rattle.kr_words.specs.Grammar.{texts, Reads, HasFewReplicas, MeanOneCommand};
+ghost use Rattle.kr_words.specs.Grammar.{texts, ReadsWords, HasFewReplicas, MeanOneCommand};
 ghost use Rattle.kr_words.specs.Arguments.{IsWithin};
-ghost use Rattle.kr_words.specs.Names.{text_of};
+ghost use Rattle.kr_words.specs.Names.{option_text};
 ghost use Rattle.kr_words.specs.inner.Spelling.{HasNoSmall, HasNoFewReplicas};
 ghost use Rattle.kr_words.specs.Numerals.{IsDecimal};
 ghost use Rattle.std.specs.Prelude.{ℕ, ◌≤◌, ◌<◌, MatchBool};
 
-use crate::command::{Command, WordsNo, count_of, first_value};
-use crate::name::{OptionName, verb_of};
-use crate::numeral::number_of;
+use crate::command::{CommandWords, WordsNo, count_options, first_value};
+use crate::name::{OptionName, parse_verb};
+use crate::numeral::parse_numeral;
 use crate::rules::is_command;
 use crate::spelling::{SpellingNo, read_options};
 use kr_base::Text;
@@ -26,13 +26,13 @@ const PAGE_LIMIT: u64 = 10_000;
 /// Reads the words of a command line, those behind the program's name. Words that mean no command
 /// are refused first, then too many replicas, then a size that is too large, then pages of too many
 /// items.
-pub fn read_words(alloc: Global, words: &[String]) -> Result<Command, WordsNo>
-    ensures { Reads (texts words.now) result }
+pub fn read_words(alloc: Global, words: &[String]) -> Result<CommandWords, WordsNo>
+    ensures { ReadsWords (texts words.now) result }
 {
     let Some((word, rest)) = words.split_first() else {
         return Err(WordsNo::Usage);
     };
-    let Some(verb) = verb_of(word.as_str()) else {
+    let Some(verb) = parse_verb(word.as_str()) else {
         return Err(WordsNo::Usage);
     };
     let options = match read_options(alloc, rest) {
@@ -46,31 +46,31 @@ pub fn read_words(alloc: Global, words: &[String]) -> Result<Command, WordsNo>
     if !has_few_replicas(options.as_slice()) {
         return Err(WordsNo::Replicas);
     }
-    if !is_within(options.as_slice(), OptionName::Size, SIZE_LIMIT) {
+    if !fits_limit(options.as_slice(), OptionName::Size, SIZE_LIMIT) {
         return Err(WordsNo::Size);
     }
-    if !is_within(options.as_slice(), OptionName::Limit, PAGE_LIMIT) {
+    if !fits_limit(options.as_slice(), OptionName::Limit, PAGE_LIMIT) {
         return Err(WordsNo::Page);
     }
-    Ok(Command { verb, options })
+    Ok(CommandWords { verb, options })
 }
 
 /// Whether there are no more replicas than may be, by their files and by their number.
 fn has_few_replicas(options: &[(Text, Text)]) -> bool
     ensures { MatchBool result (HasFewReplicas options.now) (HasNoFewReplicas options.now) }
 {
-    if count_of(options, OptionName::Replica.text()) > REPLICA_LIMIT {
+    if count_options(options, OptionName::Replica.text()) > REPLICA_LIMIT {
         return false;
     }
-    is_within(options, OptionName::Replicas, REPLICA_LIMIT as u64)
+    fits_limit(options, OptionName::Replicas, REPLICA_LIMIT as u64)
 }
 
 /// Whether nothing stands at the name, or a number up to the limit. Where it is a number, it is
 /// above the limit else, also one that is too long for its type.
-fn is_within(options: &[(Text, Text)], name: OptionName, limit: u64) -> bool
+fn fits_limit(options: &[(Text, Text)], name: OptionName, limit: u64) -> bool
     ensures { MatchBool result
-        (IsWithin options.now (text_of name) limit)
-        (HasNoSmall options.now (text_of name) limit) }
+        (IsWithin options.now (option_text name) limit)
+        (HasNoSmall options.now (option_text name) limit) }
 {
     match first_value(options, name.text()) {
         Some(number) => is_at_most(number, limit),
@@ -84,7 +84,7 @@ fn is_at_most(text: &str, limit: u64) -> bool
         ((n : ℕ) × IsDecimal text.now n × (n ≤ limit))
         ((n : ℕ) → IsDecimal text.now n → limit < n) }
 {
-    match number_of(text) {
+    match parse_numeral(text) {
         Some(number) => number <= limit,
         None => false,
     }

@@ -1,16 +1,16 @@
 //! The rules for the options of a command.
 ghost use Rattle.std.specs.Prelude.{◌≡◌, ◌↔◌, ◌⊎◌, ◌≤◌, ◌<◌, ℕ, IsTrue, Contains, All, AllPairs};
-ghost use Rattle.kr_words.specs.Names.{text_of, required_options, optional, IsRepeatable};
-ghost use Rattle.kr_words.specs.Options.{count_of};
-ghost use Rattle.kr_words.specs.Rules.{before_equals, IsPlugin, IsReload, IsShown};
+ghost use Rattle.kr_words.specs.Names.{option_text, required_options, optional, IsRepeatable};
+ghost use Rattle.kr_words.specs.Options.{count_options};
+ghost use Rattle.kr_words.specs.Rules.{before_equals, IsPlugin, IsReload, MayBeShown};
 ghost use Rattle.kr_words.specs.Rules.{MayHaveEmptyPath};
 ghost use Rattle.kr_words.specs.Rules.{IsValue, IsOption, HaveTwoNames, IsCommand};
 ghost use Rattle.kr_words.specs.Numerals.{IsDecimal};
 ghost use Rattle.kr_words.specs.declared.name.OptionName.{OptionName};
 
-use crate::command::{Verb, count_of};
+use crate::command::{Verb, count_options};
 use crate::name::OptionName;
-use crate::numeral::{is_numeral, number_of};
+use crate::numeral::{is_numeral, parse_numeral};
 use kr_base::{Text, name_ok, path_ok, resource_ok};
 
 /// Whether the options make the command.
@@ -26,9 +26,10 @@ pub fn is_command(verb: Verb, options: &[(Text, Text)]) -> bool
 /// Whether each option is one of the command's, with a value that it may have.
 fn have_values(verb: Verb, options: &[(Text, Text)]) -> bool
     ensures { IsTrue result
-        ↔ All (IsOption verb (count_of options.now (text_of OptionName.Replica))) options.now }
+        ↔ All (IsOption verb (count_options options.now (option_text OptionName.Replica)))
+        options.now }
 {
-    let replicas = count_of(options, OptionName::Replica.text());
+    let replicas = count_options(options, OptionName::Replica.text());
     for option in options {
         if !is_option(verb, replicas, option) {
             return false;
@@ -62,12 +63,12 @@ fn is_value(verb: Verb, replicas: usize, name: OptionName, value: &str) -> bool
         OptionName::Path => path_ok(value) || (may_have_empty_path(verb) && value.is_empty()),
         OptionName::Plugin => is_plugin(value),
         OptionName::Reload => is_reload(replicas, value),
-        OptionName::Seed => number_of(value).is_some(),
+        OptionName::Seed => parse_numeral(value).is_some(),
         OptionName::Size => is_positive(value),
         OptionName::Replicas => is_positive(value),
         OptionName::Show => is_shown(value),
         OptionName::Limit => is_positive(value),
-        OptionName::Since => number_of(value).is_some(),
+        OptionName::Since => parse_numeral(value).is_some(),
     }
 }
 
@@ -80,7 +81,7 @@ fn is_positive(value: &str) -> bool
 
 /// Whether it names settings of a plan that may be shown.
 fn is_shown(value: &str) -> bool
-    ensures { IsTrue result ↔ IsShown value.now }
+    ensures { IsTrue result ↔ MayBeShown value.now }
 {
     value == "wide" || value == "turned"
 }
@@ -116,7 +117,7 @@ fn is_reload(replicas: usize, value: &str) -> bool
 fn is_below(number: &str, limit: usize) -> bool
     ensures { IsTrue result ↔ ((n : ℕ) × IsDecimal number.now n × (n < limit)) }
 {
-    match number_of(number) {
+    match parse_numeral(number) {
         Some(number) => number < limit as u64,
         None => false,
     }
@@ -125,17 +126,18 @@ fn is_below(number: &str, limit: usize) -> bool
 /// Whether no required option is missing.
 fn are_whole(verb: Verb, options: &[(Text, Text)]) -> bool
     ensures { IsTrue result
-        ↔ All (λ name. 1 ≤ count_of options.now (text_of name)) (required_options verb) }
+        ↔ All (λ name. 1 ≤ count_options options.now (option_text name)) (required_options verb) }
 {
     verb.required()
         .iter()
-        .all(|name| count_of(options, name.text()) >= 1)
+        .all(|name| count_options(options, name.text()) >= 1)
 }
 
 /// Whether each option stands at most once, plugins and replicas apart.
 fn stand_once(options: &[(Text, Text)]) -> bool
     ensures { IsTrue result
-        ↔ ((name : OptionName) → IsRepeatable name ⊎ (count_of options.now (text_of name) ≤ 1)) }
+        ↔ ((name : OptionName) → IsRepeatable name
+        ⊎ (count_options options.now (option_text name) ≤ 1)) }
 {
     for name in OptionName::ALL {
         if !may_stand(name, options) {
@@ -147,9 +149,10 @@ fn stand_once(options: &[(Text, Text)]) -> bool
 
 /// Whether the option stands at most once or may repeat.
 fn may_stand(name: OptionName, options: &[(Text, Text)]) -> bool
-    ensures { IsTrue result ↔ (IsRepeatable name ⊎ (count_of options.now (text_of name) ≤ 1)) }
+    ensures { IsTrue result ↔ (IsRepeatable name
+        ⊎ (count_options options.now (option_text name) ≤ 1)) }
 {
-    name.may_repeat() || count_of(options, name.text()) <= 1
+    name.may_repeat() || count_options(options, name.text()) <= 1
 }
 
 /// Whether no two plugins have one name.
@@ -186,11 +189,11 @@ fn have_two_names(a: &(Text, Text), b: &(Text, Text)) -> bool
     let plugin = OptionName::Plugin.text();
     a.0.as_str() != plugin
         || b.0.as_str() != plugin
-        || name_of(a.1.as_str()) != name_of(b.1.as_str())
+        || name_before_equals(a.1.as_str()) != name_before_equals(b.1.as_str())
 }
 
 /// What stands before the first `=`.
-pub(crate) fn name_of(value: &str) -> &str
+pub(crate) fn name_before_equals(value: &str) -> &str
     ensures { result.now ≡ before_equals value.now }
 {
     match value.split_once('=') {

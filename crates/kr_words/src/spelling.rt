@@ -1,6 +1,6 @@
 //! The options that words spell.
 ghost use Rattle.std.specs.Prelude.{◌≡◌, [], ◌∷◌, ◌++◌, OnOk, MatchOption};
-ghost use Rattle.kr_words.specs.Grammar.{texts, Begins};
+ghost use Rattle.kr_words.specs.Grammar.{texts, BeginsWithOption};
 ghost use Rattle.kr_words.specs.inner.Spelling.{IsPlain, ReadsOptions, BeginNoOption};
 
 use kr_base::{List, NoMemory, Text};
@@ -38,7 +38,7 @@ fn first_option(words: &[String]) -> Option<(&str, &str, &[String])>
     ensures { MatchOption result
         (BeginNoOption (texts words.now))
         (λ found. IsPlain found.0.now
-        × Begins (texts words.now) (found.0.now, found.1.now) (texts found.2.now)) }
+        × BeginsWithOption (texts words.now) (found.0.now, found.1.now) (texts found.2.now)) }
 {
     let (word, rest) = words.split_first()?;
     let option = word.as_str().strip_prefix("--")?;

@@ -6,25 +6,26 @@ use Rattle.kr_kms.specs.Calls.{Link}
 use Rattle.kr_kms.specs.Exchanges.{Exchange}
 use Rattle.kr_kms.specs.Truth.{Truth}
 use Rattle.kr_provider.specs.AskedLinks.{AskedOnly}
+use Rattle.kr_provider.specs.BenchKeys.{adoption_of}
 use Rattle.kr_provider.specs.BenchState.{BenchState}
 use Rattle.kr_provider.specs.Names.{names_of}
 use Rattle.kr_provider.proofs.AskedLists.{asked_none, asked_then, names_stay}
-use Rattle.kr_provider.proofs.LeftKeys.{leaves_same, leaves_then}
 use Rattle.kr_rollout.specs.declared.opening.Opening.{Opening}
 use Rattle.kr_history.specs.Acting.{Caller, IsCaller}
 use Rattle.kr_rollout.specs.Callers.{reloads_in}
 use Rattle.kr_history.specs.Calls.{AreServed, KeepsToldHonesty}
-use Rattle.kr_history.proofs.PartsAdd.{parts_add_up}
+use Rattle.kr_history.proofs.PartsAdd.{parts_sum_to_whole}
 use Rattle.kr_script.specs.declared.script.ScriptLine.{ScriptLine}
 use Rattle.kr_script.specs.declared.told.Told.{Told}
 use Rattle.kr_workers.specs.declared.files.SettingsFile.{SettingsFile}
-use Rattle.kr_workers.specs.Budgets.{brought_by, reloads_of}
+use Rattle.kr_workers.specs.Budgets.{brought_count, reloads_of}
 use Rattle.kr_workers.specs.Runs.{DoesAll, IsDone, LineDone}
 use Rattle.kr_workers.specs.inner.WholeRuns.{AreReady, Runs}
 use Rattle.kr_workers.specs.ScriptLines.{MayDo, Workplace}
 use Rattle.kr_workers.specs.inner.Serving.{IsReadyFor, Serves, place_of}
 use Rattle.kr_workers.specs.inner.Going.{IsGoing}
 use Rattle.kr_workers.proofs.Making.{made}
+use Rattle.kr_workers.proofs.MovedKeys.{moves_on}
 
 module _ {L D : Type 0} (truth : Truth) (link : L → Link) (step : L → Exchange → L → Type 0) (left : D → Option (List ℕ))
     (count : D → ℕ) (files : List SettingsFile) (replica : ℕ) where
@@ -54,7 +55,7 @@ module _ {L D : Type 0} (truth : Truth) (link : L → Link) (step : L → Exchan
       asked_only = asked_none link (names_of link bench.links) bench.links;
       later = omega arith;
       pages = refl;
-      keys = leaves_same bench bench refl refl;
+      keys = refl;
     }
 
     module _ (asked : ScriptLine) (k : ℕ) (below : k < length lines)
@@ -66,7 +67,7 @@ module _ {L D : Type 0} (truth : Truth) (link : L → Link) (step : L → Exchan
         rest_is = drop-cons lines k asked below
             ∙ ap (λ a. a ∷ drop (suc k) lines) (sym at)
 
-        room_is : reloads_in c.mine + (brought_by asked + reloads_of (drop (suc k) lines))
+        room_is : reloads_in c.mine + (brought_count asked + reloads_of (drop (suc k) lines))
             ≤ get_or old.opening.reloads old.seat 0
         room_is = subst (λ rest. reloads_in c.mine + reloads_of rest
             ≤ get_or old.opening.reloads old.seat 0) rest_is going.room
@@ -79,9 +80,9 @@ module _ {L D : Type 0} (truth : Truth) (link : L → Link) (step : L → Exchan
           there = subst (λ (o : Opening). replica < length o.replicas) (sym going.opening)
               ready.there;
           idle = going.idle;
-          room = subst (λ (o : Opening). reloads_in c.mine + brought_by asked ≤ get_or o.reloads
+          room = subst (λ (o : Opening). reloads_in c.mine + brought_count asked ≤ get_or o.reloads
               c.seat 0)
-              (sym going.opening) (subst (λ s. reloads_in c.mine + brought_by asked
+              (sym going.opening) (subst (λ s. reloads_in c.mine + brought_count asked
               ≤ get_or old.opening.reloads s 0) (sym going.seat) (omega (arith, room_is)));
           links = subst (λ (o : Opening). AreServed o.names (names_of link now.links))
               (sym going.opening)
@@ -121,7 +122,7 @@ module _ {L D : Type 0} (truth : Truth) (link : L → Link) (step : L → Exchan
               } in
               let brought : reloads_in new.mine ≡ reloads_in c.mine + reloads_in part =
               ap (λ (d : Caller). reloads_in d.mine) s.adds.1.new_is
-              ∙ parts_add_up.reloads c.mine part in record {
+              ∙ parts_sum_to_whole.reloads c.mine part in record {
                 run = going.run ++ done ∷ [];
                 replies_are = ap (λ rs. rs ++ reply ∷ []) going.replies_are
                     ∙ sym (map-append (λ (d : LineDone). d.reply) going.run (done ∷ []));
@@ -154,7 +155,9 @@ module _ {L D : Type 0} (truth : Truth) (link : L → Link) (step : L → Exchan
                 asked_only = asked_on (Ok reply) s;
                 later = omega (arith, going.later, s.later);
                 pages = s.pages ∙ going.pages;
-                keys = leaves_then bench now after going.keys s.keys;
+                keys = moves_on going.run done c new (adoption_of bench) (adoption_of now)
+                    (adoption_of after) (ap (λ (d : Caller). d.mine) s.adds.1.new_is) s.idle
+                    going.keys s.keys;
               }
 
           -- it was cut short
@@ -186,7 +189,7 @@ module _ {L D : Type 0} (truth : Truth) (link : L → Link) (step : L → Exchan
             asked_only = asked_on (Err (record {})) s;
             later = omega (arith, going.later, s.later);
             pages = s.pages ∙ going.pages;
-            keys = leaves_then bench now after going.keys s.keys;
+            keys = tt;
           }
 
     -- all were done

@@ -8,12 +8,13 @@ use Rattle.std.proofs.lemmas.List.Elements.{All-contains, All-map}
 use Rattle.std.proofs.lemmas.List.FromFn.{get_or-range_with_len, length-range_with_len}
 use Rattle.std.proofs.lemmas.Option.{same_Some, slice_get-get_or}
 use Rattle.kr_base.specs.Lines.{of_seat, Stands}
+use Rattle.kr_base.specs.Walks.{Walk}
 use Rattle.kr_base.specs.declared.errors.Spent.{Spent}
 use Rattle.kr_kms.specs.Calls.{Link}
 use Rattle.kr_kms.specs.Exchanges.{Exchange}
 use Rattle.kr_kms.specs.Truth.{Opens, Truth}
 use Rattle.kr_provider.specs.AskedLinks.{AskedOnly}
-use Rattle.kr_provider.specs.BenchKeys.{LeavesKeys}
+use Rattle.kr_provider.specs.BenchKeys.{adoption_of}
 use Rattle.kr_provider.specs.BenchState.{BenchState}
 use Rattle.kr_provider.specs.Names.{names_of}
 use Rattle.kr_store.specs.declared.rows.LogRow.{LogRow}
@@ -29,6 +30,7 @@ use Rattle.kr_history.specs.Calls.{AreServed}
 use Rattle.kr_rollout.specs.Entries.{seat_of}
 use Rattle.kr_rollout.specs.Histories.{IsLegal}
 use Rattle.kr_history.specs.Honesty.{IsHonest, KeepsHonest}
+use Rattle.kr_history.specs.KeyMoments.{Happens}
 use Rattle.kr_history.specs.Parts.{written_puts}
 use Rattle.kr_script.specs.declared.script.Part.{Part}
 use Rattle.kr_script.specs.declared.told.Told.{Told}
@@ -40,8 +42,9 @@ use Rattle.kr_turn.specs.declared.seat.Place.{Place}
 use Rattle.kr_turn.specs.declared.view.Terms.{Terms}
 use Rattle.kr_workers.specs.declared.files.SettingsFile.{SettingsFile}
 use Rattle.kr_workers.specs.declared.worker.Worker.{Worker}
-use Rattle.kr_workers.specs.Budgets.{AreBudgets, all_reloads, budget_of, budgets_of, put_lines, reloads_of}
+use Rattle.kr_workers.specs.Budgets.{AreBudgets, all_reloads, budget_of, script_budgets, put_lines, reloads_of}
 use Rattle.kr_workers.specs.Histories.{IsOneHistory, StandsIn, first_place}
+use Rattle.kr_workers.specs.LineMoments.{run_moments}
 use Rattle.kr_workers.specs.Runs.{DoesAll, entries_in}
 use Rattle.kr_workers.specs.inner.WholeRuns.{AreReady, Runs}
 use Rattle.kr_workers.specs.ScriptLines.{MayDo, Workplace}
@@ -94,37 +97,46 @@ module _ {S L D : Type 0} where
 
 module _ {L D : Type 0} (truth : Truth) (link : L → Link) (step : L → Exchange → L → Type 0) (left : D → Option (List ℕ))
     (count : D → ℕ) (files : List SettingsFile) (history : List Entry) where
-  -- a run from the first place that wasn't cut short stands in the history
+  -- a run stands in the history, and this happened to the keys meanwhile
+  pub record StandsMoved (part : Part) (first : Workplace L D) (bench : BenchState L D)
+      (replies : List Told) (after : BenchState L D) : Type 0 where
+    pub stands : StandsIn truth link step left count files history part first replies after
+    pub keys : Walk Happens (adoption_of bench) (run_moments stands.run) (adoption_of after)
+
+  -- so does a run from the first place that wasn't cut short
   pub run_stands : (part : Part) (first : Workplace L D) (old new : Caller)
       (bench after : BenchState L D) (replies : List Told)
       → Runs truth link step left count files part.replica part.lines.0 old bench replies (Ok tt) new
       after → place_of old bench ≡ first → old.mine ≡ []
       → Stands seat_of history new.seat new.seen new.mine → new.seat ≡ first.caller.seat
-      → StandsIn truth link step left count files history part first replies after
+      → StandsMoved part first bench replies after
   run_stands part first old new bench after replies runs from none stands seat =
       let last : place_of new after ≡ runs.middle = runs.ends.1 in
       let added = parts_added truth link step left count files part.replica (place_of old bench) runs.run
       runs.middle runs.does in
       record {
-        run = runs.run;
-        lines_are = runs.ends.0;
-        replies_are = runs.replies_are;
-        last = runs.middle;
-        does = subst (λ (w : Workplace L D). DoesAll truth link step left count files part.replica w
-            runs.run runs.middle) from runs.does;
-        links_are = ap (λ (w : Workplace L D). w.links) last;
-        dice_are = ap (λ (w : Workplace L D). w.dice) last;
-        cache_is = ap (λ (w : Workplace L D). w.cache) last;
-        front = subst (λ (w : Workplace L D). IsPrefix w.caller.seen history) last stands.front;
-        parts_are = sym (subst (λ l. l ≡ entries_in runs.run)
-            (sym (ap (λ (w : Workplace L D). w.caller.mine) last)
-            ∙ sym stands.whole ∙ ap (λ n. of_seat seat_of n history) seat)
-            (added ∙ ap (λ l. l ++ entries_in runs.run) none));
-        asked_only = subst (λ (w : Workplace L D). AskedOnly link (names_of link w.links) w.links
-            runs.middle.links) from (subst (λ (w : Workplace L D). AskedOnly link
-            (names_of link bench.links) bench.links w.links) last runs.asked_only);
-        later = subst (λ (w : Workplace L D). count w.dice ≤ count runs.middle.dice) from
-            (subst (λ (w : Workplace L D). count bench.dice ≤ count w.dice) last runs.later);
+        stands = record {
+          run = runs.run;
+          lines_are = runs.ends.0;
+          replies_are = runs.replies_are;
+          last = runs.middle;
+          does = subst (λ (w : Workplace L D). DoesAll truth link step left count files part.replica w
+              runs.run runs.middle) from runs.does;
+          links_are = ap (λ (w : Workplace L D). w.links) last;
+          dice_are = ap (λ (w : Workplace L D). w.dice) last;
+          cache_is = ap (λ (w : Workplace L D). w.cache) last;
+          front = subst (λ (w : Workplace L D). IsPrefix w.caller.seen history) last stands.front;
+          parts_are = sym (subst (λ l. l ≡ entries_in runs.run)
+              (sym (ap (λ (w : Workplace L D). w.caller.mine) last)
+              ∙ sym stands.whole ∙ ap (λ n. of_seat seat_of n history) seat)
+              (added ∙ ap (λ l. l ++ entries_in runs.run) none));
+          asked_only = subst (λ (w : Workplace L D). AskedOnly link (names_of link w.links) w.links
+              runs.middle.links) from (subst (λ (w : Workplace L D). AskedOnly link
+              (names_of link bench.links) bench.links w.links) last runs.asked_only);
+          later = subst (λ (w : Workplace L D). count w.dice ≤ count runs.middle.dice) from
+              (subst (λ (w : Workplace L D). count bench.dice ≤ count w.dice) last runs.later);
+        };
+        keys = runs.keys;
       }
 
 -- ---- lists of workers and of seats
@@ -475,7 +487,7 @@ module _ {T L D : Type 0} (truth : Truth) (link : L → Link) (step : L → Exch
           (sym b.is) own))
 
       module _ (listing : List Row) (lists : IsListing o.rows listing)
-          (budgets_are : budgets ≡ budgets_of (length listing + put_lines parts) parts) where
+          (budgets_are : budgets ≡ script_budgets (length listing + put_lines parts) parts) where
         abbrev paths : List (List ℕ)
         paths = known_paths listing (all_put parts)
 
@@ -490,9 +502,9 @@ module _ {T L D : Type 0} (truth : Truth) (link : L → Link) (step : L → Exch
 
         -- a worker stands in the history with what it did
         worker_stands : (i : ℕ) (part : Part) (d : Worker T L D) → i < length parts
-            → StandsIn truth link step left count files history (get_or parts i part)
+            → StandsMoved truth link step left count files history (get_or parts i part)
             (first_place o i (slice_index budgets i) (get_or workers i d).bench)
-            (get_or done i d).told.0 (get_or done i d).bench
+            (get_or workers i d).bench (get_or done i d).told.0 (get_or done i d).bench
         worker_stands i part d l =
             let w = worked_at i d l in
             let h = w.has in
@@ -510,11 +522,14 @@ module _ {T L D : Type 0} (truth : Truth) (link : L → Link) (step : L → Exch
             (get_or (with_seats seats workers) i d).bench all.basis w.number w.fresh.none_seen
             w.fresh.none_mine w.left_is
             ∙ ap (first_place o i (slice_index budgets i)) w.bench in
-            subst (λ p. StandsIn truth link step left count files history p
+            subst (λ p. StandsMoved truth link step left count files history p
             (first_place o i (slice_index budgets i) (get_or workers i d).bench)
-            (get_or done i d).told.0 (get_or done i d).bench) (sym there)
+            (get_or workers i d).bench (get_or done i d).told.0 (get_or done i d).bench) (sym there)
+            (subst (λ b. StandsMoved truth link step left count files history h.part
+            (first_place o i (slice_index budgets i) (get_or workers i d).bench) b
+            (get_or done i d).told.0 (get_or done i d).bench) w.bench
             (ended i d h w.fresh w.number from stands (budget_at i part h.part l there)
-            (get_or done i d).ended h.runs)
+            (get_or done i d).ended h.runs))
           where
             budget_at : (i : ℕ) (part there : Part) → i < length parts
                 → get_or parts i part ≡ there
@@ -540,9 +555,10 @@ module _ {T L D : Type 0} (truth : Truth) (link : L → Link) (step : L → Exch
                 → Runs truth link step left count files h.part.replica h.part.lines.0
                 (caller_of home h.before) (get_or (with_seats seats workers) i d).bench
                 (get_or done i d).told.0 end (caller_of home h.after) (get_or done i d).bench
-                → StandsIn truth link step left count files history h.part
+                → StandsMoved truth link step left count files history h.part
                 (first_place o i (slice_index budgets i) (get_or workers i d).bench)
-                (get_or done i d).told.0 (get_or done i d).bench
+                (get_or (with_seats seats workers) i d).bench (get_or done i d).told.0
+                (get_or done i d).bench
             ended i d h fresh number from stands fits (Ok ok) runs =
                 run_stands truth link step left count files history h.part
                 (first_place o i (slice_index budgets i) (get_or workers i d).bench)
@@ -557,6 +573,21 @@ module _ {T L D : Type 0} (truth : Truth) (link : L → Link) (step : L → Exch
                 (subst (λ (w : Workplace L D). DoesAll truth link step left count files h.part.replica w
                 runs.run runs.middle) from runs.does) runs.ends all.basis stands.front)
 
+        -- so it does when it has no seat any more
+        worker_moved : (i : ℕ) (part : Part) (d : Worker T L D) → i < length parts
+            → StandsMoved truth link step left count files history (get_or parts i part)
+            (first_place o i (slice_index budgets i) (get_or workers i d).bench)
+            (get_or workers i d).bench (get_or (map without_seat done) i d).told.0
+            (get_or (map without_seat done) i d).bench
+        worker_moved i part d l =
+            let done_is = done_long in
+            let same : get_or (map without_seat done) i d ≡ without_seat (get_or done i d) =
+            get_or-map without_seat done i d d (omega (arith, l, done_is)) in
+            subst (λ (w : Worker T L D). StandsMoved truth link step left count files history
+            (get_or parts i part)
+            (first_place o i (slice_index budgets i) (get_or workers i d).bench)
+            (get_or workers i d).bench w.told.0 w.bench) (sym same) (worker_stands i part d l)
+
         -- the history with all workers' lines
         pub one_history : HonestIfSeatsAre home back history
             → IsOneHistory truth link step left count files history o parts budgets workers
@@ -569,24 +600,8 @@ module _ {T L D : Type 0} (truth : Truth) (link : L → Link) (step : L → Exch
               (back_keeps told));
           many = length-map done without_seat ∙ done_long ∙ sym all.many;
           whole = all.many;
-          each = λ i part worker l.
-              let done_is = done_long in
-              let same : get_or (map without_seat done) i worker ≡ without_seat (get_or done i worker) =
-              get_or-map without_seat done i worker worker (omega (arith, l, done_is)) in
-              subst (λ (w : Worker T L D). StandsIn truth link step left count files history
-              (get_or parts i part)
-              (first_place o i (slice_index budgets i) (get_or workers i worker).bench) w.told.0
-              w.bench) (sym same) (worker_stands i part worker l);
-          keys = λ i worker l.
-              let done_is = done_long in
-              let whole_is = all.many in
-              let below : i < length parts = omega (arith, l, whole_is) in
-              let w = worked_at i worker below in
-              let same : get_or (map without_seat done) i worker ≡ without_seat (get_or done i worker) =
-              get_or-map without_seat done i worker worker (omega (arith, below, done_is)) in
-              subst (λ (v : Worker T L D). LeavesKeys (get_or workers i worker).bench v.bench)
-              (sym same) (subst (λ (b : BenchState L D). LeavesKeys b (get_or done i worker).bench)
-              w.bench w.has.runs.keys);
+          each = λ i part worker l. (worker_moved i part worker l).stands;
+          keys = λ i part worker l. (worker_moved i part worker l).keys;
           no_other = no_other;
         }
 

@@ -10,7 +10,7 @@ use Rattle.kr_history.specs.declared.call.CallNo.TheVariants as refusal
 use Rattle.kr_rollout.specs.declared.opening.Entry.{Entry}
 use Rattle.kr_rollout.specs.declared.opening.Opening.{Opening}
 use Rattle.kr_history.specs.Acting.{Caller}
-use Rattle.kr_history.specs.Parts.{Adds, IsWithin}
+use Rattle.kr_history.specs.Parts.{Adds, IsPartWithin}
 use Rattle.kr_rewrite.specs.DriveLaws.{LiveAmong}
 use Rattle.kr_rewrite.specs.declared.outcome.Report.{Report}
 use Rattle.kr_rewrite.proofs.Shortness.{drives_need_few}
@@ -18,7 +18,7 @@ use Rattle.kr_script.specs.declared.script.ScriptLine.{ScriptLine}
 use Rattle.kr_script.specs.declared.script.ScriptLine.TheVariants as line
 use Rattle.kr_script.specs.declared.told.Told.{Told}
 use Rattle.kr_workers.specs.declared.files.SettingsFile.{SettingsFile}
-use Rattle.kr_workers.specs.Budgets.{brought_by, budget_of, entries_of, puts_of}
+use Rattle.kr_workers.specs.Budgets.{brought_count, budget_of, line_entries, puts_of}
 use Rattle.kr_workers.specs.Replies.{Reply, told_of_drive, told_of_refusal}
 use Rattle.kr_workers.specs.Runs.{DoesAll, LineDone, lines_in}
 use Rattle.kr_workers.specs.inner.WholeRuns.{IsCutShort}
@@ -90,8 +90,8 @@ module _ {L D : Type 0} (truth : Truth) (link : L → Link) (step : L → Exchan
     bounded : (asked : ScriptLine) (old new : Workplace L D) (reply : Told) (part : List Entry)
         → Does truth link left count files replica asked old (Ok reply) new
         → Adds old.caller part new.caller
-        → IsWithin (entries_of (length part) asked) (brought_by asked) (puts_of asked) part
-        → LiveAmong paths new.caller → length part ≤ entries_of (length paths) asked
+        → IsPartWithin (line_entries (length part) asked) (brought_count asked) (puts_of asked) part
+        → LiveAmong paths new.caller → length part ≤ line_entries (length paths) asked
     bounded (line.Put resource path plain) old new reply part does adds within among = within.few
     bounded (line.Get path) old new reply part does adds within among = within.few
     bounded (line.Delete path) old new reply part does adds within among = within.few
@@ -110,7 +110,7 @@ module _ {L D : Type 0} (truth : Truth) (link : L → Link) (step : L → Exchan
     short : (asked : ScriptLine) (old new : Workplace L D)
         → Does truth link left count files replica asked old (Err (record {})) new
         → IsShortFor asked old.caller → LiveAmong paths new.caller
-        → old.caller.left < entries_of (length paths) asked
+        → old.caller.left < line_entries (length paths) asked
     short (line.Put resource path plain) old new does few among = few
     short (line.Get path) old new does few among = few
     short (line.Delete path) old new does few among = few

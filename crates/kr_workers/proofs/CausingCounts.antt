@@ -27,7 +27,7 @@ use Rattle.kr_script.specs.declared.script.ScriptLine.{ScriptLine}
 use Rattle.kr_script.specs.declared.told.Told.{Told}
 use Rattle.kr_script.specs.declared.told.Told.TheVariants as told
 use Rattle.kr_workers.specs.declared.files.SettingsFile.{SettingsFile}
-use Rattle.kr_workers.specs.Causes.{AreCounted, CountsFaults, StoreFails, has_failed, is_failed, names_dice, names_plugin, names_store}
+use Rattle.kr_workers.specs.Causes.{AreCounted, CountsFaults, StoreFails, has_store_failed, is_failed, names_dice, tells_plugin, names_store}
 use Rattle.kr_workers.specs.Histories.{StandsIn}
 use Rattle.kr_workers.specs.Runs.{DoesAll, LineDone, entries_in, replies_in}
 use Rattle.kr_workers.specs.ScriptLines.{Workplace}
@@ -127,7 +127,7 @@ module _ {L D : Type 0} (link : L → Link) (count : D → ℕ) (asked : ScriptL
   dice_rose told.Memory h e = absurd (false≢true e)
 
   plugin_rose : (name : List ℕ) (reply : Told) → HasCauseAt link count asked old reply new
-      → names_plugin name reply ≡ true → FaultRose link name old.links new.links
+      → tells_plugin name reply ≡ true → FaultRose link name old.links new.links
   plugin_rose name (told.Put revision) h e = absurd (false≢true e)
   plugin_rose name (told.Got revision plain) h e = absurd (false≢true e)
   plugin_rose name (told.Deleted revision) h e = absurd (false≢true e)
@@ -179,7 +179,7 @@ module _ {L D : Type 0} (link : L → Link) (count : D → ℕ) (asked : ScriptL
 
 -- of a part, where a line's reply names the store
 failed_in : (old new : Caller) (part : List Entry) → Adds old part new
-    → StoreFails old new.seen → 1 ≤ count_by has_failed part
+    → StoreFails old new.seen → 1 ≤ count_by has_store_failed part
 failed_in old new part a f =
     let own : Entry → Bool = λ e. seat_of e == old.seat in
     let more_is : a.more ≡ f.before ++ f.entry ∷ f.behind =
@@ -192,14 +192,14 @@ failed_in old new part a f =
     let part_is : part ≡ filter own f.before ++ f.entry ∷ filter own f.behind =
     sym a.own ∙ ap (filter own) more_is ∙ filter-append own f.before (f.entry ∷ f.behind)
     ∙ ap (λ l. filter own f.before ++ l) here in
-    let whole : count_by has_failed part ≡ count_by has_failed (filter own f.before)
-    + count_by has_failed (f.entry ∷ filter own f.behind) = ap (count_by has_failed) part_is
-    ∙ sum_by-append (λ (e : Entry). cond (has_failed e) 1 0) (filter own f.before)
+    let whole : count_by has_store_failed part ≡ count_by has_store_failed (filter own f.before)
+    + count_by has_store_failed (f.entry ∷ filter own f.behind) = ap (count_by has_store_failed) part_is
+    ∙ sum_by-append (λ (e : Entry). cond (has_store_failed e) 1 0) (filter own f.before)
     (f.entry ∷ filter own f.behind) in
-    let first : count_by has_failed (f.entry ∷ filter own f.behind)
-    ≡ cond (has_failed f.entry) 1 0 + count_by has_failed (filter own f.behind) =
-    sum_by-cons (λ (e : Entry). cond (has_failed e) 1 0) f.entry (filter own f.behind) in
-    let failed : cond (has_failed f.entry) 1 0 ≡ 1 =
+    let first : count_by has_store_failed (f.entry ∷ filter own f.behind)
+    ≡ cond (has_store_failed f.entry) 1 0 + count_by has_store_failed (filter own f.behind) =
+    sum_by-cons (λ (e : Entry). cond (has_store_failed e) 1 0) f.entry (filter own f.behind) in
+    let failed : cond (has_store_failed f.entry) 1 0 ≡ 1 =
     ap {B = ℕ} (λ g. cond (is_failed g) 1 0) f.says in
     omega (arith, whole, first, failed)
 
@@ -229,28 +229,28 @@ module _ {L D : Type 0} (truth : Truth) (link : L → Link) (step : L → Exchan
 
   stores_counted : (first : Workplace L D) (run : List LineDone) (last : Workplace L D)
       → DoesAll truth link step left count files replica first run last
-      → count_by names_store (replies_in run) ≤ count_by has_failed (entries_in run)
+      → count_by names_store (replies_in run) ≤ count_by has_store_failed (entries_in run)
   stores_counted first [] last same = omega arith
   stores_counted first (done ∷ run) last all =
       let next : Workplace L D = all.0 in
-      let named : names_store done.reply ≡ true → 1 ≤ count_by has_failed done.part =
+      let named : names_store done.reply ≡ true → 1 ≤ count_by has_store_failed done.part =
       λ is. failed_in first.caller next.caller done.part all.1.adds
       (store_fails link count done.line first next done.reply
       (line_caused truth link left count files replica done.line first next done.reply
       all.1.does) is) in
       let most : cond (names_store done.reply) 1 0 + count_by names_store (replies_in run)
-      ≤ count_by has_failed done.part + count_by has_failed (entries_in run) =
+      ≤ count_by has_store_failed done.part + count_by has_store_failed (entries_in run) =
       stores_more (names_store done.reply) (count_by names_store (replies_in run))
-      (count_by has_failed done.part) (count_by has_failed (entries_in run)) named
+      (count_by has_store_failed done.part) (count_by has_store_failed (entries_in run)) named
       (stores_counted next run last all.2) in
       let more_told : count_by names_store (done.reply ∷ replies_in run)
       ≡ cond (names_store done.reply) 1 0 + count_by names_store (replies_in run) =
       sum_by-cons (λ (t : Told). cond (names_store t) 1 0) done.reply (replies_in run) in
-      let added : count_by has_failed (done.part ++ entries_in run)
-      ≡ count_by has_failed done.part + count_by has_failed (entries_in run) =
-      sum_by-append (λ (e : Entry). cond (has_failed e) 1 0) done.part (entries_in run) in
+      let added : count_by has_store_failed (done.part ++ entries_in run)
+      ≡ count_by has_store_failed done.part + count_by has_store_failed (entries_in run) =
+      sum_by-append (λ (e : Entry). cond (has_store_failed e) 1 0) done.part (entries_in run) in
       let all_told : count_by names_store (done.reply ∷ replies_in run)
-      ≤ count_by has_failed (done.part ++ entries_in run) =
+      ≤ count_by has_store_failed (done.part ++ entries_in run) =
       omega (arith, most, more_told, added) in
       all_told
 
@@ -258,7 +258,7 @@ module _ {L D : Type 0} (truth : Truth) (link : L → Link) (step : L → Exchan
       → DoesAll truth link step left count files replica first run last → AreDistinct link first.links
       → (at : ℕ) (it now : L) → slice_get first.links at ≡ Some it
       → slice_get last.links at ≡ Some now
-      → CountsFaults (count_by (names_plugin (link it).name) (replies_in run)) (link it).count
+      → CountsFaults (count_by (tells_plugin (link it).name) (replies_in run)) (link it).count
       (link now).count
   plugins_counted first [] last same d at it now it_is now_is = λ small.
       let e : it ≡ now = same_Some it now (sym it_is
@@ -268,17 +268,17 @@ module _ {L D : Type 0} (truth : Truth) (link : L → Link) (step : L → Exchan
       let next : Workplace L D = all.0 in
       let names = names_of link first.links in
       let m = still_there link names first.links next.links it at all.1.asked_only it_is in
-      let rest : CountsFaults (count_by (names_plugin (link it).name) (replies_in run))
+      let rest : CountsFaults (count_by (tells_plugin (link it).name) (replies_in run))
       (link m.0).count (link now).count =
-      subst (λ n. CountsFaults (count_by (names_plugin n) (replies_in run)) (link m.0).count
+      subst (λ n. CountsFaults (count_by (tells_plugin n) (replies_in run)) (link m.0).count
       (link now).count) m.2.name
       (plugins_counted next run last all.2
       (distinct_stay link names first.links next.links all.1.asked_only d) at m.0 now m.1 now_is) in
       subst (λ n. CountsFaults n (link it).count (link now).count)
-      (sym (sum_by-cons (λ (t : Told). cond (names_plugin (link it).name t) 1 0) done.reply
+      (sym (sum_by-cons (λ (t : Told). cond (tells_plugin (link it).name t) 1 0) done.reply
       (replies_in run)))
-      (counts_more (names_plugin (link it).name done.reply)
-      (count_by (names_plugin (link it).name) (replies_in run)) (link it).count (link m.0).count
+      (counts_more (tells_plugin (link it).name done.reply)
+      (count_by (tells_plugin (link it).name) (replies_in run)) (link it).count (link m.0).count
       (link now).count
       (λ is. rose_there link names first.links next.links it m.0 at all.1.asked_only d it_is m.1 m.2
       (plugin_rose link count done.line first next (link it).name done.reply
@@ -301,7 +301,7 @@ often_caused {L} {D} truth link step left count files history part first replies
     (subst (λ (d : D). AreCounted link count (replies_in stands.run) its first.links first.dice
     stands.last.links d) (sym stands.dice_are) (record {
       stored = subst (λ (es : List Entry). count_by names_store (replies_in stands.run)
-          ≤ count_by has_failed es) stands.parts_are
+          ≤ count_by has_store_failed es) stands.parts_are
           (stores_counted truth link step left count files part.replica first stands.run stands.last
           stands.does);
       drawn = dice_counted truth link step left count files part.replica first stands.run stands.last

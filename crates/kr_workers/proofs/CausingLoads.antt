@@ -2,7 +2,7 @@
 use Rattle.std.proofs.Common.{◌≡◌, ℕ, List, [], ◌∷◌, ◌++◌, Option, None, Some, Result, Ok, Err, inl, inr, refl, ap, sym, subst, ◌∙◌, arith}
 use Rattle.std.proofs.lemmas.Bool.{false≢true}
 use Rattle.std.proofs.lemmas.List.{append_assoc}
-use Rattle.kr_config.specs.Kept.{Row}
+use Rattle.kr_config.specs.Kept.{ConfigEntry}
 use Rattle.kr_kms.specs.Calls.{Link}
 use Rattle.kr_kms.specs.Truth.{Truth}
 use Rattle.kr_kms.specs.declared.health.Field.{Field}
@@ -37,7 +37,7 @@ module _ {L D : Type 0} (truth : Truth) (link : L → Link) (left : D → Option
     (count : D → ℕ) where
   -- what is published and brought, at lines that ask plugins, draw and may want memory, and that
   -- may tell an unhealthy plugin and a replica that isn't in
-  record MayBring (asked : ScriptLine) : Type 0 where
+  record MayBringFile (asked : ScriptLine) : Type 0 where
     asks : AsksPlugins asked
     draws : DrawsBytes asked
     wants : TakesMemory asked
@@ -45,7 +45,7 @@ module _ {L D : Type 0} (truth : Truth) (link : L → Link) (left : D → Option
     unhealthy : (name : List ℕ) (field : Field) (text : List ℕ)
         → IsDefined asked (told.Unhealthy name field text)
 
-  brings_caused : (asked : ScriptLine) → MayBring asked → (rows : List Row)
+  brings_caused : (asked : ScriptLine) → MayBringFile asked → (rows : List ConfigEntry)
       (brings : Publication → Event) (replica : ℕ) (old new : Caller) (olds news : List L)
       (dice after : D) (why : CallNo)
       → BringsBy truth link left count rows brings replica old olds dice why new news after
@@ -73,7 +73,7 @@ module _ {L D : Type 0} (truth : Truth) (link : L → Link) (left : D → Option
 
   -- ---- a reload
 
-  reload_caused : (named : ℕ) (file : List ℕ) (rows : List Row) (old new : Workplace L D)
+  reload_caused : (named : ℕ) (file : List ℕ) (rows : List ConfigEntry) (old new : Workplace L D)
       (reply : Told) (result : Result Loaded CallNo)
       → Ok reply ≡ told_of_reload old.caller.seat result
       → IsReload truth link left count rows named old.caller old.links old.dice result new.caller
@@ -103,7 +103,7 @@ module _ {L D : Type 0} (truth : Truth) (link : L → Link) (left : D → Option
       }) rows (reload_of named None) named old.caller new.caller old.links new.links old.dice
       new.dice why r)
 
-  pub reloaded_caused : (named : ℕ) (file : List ℕ) (found : Option (List Row))
+  pub reloaded_caused : (named : ℕ) (file : List ℕ) (found : Option (List ConfigEntry))
       (old new : Workplace L D) (reply : Told)
       → IfRead found (λ rows. DoesReload truth link left count named rows old (Ok reply) new)
       → HasCauseAt link count (line.Reload named file) old reply new
@@ -115,7 +115,7 @@ module _ {L D : Type 0} (truth : Truth) (link : L → Link) (left : D → Option
 
   -- ---- a join
 
-  joins_caused : (named : ℕ) (file : List ℕ) (rows : List Row) (old new : Caller)
+  joins_caused : (named : ℕ) (file : List ℕ) (rows : List ConfigEntry) (old new : Caller)
       (olds news : List L) (dice after : D) (why : CallNo)
       → IsJoin truth link left count rows named old olds dice (Err why) new news after
       → Causes link count (line.Join named file) old olds dice why new news after
@@ -131,7 +131,7 @@ module _ {L D : Type 0} (truth : Truth) (link : L → Link) (left : D → Option
   joins_caused named file rows old new olds news dice after refusal.Spent b = tt
   joins_caused named file rows old new olds news dice after refusal.NoMemory b = tt
 
-  join_caused : (named : ℕ) (file : List ℕ) (rows : List Row) (old new : Workplace L D)
+  join_caused : (named : ℕ) (file : List ℕ) (rows : List ConfigEntry) (old new : Workplace L D)
       (reply : Told) (result : Result Joining CallNo)
       → Ok reply ≡ told_of_join old.caller.seat result
       → IsJoin truth link left count rows named old.caller old.links old.dice result new.caller
@@ -159,7 +159,7 @@ module _ {L D : Type 0} (truth : Truth) (link : L → Link) (left : D → Option
       (joins_caused named file rows old.caller new.caller old.links new.links old.dice new.dice
       why j)
 
-  pub joined_caused : (named : ℕ) (file : List ℕ) (found : Option (List Row))
+  pub joined_caused : (named : ℕ) (file : List ℕ) (found : Option (List ConfigEntry))
       (old new : Workplace L D) (reply : Told)
       → IfRead found (λ rows. DoesJoin truth link left count named rows old (Ok reply) new)
       → HasCauseAt link count (line.Join named file) old reply new

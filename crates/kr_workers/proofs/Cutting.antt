@@ -1,6 +1,6 @@
 -- A call is cut short only where its seat may add fewer lines than the call may need.
 use Rattle.std.proofs.Common.{◌≡◌, ℕ, ◌<◌, ◌≤◌, ◌+◌, List, Option, Result, Ok, Err, inl, inr, ap, sym, subst, arith}
-use Rattle.kr_config.specs.Kept.{Row}
+use Rattle.kr_config.specs.Kept.{ConfigEntry}
 use Rattle.kr_kms.specs.Calls.{Link}
 use Rattle.kr_kms.specs.Truth.{Truth}
 use Rattle.kr_provider.specs.Publication.{Publication}
@@ -161,7 +161,7 @@ module _ {D : Type 0} (left : D → Option (List ℕ)) (count : D → ℕ)
 
 module _ {L D : Type 0} (truth : Truth) (link : L → Link) (left : D → Option (List ℕ))
     (count : D → ℕ) where
-  pub reload_spent : (rows : List Row) (replica : ℕ) (old : Caller) (olds : List L) (dice : D)
+  pub reload_spent : (rows : List ConfigEntry) (replica : ℕ) (old : Caller) (olds : List L) (dice : D)
       (new : Caller) (news : List L) (after : D) (result : Result Loaded CallNo)
       → IsReload truth link left count rows replica old olds dice result new news after
       → result ≡ Err refusal.Spent → old.left < 1
@@ -170,7 +170,7 @@ module _ {L D : Type 0} (truth : Truth) (link : L → Link) (left : D → Option
       IsReload truth link left count rows replica old olds dice r new news after) e is in
       omega (arith, d.1.spent)
 
-  pub join_spent : (rows : List Row) (replica : ℕ) (old : Caller) (olds : List L) (dice : D)
+  pub join_spent : (rows : List ConfigEntry) (replica : ℕ) (old : Caller) (olds : List L) (dice : D)
       (new : Caller) (news : List L) (after : D) (result : Result Joining CallNo)
       → IsJoin truth link left count rows replica old olds dice result new news after
       → result ≡ Err refusal.Spent → old.left < 1
@@ -179,7 +179,7 @@ module _ {L D : Type 0} (truth : Truth) (link : L → Link) (left : D → Option
       IsJoin truth link left count rows replica old olds dice r new news after) e is in
       omega (arith, d.1.spent)
 
-  brings_one : (rows : List Row) (brings : Publication → Event) (replica : ℕ) (old : Caller)
+  brings_one : (rows : List ConfigEntry) (brings : Publication → Event) (replica : ℕ) (old : Caller)
       (olds : List L) (dice : D) (why : CallNo) (new : Caller) (news : List L) (after : D)
       → BringsBy truth link left count rows brings replica old olds dice why new news after
       → old.left ≤ new.left + 1

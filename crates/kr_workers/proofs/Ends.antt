@@ -6,7 +6,7 @@ use Rattle.std.proofs.lemmas.Option.{same_Some}
 use Rattle.kr_script.specs.declared.told.Told.{Told}
 use Rattle.kr_workers.specs.declared.ending.Ending.{Ending}
 use Rattle.kr_workers.specs.declared.ending.Ending.TheVariants as ending
-use Rattle.kr_workers.specs.Endings.{EndingsAreTold, HasReplyOf, first_of, is_same, kind_of, kinds, some_is}
+use Rattle.kr_workers.specs.Endings.{EndingsAreTold, HasReplyOf, first_ending, is_same, reply_ending, kinds, some_is}
 
 -- ---- kinds
 
@@ -101,7 +101,7 @@ there_any test (y ∷ xs) (suc at) x is e =
 
 module _ (kind : Ending) (replies : List (List Told × ℕ)) where
   abbrev of_kind : Told → Bool
-  of_kind reply = is_same (kind_of reply) kind
+  of_kind reply = is_same (reply_ending reply) kind
 
   abbrev has_kind : List Told × ℕ → Bool
   has_kind told = list_any of_kind told.0
@@ -116,7 +116,7 @@ module _ (kind : Ending) (replies : List (List Told × ℕ)) where
         reply = reply.it;
         told_is = told.it_is;
         reply_is = reply.it_is;
-        kind_is = same_kind (kind_of reply.it) kind reply.passes;
+        kind_is = same_kind (reply_ending reply.it) kind reply.passes;
       }
 
   there_some : HasReplyOf kind replies → some_is kind replies ≡ true
@@ -128,14 +128,14 @@ module _ (kind : Ending) (replies : List (List Told × ℕ)) where
 
 first_by : (kind : Ending) (others : List Ending) (replies : List (List Told × ℕ)) (here : Bool)
     → some_is kind replies ≡ here
-    → (first_of others replies ≢ ending.Done → HasReplyOf (first_of others replies) replies)
-    → (if here then kind else first_of others replies) ≢ ending.Done
-    → HasReplyOf (if here then kind else first_of others replies) replies
+    → (first_ending others replies ≢ ending.Done → HasReplyOf (first_ending others replies) replies)
+    → (if here then kind else first_ending others replies) ≢ ending.Done
+    → HasReplyOf (if here then kind else first_ending others replies) replies
 first_by kind others replies true e rest other = some_there kind replies e
 first_by kind others replies false e rest other = rest other
 
 first_told : (others : List Ending) (replies : List (List Told × ℕ))
-    → first_of others replies ≢ ending.Done → HasReplyOf (first_of others replies) replies
+    → first_ending others replies ≢ ending.Done → HasReplyOf (first_ending others replies) replies
 first_told [] replies other = absurd (other refl)
 first_told (kind ∷ others) replies other = first_by kind others replies (some_is kind replies) refl
     (first_told others replies) other
@@ -146,13 +146,13 @@ AllElse others = (kind : Ending) → Contains others kind → kind ≢ ending.Do
 
 none_by : (kind : Ending) (others : List Ending) (replies : List (List Told × ℕ)) (here : Bool)
     → some_is kind replies ≡ here → kind ≢ ending.Done
-    → (if here then kind else first_of others replies) ≡ ending.Done
-    → (some_is kind replies ≡ true → ⊥) × (first_of others replies ≡ ending.Done)
+    → (if here then kind else first_ending others replies) ≡ ending.Done
+    → (some_is kind replies ≡ true → ⊥) × (first_ending others replies ≡ ending.Done)
 none_by kind others replies true e other done = absurd (other done)
 none_by kind others replies false e other done = (λ t. absurd (false≢true (sym e ∙ t)), done)
 
 none_there : (others : List Ending) (replies : List (List Told × ℕ)) → AllElse others
-    → first_of others replies ≡ ending.Done → (kind : Ending) → Contains others kind
+    → first_ending others replies ≡ ending.Done → (kind : Ending) → Contains others kind
     → some_is kind replies ≡ true → ⊥
 none_there [] replies apart done kind c t = absurd (omega (arith, c.1))
 none_there (one ∷ others) replies apart done kind (zero, l, e) t =

@@ -29,7 +29,7 @@ use Rattle.kr_script.specs.declared.script.ScriptLine.TheVariants as line
 use Rattle.kr_script.specs.declared.told.Told.{Told}
 use Rattle.kr_script.specs.declared.told.Told.TheVariants as told
 use Rattle.kr_workers.specs.declared.files.SettingsFile.{SettingsFile}
-use Rattle.kr_workers.specs.Gets.{FetchesWhere, GetsTellContent, IsHeardContent, TellsContent, heard_by}
+use Rattle.kr_workers.specs.Gets.{FetchesWhere, GetsTellContent, IsHeardContent, TellsGotContent, heard_by}
 use Rattle.kr_workers.specs.Heard.{AgreesWithHeard, Heard}
 use Rattle.kr_workers.specs.LineExchanges.{DoesBy}
 use Rattle.kr_workers.specs.Replies.{Reply, told_of_read, told_of_refusal}
@@ -93,7 +93,7 @@ module _ (seat : ℕ) where
 
 module _ (history : List Entry) (seat : ℕ) (path : List ℕ) (ahead part : List Entry) where
   -- a line has one Fetch alone, so what holds before it holds together
-  both_hold : {First Both : (front : List Entry) → (fetch : Entry) → Type 0}
+  pub both_hold : {First Both : (front : List Entry) → (fetch : Entry) → Type 0}
       {Second : List Entry → Type 0}
       → ((front : List Entry) (fetch : Entry) → First front fetch → Second front
       → Both front fetch) → FetchesWhere history seat path ahead part First
@@ -204,7 +204,7 @@ module _ (history : List Entry) (o : Opening) (seat : ℕ) (ahead part : List En
   -- with all else that the reply tells
   all_told : (truth : Truth) (reply : Told)
       → ToldContent truth o history seat path ahead part reply → HeardContent reply
-      → TellsContent truth heard o history seat path ahead part reply
+      → TellsGotContent truth heard o history seat path ahead part reply
   all_told truth (told.Got revision plain) t h = both_hold history seat path ahead part
       {Second = λ front. IsHeardContent heard o path (data_of plain) front}
       (λ front fetch first second. (first.0, first.1, second)) t h

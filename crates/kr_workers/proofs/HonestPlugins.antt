@@ -20,7 +20,7 @@ use Rattle.kr_kms.proofs.Keys.{same_key}
 use Rattle.kr_provider.specs.Envelopes.{Envelope, HasEnvelope, HasObject, seed_key}
 use Rattle.kr_provider.specs.Publication.{Publication, SeedOpens, list_at, seed_of}
 use Rattle.kr_provider.specs.Readers.{reader_in}
-use Rattle.kr_provider.specs.Unsealing.{HasNoSource, IsSeedOf, MayAsk, MayAskFor, TakesSeed}
+use Rattle.kr_provider.specs.Unsealing.{HasNoSource, IsSeedOf, MayAskPlugin, MayAskFor, TakesSeed}
 use Rattle.kr_opening.specs.declared.generation.Generation.{Generation}
 use Rattle.kr_rollout.specs.declared.line.Did.{Did}
 use Rattle.kr_rollout.specs.declared.line.Did.TheVariants.{Adopt, Fetch, After, Put, Delete, Replace, LetGo, Reload, Join, Leave}
@@ -193,7 +193,7 @@ module _ (opens : Opens) (seeds : List SeedRow) where
     pub envelope_known : (reader : Option Who) (envelope : Envelope)
         → HasObject reader bytes envelope.object → TakesSeed seeds reader envelope
         → HasNoSource envelope → ReaderOpens opens seeds reader
-        → (MayAsk seeds reader envelope.object → HasEnvelope opens reader bytes envelope)
+        → (MayAskPlugin seeds reader envelope.object → HasEnvelope opens reader bytes envelope)
         → HasEnvelope opens reader bytes envelope
     envelope_known None envelope has takes none opened asked = tt
     envelope_known (Some Identity) envelope has takes none opened asked = tt
@@ -206,7 +206,7 @@ module _ (opens : Opens) (seeds : List SeedRow) where
             → HasObject (Some (Kms name)) bytes object
             → TakesSeed seeds (Some (Kms name)) (record { object = object; source = source })
             → HasNoSource (record { object = object; source = source })
-            → (MayAsk seeds (Some (Kms name)) object → HasEnvelope opens (Some (Kms name)) bytes
+            → (MayAskPlugin seeds (Some (Kms name)) object → HasEnvelope opens (Some (Kms name)) bytes
             (record { object = object; source = source }))
             → HasEnvelope opens (Some (Kms name)) bytes
             (record { object = object; source = source })

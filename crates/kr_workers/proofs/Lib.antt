@@ -4,6 +4,7 @@ pub mod Telling
 pub mod Cutting
 pub mod OneLine
 pub mod Making
+pub mod MovedKeys
 pub mod AllLines
 pub mod Shaping
 pub mod ShapingLoads

@@ -26,7 +26,7 @@ use Rattle.kr_rollout.specs.Histories.{IsLegal, state_of}
 use Rattle.kr_history.specs.Parts.{written_put, written_puts}
 use Rattle.kr_rollout.proofs.Appending.{front_law}
 use Rattle.kr_history.proofs.LivePuts.{live_was_put}
-use Rattle.kr_history.proofs.PartsAdd.{parts_add_up}
+use Rattle.kr_history.proofs.PartsAdd.{parts_sum_to_whole}
 use Rattle.kr_rewrite.specs.DriveLaws.{LiveAmong}
 use Rattle.kr_script.specs.declared.script.Part.{Part}
 use Rattle.kr_script.specs.declared.script.ScriptLine.{ScriptLine}
@@ -226,7 +226,7 @@ module _ (path resource plain : List ℕ) where
     of_run first [] last same c = absurd (none_there this_put c)
     of_run first (done ∷ run) last does c =
         by (Contains-append_cases (written_puts done.part) (written_puts (entries_in run)) this_put
-        (subst (λ ps. Contains ps this_put) (parts_add_up.puts done.part (entries_in run)) c))
+        (subst (λ ps. Contains ps this_put) (parts_sum_to_whole.puts done.part (entries_in run)) c))
         (of_run does.0 run last does.2)
       where
         by : Contains (written_puts done.part) this_put
@@ -263,7 +263,7 @@ module _ (path resource plain : List ℕ) where
           ∙ ap (λ l. l ++ entries_in run) none) in
           let puts : written_puts new.mine
           ≡ written_puts (entries_in run) ++ written_puts cut.part =
-          ap written_puts mine ∙ parts_add_up.puts (entries_in run) cut.part in
+          ap written_puts mine ∙ parts_sum_to_whole.puts (entries_in run) cut.part in
           subst (λ ls. Contains ls path)
           (sym (ap paths_put cut.lines_are ∙ paths_joined (lines_in run) (cut.line ∷ cut.rest)))
           (by (Contains-append_cases (written_puts (entries_in run)) (written_puts cut.part)
@@ -319,6 +319,6 @@ module _ (o : Opening) (history : List Entry) (listing : List Row) (puts : List 
           (lists.whole path found.0 found.1)))
       by (inr put) = Contains-append_right (map (λ (row : Row). row.path) listing) puts path
           (known path put.0 put.1 (subst (λ ps. Contains ps (did.Put path put.0 put.1))
-          (sym (ap written_puts is ∙ parts_add_up.puts before rest))
+          (sym (ap written_puts is ∙ parts_sum_to_whole.puts before rest))
           (Contains-append_left (written_puts before) (written_puts rest)
           (did.Put path put.0 put.1) put.2)))

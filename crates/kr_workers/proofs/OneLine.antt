@@ -1,18 +1,17 @@
 -- One line: what its call does is what the line does.
 use Rattle.std.proofs.Common.{◌≡◌, ℕ, ◌≤◌, ◌+◌, ◌*◌, length, List, [], ◌∷◌, Option, None, Some, Result, Ok, Err, inl, inr, refl, ap, sym, subst, ◌∙◌, arith}
 use Rattle.std.proofs.lemmas.Option.{same_Some}
-use Rattle.kr_config.specs.Kept.{Row, plugins_in}
-use Rattle.kr_base.specs.Walks.{Talk}
+use Rattle.kr_config.specs.Kept.{ConfigEntry, plugins_in}
+use Rattle.kr_base.specs.Walks.{Talk, Walk}
 use Rattle.kr_kms.specs.Calls.{Link}
 use Rattle.kr_kms.specs.Exchanges.{Exchange}
 use Rattle.kr_kms.specs.Truth.{Truth}
 use Rattle.kr_provider.specs.AskedLinks.{Among, AskedOnly}
-use Rattle.kr_provider.specs.BenchKeys.{LeavesKeys}
+use Rattle.kr_provider.specs.BenchKeys.{adoption_of}
 use Rattle.kr_provider.specs.BenchState.{BenchState}
 use Rattle.kr_provider.specs.KeyPages.{size_of}
 use Rattle.kr_provider.specs.Names.{names_of}
 use Rattle.kr_provider.proofs.AskedLists.{asked_none}
-use Rattle.kr_provider.proofs.LeftKeys.{leaves_same}
 use Rattle.kr_history.specs.declared.call.CallNo.{CallNo}
 use Rattle.kr_history.specs.declared.call.CallNo.TheVariants as refusal
 use Rattle.kr_rollout.specs.Openings.{NamesAmong}
@@ -20,6 +19,7 @@ use Rattle.kr_rollout.specs.declared.line.Did.TheVariants as did
 use Rattle.kr_history.specs.Acting.{Caller}
 use Rattle.kr_rollout.specs.Callers.{holding}
 use Rattle.kr_history.specs.Calls.{IsIdle, KeepsHonesty, KeepsToldHonesty}
+use Rattle.kr_history.specs.KeyMoments.{Happens, call_moments}
 use Rattle.kr_history.specs.Parts.{AddsWithin}
 use Rattle.kr_history.proofs.PartsAdd.{parts_follow}
 use Rattle.kr_fleet.specs.declared.outcome.Joining.{Joining}
@@ -43,6 +43,8 @@ use Rattle.kr_workers.specs.Replies.{Reply, told_of_delete, told_of_drive, told_
 use Rattle.kr_history.proofs.AskedReaders.{asked_all}
 use Rattle.kr_workers.specs.ScriptLines.{Does, DoesJoin, DoesReload, IfRead}
 use Rattle.kr_workers.specs.inner.Serving.{AddsFor, EndsFor, IsIdleAt, Serves, place_of}
+use Rattle.kr_workers.specs.LineMoments.{adopts_published}
+use Rattle.kr_workers.proofs.MovedKeys.{moves_nothing}
 use Rattle.kr_workers.proofs.Cutting.{delete_spent, join_spent, leave_spent, read_spent, refresh_spent, reload_spent, write_spent}
 use Rattle.kr_workers.proofs.Telling.{ends_delete, ends_drive, ends_join, ends_leave, ends_read, ends_refresh, ends_reload, ends_write, idle_always, idle_drive, idle_read, idle_refresh, idle_write}
 
@@ -104,7 +106,7 @@ module _ {L D : Type 0} (truth : Truth) (link : L → Link) (step : L → Exchan
     asked_only = asked_none link (names_of link b.links) b.links;
     later = omega arith;
     pages = refl;
-    keys = leaves_same b b refl refl;
+    keys = moves_nothing (adopts_published asked) c (adoption_of b) idle;
   }
 
   module _ (old new : Caller) (b after : BenchState L D) (reply : Reply) where
@@ -113,7 +115,8 @@ module _ {L D : Type 0} (truth : Truth) (link : L → Link) (step : L → Exchan
         → IsWrite left count resource path plain replica old b.dice result new after.dice
         → AddsWithin 3 0 (did.Put path resource plain ∷ []) old new → KeepsHonesty old new
         → IsIdle result new → after.links ≡ b.links → count b.dice ≤ count after.dice
-        → size_of after.pages ≡ size_of b.pages → after.cache ≡ b.cache → LeavesKeys b after
+        → size_of after.pages ≡ size_of b.pages → after.cache ≡ b.cache
+        → Walk Happens (adoption_of b) (call_moments old new) (adoption_of after)
         → Serves truth link step left count files replica (line.Put resource path plain) old b reply new
         after
     serves_put resource path plain result is does adds honest idle links later pages cache keys = record {
@@ -139,7 +142,8 @@ module _ {L D : Type 0} (truth : Truth) (link : L → Link) (step : L → Exchan
         → AskedOnly link (names_of link b.links) b.links after.links → after.dice ≡ b.dice
         → size_of after.pages ≡ size_of b.pages
         → Talk (Among step) b.links after.links
-        (IsReadBy path replica old b.cache result new after.cache) → LeavesKeys b after
+        (IsReadBy path replica old b.cache result new after.cache)
+        → Walk Happens (adoption_of b) (call_moments old new) (adoption_of after)
         → Serves truth link step left count files replica (line.Get path) old b reply new after
     serves_get path result is does adds honest idle asked dice pages talk keys = record {
       does = (result, is, does, dice);
@@ -167,7 +171,8 @@ module _ {L D : Type 0} (truth : Truth) (link : L → Link) (step : L → Exchan
         → count b.dice ≤ count after.dice
         → after ≡ record b { links = after.links; dice = after.dice }
         → Talk (Among step) b.links after.links
-        (IsRefreshBy left count replica old b.dice result new after.dice) → LeavesKeys b after
+        (IsRefreshBy left count replica old b.dice result new after.dice)
+        → adoption_of after ≡ adoption_of b
         → Serves truth link step left count files replica line.Refresh old b reply new after
     serves_refresh result is does adds honest idle asked later kept talk keys = record {
       does = (result, is, does);
@@ -205,7 +210,7 @@ module _ {L D : Type 0} (truth : Truth) (link : L → Link) (step : L → Exchan
         → count b.dice ≤ count after.dice → size_of after.pages ≡ size_of b.pages
         → Talk (Among step) b.links after.links
         (IsDriveBy left count replica [] old b.cache b.dice result new after.cache after.dice)
-        → LeavesKeys b after
+        → Walk Happens (adoption_of b) (call_moments old new) (adoption_of after)
         → Serves truth link step left count files replica line.Rewrite old b reply new after
     serves_rewrite result is does honest idle asked later pages talk keys = record {
       does = (result, is, does);
@@ -224,7 +229,7 @@ module _ {L D : Type 0} (truth : Truth) (link : L → Link) (step : L → Exchan
       keys = keys;
     }
 
-    pub serves_reload : (named : ℕ) (file : List ℕ) (rows : List Row)
+    pub serves_reload : (named : ℕ) (file : List ℕ) (rows : List ConfigEntry)
         (result : Result Loaded CallNo) → rows_at files file ≡ Some rows
         → reply ≡ told_of_reload old.seat result
         → IsReload truth link left count rows named old b.links b.dice result new after.links
@@ -237,14 +242,14 @@ module _ {L D : Type 0} (truth : Truth) (link : L → Link) (step : L → Exchan
         → Serves truth link step left count files replica (line.Reload named file) old b reply new after
     serves_reload named file rows result read is does adds honest idle asked later kept talk =
         record {
-          does = subst (λ (r : Option (List Row)). IfRead r (λ rows.
+          does = subst (λ (r : Option (List ConfigEntry)). IfRead r (λ rows.
               DoesReload truth link left count named rows (place_of old b) reply
               (place_of new after)))
               (sym read) (inr (result, is, does, asked));
           asks = record {
             steps = talk.steps;
             walk = talk.walk;
-            are = subst (λ (r : Option (List Row)). IfRead r (λ rows.
+            are = subst (λ (r : Option (List ConfigEntry)). IfRead r (λ rows.
                 DoesReloadBy left count named rows (place_of old b) reply (place_of new after)
                 talk.steps)) (sym read)
                 (inr (result, is, talk.are, ap (λ (s : BenchState L D). s.cache) kept));
@@ -259,11 +264,10 @@ module _ {L D : Type 0} (truth : Truth) (link : L → Link) (step : L → Exchan
           asked_only = asked_all link (plugins_in rows) b.links after.links asked;
           later = later;
           pages = ap (λ (s : BenchState L D). size_of s.pages) kept;
-          keys = leaves_same b after (ap (λ (s : BenchState L D). s.published) kept)
-              (ap (λ (s : BenchState L D). s.pages) kept);
+          keys = ap (λ (s : BenchState L D). adoption_of s) kept;
         }
 
-    pub serves_join : (named : ℕ) (file : List ℕ) (rows : List Row)
+    pub serves_join : (named : ℕ) (file : List ℕ) (rows : List ConfigEntry)
         (result : Result Joining CallNo) → rows_at files file ≡ Some rows
         → reply ≡ told_of_join old.seat result
         → IsJoin truth link left count rows named old b.links b.dice result new after.links
@@ -276,14 +280,14 @@ module _ {L D : Type 0} (truth : Truth) (link : L → Link) (step : L → Exchan
         → Serves truth link step left count files replica (line.Join named file) old b reply new after
     serves_join named file rows result read is does adds honest idle asked later kept talk =
         record {
-          does = subst (λ (r : Option (List Row)). IfRead r (λ rows.
+          does = subst (λ (r : Option (List ConfigEntry)). IfRead r (λ rows.
               DoesJoin truth link left count named rows (place_of old b) reply
               (place_of new after)))
               (sym read) (inr (result, is, does, asked));
           asks = record {
             steps = talk.steps;
             walk = talk.walk;
-            are = subst (λ (r : Option (List Row)). IfRead r (λ rows.
+            are = subst (λ (r : Option (List ConfigEntry)). IfRead r (λ rows.
                 DoesJoinBy left count named rows (place_of old b) reply (place_of new after)
                 talk.steps)) (sym read)
                 (inr (result, is, talk.are, ap (λ (s : BenchState L D). s.cache) kept));
@@ -298,8 +302,7 @@ module _ {L D : Type 0} (truth : Truth) (link : L → Link) (step : L → Exchan
           asked_only = asked_all link (plugins_in rows) b.links after.links asked;
           later = later;
           pages = ap (λ (s : BenchState L D). size_of s.pages) kept;
-          keys = leaves_same b after (ap (λ (s : BenchState L D). s.published) kept)
-              (ap (λ (s : BenchState L D). s.pages) kept);
+          keys = ap (λ (s : BenchState L D). adoption_of s) kept;
         }
 
   module _ (old new : Caller) (b : BenchState L D) (reply : Reply) where
@@ -319,7 +322,7 @@ module _ {L D : Type 0} (truth : Truth) (link : L → Link) (step : L → Exchan
       asked_only = asked_none link (names_of link b.links) b.links;
       later = omega arith;
       pages = refl;
-      keys = leaves_same b b refl refl;
+      keys = refl;
     }
 
     pub serves_leave : (named : ℕ) (result : Result (Option ℕ) CallNo)
@@ -338,13 +341,13 @@ module _ {L D : Type 0} (truth : Truth) (link : L → Link) (step : L → Exchan
       asked_only = asked_none link (names_of link b.links) b.links;
       later = omega arith;
       pages = refl;
-      keys = leaves_same b b refl refl;
+      keys = refl;
     }
 
 -- ---- settings that were read
 
 pub read_rows : (names : List (List ℕ)) (files : List SettingsFile) (file lent : List ℕ)
-    (rows found : List Row) → lent ≡ file → rows_at files file ≡ Some rows
+    (rows found : List ConfigEntry) → lent ≡ file → rows_at files file ≡ Some rows
     → rows_at files lent ≡ Some found → NamesAmong names rows → NamesAmong names found
 read_rows names files file lent rows found same read is h = subst (NamesAmong names)
     (same_Some rows found (sym read ∙ ap (rows_at files) (sym same) ∙ is)) h
@@ -352,24 +355,24 @@ read_rows names files file lent rows found same read is h = subst (NamesAmong na
 module _ {L D : Type 0} (truth : Truth) (link : L → Link) (step : L → Exchange → L → Type 0) (left : D → Option (List ℕ))
     (count : D → ℕ) (files : List SettingsFile) (replica : ℕ) (c : Caller) (b : BenchState L D)
   where
-    pub unread_reload : (named : ℕ) (file : List ℕ) (rows : List Row)
+    pub unread_reload : (named : ℕ) (file : List ℕ) (rows : List ConfigEntry)
         → rows_at files file ≡ Some rows → holding c.mine ≡ None
         → Serves truth link step left count files replica (line.Reload named file) c b (Ok told.Memory) c
         b
     unread_reload named file rows read idle = serves_nothing truth link step left count files replica
-        (line.Reload named file) c b (subst (λ (r : Option (List Row)). IfRead r (λ rows.
+        (line.Reload named file) c b (subst (λ (r : Option (List ConfigEntry)). IfRead r (λ rows.
         DoesReload truth link left count named rows (place_of c b) (Ok told.Memory) (place_of c b)))
-        (sym read) (inl (refl, refl))) (subst (λ (r : Option (List Row)). IfRead r (λ rows.
+        (sym read) (inl (refl, refl))) (subst (λ (r : Option (List ConfigEntry)). IfRead r (λ rows.
         DoesReloadBy left count named rows (place_of c b) (Ok told.Memory) (place_of c b) []))
         (sym read) (inl ((refl, refl), refl))) idle
 
-    pub unread_join : (named : ℕ) (file : List ℕ) (rows : List Row)
+    pub unread_join : (named : ℕ) (file : List ℕ) (rows : List ConfigEntry)
         → rows_at files file ≡ Some rows → holding c.mine ≡ None
         → Serves truth link step left count files replica (line.Join named file) c b (Ok told.Memory) c b
     unread_join named file rows read idle = serves_nothing truth link step left count files replica
-        (line.Join named file) c b (subst (λ (r : Option (List Row)). IfRead r (λ rows.
+        (line.Join named file) c b (subst (λ (r : Option (List ConfigEntry)). IfRead r (λ rows.
         DoesJoin truth link left count named rows (place_of c b) (Ok told.Memory) (place_of c b)))
-        (sym read) (inl (refl, refl))) (subst (λ (r : Option (List Row)). IfRead r (λ rows.
+        (sym read) (inl (refl, refl))) (subst (λ (r : Option (List ConfigEntry)). IfRead r (λ rows.
         DoesJoinBy left count named rows (place_of c b) (Ok told.Memory) (place_of c b) []))
         (sym read) (inl ((refl, refl), refl))) idle
 

@@ -10,7 +10,7 @@ use Rattle.kr_workers.specs.declared.budget.BudgetNo.{BudgetNo}
 use Rattle.kr_workers.specs.declared.budget.BudgetNo.TheVariants as refusal
 use Rattle.kr_workers.specs.declared.budget.Budgets.{Budgets}
 use Rattle.kr_base.specs.Limits.{journal_limit}
-use Rattle.kr_workers.specs.Budgets.{budget_of, budgets_of, entries_of, is_put, put_lines}
+use Rattle.kr_workers.specs.Budgets.{budget_of, script_budgets, line_entries, is_put, put_lines}
 
 abbrev most : ℕ
 most = 2 ^ 64 - 1
@@ -54,8 +54,8 @@ module _ (paths real : ℕ) (is : paths ≡ min real (2 ^ 64 - 1)) where
   lower : (a b : ℕ) → a ≡ min b most → 4 * a + 3 ≤ 4 * b + 3
   lower a b e = grind arith
 
-  same_entries : (asked : ScriptLine) → entries_of paths asked ≤ journal_limit
-      → entries_of paths asked ≡ entries_of real asked
+  same_entries : (asked : ScriptLine) → line_entries paths asked ≤ journal_limit
+      → line_entries paths asked ≡ line_entries real asked
   same_entries (line.Put resource path plain) l = refl
   same_entries (line.Get path) l = refl
   same_entries (line.Delete path) l = refl
@@ -65,7 +65,7 @@ module _ (paths real : ℕ) (is : paths ≡ min real (2 ^ 64 - 1)) where
   same_entries (line.Join replica file) l = refl
   same_entries (line.Leave replica) l = refl
 
-  lower_entries : (asked : ScriptLine) → entries_of paths asked ≤ entries_of real asked
+  lower_entries : (asked : ScriptLine) → line_entries paths asked ≤ line_entries real asked
   lower_entries (line.Put resource path plain) = omega arith
   lower_entries (line.Get path) = omega arith
   lower_entries (line.Delete path) = omega arith
@@ -87,36 +87,36 @@ module _ (paths real : ℕ) (is : paths ≡ min real (2 ^ 64 - 1)) where
   lower_budget (asked ∷ lines) =
       omega (arith, lower_entries asked, lower_budget lines)
 
-  same_budgets : (parts : List Part) → sum (budgets_of paths parts) ≤ journal_limit
-      → budgets_of paths parts ≡ budgets_of real parts
+  same_budgets : (parts : List Part) → sum (script_budgets paths parts) ≤ journal_limit
+      → script_budgets paths parts ≡ script_budgets real parts
   same_budgets [] l = refl
   same_budgets (part ∷ parts) l =
-      let whole = sum_by-cons (λ x. x) (budget_of paths part.lines.0) (budgets_of paths parts) in
+      let whole = sum_by-cons (λ x. x) (budget_of paths part.lines.0) (script_budgets paths parts) in
       let first = same_budget part.lines.0 (omega (arith, l, whole)) in
       let rest = same_budgets parts (omega (arith, l, whole)) in λ i. first i ∷ rest i
 
   lower_budgets : (parts : List Part)
-      → sum (budgets_of paths parts) ≤ sum (budgets_of real parts)
+      → sum (script_budgets paths parts) ≤ sum (script_budgets real parts)
   lower_budgets [] = omega arith
   lower_budgets (part ∷ parts) = omega (
     arith,
-    sum_by-cons (λ x. x) (budget_of paths part.lines.0) (budgets_of paths parts),
-    sum_by-cons (λ x. x) (budget_of real part.lines.0) (budgets_of real parts),
+    sum_by-cons (λ x. x) (budget_of paths part.lines.0) (script_budgets paths parts),
+    sum_by-cons (λ x. x) (budget_of real part.lines.0) (script_budgets real parts),
     lower_budget part.lines.0,
     lower_budgets parts,
   )
 
   pub real_budgets : (parts : List Part) (result : Result Budgets BudgetNo)
-      → IfOk result (λ budgets. budgets.entries.items ≡ budgets_of paths parts)
+      → IfOk result (λ budgets. budgets.entries.items ≡ script_budgets paths parts)
       → IfOk result (λ budgets. sum budgets.entries.items ≤ journal_limit)
-      → IfOk result (λ budgets. budgets.entries.items ≡ budgets_of real parts)
+      → IfOk result (λ budgets. budgets.entries.items ≡ script_budgets real parts)
   real_budgets parts (Ok budgets) e few =
       e ∙ same_budgets parts (subst (λ xs. sum xs ≤ journal_limit) e few)
   real_budgets parts (Err why) e few = tt
 
   pub really_many : (parts : List Part) (result : Result Budgets BudgetNo)
-      → (IsErrOf result refusal.TooMany → journal_limit < sum (budgets_of paths parts))
-      → IsErrOf result refusal.TooMany → journal_limit < sum (budgets_of real parts)
+      → (IsErrOf result refusal.TooMany → journal_limit < sum (script_budgets paths parts))
+      → IsErrOf result refusal.TooMany → journal_limit < sum (script_budgets real parts)
   really_many parts result many is =
       let less = many is in omega (arith, less, lower_budgets parts)
 

@@ -16,7 +16,7 @@ use Rattle.kr_workers.specs.declared.ending.Ending.{Ending}
 use Rattle.kr_workers.specs.declared.ending.Ending.TheVariants as ending
 use Rattle.kr_workers.specs.declared.worker.Worker.{Worker}
 use Rattle.kr_workers.specs.Causes.{HasCause}
-use Rattle.kr_workers.specs.Endings.{HasReplyOf, ending_of, kind_of}
+use Rattle.kr_workers.specs.Endings.{HasReplyOf, gravest_ending, reply_ending}
 use Rattle.kr_workers.specs.Histories.{first_place}
 use Rattle.kr_workers.specs.Sentences.{FaultsRose, MayBeUnhealthy, Replies, RestsOn, SomeWorker}
 use Rattle.kr_workers.proofs.Ends.{endings_are_told, not_fault, not_full, not_unhealthy}
@@ -83,7 +83,7 @@ module _ {T L D : Type 0} (link : L → Link) (count : D → ℕ) (history : Lis
     reply_rests : (reply : Told)
         → HasCause link count asked (first_place o number budget before.bench) reply history
         after.bench.links after.bench.dice
-        → RestsOn link count history old new (kind_of reply)
+        → RestsOn link count history old new (reply_ending reply)
     reply_rests (told.Put revision) h = tt
     reply_rests (told.Got revision plain) h = tt
     reply_rests (told.Deleted revision) h = tt
@@ -127,14 +127,14 @@ pub ending_rests : {T L D : Type 0} → (link : L → Link) (count : D → ℕ) 
     → slice_get old number ≡ Some before → (replies : Replies parts new number at asked reply)
     → HasCause link count asked (first_place o number (slice_index budgets number) before.bench)
     reply history replies.worker.bench.links replies.worker.bench.dice)
-    → RestsOn link count history old new (ending_of (map (λ (w : Worker T L D). w.told) new))
+    → RestsOn link count history old new (gravest_ending (map (λ (w : Worker T L D). w.told) new))
 ending_rests {T} {L} {D} link count history o parts budgets old new many whole each causes =
-    told_rests link count history old new (ending_of (map (λ (w : Worker T L D). w.told) new))
+    told_rests link count history old new (gravest_ending (map (λ (w : Worker T L D). w.told) new))
     (λ other. by (endings_are_told.some (map (λ (w : Worker T L D). w.told) new) other))
   where
-    by : HasReplyOf (ending_of (map (λ (w : Worker T L D). w.told) new))
+    by : HasReplyOf (gravest_ending (map (λ (w : Worker T L D). w.told) new))
         (map (λ (w : Worker T L D). w.told) new)
-        → RestsOn link count history old new (ending_of (map (λ (w : Worker T L D). w.told) new))
+        → RestsOn link count history old new (gravest_ending (map (λ (w : Worker T L D). w.told) new))
     by r =
         let w = made_from (λ (w : Worker T L D). w.told) new r.number r.told r.told_is in
         let below = below_there new r.number w.0 w.1 in

@@ -6,7 +6,7 @@ use Rattle.std.proofs.lemmas.Bool.{false≢true}
 use Rattle.std.proofs.lemmas.List.{append_assoc, append_cancel_left}
 use Rattle.std.proofs.lemmas.List.Elements.{All-cons, All-nil}
 use Rattle.kr_base.specs.Faults.{Rose}
-use Rattle.kr_config.specs.Kept.{Row as setting}
+use Rattle.kr_config.specs.Kept.{ConfigEntry as setting}
 use Rattle.kr_kms.specs.Calls.{Link}
 use Rattle.kr_kms.specs.Health.{HasBreach}
 use Rattle.kr_kms.specs.Truth.{Truth}
@@ -33,7 +33,7 @@ use Rattle.kr_history.proofs.Following.{adopted_law}
 use Rattle.kr_history.proofs.HeldFacts.{held_is_named}
 use Rattle.kr_history.proofs.HeldNothing.{holds_nothing}
 use Rattle.kr_history.proofs.Nexts.{caller_next}
-use Rattle.kr_fleet.specs.LoadCalls.{AreKeysSame}
+use Rattle.kr_fleet.specs.LoadCalls.{AreKeysSame, IsKeyChanged}
 use Rattle.kr_fleet.specs.ReadCalls.{Finds, IsRead}
 use Rattle.kr_fleet.specs.SingleCalls.{IsDelete, IsLeave}
 use Rattle.kr_fleet.specs.WriteCalls.{IsWrite, Puts}
@@ -73,6 +73,11 @@ parted_one Is old new asked given a is = record {
   is = is;
 }
 
+pub parted_as : (First Is : List Entry → Type 0) (old new : Caller)
+    → ((part : List Entry) → First part → Is part) → Parted First old new → Parted Is old new
+parted_as First Is old new so p =
+    record { part = p.part; mine_is = p.mine_is; next = p.next; is = so p.part p.is }
+
 pub parted_both : (First Second Is : List Entry → Type 0) (a b c : Caller) → Parted First a b
     → Parted Second b c
     → ((first second : List Entry) → First first → Second second → Is (first ++ second))
@@ -90,6 +95,12 @@ pub part_here : (Is : List Entry → Type 0) (old new : Caller) (part : List Ent
     → Adds old part new → Parted Is old new → Is part
 part_here Is old new part adds p = subst Is (append_cancel_left old.mine p.part part
     (sym p.mine_is ∙ ap (λ (c : Caller). c.mine) adds.new_is)) p.is
+
+-- nor does one that stays add any
+pub nothing_added : (old new : Caller) (part : List Entry) → Adds old part new → new ≡ old
+    → part ≡ []
+nothing_added old new part adds same = part_here (λ l. l ≡ []) old new part adds
+    (parted_same (λ l. l ≡ []) old new same refl)
 
 pub has_done : (old new : Caller) (asked : Event) (given : Answer)
     → (a : AddsEntry old asked given new) → HasDone a.entry (did_of asked) (gave_of given)
@@ -191,6 +202,11 @@ abbrev pub reply_of : Reply → Told
 reply_of (Ok reply) = reply
 reply_of (Err spent) = told.Memory
 
+-- where there is a reply this holds of it
+abbrev pub IfTold : (Told → Type 0) → Reply → Type 0
+IfTold Is (Ok reply) = Is reply
+IfTold Is (Err spent) = ⊤
+
 abbrev has_reply : Reply → Bool
 has_reply (Ok reply) = true
 has_reply (Err spent) = false
@@ -211,19 +227,32 @@ module _ {L D : Type 0} (truth : Truth) (link : L → Link) (left : D → Option
   abbrev KeysSame : Publication → Type 0
   KeysSame p = AreKeysSame link olds p.seeds
 
+  abbrev KeyChanged : Publication → Type 0
+  KeyChanged p = IsKeyChanged link olds p.seeds
+
+  -- ---- one entry, or none
+
+  single : (asked : Event) (given : Answer) → AddsEntry old asked given new
+      → IsAlone (did_of asked) (gave_of given) part
+  single asked given a = part_here (IsAlone (did_of asked) (gave_of given)) old new part adds
+      (alone old new asked given k idle a)
+
+  none : new ≡ old → part ≡ []
+  none same = nothing_added old new part adds same
+
   -- ---- a put
 
   module _ (resource path plain : List ℕ) where
     abbrev PutsPart : Told → Type 0
     PutsPart reply =
-        PutPart Fails Draws Breaks KeysSame NamesPlugin CannotBeSealed ReadBy RewriteDone old.seat
+        PutPart Fails Draws Breaks KeysSame KeyChanged NamesPlugin CannotBeSealed ReadBy RewriteDone old.seat
         own part resource path plain reply
 
     abbrev asked_put : (stored : List ℕ) → Event
     asked_put stored = event.Put path resource plain stored
 
     early_put : (why : CallNo) → AdoptsNothing own old why new
-        → PutsPart (reply_of (told_of_refusal old.seat why))
+        → IfTold PutsPart (told_of_refusal old.seat why)
     early_put (refusal.Refused why) e = absurd e
     early_put (refusal.PluginFailed name) e = absurd e
     early_put refusal.DiceFailed e = absurd e
@@ -233,7 +262,8 @@ module _ {L D : Type 0} (truth : Truth) (link : L → Link) (left : D → Option
     early_put refusal.Gone e =
         part_here (IsOut own) old new part adds (out_parted own old new k idle e)
     early_put refusal.Spent e = tt
-    early_put refusal.NoMemory e = tt
+    early_put refusal.NoMemory (inl same) = inl (none same)
+    early_put refusal.NoMemory (inr e) = inr (inl (single (event.Adopt own) answer.NoMemory e))
 
     module _ (number : ℕ) (p : Publication) (adopted acted : Caller)
         (a : AddsEntry old (event.Adopt own) (answer.Adopted number p) adopted)
@@ -273,7 +303,7 @@ module _ {L D : Type 0} (truth : Truth) (link : L → Link) (left : D → Option
 
       puts_part : (result : Result ℕ CallNo)
           → Puts left count resource path plain p adopted dice result acted after
-          → PutsPart (reply_of (told_of_write old.seat result))
+          → IfTold PutsPart (told_of_write old.seat result)
       puts_part (Ok revision) d = put_one d.stored (answer.Written revision) d.put
       puts_part (Err (refusal.Refused value.Short)) d = absurd d
       puts_part (Err (refusal.Refused value.BadBlock)) d = absurd d
@@ -299,32 +329,34 @@ module _ {L D : Type 0} (truth : Truth) (link : L → Link) (left : D → Option
       puts_part (Err (refusal.Unhealthy name field text)) d = absurd d
       puts_part (Err refusal.Gone) d = absurd d
       puts_part (Err refusal.Spent) d = tt
-      puts_part (Err refusal.NoMemory) d = tt
+      puts_part (Err refusal.NoMemory) (inl d) = inr (inr (inl (put_none d.1)))
+      puts_part (Err refusal.NoMemory) (inr d) =
+          inr (inr (inr (put_one d.stored answer.NoMemory d.put)))
 
     pub write_part : (result : Result ℕ CallNo)
         → IsWrite left count resource path plain own old dice result new after
-        → PutsPart (reply_of (told_of_write old.seat result))
+        → IfTold PutsPart (told_of_write old.seat result)
     write_part (Ok revision) (inl e) = absurd e
     write_part (Err why) (inl e) = early_put why e.0
     write_part result (inr h) = go h.lets_go
       where
         go : LetsGo h.acted h.done result new
-            → PutsPart (reply_of (told_of_write old.seat result))
+            → IfTold PutsPart (told_of_write old.seat result)
         go (inl g) = subst (λ (r : Result ℕ CallNo).
-            PutsPart (reply_of (told_of_write old.seat r))) (sym g.1)
+            IfTold PutsPart (told_of_write old.seat r)) (sym g.1)
             (puts_part h.number h.p h.adopted h.acted h.adopts g.0 h.done h.does)
         go (inr n) = subst (λ (r : Result ℕ CallNo).
-            PutsPart (reply_of (told_of_write old.seat r))) (sym n.1) tt
+            IfTold PutsPart (told_of_write old.seat r)) (sym n.1) tt
 
   -- ---- a get
 
   module _ (path : List ℕ) where
     abbrev GetsPart : Told → Type 0
-    GetsPart reply = GetPart Fails Draws Breaks KeysSame NamesPlugin CannotBeSealed ReadBy
+    GetsPart reply = GetPart Fails Draws Breaks KeysSame KeyChanged NamesPlugin CannotBeSealed ReadBy
         RewriteDone old.seat own part path reply
 
     early_get : (why : CallNo) → AdoptsNothing own old why new
-        → GetsPart (reply_of (told_of_refusal old.seat why))
+        → IfTold GetsPart (told_of_refusal old.seat why)
     early_get (refusal.Refused why) e = absurd e
     early_get (refusal.PluginFailed name) e = absurd e
     early_get refusal.DiceFailed e = absurd e
@@ -334,7 +366,8 @@ module _ {L D : Type 0} (truth : Truth) (link : L → Link) (left : D → Option
     early_get refusal.Gone e =
         part_here (IsOut own) old new part adds (out_parted own old new k idle e)
     early_get refusal.Spent e = tt
-    early_get refusal.NoMemory e = tt
+    early_get refusal.NoMemory (inl same) = inl (none same)
+    early_get refusal.NoMemory (inr e) = inr (inl (single (event.Adopt own) answer.NoMemory e))
 
     module _ (number : ℕ) (p : Publication) (adopted acted : Caller)
         (a : AddsEntry old (event.Adopt own) (answer.Adopted number p) adopted)
@@ -354,7 +387,7 @@ module _ {L D : Type 0} (truth : Truth) (link : L → Link) (left : D → Option
 
       gets_part : (result : Result Read CallNo)
           → Finds truth link path p adopted olds result acted news
-          → GetsPart (reply_of (told_of_read old.seat result))
+          → IfTold GetsPart (told_of_read old.seat result)
       gets_part (Ok read.Absent) d = get_one answer.Absent d.0.absent (λ p e. ⊤) tt
       gets_part (Ok (read.Value revision plain stale)) d = subst
           (λ n. HoldsPart own part (λ p number mids.
@@ -375,38 +408,38 @@ module _ {L D : Type 0} (truth : Truth) (link : L → Link) (left : D → Option
       gets_part (Err (refusal.Unhealthy name field text)) d = absurd d
       gets_part (Err refusal.Gone) d = absurd d
       gets_part (Err refusal.Spent) d = tt
-      gets_part (Err refusal.NoMemory) d = tt
+      gets_part (Err refusal.NoMemory) (inl d) = inr (inr (inr (
+        d.0.revision,
+        get_one (answer.Found d.0) d.1.found (λ p e. ⊤) tt,
+      )))
+      gets_part (Err refusal.NoMemory) (inr d) =
+          inr (inr (inl (get_one answer.NoMemory d.0 (λ p e. ⊤) tt)))
 
     pub read_part : (result : Result Read CallNo)
         → IsRead truth link path own old olds result new news
-        → GetsPart (reply_of (told_of_read old.seat result))
+        → IfTold GetsPart (told_of_read old.seat result)
     read_part (Ok done) (inl e) = absurd e
     read_part (Err why) (inl e) = early_get why e.0
     read_part result (inr h) = go h.lets_go
       where
         go : LetsGo h.acted h.done result new
-            → GetsPart (reply_of (told_of_read old.seat result))
+            → IfTold GetsPart (told_of_read old.seat result)
         go (inl g) = subst (λ (r : Result Read CallNo).
-            GetsPart (reply_of (told_of_read old.seat r))) (sym g.1)
+            IfTold GetsPart (told_of_read old.seat r)) (sym g.1)
             (gets_part h.number h.p h.adopted h.acted h.adopts g.0 h.done h.does)
         go (inr n) = subst (λ (r : Result Read CallNo).
-            GetsPart (reply_of (told_of_read old.seat r))) (sym n.1) tt
+            IfTold GetsPart (told_of_read old.seat r)) (sym n.1) tt
 
   -- ---- a delete and a leave
-
-  single : (asked : Event) (given : Answer) → AddsEntry old asked given new
-      → IsAlone (did_of asked) (gave_of given) part
-  single asked given a = part_here (IsAlone (did_of asked) (gave_of given)) old new part adds
-      (alone old new asked given k idle a)
 
   module _ (path : List ℕ) where
     abbrev DeletesPart : Told → Type 0
     DeletesPart reply =
-        DeletePart Fails Draws Breaks KeysSame NamesPlugin CannotBeSealed ReadBy RewriteDone
+        DeletePart Fails Draws Breaks KeysSame KeyChanged NamesPlugin CannotBeSealed ReadBy RewriteDone
         old.seat own part path reply
 
     pub delete_part : (result : Result (Option ℕ) CallNo) → IsDelete path old result new
-        → DeletesPart (reply_of (told_of_delete old.seat result))
+        → IfTold DeletesPart (told_of_delete old.seat result)
     delete_part (Ok (Some revision)) d = single (event.Delete path) (answer.Written revision) d
     delete_part (Ok None) d = single (event.Delete path) answer.Absent d
     delete_part (Err (refusal.Refused why)) d = absurd d
@@ -418,11 +451,13 @@ module _ {L D : Type 0} (truth : Truth) (link : L → Link) (left : D → Option
     delete_part (Err (refusal.Unhealthy name field text)) d = absurd d
     delete_part (Err refusal.Gone) d = absurd d
     delete_part (Err refusal.Spent) d = tt
-    delete_part (Err refusal.NoMemory) d = tt
+    delete_part (Err refusal.NoMemory) (inl same) = inl (none same)
+    delete_part (Err refusal.NoMemory) (inr d) =
+        inr (single (event.Delete path) answer.NoMemory d)
 
   module _ (settings_in : (file : List ℕ) → Option (List setting)) (named : ℕ) where
     abbrev LeavesPart : Told → Type 0
-    LeavesPart reply = PartIs Fails Draws Breaks KeysSame NamesPlugin CannotBeSealed ReadBy
+    LeavesPart reply = PartIs Fails Draws Breaks KeysSame KeyChanged NamesPlugin CannotBeSealed ReadBy
         RewriteDone old.seat own part settings_in (line.Leave named) reply
 
     -- it never wants memory

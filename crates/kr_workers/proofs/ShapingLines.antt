@@ -1,7 +1,7 @@
 -- The part of each line that was done has its shape.
 use Rattle.std.proofs.Common.{◌≡◌, ℕ, List, [], Option, None, Some, Ok, inl, inr, refl, ap, sym, subst}
 use Rattle.kr_base.specs.Faults.{Rose}
-use Rattle.kr_config.specs.Kept.{Row as setting}
+use Rattle.kr_config.specs.Kept.{ConfigEntry as setting}
 use Rattle.kr_kms.specs.Calls.{Link}
 use Rattle.kr_kms.specs.Exchanges.{Exchange}
 use Rattle.kr_kms.specs.Health.{HasBreach}
@@ -11,7 +11,7 @@ use Rattle.kr_rollout.specs.declared.opening.Entry.{Entry}
 use Rattle.kr_rollout.specs.Callers.{holding}
 use Rattle.kr_history.specs.Acting.{IsCaller}
 use Rattle.kr_history.specs.Parts.{Adds}
-use Rattle.kr_fleet.specs.LoadCalls.{AreKeysSame}
+use Rattle.kr_fleet.specs.LoadCalls.{AreKeysSame, IsKeyChanged}
 use Rattle.kr_rewrite.specs.Drives.{CoversLive}
 use Rattle.kr_script.specs.declared.script.ScriptLine.{ScriptLine}
 use Rattle.kr_script.specs.declared.script.ScriptLine.TheVariants as line
@@ -22,19 +22,19 @@ use Rattle.kr_workers.specs.Files.{rows_at}
 use Rattle.kr_workers.specs.LineParts.{HasShape, PartsHaveShape}
 use Rattle.kr_workers.specs.Replies.{Reply}
 use Rattle.kr_workers.specs.ScriptLines.{Does, DoesJoin, DoesReload, IfRead, Workplace}
-use Rattle.kr_workers.specs.Configurations.{CannotBeSealed, NamesPlugin, ReadBy}
+use Rattle.kr_workers.specs.Configurations.{CannotBeSealed, IsFresh, IsLeft, IsStale, NamesPlugin, ReadBy}
 use Rattle.kr_workers.specs.RewriteParts.{RewritePart}
 use Rattle.kr_workers.specs.Shapes.{JoinPart, ReloadPart}
-use Rattle.kr_workers.proofs.Shaping.{delete_part, leave_part, read_part, reply_of, write_part}
+use Rattle.kr_workers.proofs.Shaping.{IfTold, delete_part, leave_part, nothing_added, read_part, reply_of, write_part}
 use Rattle.kr_workers.proofs.ShapingLoads.{join_part, refresh_part, reload_part}
-use Rattle.kr_workers.proofs.ShapingRewrites.{drive_part}
+use Rattle.kr_workers.proofs.ShapingRewrites.{drive_part, linked}
 
 -- a reload's part and a join's, by the settings of the file
 module _ {L D : Type 0} (link : L → Link) (count : D → ℕ) (own : ℕ) (old new : Workplace L D)
     (part : List Entry) (named : ℕ) where
   -- what a rewrite did
   abbrev Rewrote : Told → Type 0
-  Rewrote = RewritePart (λ name. FaultRose link name old.links new.links)
+  Rewrote = RewritePart IsFresh IsStale IsLeft (λ name. FaultRose link name old.links new.links)
       (Rose (count old.dice) (count new.dice)) (λ met. CoversLive [] met old.caller new.caller)
       old.caller.seat own part
 
@@ -42,14 +42,16 @@ module _ {L D : Type 0} (link : L → Link) (count : D → ℕ) (own : ℕ) (old
   ReloadShape rows reply = ReloadPart (λ name. FaultRose link name old.links new.links)
       (Rose (count old.dice) (count new.dice))
       (λ name field text. HasLinkWith link name (λ it. HasBreach it (Some (field, text))) old.links)
-      (λ p. AreKeysSame link old.links p.seeds) NamesPlugin CannotBeSealed ReadBy Rewrote
+      (λ p. AreKeysSame link old.links p.seeds) (λ p. IsKeyChanged link old.links p.seeds)
+      NamesPlugin CannotBeSealed ReadBy Rewrote
       old.caller.seat own part named rows reply
 
   abbrev JoinShape : List setting → Told → Type 0
   JoinShape rows reply = JoinPart (λ name. FaultRose link name old.links new.links)
       (Rose (count old.dice) (count new.dice))
       (λ name field text. HasLinkWith link name (λ it. HasBreach it (Some (field, text))) old.links)
-      (λ p. AreKeysSame link old.links p.seeds) NamesPlugin CannotBeSealed ReadBy Rewrote
+      (λ p. AreKeysSame link old.links p.seeds) (λ p. IsKeyChanged link old.links p.seeds)
+      NamesPlugin CannotBeSealed ReadBy Rewrote
       old.caller.seat own part named rows reply
 
 module _ {L D : Type 0} (truth : Truth) (link : L → Link) (left : D → Option (List ℕ))
@@ -60,14 +62,14 @@ module _ {L D : Type 0} (truth : Truth) (link : L → Link) (left : D → Option
   Shaped asked told = HasShape link count files own old new part asked told
 
   abbrev RewriteDone : Told → Type 0
-  RewriteDone = RewritePart (λ name. FaultRose link name old.links new.links)
+  RewriteDone = RewritePart IsFresh IsStale IsLeft (λ name. FaultRose link name old.links new.links)
       (Rose (count old.dice) (count new.dice)) (λ met. CoversLive [] met old.caller new.caller)
       old.caller.seat own part
 
   -- the reply is what the call's answer tells
   as_told : (asked : ScriptLine) (other : Reply) → Ok reply ≡ other
-      → Shaped asked (reply_of other) → Shaped asked reply
-  as_told asked other is s = subst (Shaped asked) (sym (ap reply_of is)) s
+      → IfTold (Shaped asked) other → Shaped asked reply
+  as_told asked other is s = subst (IfTold (Shaped asked)) (sym is) s
 
   reloaded : (named : ℕ) (file : List ℕ)
       → IfRead (rows_at files file) (λ rows. DoesReload truth link left count named rows old
@@ -83,13 +85,13 @@ module _ {L D : Type 0} (truth : Truth) (link : L → Link) (left : D → Option
         rows,
         is,
         subst (λ (r : Told). ReloadShape link count own old new part named rows r)
-            (sym (ap reply_of none.0)) tt,
+            (sym (ap reply_of none.0)) (inl (nothing_added old.caller new.caller part adds
+            (ap (λ (place : Workplace L D). place.caller) none.1))),
       )
       by (Some rows) is (inr d) = (
         rows,
         is,
-        subst (λ (r : Told). ReloadShape link count own old new part named rows r)
-            (sym (ap reply_of d.1))
+        subst (IfTold (λ (r : Told). ReloadShape link count own old new part named rows r)) (sym d.1)
             (reload_part truth link left count own old.caller new.caller k idle old.links new.links
             old.dice new.dice RewriteDone part adds named rows d.0 d.2),
       )
@@ -108,13 +110,13 @@ module _ {L D : Type 0} (truth : Truth) (link : L → Link) (left : D → Option
         rows,
         is,
         subst (λ (r : Told). JoinShape link count own old new part named rows r)
-            (sym (ap reply_of none.0)) tt,
+            (sym (ap reply_of none.0)) (inl (nothing_added old.caller new.caller part adds
+            (ap (λ (place : Workplace L D). place.caller) none.1))),
       )
       by (Some rows) is (inr d) = (
         rows,
         is,
-        subst (λ (r : Told). JoinShape link count own old new part named rows r)
-            (sym (ap reply_of d.1))
+        subst (IfTold (λ (r : Told). JoinShape link count own old new part named rows r)) (sym d.1)
             (join_part truth link left count own old.caller new.caller k idle old.links new.links
             old.dice new.dice RewriteDone part adds named rows d.0 d.2),
       )
@@ -131,8 +133,8 @@ module _ {L D : Type 0} (truth : Truth) (link : L → Link) (left : D → Option
       (delete_part truth link left count own old.caller new.caller k idle old.links new.links
       old.dice new.dice RewriteDone part adds path d.0 d.2)
   line_part line.Rewrite d = as_told line.Rewrite _ d.1
-      (drive_part truth link left count own old.caller new.caller k idle old.links new.links
-      old.dice new.dice part adds d.0 d.2)
+      (drive_part (linked truth link) left count own old.caller new.caller k idle old.links
+      new.links tt old.dice new.dice part adds d.0 d.2)
   line_part (line.Reload named file) d = reloaded named file d
   line_part line.Refresh d = as_told line.Refresh _ d.1
       (refresh_part truth link left count own old.caller new.caller k idle old.links new.links

@@ -1,8 +1,8 @@
 -- The shape of a line's part, by the relation of its call: of `reload`, `join` and `refresh`.
-use Rattle.std.specs.Prelude.{⊤, Contains, map}
+use Rattle.std.specs.Prelude.{◌⊎◌, ⊤, Contains, map}
 use Rattle.std.proofs.Common.{◌≡◌, ℕ, suc, List, [], ◌∷◌, ◌++◌, Option, None, Some, Result, Ok, Err, inl, inr, refl, sym, subst, arith}
 use Rattle.kr_base.specs.Faults.{Rose}
-use Rattle.kr_config.specs.Kept.{Row as setting, plugins_in}
+use Rattle.kr_config.specs.Kept.{ConfigEntry as setting, plugins_in}
 use Rattle.kr_kms.specs.Calls.{Link}
 use Rattle.kr_kms.specs.Health.{HasBreach}
 use Rattle.kr_kms.specs.Truth.{Truth}
@@ -17,6 +17,7 @@ use Rattle.kr_rollout.specs.declared.answer.Answer.TheVariants as answer
 use Rattle.kr_rollout.specs.declared.event.Event.{Event}
 use Rattle.kr_rollout.specs.declared.event.Event.TheVariants as event
 use Rattle.kr_rollout.specs.declared.line.Did.TheVariants as did
+use Rattle.kr_rollout.specs.declared.line.Gave.TheVariants as gave
 use Rattle.kr_rollout.specs.declared.opening.Entry.{Entry}
 use Rattle.kr_rollout.specs.Callers.{did_of, gave_of, holding}
 use Rattle.kr_history.specs.Acting.{AddsEntry, Caller, IsCaller}
@@ -26,7 +27,7 @@ use Rattle.kr_history.specs.declared.call.CallNo.{CallNo}
 use Rattle.kr_history.specs.declared.call.CallNo.TheVariants as refusal
 use Rattle.kr_history.proofs.Following.{adopted_law}
 use Rattle.kr_history.proofs.Nexts.{adopted_admitted, caller_next}
-use Rattle.kr_fleet.specs.LoadCalls.{AreKeysSame, AsksInVain, AsksUpTo, Brings, BringsBy, IsJoin, IsRefresh, IsReload, Refreshes, plugin_names, reload_of}
+use Rattle.kr_fleet.specs.LoadCalls.{AreKeysSame, AsksInVain, AsksUpTo, Brings, BringsBy, IsJoin, IsKeyChanged, IsRefresh, IsReload, Refreshes, plugin_names, reload_of}
 use Rattle.kr_fleet.specs.declared.outcome.Joining.{Joining}
 use Rattle.kr_fleet.specs.declared.outcome.Joining.TheVariants as joining
 use Rattle.kr_fleet.specs.declared.outcome.Loaded.{Loaded}
@@ -35,7 +36,7 @@ use Rattle.kr_script.specs.declared.told.Told.{Told}
 use Rattle.kr_workers.specs.Replies.{told_of_join, told_of_refresh, told_of_refusal, told_of_reload}
 use Rattle.kr_workers.specs.Configurations.{CannotBeSealed, NamesPlugin, ReadBy}
 use Rattle.kr_workers.specs.Shapes.{BringsRows, HoldsPart, IsAlone, IsOne, JoinPart, RefreshPart, ReloadPart}
-use Rattle.kr_workers.proofs.Shaping.{IsOut, Mids, alone, has_done, held_parted, holds_entry, none_between, out_parted, part_here, parted_one, parted_same, reply_of}
+use Rattle.kr_workers.proofs.Shaping.{IfTold, IsOut, Mids, alone, has_done, held_parted, holds_entry, none_between, nothing_added, out_parted, part_here, parted_one}
 
 -- ---- which plugin ended it
 
@@ -77,9 +78,11 @@ module _ {L D : Type 0} (truth : Truth) (link : L → Link) (left : D → Option
   abbrev KeysSame : Publication → Type 0
   KeysSame p = AreKeysSame link olds p.seeds
 
-  nothing_added : new ≡ old → part ≡ []
-  nothing_added same = part_here (λ l. l ≡ []) old new part adds
-      (parted_same (λ l. l ≡ []) old new same refl)
+  abbrev KeyChanged : Publication → Type 0
+  KeyChanged p = IsKeyChanged link olds p.seeds
+
+  none : new ≡ old → part ≡ []
+  none same = nothing_added old new part adds same
 
   added_one : (asked : Event) (given : Answer) → AddsEntry old asked given new
       → IsAlone (did_of asked) (gave_of given) part
@@ -91,12 +94,12 @@ module _ {L D : Type 0} (truth : Truth) (link : L → Link) (left : D → Option
   module _ (named : ℕ) (rows : List setting) where
     abbrev ReloadsPart : Told → Type 0
     ReloadsPart reply =
-        ReloadPart Fails Draws Breaks KeysSame NamesPlugin CannotBeSealed ReadBy RewriteDone
+        ReloadPart Fails Draws Breaks KeysSame KeyChanged NamesPlugin CannotBeSealed ReadBy RewriteDone
         old.seat own part named rows reply
 
     abbrev JoinsPart : Told → Type 0
     JoinsPart reply =
-        JoinPart Fails Draws Breaks KeysSame NamesPlugin CannotBeSealed ReadBy RewriteDone old.seat
+        JoinPart Fails Draws Breaks KeysSame KeyChanged NamesPlugin CannotBeSealed ReadBy RewriteDone old.seat
         own part named rows reply
 
     reloaded : (given : Answer)
@@ -120,7 +123,7 @@ module _ {L D : Type 0} (truth : Truth) (link : L → Link) (left : D → Option
 
     pub reload_part : (result : Result Loaded CallNo)
         → IsReload truth link left count rows named old olds dice result new news after
-        → ReloadsPart (reply_of (told_of_reload old.seat result))
+        → IfTold ReloadsPart (told_of_reload old.seat result)
     reload_part (Ok (loaded.Generation number)) b = reloaded (answer.Reloaded number) b
     reload_part (Ok (loaded.Refused verdict)) b = reloaded (answer.Refused verdict) b
     reload_part (Ok (loaded.Moved number)) b = absurd b
@@ -129,20 +132,22 @@ module _ {L D : Type 0} (truth : Truth) (link : L → Link) (left : D → Option
     reload_part (Err (refusal.PluginFailed name)) b = (
       b.0.0,
       ends_there truth link left count rows olds dice after name b.0.1,
-      nothing_added b.1,
+      none b.1,
     )
-    reload_part (Err refusal.DiceFailed) b = (refl, b.0.3, nothing_added b.1)
+    reload_part (Err refusal.DiceFailed) b = (refl, b.0.3, none b.1)
     reload_part (Err refusal.StoreFailed) b = absurd b
     reload_part (Err (refusal.StoreFull needed)) b = absurd b
     reload_part (Err (refusal.Unhealthy name field text)) b =
-        (b.0.1, b.0.0.there, nothing_added b.1)
+        (b.0.1, b.0.0.there, none b.1)
     reload_part (Err refusal.Gone) b = reloaded (answer.Gone named) b
     reload_part (Err refusal.Spent) b = tt
-    reload_part (Err refusal.NoMemory) b = tt
+    reload_part (Err refusal.NoMemory) (inl b) = inl (none b.1)
+    reload_part (Err refusal.NoMemory) (inr (inl b)) = inl (none b.1)
+    reload_part (Err refusal.NoMemory) (inr (inr b)) = inr (reloaded answer.NoMemory b)
 
     pub join_part : (result : Result Joining CallNo)
         → IsJoin truth link left count rows named old olds dice result new news after
-        → JoinsPart (reply_of (told_of_join old.seat result))
+        → IfTold JoinsPart (told_of_join old.seat result)
     join_part (Ok (joining.Generation number)) b = joined (answer.Joined number) b
     join_part (Ok (joining.Refused verdict)) b = joined (answer.Refused verdict) b
     join_part (Ok (joining.Present number)) b = joined (answer.Present number) b
@@ -150,26 +155,28 @@ module _ {L D : Type 0} (truth : Truth) (link : L → Link) (left : D → Option
     join_part (Err (refusal.PluginFailed name)) b = (
       b.0.0,
       ends_there truth link left count rows olds dice after name b.0.1,
-      nothing_added b.1,
+      none b.1,
     )
-    join_part (Err refusal.DiceFailed) b = (refl, b.0.3, nothing_added b.1)
+    join_part (Err refusal.DiceFailed) b = (refl, b.0.3, none b.1)
     join_part (Err refusal.StoreFailed) b = absurd b
     join_part (Err (refusal.StoreFull needed)) b = absurd b
     join_part (Err (refusal.Unhealthy name field text)) b =
-        (b.0.1, b.0.0.there, nothing_added b.1)
+        (b.0.1, b.0.0.there, none b.1)
     join_part (Err refusal.Gone) b = absurd b
     join_part (Err refusal.Spent) b = tt
-    join_part (Err refusal.NoMemory) b = tt
+    join_part (Err refusal.NoMemory) (inl b) = inl (none b.1)
+    join_part (Err refusal.NoMemory) (inr (inl b)) = inl (none b.1)
+    join_part (Err refusal.NoMemory) (inr (inr b)) = inr (joined answer.NoMemory b)
 
   -- ---- a refresh
 
   abbrev RefreshesPart : Told → Type 0
   RefreshesPart reply =
-      RefreshPart Fails Draws Breaks KeysSame NamesPlugin CannotBeSealed ReadBy RewriteDone old.seat
+      RefreshPart Fails Draws Breaks KeysSame KeyChanged NamesPlugin CannotBeSealed ReadBy RewriteDone old.seat
       own part reply
 
   early_refresh : (why : CallNo) → AdoptsNothing own old why new
-      → RefreshesPart (reply_of (told_of_refusal old.seat why))
+      → IfTold RefreshesPart (told_of_refusal old.seat why)
   early_refresh (refusal.Refused why) e = absurd e
   early_refresh (refusal.PluginFailed name) e = absurd e
   early_refresh refusal.DiceFailed e = absurd e
@@ -179,7 +186,9 @@ module _ {L D : Type 0} (truth : Truth) (link : L → Link) (left : D → Option
   early_refresh refusal.Gone e =
       inl (part_here (IsOut own) old new part adds (out_parted own old new k idle e))
   early_refresh refusal.Spent e = tt
-  early_refresh refusal.NoMemory e = tt
+  early_refresh refusal.NoMemory (inl same) = inl (none same)
+  early_refresh refusal.NoMemory (inr e) =
+      inr (inl (added_one (event.Adopt own) answer.NoMemory e))
 
   module _ (number : ℕ) (p : Publication) (adopted acted : Caller)
       (a : AddsEntry old (event.Adopt own) (answer.Adopted number p) adopted)
@@ -198,14 +207,15 @@ module _ {L D : Type 0} (truth : Truth) (link : L → Link) (left : D → Option
         (none_between number p (Is p number) adopted acted same (refl, why)))
 
     -- the settings were brought anew
-    renewed : (given : Answer) (links : List L)
+    renewed : (given : Answer) (links : List L) → KeyChanged p
         → Brings truth link left count p.rows (reload_of own (Some number)) adopted links dice given
         acted news after
-        → HoldsPart own part (λ p number mids. (anew : Publication) × (anew.rows ≡ p.rows)
+        → HoldsPart own part (λ p number mids. KeyChanged p × (anew : Publication)
+        × (anew.rows ≡ p.rows)
         × IsOne mids (did.Reload own anew (Some number)) (gave_of given) (λ e. ⊤))
-    renewed given links b =
+    renewed given links changed b =
         let Is : (p : Publication) → (number : ℕ) → List Entry → Type 0 = λ p number mids.
-        (anew : Publication) × (anew.rows ≡ p.rows)
+        KeyChanged p × (anew : Publication) × (anew.rows ≡ p.rows)
         × IsOne mids (did.Reload own anew (Some number)) (gave_of given) (λ e. ⊤) in
         let asked = reload_of own (Some number) b.p in
         part_here (λ part. HoldsPart own part Is) old new part adds
@@ -215,6 +225,7 @@ module _ {L D : Type 0} (truth : Truth) (link : L → Link) (left : D → Option
               (caller_next old adopted (event.Adopt own) (answer.Adopted number p) a k)
               (adopted_law old adopted own number p a) b.brought,
           (
+            changed,
             b.p,
             b.publishes.0,
             record {
@@ -226,9 +237,43 @@ module _ {L D : Type 0} (truth : Truth) (link : L → Link) (left : D → Option
           ),
         )))
 
+    -- memory lacked, behind the Adopt alone or as the settings were to be brought
+    abbrev Lacks : Publication → ℕ → List Entry → Type 0
+    Lacks p number mids = (mids ≡ []) ⊎ ((anew : Publication) × (anew.rows ≡ p.rows)
+        × IsOne mids (did.Reload own anew (Some number)) gave.Nothing (λ e. ⊤))
+
+    lacks_early : acted ≡ adopted → HoldsPart own part Lacks
+    lacks_early same = part_here (λ part. HoldsPart own part Lacks) old new part adds
+        (held_parted own old adopted acted new number p Lacks a g
+        (none_between number p (Lacks p number) adopted acted same (inl refl)))
+
+    lacks_late : (links : List L)
+        → Brings truth link left count p.rows (reload_of own (Some number)) adopted links dice
+        answer.NoMemory acted news after
+        → HoldsPart own part Lacks
+    lacks_late links b =
+        let asked = reload_of own (Some number) b.p in
+        part_here (λ part. HoldsPart own part Lacks) old new part adds
+        (held_parted own old adopted acted new number p Lacks a g
+        (parted_one (Mids number p (Lacks p number)) adopted acted asked answer.NoMemory b.brought (
+          holds_entry number p adopted acted asked answer.NoMemory
+              (caller_next old adopted (event.Adopt own) (answer.Adopted number p) a k)
+              (adopted_law old adopted own number p a) b.brought,
+          inr (
+            b.p,
+            b.publishes.0,
+            record {
+              entry = b.brought.entry;
+              mids_are = refl;
+              does = has_done adopted acted asked answer.NoMemory b.brought;
+              is = tt;
+            },
+          ),
+        )))
+
     -- the plugins couldn't be asked
     in_vain : (why : CallNo) → AsksInVain link olds p.seeds why news → acted ≡ adopted
-        → RefreshesPart (reply_of (told_of_refusal old.seat why))
+        → IfTold RefreshesPart (told_of_refusal old.seat why)
     in_vain (refusal.Refused why) v same = absurd v
     in_vain (refusal.PluginFailed name) v same = (
       v.1,
@@ -245,60 +290,64 @@ module _ {L D : Type 0} (truth : Truth) (link : L → Link) (left : D → Option
     )
     in_vain refusal.Gone v same = absurd v
     in_vain refusal.Spent v same = absurd v
-    in_vain refusal.NoMemory v same = tt
+    in_vain refusal.NoMemory v same = inr (inr (lacks_early same))
 
     -- or were, and the settings couldn't be published or brought
     renews_not : (links : List L) → AskedOnly link (plugin_names p.seeds) olds links
-        → (why : CallNo)
+        → KeyChanged p → (why : CallNo)
         → BringsBy truth link left count p.rows (reload_of own (Some number)) own adopted links dice
         why acted news after
-        → RefreshesPart (reply_of (told_of_refusal old.seat why))
-    renews_not links asked (refusal.Refused why) b = absurd b
-    renews_not links asked (refusal.PluginFailed name) b = (
+        → IfTold RefreshesPart (told_of_refusal old.seat why)
+    renews_not links asked changed (refusal.Refused why) b = absurd b
+    renews_not links asked changed (refusal.PluginFailed name) b = (
       rose_later link (plugin_names p.seeds) name olds links news asked b.0.0,
       none_brought (λ p. Contains (plugins_in p.rows) name)
           (ends_there truth link left count p.rows links dice after name b.0.1) b.1,
     )
-    renews_not links asked refusal.DiceFailed b = (
+    renews_not links asked changed refusal.DiceFailed b = (
       refl,
       b.0.3,
       part_here (λ part. HoldsPart own part (λ p number mids. mids ≡ [])) old new part adds
           (held_parted own old adopted acted new number p (λ p number mids. mids ≡ []) a g
           (none_between number p (λ mids. mids ≡ []) adopted acted b.1 refl)),
     )
-    renews_not links asked refusal.StoreFailed b = absurd b
-    renews_not links asked (refusal.StoreFull needed) b = absurd b
-    renews_not links asked (refusal.Unhealthy name field text) b = (
+    renews_not links asked changed refusal.StoreFailed b = absurd b
+    renews_not links asked changed (refusal.StoreFull needed) b = absurd b
+    renews_not links asked changed (refusal.Unhealthy name field text) b = (
       had link (plugin_names p.seeds) name (λ it. HasBreach it (Some (field, text))) olds links
           (breach_back (Some (field, text))) asked b.0.1,
       none_brought (λ p. Contains (plugins_in p.rows) name) b.0.0.there b.1,
     )
-    renews_not links asked refusal.Gone b = inr (renewed (answer.Gone own) links b)
-    renews_not links asked refusal.Spent b = tt
-    renews_not links asked refusal.NoMemory b = tt
+    renews_not links asked changed refusal.Gone b = inr (renewed (answer.Gone own) links changed b)
+    renews_not links asked changed refusal.Spent b = tt
+    renews_not links asked changed refusal.NoMemory (inl b) = inr (inr (lacks_early b.1))
+    renews_not links asked changed refusal.NoMemory (inr (inl b)) = inr (inr (lacks_early b.1))
+    renews_not links asked changed refusal.NoMemory (inr (inr b)) =
+        inr (inr (lacks_late links b))
 
     refreshes_part : (result : Result Loaded CallNo)
         → Refreshes truth link left count own number p adopted olds dice result acted news after
-        → RefreshesPart (reply_of (told_of_refresh old.seat result))
+        → IfTold RefreshesPart (told_of_refresh old.seat result)
     refreshes_part (Ok (loaded.Unchanged same)) r = none_brought KeysSame r.1 r.2
     refreshes_part (Ok (loaded.Generation made)) r =
-        renewed (answer.Reloaded made) r.asked r.brought
-    refreshes_part (Ok (loaded.Moved current)) r = renewed (answer.Moved current) r.asked r.brought
+        renewed (answer.Reloaded made) r.asked r.changed r.brought
+    refreshes_part (Ok (loaded.Moved current)) r =
+        renewed (answer.Moved current) r.asked r.changed r.brought
     refreshes_part (Ok (loaded.Refused verdict)) r = absurd r
     refreshes_part (Err why) (inl r) = in_vain why r.0 r.1
-    refreshes_part (Err why) (inr r) = renews_not r.asked r.links why r.brought
+    refreshes_part (Err why) (inr r) = renews_not r.asked r.links r.changed why r.brought
 
   pub refresh_part : (result : Result Loaded CallNo)
       → IsRefresh truth link left count own old olds dice result new news after
-      → RefreshesPart (reply_of (told_of_refresh old.seat result))
+      → IfTold RefreshesPart (told_of_refresh old.seat result)
   refresh_part (Ok found) (inl e) = absurd e
   refresh_part (Err why) (inl e) = early_refresh why e.0
   refresh_part result (inr h) = go h.lets_go
     where
       go : LetsGo h.acted h.done result new
-          → RefreshesPart (reply_of (told_of_refresh old.seat result))
+          → IfTold RefreshesPart (told_of_refresh old.seat result)
       go (inl g) = subst (λ (r : Result Loaded CallNo).
-          RefreshesPart (reply_of (told_of_refresh old.seat r))) (sym g.1)
+          IfTold RefreshesPart (told_of_refresh old.seat r)) (sym g.1)
           (refreshes_part h.number h.p h.adopted h.acted h.adopts g.0 h.done h.does.0)
       go (inr n) = subst (λ (r : Result Loaded CallNo).
-          RefreshesPart (reply_of (told_of_refresh old.seat r))) (sym n.1) tt
+          IfTold RefreshesPart (told_of_refresh old.seat r)) (sym n.1) tt

@@ -8,11 +8,11 @@ use Rattle.kr_script.specs.declared.script.ScriptLine.{ScriptLine}
 use Rattle.kr_script.specs.declared.script.ScriptLine.TheVariants as line
 use Rattle.kr_workers.specs.declared.budget.BudgetNo.{BudgetNo}
 use Rattle.kr_workers.specs.declared.budget.Budgets.{Budgets}
-use Rattle.kr_workers.specs.Budgets.{all_reloads, brought_by, budget_of, budgets_of, entries_of, reloads_of}
+use Rattle.kr_workers.specs.Budgets.{all_reloads, brought_count, budget_of, script_budgets, line_entries, reloads_of}
 
 module _ (paths : ℕ) (parts : List Part) (part : Part) (k : ℕ) (below : k < length parts)
     (at : part ≡ get_or parts k part) where
-  budget_at : get_or (budgets_of paths parts) k 0 ≡ budget_of paths part.lines.0
+  budget_at : get_or (script_budgets paths parts) k 0 ≡ budget_of paths part.lines.0
   budget_at = get_or-map (λ (p : Part). budget_of paths p.lines.0) parts k part 0 below
       ∙ ap (λ (p : Part). budget_of paths p.lines.0) (sym at)
 
@@ -20,7 +20,7 @@ module _ (paths : ℕ) (parts : List Part) (part : Part) (k : ℕ) (below : k < 
   reloads_at = get_or-map (λ (p : Part). reloads_of p.lines.0) parts k part 0 below
       ∙ ap (λ (p : Part). reloads_of p.lines.0) (sym at)
 
-  budget_there : k < length (budgets_of paths parts)
+  budget_there : k < length (script_budgets paths parts)
   budget_there = let e = length-map parts (λ (p : Part). budget_of paths p.lines.0) in
       omega (arith, below, e)
 
@@ -28,30 +28,30 @@ module _ (paths : ℕ) (parts : List Part) (part : Part) (k : ℕ) (below : k < 
   reloads_there = let e = length-map parts (λ (p : Part). reloads_of p.lines.0) in
       omega (arith, below, e)
 
-  pub more_budgets : take (k + 1) (budgets_of paths parts)
-      ≡ take k (budgets_of paths parts) ++ budget_of paths part.lines.0 ∷ []
-  more_budgets = take_more (budgets_of paths parts) k 0 budget_there
-      ∙ ap (λ b. take k (budgets_of paths parts) ++ b ∷ []) budget_at
+  pub more_budgets : take (k + 1) (script_budgets paths parts)
+      ≡ take k (script_budgets paths parts) ++ budget_of paths part.lines.0 ∷ []
+  more_budgets = take_more (script_budgets paths parts) k 0 budget_there
+      ∙ ap (λ b. take k (script_budgets paths parts) ++ b ∷ []) budget_at
 
   pub more_reloads : take (k + 1) (all_reloads parts)
       ≡ take k (all_reloads parts) ++ reloads_of part.lines.0 ∷ []
   more_reloads = take_more (all_reloads parts) k 0 reloads_there
       ∙ ap (λ b. take k (all_reloads parts) ++ b ∷ []) reloads_at
 
-  pub more_sum : sum (take (k + 1) (budgets_of paths parts))
-      ≡ sum (take k (budgets_of paths parts)) + budget_of paths part.lines.0
-  more_sum = sum_by_more (λ x. x) (budgets_of paths parts) k 0 budget_there
-      ∙ ap (λ b. sum (take k (budgets_of paths parts)) + b) budget_at
+  pub more_sum : sum (take (k + 1) (script_budgets paths parts))
+      ≡ sum (take k (script_budgets paths parts)) + budget_of paths part.lines.0
+  more_sum = sum_by_more (λ x. x) (script_budgets paths parts) k 0 budget_there
+      ∙ ap (λ b. sum (take k (script_budgets paths parts)) + b) budget_at
 
-  pub sum_above : sum (take k (budgets_of paths parts)) + budget_of paths part.lines.0
-      ≤ sum (budgets_of paths parts)
-  sum_above = let few : sum (take (k + 1) (budgets_of paths parts)) ≤ sum (budgets_of paths parts) =
-      sum_by-take-le (λ x. x) (budgets_of paths parts) (k + 1) in
+  pub sum_above : sum (take k (script_budgets paths parts)) + budget_of paths part.lines.0
+      ≤ sum (script_budgets paths parts)
+  sum_above = let few : sum (take (k + 1) (script_budgets paths parts)) ≤ sum (script_budgets paths parts) =
+      sum_by-take-le (λ x. x) (script_budgets paths parts) (k + 1) in
       omega (arith, few, more_sum)
 
 -- ---- a line that brings a configuration adds a line to the journal
 
-line_fits : (paths : ℕ) (asked : ScriptLine) → brought_by asked ≤ entries_of paths asked
+line_fits : (paths : ℕ) (asked : ScriptLine) → brought_count asked ≤ line_entries paths asked
 line_fits paths (line.Put resource path plain) = omega arith
 line_fits paths (line.Get path) = omega arith
 line_fits paths (line.Delete path) = omega arith
@@ -66,7 +66,7 @@ lines_fit paths [] = omega arith
 lines_fit paths (asked ∷ lines) = omega (arith, line_fits paths asked, lines_fit paths lines)
 
 pub parts_fit : (paths : ℕ) (parts : List Part)
-    → sum (all_reloads parts) ≤ sum (budgets_of paths parts)
+    → sum (all_reloads parts) ≤ sum (script_budgets paths parts)
 parts_fit paths parts = omega (
   arith,
   sum-map (λ (p : Part). reloads_of p.lines.0) parts,
@@ -76,7 +76,7 @@ parts_fit paths parts = omega (
 )
 
 pub reloads_fit : (paths : ℕ) (parts : List Part) (result : Result Budgets BudgetNo)
-    → IfOk result (λ budgets. budgets.entries.items ≡ budgets_of paths parts)
+    → IfOk result (λ budgets. budgets.entries.items ≡ script_budgets paths parts)
     → IfOk result (λ budgets. budgets.reloads.items ≡ all_reloads parts)
     → IfOk result (λ budgets. sum budgets.reloads.items ≤ sum budgets.entries.items)
 reloads_fit paths parts (Ok budgets) entries reloads =

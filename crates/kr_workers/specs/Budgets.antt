@@ -10,34 +10,34 @@ use Rattle.kr_script.specs.declared.script.ScriptLine.TheVariants as line
 
 -- the lines of the journal that a line may add; a rewrite finds at most so many paths, adds at most
 -- four at each, and three at its end
-abbrev pub entries_of : (paths : ℕ) → ScriptLine → ℕ
-entries_of paths (line.Put resource path plain) = 3
-entries_of paths (line.Get path) = 3
-entries_of paths (line.Delete path) = 1
-entries_of paths line.Rewrite = 4 * paths + 3
-entries_of paths (line.Reload replica file) = 1
-entries_of paths line.Refresh = 3
-entries_of paths (line.Join replica file) = 1
-entries_of paths (line.Leave replica) = 1
+abbrev pub line_entries : (paths : ℕ) → ScriptLine → ℕ
+line_entries paths (line.Put resource path plain) = 3
+line_entries paths (line.Get path) = 3
+line_entries paths (line.Delete path) = 1
+line_entries paths line.Rewrite = 4 * paths + 3
+line_entries paths (line.Reload replica file) = 1
+line_entries paths line.Refresh = 3
+line_entries paths (line.Join replica file) = 1
+line_entries paths (line.Leave replica) = 1
 
 abbrev pub budget_of : (paths : ℕ) → List ScriptLine → ℕ
 budget_of paths [] = 0
-budget_of paths (line ∷ lines) = entries_of paths line + budget_of paths lines
+budget_of paths (line ∷ lines) = line_entries paths line + budget_of paths lines
 
 -- the configurations that a line may bring
-abbrev pub brought_by : ScriptLine → ℕ
-brought_by (line.Put resource path plain) = 0
-brought_by (line.Get path) = 0
-brought_by (line.Delete path) = 0
-brought_by line.Rewrite = 0
-brought_by (line.Reload replica file) = 1
-brought_by line.Refresh = 1
-brought_by (line.Join replica file) = 1
-brought_by (line.Leave replica) = 0
+abbrev pub brought_count : ScriptLine → ℕ
+brought_count (line.Put resource path plain) = 0
+brought_count (line.Get path) = 0
+brought_count (line.Delete path) = 0
+brought_count line.Rewrite = 0
+brought_count (line.Reload replica file) = 1
+brought_count line.Refresh = 1
+brought_count (line.Join replica file) = 1
+brought_count (line.Leave replica) = 0
 
 abbrev pub reloads_of : List ScriptLine → ℕ
 reloads_of [] = 0
-reloads_of (line ∷ lines) = brought_by line + reloads_of lines
+reloads_of (line ∷ lines) = brought_count line + reloads_of lines
 
 -- it puts an object
 abbrev pub is_put : ScriptLine → Bool
@@ -63,8 +63,8 @@ puts_of (line.Leave replica) = []
 
 -- ---- of all workers
 
-abbrev pub budgets_of : (paths : ℕ) → List Part → List ℕ
-budgets_of paths parts = map (λ part. budget_of paths part.lines.0) parts
+abbrev pub script_budgets : (paths : ℕ) → List Part → List ℕ
+script_budgets paths parts = map (λ part. budget_of paths part.lines.0) parts
 
 -- how many lines put an object
 abbrev pub put_lines : List Part → ℕ
@@ -74,7 +74,7 @@ put_lines parts = sum (map (λ part. count_by is_put part.lines.0) parts)
 -- those that are put meanwhile
 abbrev pub AreBudgets : List LogRow → List Part → List ℕ → Type 0
 AreBudgets rows parts budgets = (live : ℕ) × IsLiveCount rows live
-    × (budgets ≡ budgets_of (live + put_lines parts) parts)
+    × (budgets ≡ script_budgets (live + put_lines parts) parts)
 
 abbrev pub all_reloads : List Part → List ℕ
 all_reloads parts = map (λ part. reloads_of part.lines.0) parts

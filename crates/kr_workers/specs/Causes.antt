@@ -187,9 +187,9 @@ module _ {L D : Type 0} (link : L → Link) (count : D → ℕ) (asked : ScriptL
 -- ---- how often
 
 -- the reply names this plugin as failed
-abbrev pub names_plugin : (name : List ℕ) → Told → Bool
-names_plugin name (told.FaultPlugin other) = bytes_eq other name
-names_plugin name reply = false
+abbrev pub tells_plugin : (name : List ℕ) → Told → Bool
+tells_plugin name (told.FaultPlugin other) = bytes_eq other name
+tells_plugin name reply = false
 
 -- it names a random source
 abbrev pub names_dice : Told → Bool
@@ -206,8 +206,8 @@ is_failed gave.StoreFailed = true
 is_failed given = false
 
 -- the entry says that the store failed, so by its step the store's count rose there
-abbrev pub has_failed : Entry → Bool
-has_failed entry = is_failed entry.line.gave
+abbrev pub has_store_failed : Entry → Bool
+has_store_failed entry = is_failed entry.line.gave
 
 -- while a count is below its greatest value it rose at least as often as replies name its object
 abbrev pub CountsFaults : (named before now : ℕ) → Type 0
@@ -217,11 +217,11 @@ CountsFaults named before now = now < 2 ^ 64 - 1 → before + named ≤ now
 -- and the seat's own entries say at least as often that the store failed
 pub record AreCounted {L D : Type 0} (link : L → Link) (count : D → ℕ) (replies : List Told)
     (own : List Entry) (links : List L) (dice : D) (news : List L) (after : D) : Type 0 where
-  pub stored : count_by names_store replies ≤ count_by has_failed own
+  pub stored : count_by names_store replies ≤ count_by has_store_failed own
   pub drawn : CountsFaults (count_by names_dice replies) (count dice) (count after)
   pub asked : AreDistinct link links → (at : ℕ) (it now : L) → slice_get links at ≡ Some it
       → slice_get news at ≡ Some now
-      → CountsFaults (count_by (names_plugin (link it).name) replies) (link it).count
+      → CountsFaults (count_by (tells_plugin (link it).name) replies) (link it).count
       (link now).count
 
 -- ---- the law

@@ -1,8 +1,8 @@
 -- What a configuration makes of a row and of data: who reads it, how it reads, and which data it
 -- can't seal. The pages of a line's part name these alone.
-use Rattle.std.specs.Prelude.{◌≡◌, ◌<◌, ◌⊎◌, ℕ, Bool, true, false, List, length, Contains, Some}
+use Rattle.std.specs.Prelude.{◌≡◌, ◌<◌, ◌⊎◌, ℕ, Bool, true, false, List, length, Contains, Some, ⊤}
 use Rattle.kr_base.specs.Limits.{data_limit}
-use Rattle.kr_config.specs.Kept.{Row as setting, plugins_in}
+use Rattle.kr_config.specs.Kept.{ConfigEntry as setting, plugins_in}
 use Rattle.kr_config.specs.declared.who.Who.TheVariants.{Identity, Kms}
 use Rattle.kr_envelope.specs.Prefixes.{is_marked}
 use Rattle.kr_provider.specs.Envelopes.{Envelope, HasObject}
@@ -39,20 +39,38 @@ pub record RowReads (envelope : Envelope) (p : Publication) (row : Row) (reading
   pub unsourced : HasNoSource envelope
   pub reads : value_reading envelope (list_at p row.resource) row.path row.stored ≡ reading
 
--- as data, stale or not: stale is what another provider than the writer sealed, or an older key of
--- the plugin
-abbrev pub HasData : Publication → Row → (stale : Bool) → (plain : List ℕ) → Type 0
-HasData p row stale plain = (envelope : Envelope) × RowReads envelope p row (data_of plain)
-    × (is_stale envelope p.seeds (list_at p row.resource) row.stored ≡ stale)
+-- by the sources that were had
+module _ (HadSource : Envelope → Publication → Row → Type 0) where
+  -- as data, stale or not: stale is what another provider than the writer sealed, or an older key
+  -- of the plugin
+  abbrev pub HoldsDataWith : Publication → Row → (stale : Bool) → (plain : List ℕ) → Type 0
+  HoldsDataWith p row stale plain = (envelope : Envelope)
+      × RowReads envelope p row (data_of plain)
+      × (is_stale envelope p.seeds (list_at p row.resource) row.stored ≡ stale)
+      × HadSource envelope p row
+
+  abbrev pub IsFreshWith : Publication → Row → Type 0
+  IsFreshWith p row = (plain : List ℕ) × HoldsDataWith p row false plain
+
+  abbrev pub IsStaleWith : Publication → Row → Type 0
+  IsStaleWith p row = (plain : List ℕ) × HoldsDataWith p row true plain
+
+  -- it reads as no data, or as stale ones that can't be sealed anew
+  abbrev pub IsLeftWith : Publication → Row → Type 0
+  IsLeftWith p row = ((envelope : Envelope) × (why : ValueNo)
+      × RowReads envelope p row (refused why) × HadSource envelope p row)
+      ⊎ ((plain : List ℕ) × (why : ValueNo) × HoldsDataWith p row true plain
+      × CannotBeSealed p row.resource plain why)
+
+-- with any source
+abbrev pub AnySource : Envelope → Publication → Row → Type 0
+AnySource envelope p row = ⊤
 
 abbrev pub IsFresh : Publication → Row → Type 0
-IsFresh p row = (plain : List ℕ) × HasData p row false plain
+IsFresh = IsFreshWith AnySource
 
 abbrev pub IsStale : Publication → Row → Type 0
-IsStale p row = (plain : List ℕ) × HasData p row true plain
+IsStale = IsStaleWith AnySource
 
--- it reads as no data, or as stale ones that can't be sealed anew
 abbrev pub IsLeft : Publication → Row → Type 0
-IsLeft p row = ((envelope : Envelope) × (why : ValueNo) × RowReads envelope p row (refused why))
-    ⊎ ((plain : List ℕ) × (why : ValueNo) × HasData p row true plain
-    × CannotBeSealed p row.resource plain why)
+IsLeft = IsLeftWith AnySource

@@ -7,29 +7,29 @@ use Rattle.kr_workers.specs.declared.ending.Ending.{Ending}
 use Rattle.kr_workers.specs.declared.ending.Ending.TheVariants as ending
 
 -- what a reply is
-abbrev pub kind_of : Told → Ending
-kind_of (told.Put revision) = ending.Done
-kind_of (told.Got revision plain) = ending.Done
-kind_of (told.Deleted revision) = ending.Done
-kind_of told.Absent = ending.Refused
-kind_of (told.Rewritten rewritten fresh changed left) =
+abbrev pub reply_ending : Told → Ending
+reply_ending (told.Put revision) = ending.Done
+reply_ending (told.Got revision plain) = ending.Done
+reply_ending (told.Deleted revision) = ending.Done
+reply_ending told.Absent = ending.Refused
+reply_ending (told.Rewritten rewritten fresh changed left) =
     if left == 0 then ending.Done else ending.Refused
-kind_of (told.Reloaded generation) = ending.Done
-kind_of (told.Joined generation) = ending.Done
-kind_of (told.Present generation) = ending.Refused
-kind_of (told.Left generation) = ending.Done
-kind_of told.Gone = ending.Refused
-kind_of (told.Refused verdict) = ending.Refused
-kind_of (told.Refreshed generation) = ending.Done
-kind_of told.Unchanged = ending.Done
-kind_of (told.Moved generation) = ending.Refused
-kind_of (told.Value why) = ending.Refused
-kind_of (told.Unhealthy name field text) = ending.Unhealthy
-kind_of (told.FaultPlugin name) = ending.Fault
-kind_of (told.FaultDice seat) = ending.Fault
-kind_of told.FaultStore = ending.Fault
-kind_of told.Full = ending.Full
-kind_of told.Memory = ending.Memory
+reply_ending (told.Reloaded generation) = ending.Done
+reply_ending (told.Joined generation) = ending.Done
+reply_ending (told.Present generation) = ending.Refused
+reply_ending (told.Left generation) = ending.Done
+reply_ending told.Gone = ending.Refused
+reply_ending (told.Refused verdict) = ending.Refused
+reply_ending (told.Refreshed generation) = ending.Done
+reply_ending told.Unchanged = ending.Done
+reply_ending (told.Moved generation) = ending.Refused
+reply_ending (told.Value why) = ending.Refused
+reply_ending (told.Unhealthy name field text) = ending.Unhealthy
+reply_ending (told.FaultPlugin name) = ending.Fault
+reply_ending (told.FaultDice seat) = ending.Fault
+reply_ending told.FaultStore = ending.Fault
+reply_ending told.Full = ending.Full
+reply_ending told.Memory = ending.Memory
 
 abbrev pub is_same : Ending → Ending → Bool
 is_same ending.Done ending.Done = true
@@ -43,19 +43,20 @@ is_same one other = false
 -- some reply is that
 abbrev pub some_is : Ending → List (List Told × ℕ) → Bool
 some_is kind replies =
-    list_any (λ told. list_any (λ reply. is_same (kind_of reply) kind) told.0) replies
+    list_any (λ told. list_any (λ reply. is_same (reply_ending reply) kind) told.0) replies
 
 -- the first of these kinds that some reply is
-abbrev pub first_of : List Ending → List (List Told × ℕ) → Ending
-first_of [] replies = ending.Done
-first_of (kind ∷ kinds) replies = if some_is kind replies then kind else first_of kinds replies
+abbrev pub first_ending : List Ending → List (List Told × ℕ) → Ending
+first_ending [] replies = ending.Done
+first_ending (kind ∷ kinds) replies = if some_is kind replies then kind else first_ending kinds
+    replies
 
 -- faults, then want of memory, a full store, an unhealthy plugin, a refusal
 abbrev pub kinds : List Ending
 kinds = ending.Fault ∷ (ending.Memory ∷ (ending.Full ∷ (ending.Unhealthy ∷ (ending.Refused ∷ []))))
 
-abbrev pub ending_of : List (List Told × ℕ) → Ending
-ending_of replies = first_of kinds replies
+abbrev pub gravest_ending : List (List Told × ℕ) → Ending
+gravest_ending replies = first_ending kinds replies
 
 -- the program's status
 abbrev pub status_of : Ending → ℕ
@@ -76,12 +77,12 @@ pub record HasReplyOf (kind : Ending) (replies : List (List Told × ℕ)) : Type
   pub reply : Told
   pub told_is : slice_get replies number ≡ Some told
   pub reply_is : slice_get told.0 at ≡ Some reply
-  pub kind_is : kind_of reply ≡ kind
+  pub kind_is : reply_ending reply ≡ kind
 
 -- where not all was done, some reply is of the kind that the ending tells; where all was, no reply
 -- is of another kind
 pub record EndingsAreTold : Type 0 where
-  pub some : (replies : List (List Told × ℕ)) → ending_of replies ≢ ending.Done
-      → HasReplyOf (ending_of replies) replies
-  pub none : (replies : List (List Told × ℕ)) → ending_of replies ≡ ending.Done
+  pub some : (replies : List (List Told × ℕ)) → gravest_ending replies ≢ ending.Done
+      → HasReplyOf (gravest_ending replies) replies
+  pub none : (replies : List (List Told × ℕ)) → gravest_ending replies ≡ ending.Done
       → (kind : Ending) → kind ≢ ending.Done → HasReplyOf kind replies → ⊥

@@ -77,20 +77,20 @@ IsHeardContent heard o path reading front = (opens : Opens) → AgreesWithHeard 
 
 -- `got` tells the revision that was found and the content, `absent` that there is none, by any
 -- truth, and a refusal is that of the content
-abbrev pub TellsContent : Truth → Heard → Opening → (history : List Entry) → (seat : ℕ)
+abbrev pub TellsGotContent : Truth → Heard → Opening → (history : List Entry) → (seat : ℕ)
     → (path : List ℕ) → (ahead part : List Entry) → Told → Type 0
-TellsContent truth heard o history seat path ahead part (told.Got revision plain) =
+TellsGotContent truth heard o history seat path ahead part (told.Got revision plain) =
     FetchesWhere history seat path ahead part (λ front fetch.
     (fetch.line.gave ≡ gave.Found revision) × ReadsContent truth o path (data_of plain) front fetch
     × IsHeardContent heard o path (data_of plain) front)
-TellsContent truth heard o history seat path ahead part told.Absent =
+TellsGotContent truth heard o history seat path ahead part told.Absent =
     FetchesWhere history seat path ahead part (λ front fetch. (fetch.line.gave ≡ gave.Absent)
     × ((opens : Opens) → IsContent opens o front path None))
-TellsContent truth heard o history seat path ahead part (told.Value why) =
+TellsGotContent truth heard o history seat path ahead part (told.Value why) =
     FetchesWhere history seat path ahead part (λ front fetch. (revision : ℕ)
     × (fetch.line.gave ≡ gave.Found revision) × ReadsContent truth o path (refused why) front fetch
     × IsHeardContent heard o path (refused why) front)
-TellsContent truth heard o history seat path ahead part reply = ⊤
+TellsGotContent truth heard o history seat path ahead part reply = ⊤
 
 -- what was heard up to a line, where the bench had kept these seeds before the run
 abbrev pub heard_by : (kept : List (SeedKey × List ℕ)) → (ahead : List LineDone) → LineDone → Heard
@@ -103,7 +103,8 @@ abbrev pub TellContents : Truth → (kept : List (SeedKey × List ℕ)) → Open
 TellContents truth kept o history seat run = (ahead : List LineDone) (done : LineDone)
     (behind : List LineDone) → run ≡ ahead ++ done ∷ behind
     → (path : List ℕ) → done.line ≡ line.Get path
-    → TellsContent truth (heard_by kept ahead done) o history seat path (entries_in ahead) done.part
+    → TellsGotContent truth (heard_by kept ahead done) o history seat path (entries_in ahead)
+    done.part
     done.reply
 
 -- and of a worker that saw nothing before and whose lines stand in a history

@@ -1,11 +1,12 @@
 -- What the workers of a fleet leave: one history, in which each line of each worker has its part.
 use Rattle.std.specs.Prelude.{◌≡◌, ◌<◌, ◌≤◌, ℕ, true, List, [], length, slice_index, slice_index_or, All, Option}
 use Rattle.kr_base.specs.Lines.{of_seat}
+use Rattle.kr_base.specs.Walks.{Walk}
 use Rattle.kr_kms.specs.Calls.{Link}
 use Rattle.kr_kms.specs.Exchanges.{Exchange}
 use Rattle.kr_kms.specs.Truth.{Truth}
 use Rattle.kr_provider.specs.AskedLinks.{AskedOnly}
-use Rattle.kr_provider.specs.BenchKeys.{LeavesKeys}
+use Rattle.kr_provider.specs.BenchKeys.{adoption_of}
 use Rattle.kr_provider.specs.BenchState.{BenchState}
 use Rattle.kr_provider.specs.Names.{names_of}
 use Rattle.kr_rollout.specs.declared.opening.Entry.{Entry}
@@ -13,10 +14,12 @@ use Rattle.kr_rollout.specs.declared.opening.Opening.{Opening}
 use Rattle.kr_rollout.specs.Entries.{seat_of}
 use Rattle.kr_rollout.specs.Histories.{IsLegal}
 use Rattle.kr_history.specs.Honesty.{IsHonest}
+use Rattle.kr_history.specs.KeyMoments.{Happens}
 use Rattle.kr_script.specs.declared.script.Part.{Part}
 use Rattle.kr_script.specs.declared.told.Told.{Told}
 use Rattle.kr_workers.specs.declared.files.SettingsFile.{SettingsFile}
 use Rattle.kr_workers.specs.declared.worker.Worker.{Worker}
+use Rattle.kr_workers.specs.LineMoments.{run_moments}
 use Rattle.kr_workers.specs.Runs.{DoesAll, LineDone, entries_in, lines_in, replies_in}
 use Rattle.kr_workers.specs.ScriptLines.{Workplace}
 use mathlib.Core.List.{IsPrefix}
@@ -61,10 +64,16 @@ module _ {L D : Type 0} (truth : Truth) (link : L → Link)
       (first_place o i (slice_index budgets i) (slice_index_or old i worker).bench)
       (slice_index_or new i worker).told.0 (slice_index_or new i worker).bench
 
-  -- what the run leaves of each worker's key pages: they are as they were, or hold no key
-  abbrev pub AllLeaveKeys : {T : Type 0} → (old new : List (Worker T L D)) → Type 0
-  AllLeaveKeys {T} old new = (i : ℕ) (worker : Worker T L D) → i < length old
-      → LeavesKeys (slice_index_or old i worker).bench (slice_index_or new i worker).bench
+  -- what happened to the keys of each worker's bench around the entries of its lines led from what
+  -- it had to what it has
+  abbrev pub AllMoveKeys : {T : Type 0} → (o : Opening) → (parts : List Part)
+      → (budgets : List ℕ) → (old new : List (Worker T L D))
+      → AllStandIn o parts budgets old new → Type 0
+  AllMoveKeys {T} o parts budgets old new each = (i : ℕ) (part : Part) (worker : Worker T L D)
+      (below : i < length parts)
+      → Walk Happens (adoption_of (slice_index_or old i worker).bench)
+      (run_moments (each i part worker below).run)
+      (adoption_of (slice_index_or new i worker).bench)
 
   -- One history: legal from the opening; honest, where the truth is told and the opening is;
   -- with the lines of each worker, and with nothing else.
@@ -75,5 +84,5 @@ module _ {L D : Type 0} (truth : Truth) (link : L → Link)
     pub many : length new ≡ length old
     pub whole : length old ≡ length parts
     pub each : AllStandIn o parts budgets old new
-    pub keys : AllLeaveKeys old new
+    pub keys : AllMoveKeys o parts budgets old new each
     pub no_other : All (λ e. seat_of e < length parts) history

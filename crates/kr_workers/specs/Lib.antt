@@ -5,9 +5,11 @@ pub mod ScriptLines
 pub mod LineExchanges
 pub mod Changes
 pub mod Runs
+pub mod LineMoments
 pub mod Workers
 pub mod Budgets
 pub mod Histories
+pub mod KeyLaws
 pub mod Heard
 pub mod Plugins
 pub mod Gets

@@ -1,6 +1,6 @@
 -- By which exchanges with plugins, exactly, a worker's line is done.
 use Rattle.std.specs.Prelude.{◌≡◌, ◌⊎◌, ℕ, List, [], Option, Result}
-use Rattle.kr_config.specs.Kept.{Row}
+use Rattle.kr_config.specs.Kept.{ConfigEntry}
 use Rattle.kr_kms.specs.Exchanges.{Exchange}
 use Rattle.kr_history.specs.declared.call.CallNo.{CallNo}
 use Rattle.kr_fleet.specs.CallExchanges.{IsJoinBy, IsReadBy, IsRefreshBy, IsReloadBy}
@@ -27,7 +27,7 @@ module _ {L D : Type 0} where
 
 module _ {L D : Type 0} (left : D → Option (List ℕ)) (count : D → ℕ) where
   -- the file's settings are published and brought, unless memory lacked for one more owner of them
-  abbrev pub DoesReloadBy : (replica : ℕ) → List Row → Workplace L D → Reply → Workplace L D
+  abbrev pub DoesReloadBy : (replica : ℕ) → List ConfigEntry → Workplace L D → Reply → Workplace L D
       → List Exchange → Type 0
   DoesReloadBy replica rows old reply new exchanges =
       (LacksMemory old reply new × (exchanges ≡ []))
@@ -35,7 +35,7 @@ module _ {L D : Type 0} (left : D → Option (List ℕ)) (count : D → ℕ) whe
       × IsReloadBy left count rows replica old.caller old.dice result new.caller new.dice exchanges
       × KeepsSeeds old new)
 
-  abbrev pub DoesJoinBy : (replica : ℕ) → List Row → Workplace L D → Reply → Workplace L D
+  abbrev pub DoesJoinBy : (replica : ℕ) → List ConfigEntry → Workplace L D → Reply → Workplace L D
       → List Exchange → Type 0
   DoesJoinBy replica rows old reply new exchanges =
       (LacksMemory old reply new × (exchanges ≡ []))

@@ -8,7 +8,7 @@ use Rattle.kr_kms.specs.Health.{HasBreach}
 use Rattle.kr_kms.specs.Truth.{Truth}
 use Rattle.kr_provider.specs.AskedLinks.{FaultRose, HasLinkWith}
 use Rattle.kr_rollout.specs.declared.opening.Entry.{Entry}
-use Rattle.kr_fleet.specs.LoadCalls.{AreKeysSame}
+use Rattle.kr_fleet.specs.LoadCalls.{AreKeysSame, IsKeyChanged}
 use Rattle.kr_rewrite.specs.Drives.{CoversLive}
 use Rattle.kr_script.specs.declared.script.ScriptLine.{ScriptLine}
 use Rattle.kr_script.specs.declared.told.Told.{Told}
@@ -16,7 +16,7 @@ use Rattle.kr_workers.specs.declared.files.SettingsFile.{SettingsFile}
 use Rattle.kr_workers.specs.Files.{rows_at}
 use Rattle.kr_workers.specs.Runs.{IsDone, LineDone}
 use Rattle.kr_workers.specs.ScriptLines.{Workplace}
-use Rattle.kr_workers.specs.Configurations.{CannotBeSealed, NamesPlugin, ReadBy}
+use Rattle.kr_workers.specs.Configurations.{CannotBeSealed, IsFresh, IsLeft, IsStale, NamesPlugin, ReadBy}
 use Rattle.kr_workers.specs.RewriteParts.{RewritePart}
 use Rattle.kr_workers.specs.Shapes.{PartIs}
 
@@ -27,8 +27,9 @@ HasShape link count files replica old new part asked reply =
     PartIs (λ name. FaultRose link name old.links new.links)
     (Rose (count old.dice) (count new.dice))
     (λ name field text. HasLinkWith link name (λ it. HasBreach it (Some (field, text))) old.links)
-    (λ p. AreKeysSame link old.links p.seeds) NamesPlugin CannotBeSealed ReadBy
-    (RewritePart (λ name. FaultRose link name old.links new.links)
+    (λ p. AreKeysSame link old.links p.seeds) (λ p. IsKeyChanged link old.links p.seeds)
+    NamesPlugin CannotBeSealed ReadBy
+    (RewritePart IsFresh IsStale IsLeft (λ name. FaultRose link name old.links new.links)
     (Rose (count old.dice) (count new.dice)) (λ met. CoversLive [] met old.caller new.caller)
     old.caller.seat replica part) old.caller.seat replica part (rows_at files) asked reply
 

@@ -10,7 +10,7 @@ use Rattle.kr_provider.specs.Publication.{Publication, SeedOpens, list_at, write
 use Rattle.kr_provider.specs.Readers.{reader_in}
 use Rattle.kr_provider.specs.Reading.{Unseals}
 use Rattle.kr_provider.specs.Sealing.{IsSealing}
-use Rattle.kr_provider.specs.Unsealing.{HasNoSource, MayAsk, TakesSeed}
+use Rattle.kr_provider.specs.Unsealing.{HasNoSource, MayAskPlugin, TakesSeed}
 use Rattle.kr_provider.specs.declared.refusal.Opened.{Opened}
 use Rattle.kr_store.specs.declared.rows.Row.{Row}
 use Rattle.kr_rollout.specs.declared.line.Did.TheVariants as did
@@ -54,7 +54,7 @@ pub record Reseals (path : List ℕ) (e : Entry) : Type 0 where
 -- its source
 abbrev pub UnwrappedBy : {path : List ℕ} → {e : Entry} → Opens → Reseals path e → Type 0
 UnwrappedBy opens r =
-    MayAsk r.p.seeds (reader_in (list_at r.p r.old.resource) r.old.stored) r.envelope.object
+    MayAskPlugin r.p.seeds (reader_in (list_at r.p r.old.resource) r.old.stored) r.envelope.object
     → IsEnvelopeOf opens (list_at r.p r.old.resource) r.old.stored r.envelope
 
 -- the published seed opens of the provider that reads a value

@@ -9,11 +9,11 @@ use Rattle.kr_provider.specs.Names.{names_of}
 use Rattle.kr_rollout.specs.declared.opening.Entry.{Entry}
 use Rattle.kr_rollout.specs.Callers.{holding}
 use Rattle.kr_history.specs.Acting.{IsCaller}
-use Rattle.kr_history.specs.Parts.{Adds, IsWithin}
+use Rattle.kr_history.specs.Parts.{Adds, IsPartWithin}
 use Rattle.kr_script.specs.declared.script.ScriptLine.{ScriptLine}
 use Rattle.kr_script.specs.declared.told.Told.{Told}
 use Rattle.kr_workers.specs.declared.files.SettingsFile.{SettingsFile}
-use Rattle.kr_workers.specs.Budgets.{brought_by, entries_of, puts_of}
+use Rattle.kr_workers.specs.Budgets.{brought_count, line_entries, puts_of}
 use Rattle.kr_workers.specs.Changes.{MayChange}
 use Rattle.kr_workers.specs.Files.{rows_at}
 use Rattle.kr_workers.specs.LineExchanges.{DoesBy}
@@ -56,7 +56,7 @@ module _ {L D : Type 0} (truth : Truth) (link : L → Link)
     pub idle : holding old.caller.mine ≡ None
     pub made : All (MayChange (rows_at files) replica done.line done.reply) done.part
     pub adds : Adds old.caller done.part new.caller
-    pub within : IsWithin (entries_of (length done.part) done.line) (brought_by done.line)
+    pub within : IsPartWithin (line_entries (length done.part) done.line) (brought_count done.line)
         (puts_of done.line) done.part
     pub asked_only : AskedOnly link (names_of link old.links) old.links new.links
     pub later : count old.dice ≤ count new.dice

@@ -1,7 +1,7 @@
 -- What a worker's line does: its call's own relation, and the reply that tells the call's result.
 use Rattle.std.specs.Prelude.{◌≡◌, ◌⊎◌, ◌<◌, ℕ, List, [], length, Option, None, Some, Result, Ok, ⊤}
 use Rattle.kr_base.specs.Rules.{IsPath, IsResource}
-use Rattle.kr_config.specs.Kept.{Row, plugins_in}
+use Rattle.kr_config.specs.Kept.{ConfigEntry, plugins_in}
 use Rattle.kr_kms.specs.Cache.{CacheState}
 use Rattle.kr_kms.specs.Calls.{Link}
 use Rattle.kr_kms.specs.Truth.{Truth}
@@ -29,9 +29,9 @@ use Rattle.kr_workers.specs.Replies.{Reply, told_of_delete, told_of_drive, told_
 -- ---- which lines may be done
 
 -- the replica is there, and the settings of the file name the opening's plugins alone
-abbrev pub MayBring : Opening → List SettingsFile → (replica : ℕ) → (file : List ℕ) → Type 0
-MayBring o files replica file = (replica < length o.replicas)
-    × (rows : List Row) × (rows_at files file ≡ Some rows) × NamesAmong o.names rows
+abbrev pub MayBringFile : Opening → List SettingsFile → (replica : ℕ) → (file : List ℕ) → Type 0
+MayBringFile o files replica file = (replica < length o.replicas)
+    × (rows : List ConfigEntry) × (rows_at files file ≡ Some rows) × NamesAmong o.names rows
 
 -- paths and resources are of their form, replicas are there, and files were read
 abbrev pub MayDo : Opening → List SettingsFile → ScriptLine → Type 0
@@ -39,9 +39,9 @@ MayDo o files (line.Put resource path plain) = IsPath path × IsResource resourc
 MayDo o files (line.Get path) = IsPath path
 MayDo o files (line.Delete path) = IsPath path
 MayDo o files line.Rewrite = ⊤
-MayDo o files (line.Reload replica file) = MayBring o files replica file
+MayDo o files (line.Reload replica file) = MayBringFile o files replica file
 MayDo o files line.Refresh = ⊤
-MayDo o files (line.Join replica file) = MayBring o files replica file
+MayDo o files (line.Join replica file) = MayBringFile o files replica file
 MayDo o files (line.Leave replica) = replica < length o.replicas
 
 -- ---- what a line does
@@ -67,7 +67,7 @@ module _ {L D : Type 0} where
   UsesNeither old new = (new.links ≡ old.links) × (new.dice ≡ old.dice)
 
 -- the settings of a file that was read are brought so
-abbrev pub IfRead : Option (List Row) → (List Row → Type 0) → Type 0
+abbrev pub IfRead : Option (List ConfigEntry) → (List ConfigEntry → Type 0) → Type 0
 IfRead None Brings = ⊥
 IfRead (Some rows) Brings = Brings rows
 
@@ -75,13 +75,15 @@ module _ {L D : Type 0} (truth : Truth) (link : L → Link) (left : D → Option
     (count : D → ℕ) where
   -- the file's settings are published and brought, and their plugins alone are asked, unless memory
   -- lacked for one more owner of them
-  abbrev pub DoesReload : (replica : ℕ) → List Row → Workplace L D → Reply → Workplace L D → Type 0
+  abbrev pub DoesReload : (replica : ℕ) → List ConfigEntry → Workplace L D → Reply → Workplace L D
+      → Type 0
   DoesReload replica rows old reply new = LacksMemory old reply new
       ⊎ ((result : Result Loaded CallNo) × (reply ≡ told_of_reload (seat_at old) result)
       × IsReload truth link left count rows replica old.caller old.links old.dice result new.caller
       new.links new.dice × AskedOnly link (plugins_in rows) old.links new.links)
 
-  abbrev pub DoesJoin : (replica : ℕ) → List Row → Workplace L D → Reply → Workplace L D → Type 0
+  abbrev pub DoesJoin : (replica : ℕ) → List ConfigEntry → Workplace L D → Reply → Workplace L D
+      → Type 0
   DoesJoin replica rows old reply new = LacksMemory old reply new
       ⊎ ((result : Result Joining CallNo) × (reply ≡ told_of_join (seat_at old) result)
       × IsJoin truth link left count rows replica old.caller old.links old.dice result new.caller

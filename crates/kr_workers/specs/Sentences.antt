@@ -23,7 +23,7 @@ use Rattle.kr_workers.specs.declared.ending.Ending.TheVariants as ending
 use Rattle.kr_workers.specs.declared.files.SettingsFile.{SettingsFile}
 use Rattle.kr_workers.specs.declared.worker.Worker.{Worker}
 use Rattle.kr_workers.specs.Causes.{AreCounted, HasCause}
-use Rattle.kr_workers.specs.Endings.{ending_of}
+use Rattle.kr_workers.specs.Endings.{gravest_ending}
 use Rattle.kr_workers.specs.Gets.{TellContents}
 use Rattle.kr_workers.specs.Heard.{AgreesWithHeard, Heard, WasHeard, unheard}
 use Rattle.kr_workers.specs.Histories.{IsOneHistory, StandsIn, first_place}
@@ -131,7 +131,8 @@ module _ {T L D : Type 0} (truth : Truth) (link : L → Link)
         → slice_get new number ≡ Some after → AreCounted link count after.told.0
         (of_seat seat_of number history) before.bench.links before.bench.dice after.bench.links
         after.bench.dice
-    pub rests : RestsOn link count history old new (ending_of (map (λ worker. worker.told) new))
+    pub rests : RestsOn link count history old new (gravest_ending
+        (map (λ worker. worker.told) new))
 
 -- so are those of workers whose lines stand in one history
 abbrev pub HistoriesTell : (T : Type 0) → {L D : Type 0} → Truth → (L → Link)

@@ -1,7 +1,7 @@
 -- Which entries a line's part of the history has, by the line and its reply: each of the line's
 -- steps, in their order.
 use Rattle.std.specs.Prelude.{◌≡◌, ◌⊎◌, ℕ, List, [], ◌∷◌, ◌++◌, All, Option, None, Some, ⊤}
-use Rattle.kr_config.specs.Kept.{Row as setting}
+use Rattle.kr_config.specs.Kept.{ConfigEntry as setting}
 use Rattle.kr_kms.specs.declared.health.Field.{Field}
 use Rattle.kr_provider.specs.Publication.{Publication}
 use Rattle.kr_provider.specs.declared.refusal.ValueNo.{ValueNo}
@@ -74,11 +74,13 @@ pub record BringsRows (brings : Publication → Did) (rows : List setting) (give
 
 -- What is known of the outside while the line was done: a plugin failed, or the random source, so
 -- the count of its faults rose; a plugin's status breaks a rule; no plugin tells another key than a
--- configuration has. What a configuration makes of its settings, of data and of a row. And the
--- second page: what a rewrite did that is told so. `home` is the worker's own replica
+-- configuration has, or one does. What a configuration makes of its settings, of data and of a row.
+-- And the second page: what a rewrite did that is told so. `home` is the worker's own replica. Where
+-- memory lacked a line did nothing, or what it asked for came to nothing, or a row that it found
+-- wasn't read; a generation that it adopted is let go all the same
 module _ (PluginFailed : (name : List ℕ) → Type 0) (SourceFailed : Type 0)
     (BreaksRule : (name : List ℕ) → Field → (text : List ℕ) → Type 0)
-    (KeysAreSame : Publication → Type 0)
+    (KeysAreSame KeyChanged : Publication → Type 0)
     (NamesPlugin : List setting → (name : List ℕ) → Type 0)
     (CannotBeSealed : Publication → (resource plain : List ℕ) → ValueNo → Type 0)
     (ReadBy : (name : List ℕ) → Publication → Row → Type 0)
@@ -97,7 +99,10 @@ module _ (PluginFailed : (name : List ℕ) → Type 0) (SourceFailed : Type 0)
   PutPart resource path plain (told.FaultDice named) =
       (named ≡ worker) × SourceFailed × HoldsPart home part (λ p number mids. mids ≡ [])
   PutPart resource path plain told.Gone = IsAlone (did.Adopt home) (gave.Gone home) part
-  PutPart resource path plain told.Memory = ⊤
+  PutPart resource path plain told.Memory = (part ≡ [])
+      ⊎ IsAlone (did.Adopt home) gave.Nothing part
+      ⊎ HoldsPart home part (λ p number mids. mids ≡ [])
+      ⊎ HoldsOne home part (did.Put path resource plain) gave.Nothing
   PutPart resource path plain reply = ⊥
 
   abbrev pub GetPart : (path : List ℕ) → Told → Type 0
@@ -110,7 +115,9 @@ module _ (PluginFailed : (name : List ℕ) → Type 0) (SourceFailed : Type 0)
       × HoldsPart home part (λ p number mids. IsOne mids (did.Fetch path) (gave.Found revision)
       (λ e. (row : Row) × (e.row ≡ Some row) × ReadBy name p row))
   GetPart path told.Gone = IsAlone (did.Adopt home) (gave.Gone home) part
-  GetPart path told.Memory = ⊤
+  GetPart path told.Memory = (part ≡ []) ⊎ IsAlone (did.Adopt home) gave.Nothing part
+      ⊎ HoldsOne home part (did.Fetch path) gave.Nothing
+      ⊎ ((revision : ℕ) × HoldsOne home part (did.Fetch path) (gave.Found revision))
   GetPart path reply = ⊥
 
   abbrev pub DeletePart : (path : List ℕ) → Told → Type 0
@@ -120,7 +127,7 @@ module _ (PluginFailed : (name : List ℕ) → Type 0) (SourceFailed : Type 0)
   DeletePart path told.Full =
       (needed : ℕ) × IsAlone (did.Delete path) (gave.StoreFull needed) part
   DeletePart path told.FaultStore = IsAlone (did.Delete path) gave.StoreFailed part
-  DeletePart path told.Memory = ⊤
+  DeletePart path told.Memory = (part ≡ []) ⊎ IsAlone (did.Delete path) gave.Nothing part
   DeletePart path reply = ⊥
 
   -- settings that weren't published bring nothing
@@ -130,7 +137,6 @@ module _ (PluginFailed : (name : List ℕ) → Type 0) (SourceFailed : Type 0)
   BringsPart rows (told.FaultDice named) = (named ≡ worker) × SourceFailed × (part ≡ [])
   BringsPart rows (told.Unhealthy name field text) =
       BreaksRule name field text × NamesPlugin rows name × (part ≡ [])
-  BringsPart rows told.Memory = ⊤
   BringsPart rows reply = ⊥
 
   abbrev pub ReloadPart : (replica : ℕ) → List setting → Told → Type 0
@@ -140,6 +146,8 @@ module _ (PluginFailed : (name : List ℕ) → Type 0) (SourceFailed : Type 0)
       BringsRows (λ p. did.Reload replica p None) rows (gave.Refused verdict) part
   ReloadPart replica rows told.Gone =
       BringsRows (λ p. did.Reload replica p None) rows (gave.Gone replica) part
+  ReloadPart replica rows told.Memory =
+      (part ≡ []) ⊎ BringsRows (λ p. did.Reload replica p None) rows gave.Nothing part
   ReloadPart replica rows reply = BringsPart rows reply
 
   abbrev pub JoinPart : (replica : ℕ) → List setting → Told → Type 0
@@ -149,11 +157,13 @@ module _ (PluginFailed : (name : List ℕ) → Type 0) (SourceFailed : Type 0)
       BringsRows (did.Join replica) rows (gave.Present number) part
   JoinPart replica rows (told.Refused verdict) =
       BringsRows (did.Join replica) rows (gave.Refused verdict) part
+  JoinPart replica rows told.Memory =
+      (part ≡ []) ⊎ BringsRows (did.Join replica) rows gave.Nothing part
   JoinPart replica rows reply = BringsPart rows reply
 
-  -- the adopted settings are brought anew in place of the adopted generation
+  -- a key has changed, and the adopted settings are brought anew in place of the adopted generation
   abbrev pub Renewed : Gave → Type 0
-  Renewed given = HoldsPart home part (λ p number mids. (anew : Publication)
+  Renewed given = HoldsPart home part (λ p number mids. KeyChanged p × (anew : Publication)
       × (anew.rows ≡ p.rows) × IsOne mids (did.Reload home anew (Some number)) given (λ e. ⊤))
 
   -- they aren't, for a plugin of theirs or for want of bytes
@@ -172,7 +182,10 @@ module _ (PluginFailed : (name : List ℕ) → Type 0) (SourceFailed : Type 0)
       (named ≡ worker) × SourceFailed × HoldsPart home part (λ p number mids. mids ≡ [])
   RefreshPart (told.Unhealthy name field text) =
       BreaksRule name field text × RenewsNot (λ p. NamesPlugin p.rows name)
-  RefreshPart told.Memory = ⊤
+  RefreshPart told.Memory = (part ≡ []) ⊎ IsAlone (did.Adopt home) gave.Nothing part
+      ⊎ HoldsPart home part (λ p number mids. (mids ≡ []) ⊎ ((anew : Publication)
+      × (anew.rows ≡ p.rows)
+      × IsOne mids (did.Reload home anew (Some number)) gave.Nothing (λ e. ⊤)))
   RefreshPart reply = ⊥
 
   -- a reload and a join bring settings of the file that was read

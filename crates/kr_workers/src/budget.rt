@@ -2,7 +2,7 @@
 //! bring.
 ghost use Rattle.std.specs.Prelude.{◌≡◌, ◌<◌, ◌≤◌, ◌+◌, ◌^◌, ◌-◌, count_by, sum, min, IfOk, IsErrOf, MatchOption};
 ghost use Rattle.kr_base.specs.Limits.{journal_limit};
-ghost use Rattle.kr_workers.specs.Budgets.{all_reloads, brought_by, budget_of, budgets_of, entries_of, is_put, put_lines, reloads_of};
+ghost use Rattle.kr_workers.specs.Budgets.{all_reloads, brought_count, budget_of, script_budgets, line_entries, is_put, put_lines, reloads_of};
 
 use kr_base::JOURNAL_LIMIT;
 use kr_script::{Part, ScriptLine};
@@ -35,16 +35,16 @@ impl<T: Drop> From<AllocFailed<T>> for BudgetNo {
 }
 
 /// What the parts of a fleet file may need over a store with so many live rows.
-pub fn budgets_of(alloc: Global, live: u64, parts: &[Part]) -> Result<Budgets, BudgetNo>
+pub fn script_budgets(alloc: Global, live: u64, parts: &[Part]) -> Result<Budgets, BudgetNo>
     ensures entries { IfOk result (λ budgets. budgets.entries.items
-        ≡ budgets_of (live + put_lines parts.now) parts.now) }
+        ≡ script_budgets (live + put_lines parts.now) parts.now) }
     ensures reloads { IfOk result (λ budgets. budgets.reloads.items ≡ all_reloads parts.now) }
     ensures few { IfOk result (λ budgets. sum budgets.entries.items ≤ journal_limit) }
     ensures fit { IfOk result (λ budgets. sum budgets.reloads.items ≤ sum budgets.entries.items) }
     ensures many { IsErrOf result BudgetNo.TooMany
-        → journal_limit < sum (budgets_of (live + put_lines parts.now) parts.now) }
+        → journal_limit < sum (script_budgets (live + put_lines parts.now) parts.now) }
 {
-    budgets_for(alloc, live.saturating_add(put_lines(parts)), parts)
+    part_budgets(alloc, live.saturating_add(put_lines(parts)), parts)
 }
 
 /// How many lines put an object, up to the greatest number.
@@ -53,12 +53,12 @@ fn put_lines(parts: &[Part]) -> u64
 {
     let mut puts = 0u64;
     for part in parts {
-        puts = puts.saturating_add(puts_among(part.lines.as_slice()));
+        puts = puts.saturating_add(count_puts(part.lines.as_slice()));
     }
     puts
 }
 
-fn puts_among(lines: &[ScriptLine]) -> u64
+fn count_puts(lines: &[ScriptLine]) -> u64
     ensures { result ≡ count_by is_put lines.now }
 {
     lines.iter().filter(|line| is_put(line)).count() as u64
@@ -71,12 +71,13 @@ fn is_put(line: &ScriptLine) -> bool
 }
 
 /// What the parts may need, where a rewrite finds at most so many paths.
-fn budgets_for(alloc: Global, paths: u64, parts: &[Part]) -> Result<Budgets, BudgetNo>
-    ensures entries { IfOk result (λ budgets. budgets.entries.items ≡ budgets_of paths parts.now) }
+fn part_budgets(alloc: Global, paths: u64, parts: &[Part]) -> Result<Budgets, BudgetNo>
+    ensures entries { IfOk result (λ budgets. budgets.entries.items
+        ≡ script_budgets paths parts.now) }
     ensures reloads { IfOk result (λ budgets. budgets.reloads.items ≡ all_reloads parts.now) }
     ensures few { IfOk result (λ budgets. sum budgets.entries.items ≤ journal_limit) }
     ensures many { IsErrOf result BudgetNo.TooMany
-        → journal_limit < sum (budgets_of paths parts.now) }
+        → journal_limit < sum (script_budgets paths parts.now) }
 {
     let mut budgets = Budgets {
         entries: Vec::new(alloc),
@@ -84,7 +85,7 @@ fn budgets_for(alloc: Global, paths: u64, parts: &[Part]) -> Result<Budgets, Bud
     };
     let mut room = JOURNAL_LIMIT;
     for part in parts {
-        let Some(budget) = budget_within(paths, room, part.lines.as_slice()) else {
+        let Some(budget) = checked_budget(paths, room, part.lines.as_slice()) else {
             return Err(BudgetNo::TooMany);
         };
         room -= budget.entries;
@@ -102,7 +103,7 @@ struct Budget {
 }
 
 /// What the lines may need, if it is no more than there is room for.
-fn budget_within(paths: u64, room: u64, lines: &[ScriptLine]) -> Option<Budget>
+fn checked_budget(paths: u64, room: u64, lines: &[ScriptLine]) -> Option<Budget>
     requires { room ≤ journal_limit }
     ensures { MatchOption result (room < budget_of paths lines.now)
         (λ budget. (budget.entries ≡ budget_of paths lines.now) × (budget.entries ≤ room)
@@ -111,19 +112,19 @@ fn budget_within(paths: u64, room: u64, lines: &[ScriptLine]) -> Option<Budget>
     let mut entries = 0u64;
     let mut reloads = 0u32;
     for line in lines {
-        let more = entries_of(paths, line);
+        let more = line_entries(paths, line);
         if more > room - entries {
             return None;
         }
         entries += more;
-        reloads += brought_by(line);
+        reloads += brought_count(line);
     }
     Some(Budget { entries, reloads })
 }
 
 /// How many lines a line may add to the journal, up to the greatest number.
-fn entries_of(paths: u64, line: &ScriptLine) -> u64
-    ensures { result ≡ min (entries_of paths line.now) (2 ^ 64 - 1) }
+fn line_entries(paths: u64, line: &ScriptLine) -> u64
+    ensures { result ≡ min (line_entries paths line.now) (2 ^ 64 - 1) }
 {
     match line {
         ScriptLine::Put { .. } | ScriptLine::Get { .. } | ScriptLine::Refresh => 3,
@@ -136,8 +137,8 @@ fn entries_of(paths: u64, line: &ScriptLine) -> u64
 }
 
 /// How many configurations a line may bring.
-fn brought_by(line: &ScriptLine) -> u32
-    ensures { result ≡ brought_by line.now }
+fn brought_count(line: &ScriptLine) -> u32
+    ensures { result ≡ brought_count line.now }
 {
     match line {
         ScriptLine::Reload { .. } | ScriptLine::Refresh | ScriptLine::Join { .. } => 1,

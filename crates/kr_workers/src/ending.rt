@@ -1,7 +1,7 @@
 //! How a fleet ended, by its replies.
 ghost use Rattle.std.specs.Prelude.{◌≡◌};
 ghost use Rattle.std.specs.List.{list_any};
-ghost use Rattle.kr_workers.specs.Endings.{ending_of, is_same, kind_of, some_is, status_of};
+ghost use Rattle.kr_workers.specs.Endings.{gravest_ending, is_same, reply_ending, some_is, status_of};
 
 use kr_base::List;
 use kr_script::Told;
@@ -55,8 +55,8 @@ impl Ending {
 }
 
 /// How the fleet ended whose workers told these replies: the gravest of what they told.
-pub fn ending_of(replies: &[List<Told>]) -> Ending
-    ensures { result ≡ ending_of replies.now }
+pub fn gravest_ending(replies: &[List<Told>]) -> Ending
+    ensures { result ≡ gravest_ending replies.now }
 {
     if some_is(Ending::Fault, replies) {
         Ending::Fault
@@ -81,14 +81,14 @@ fn some_is(kind: Ending, replies: &[List<Told>]) -> bool
 }
 
 fn one_is(kind: Ending, told: &[Told]) -> bool
-    ensures { result ≡ list_any (λ reply. is_same (kind_of reply) kind) told.now }
+    ensures { result ≡ list_any (λ reply. is_same (reply_ending reply) kind) told.now }
 {
-    told.iter().any(|reply| kind_of(reply).is_same(kind))
+    told.iter().any(|reply| reply_ending(reply).is_same(kind))
 }
 
 /// What a reply is.
-fn kind_of(reply: &Told) -> Ending
-    ensures { result ≡ kind_of reply.now }
+fn reply_ending(reply: &Told) -> Ending
+    ensures { result ≡ reply_ending reply.now }
 {
     match reply {
         Told::Put { .. }

@@ -15,7 +15,7 @@ pub struct SettingsFile {
 }
 
 /// The settings of the file of this name.
-pub fn settings_at<'a>(files: &'a [SettingsFile], name: &str) -> Option<&'a Shared<Settings>>
+pub fn file_settings<'a>(files: &'a [SettingsFile], name: &str) -> Option<&'a Shared<Settings>>
     ensures { option_map (λ settings. rows_of settings.now.entries.0) result
         ≡ rows_at files.now name.now }
 {

@@ -4,6 +4,7 @@ ghost use Rattle.kr_workers.specs.declared.files.SettingsFile.{SettingsFile};
 ghost use Rattle.kr_workers.specs.Causes.{RepliesHaveCauses};
 ghost use Rattle.kr_workers.specs.Endings.{EndingsAreTold};
 ghost use Rattle.kr_workers.specs.Gets.{GetsTellContent};
+ghost use Rattle.kr_workers.specs.KeyLaws.{WorkersHoldTheirKeys};
 ghost use Rattle.kr_workers.specs.LineParts.{PartsHaveShape};
 ghost use Rattle.kr_workers.specs.Plugins.{HonestOfPlugins};
 ghost use Rattle.kr_workers.specs.Sentences.{HistoriesTell};
@@ -50,4 +51,11 @@ pub fn honest_of_plugins<T: Tape, L: Kms, D: Dice>()
 /// reply says so.
 pub fn endings_are_told()
     ensures { EndingsAreTold }
+{}
+
+/// At every moment at which a worker is between two events, its key pages hold exactly the
+/// schedules of the configuration that it took up last, and every other page is zero: as before
+/// after an Adopt that was refused, none from before its LetGo on.
+pub fn workers_hold_their_keys<T: Tape, L: Kms, D: Dice>()
+    ensures { WorkersHoldTheirKeys T L.truth L.link L.step D.left D.count }
 {}

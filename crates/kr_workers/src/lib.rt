@@ -13,12 +13,12 @@ mod told;
 mod worker;
 mod workers;
 
-pub use budget::{BudgetNo, Budgets, budgets_of};
-pub use ending::{Ending, ending_of};
-pub use files::{SettingsFile, settings_at};
+pub use budget::{BudgetNo, Budgets, script_budgets};
+pub use ending::{Ending, gravest_ending};
+pub use files::{SettingsFile, file_settings};
 pub use laws::{
     endings_are_told, gets_tell_content, honest_of_plugins, parts_have_shape, replies_are_true,
-    replies_have_causes,
+    replies_have_causes, workers_hold_their_keys,
 };
 pub use team::run_fleet;
 pub use worker::Worker;

@@ -5,7 +5,7 @@ ghost use Rattle.kr_script.specs.declared.script.ScriptLine.TheVariants as line;
 ghost use Rattle.kr_workers.specs.Files.{rows_at};
 ghost use Rattle.kr_workers.specs.inner.Serving.{IsReadyFor, Serves};
 
-use crate::files::{SettingsFile, settings_at};
+use crate::files::{SettingsFile, file_settings};
 use crate::told::{
     told_of_delete, told_of_drive, told_of_join, told_of_leave, told_of_read, told_of_refresh,
     told_of_reload, told_of_write,
@@ -150,7 +150,7 @@ fn reload_line<A: Acts, L: Kms, D: Dice>(
         (A.caller acts.new) bench.new }
     ensures place { A.place acts.new ≡ A.place acts.old }
 {
-    let Ok(settings) = share_of(files, file.as_str()) else {
+    let Ok(settings) = share_file_settings(files, file.as_str()) else {
         return Ok(Told::Memory);
     };
     let number = acts.seat();
@@ -175,7 +175,7 @@ fn join_line<A: Acts, L: Kms, D: Dice>(
         (A.caller acts.new) bench.new }
     ensures place { A.place acts.new ≡ A.place acts.old }
 {
-    let Ok(settings) = share_of(files, file.as_str()) else {
+    let Ok(settings) = share_file_settings(files, file.as_str()) else {
         return Ok(Told::Memory);
     };
     let number = acts.seat();
@@ -244,12 +244,12 @@ fn leave_line<A: Acts, L: Kms, D: Dice>(
 }
 
 /// One more owner of the settings of the file, which was read.
-fn share_of(files: &[SettingsFile], file: &str) -> Result<Shared<Settings>, NoMemory>
+fn share_file_settings(files: &[SettingsFile], file: &str) -> Result<Shared<Settings>, NoMemory>
     requires { IsSome (rows_at files.now file.now) }
     ensures { IfOk result (λ settings.
         rows_at files.now file.now ≡ Some (rows_of settings.entries.0)) }
 {
-    let Some(settings) = settings_at(files, file) else {
+    let Some(settings) = file_settings(files, file) else {
         unreachable!()
     };
     settings.share()

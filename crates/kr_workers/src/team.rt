@@ -93,6 +93,6 @@ fn unseat_each<T: Tape, L: Kms, D: Dice>(
     ensures workers { workers.new.items ≡ map without_seat workers.old.items }
 {
     for at in 0..workers.len() {
-        seats.push_in_room(workers[at].stand_up());
+        seats.push_in_room(workers[at].release_seat());
     }
 }

@@ -78,7 +78,7 @@ impl<T: Tape, L: Kms, D: Dice> Worker<T, L, D> {
     }
 
     /// Gives its seat up.
-    pub(crate) fn stand_up(&mut self) -> Seat<T>
+    pub(crate) fn release_seat(&mut self) -> Seat<T>
         requires { IsSome self.old.seat }
         ensures seat { self.old.seat ≡ Some result }
         ensures kept { self.new ≡ record self.old { seat = None } }
@@ -102,9 +102,9 @@ pub(crate) fn work<R: Wait, T: Tape, L: Kms, D: Dice>(
     ensures { HasWorked fleet.now files.now parts.now L.truth L.link L.step D.left D.count
         worker.old worker.new }
 {
-    let seat = worker.stand_up();
+    let seat = worker.release_seat();
     let part = &parts[seat.number() as usize];
-    let (seat, ended) = work_at(
+    let (seat, ended) = work_at_seat(
         rt,
         alloc,
         fleet,
@@ -119,7 +119,7 @@ pub(crate) fn work<R: Wait, T: Tape, L: Kms, D: Dice>(
 }
 
 /// Does the lines of the part at the seat, which comes back.
-fn work_at<R: Wait, T: Tape, L: Kms, D: Dice>(
+fn work_at_seat<R: Wait, T: Tape, L: Kms, D: Dice>(
     rt: &R,
     alloc: Global,
     fleet: &Fleet<T>,
@@ -140,7 +140,7 @@ fn work_at<R: Wait, T: Tape, L: Kms, D: Dice>(
         part.now.lines.0 (caller_of fleet.now seat) bench.old told.new.0 result.1
         (caller_of fleet.now result.0) bench.new }
 {
-    let mut at = fleet.at(rt, seat);
+    let mut at = fleet.seat_caller(rt, seat);
     let ended = serve_lines(
         alloc,
         &mut at,

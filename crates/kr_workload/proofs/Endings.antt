@@ -6,14 +6,14 @@ use Rattle.std.proofs.lemmas.Bool.{false≢true}
 use Rattle.std.proofs.lemmas.Map.Views.{any-filter_same}
 use Rattle.kr_script.specs.declared.told.Told.{Told}
 use Rattle.kr_script.specs.declared.told.Told.TheVariants as told
-use Rattle.kr_workers.specs.Endings.{ending_of, is_same, kind_of, some_is}
+use Rattle.kr_workers.specs.Endings.{gravest_ending, is_same, reply_ending, some_is}
 use Rattle.kr_workers.specs.declared.ending.Ending.{Ending}
 use Rattle.kr_workers.specs.declared.ending.Ending.TheVariants as ending
 use Rattle.kr_workload.specs.Endings.{counts, ending_of_load, without_verdicts}
 use Rattle.kr_workload.specs.inner.Refusing.{ending_of_refusals, refuses, some_refuses}
 
 -- a reply that doesn't count is a refusal
-counts_unless : (reply : Told) → (counts reply ≡ true) ⊎ (kind_of reply ≡ ending.Refused)
+counts_unless : (reply : Told) → (counts reply ≡ true) ⊎ (reply_ending reply ≡ ending.Refused)
 counts_unless (told.Put revision) = inl refl
 counts_unless (told.Got revision plain) = inl refl
 counts_unless (told.Deleted revision) = inl refl
@@ -38,7 +38,7 @@ counts_unless told.Memory = inl refl
 
 -- so one of another kind counts
 other_counts : (kind : Ending) → is_same ending.Refused kind ≡ false → (reply : Told)
-    → is_same (kind_of reply) kind ≡ true → counts reply ≡ true
+    → is_same (reply_ending reply) kind ≡ true → counts reply ≡ true
 other_counts kind apart reply same = elim (counts_unless reply) [
   | inl it ↦ it
   | inr it ↦ absurd (false≢true (sym apart ∙ ap (λ k. is_same k kind) (sym it) ∙ same))
@@ -50,7 +50,7 @@ same_among : (kind : Ending) → is_same ending.Refused kind ≡ false
     → some_is kind (without_verdicts replies) ≡ some_is kind replies
 same_among kind apart [] = refl
 same_among kind apart (told ∷ replies) = λ i.
-    any-filter_same (λ reply. is_same (kind_of reply) kind) counts true
+    any-filter_same (λ reply. is_same (reply_ending reply) kind) counts true
     (other_counts kind apart) told.0 i || same_among kind apart replies i
 
 filtered : (test : Told → Bool) (b : Bool) (reply : Told) (rest : List Told) (found : Bool)
@@ -60,11 +60,11 @@ filtered test true reply rest found e = ap (λ t. test reply || t) e
 filtered test false reply rest found e = e
 
 refusals_in : (told : List Told)
-    → list_any (λ reply. is_same (kind_of reply) ending.Refused) (filter counts told)
+    → list_any (λ reply. is_same (reply_ending reply) ending.Refused) (filter counts told)
     ≡ list_any refuses told
 refusals_in [] = refl
 refusals_in (reply ∷ told) =
-    filtered (λ r. is_same (kind_of r) ending.Refused) (counts reply) reply
+    filtered (λ r. is_same (reply_ending r) ending.Refused) (counts reply) reply
     (filter counts told) (list_any refuses told) (refusals_in told)
 
 -- a refusal among those that count
@@ -112,11 +112,11 @@ load_picks replies = λ i. pick (same_among ending.Fault refl replies i)
     (same_among ending.Unhealthy refl replies i) (refusals_among replies i)
 
 refuses_back : (told : List Told) → list_any refuses told ≡ true
-    → list_any (λ reply. is_same (kind_of reply) ending.Refused) told ≡ true
+    → list_any (λ reply. is_same (reply_ending reply) ending.Refused) told ≡ true
 refuses_back [] h = h
 refuses_back (reply ∷ told) h = one (counts reply)
-    (is_same (kind_of reply) ending.Refused) (list_any refuses told)
-    (list_any (λ r. is_same (kind_of r) ending.Refused) told) (refuses_back told) h
+    (is_same (reply_ending reply) ending.Refused) (list_any refuses told)
+    (list_any (λ r. is_same (reply_ending r) ending.Refused) told) (refuses_back told) h
   where
     one : (b t rest all : Bool) → (rest ≡ true → all ≡ true) → ((b && t) || rest) ≡ true
         → (t || all) ≡ true
@@ -129,7 +129,7 @@ some_back : (replies : List (List Told × ℕ)) → some_refuses replies ≡ tru
     → some_is ending.Refused replies ≡ true
 some_back [] h = h
 some_back (told ∷ replies) h = either (list_any refuses told.0) (some_refuses replies)
-    (list_any (λ r. is_same (kind_of r) ending.Refused) told.0)
+    (list_any (λ r. is_same (reply_ending r) ending.Refused) told.0)
     (some_is ending.Refused replies) (refuses_back told.0) (some_back replies) h
   where
     either : (a b c d : Bool) → (a ≡ true → c ≡ true) → (b ≡ true → d ≡ true)
@@ -138,14 +138,14 @@ some_back (told ∷ replies) h = either (list_any refuses told.0) (some_refuses 
     either false b true d first second h = refl
     either false b false d first second h = second h
 
-pub refused_ends : (replies : List (List Told × ℕ)) → ending_of replies ≡ ending.Refused
+pub refused_ends : (replies : List (List Told × ℕ)) → gravest_ending replies ≡ ending.Refused
     → ending_of_refusals replies ≡ ending_of_load replies
 refused_ends replies e =
     refused_at (some_is ending.Fault replies) (some_is ending.Memory replies)
     (some_is ending.Full replies) (some_is ending.Unhealthy replies)
     (some_is ending.Refused replies) (some_refuses replies) e ∙ sym (load_picks replies)
 
-pub other_ends : (replies : List (List Told × ℕ)) (kind : Ending) → ending_of replies ≡ kind
+pub other_ends : (replies : List (List Told × ℕ)) (kind : Ending) → gravest_ending replies ≡ kind
     → is_same kind ending.Refused ≡ false → kind ≡ ending_of_load replies
 other_ends replies kind e apart =
     other_at (some_is ending.Fault replies) (some_is ending.Memory replies)

@@ -12,8 +12,8 @@ use Rattle.kr_script.specs.declared.told.Told.TheVariants as told
 use Rattle.kr_judge.specs.declared.verdict.Verdict.{Verdict}
 use Rattle.kr_workers.specs.Runs.{LineDone, lines_in, replies_in}
 use Rattle.kr_workload.specs.FullLoads.{objects_at}
-use Rattle.kr_workload.specs.Loads.{get_of, lines_of, path_of, plain_of, put_of, reloads_of}
-use Rattle.kr_workload.specs.Summaries.{Objects, objects_by, objects_in, is_got, is_put}
+use Rattle.kr_workload.specs.Loads.{load_get_line, lines_of, object_path, plain_of, put_of, load_reloads}
+use Rattle.kr_workload.specs.Summaries.{GotObjects, replied_objects, objects_in, is_got, is_put_reply}
 use Rattle.kr_workload.proofs.LoadHistories.{front_all, secrets}
 use Rattle.kr_workload.proofs.LoadLines.{IsReloading, long}
 use Rattle.kr_workload.proofs.LoadReplies.{IsFullReply}
@@ -44,24 +44,24 @@ module _ (Said : List ℕ → List ℕ → Type 0) where
 
   put_is : (resource path plain : List ℕ) (reply : Told)
       → IsFullReply Said (line.Put resource path plain) reply
-      → (is_put reply ≡ true) × (is_got reply ≡ false)
-  unfolding is_put is_got
+      → (is_put_reply reply ≡ true) × (is_got reply ≡ false)
+  unfolding is_put_reply is_got
   put_is resource path plain (told.Put revision) f = (refl, refl)
   put_is resource path plain reply f = absurd f
 
   reload_is : (replica : ℕ) (file : List ℕ) (reply : Told)
       → IsFullReply Said (line.Reload replica file) reply
-      → (is_put reply ≡ false) × (is_got reply ≡ false)
-  unfolding is_put is_got
+      → (is_put_reply reply ≡ false) × (is_got reply ≡ false)
+  unfolding is_put_reply is_got
   reload_is replica file (told.Reloaded generation) f = (refl, refl)
   reload_is replica file (told.Refused verdict) f = (refl, refl)
   reload_is replica file reply f = absurd f
 
   get_is : (path plain : List ℕ) → ((found : List ℕ) → Said path found → found ≡ plain)
       → (reply : Told) → IsFullReply Said (line.Get path) reply
-      → (is_put reply ≡ false) × (is_got reply ≡ true)
-      × (objects_by (line.Get path) reply ≡ (path, plain) ∷ [])
-  unfolding is_put is_got
+      → (is_put_reply reply ≡ false) × (is_got reply ≡ true)
+      × (replied_objects (line.Get path) reply ≡ (path, plain) ∷ [])
+  unfolding is_put_reply is_got
   get_is path plain says (told.Got revision found) f =
       (refl, refl, ap (λ (d : List ℕ). (path, d) ∷ []) (says found f))
   get_is path plain says reply f = absurd f
@@ -69,26 +69,26 @@ module _ (Said : List ℕ → List ℕ → Type 0) where
 -- ---- of some lines
 
 -- what was got, line by line
-abbrev objects_run : List LineDone → Objects
+abbrev objects_run : List LineDone → GotObjects
 objects_run [] = []
-objects_run (done ∷ run) = objects_by done.line done.reply ++ objects_run run
+objects_run (done ∷ run) = replied_objects done.line done.reply ++ objects_run run
 
 objects_is : (run : List LineDone) → objects_in (lines_in run) (replies_in run) ≡ objects_run run
 objects_is [] = refl
-objects_is (done ∷ run) = ap (λ l. objects_by done.line done.reply ++ l) (objects_is run)
+objects_is (done ∷ run) = ap (λ l. replied_objects done.line done.reply ++ l) (objects_is run)
 
 objects_behind : (run more : List LineDone)
     → objects_run (run ++ more) ≡ objects_run run ++ objects_run more
 objects_behind [] more = refl
 objects_behind (done ∷ run) more =
-    ap (λ l. objects_by done.line done.reply ++ l) (objects_behind run more)
-    ∙ sym (append_assoc (objects_by done.line done.reply) (objects_run run) (objects_run more))
+    ap (λ l. replied_objects done.line done.reply ++ l) (objects_behind run more)
+    ∙ sym (append_assoc (replied_objects done.line done.reply) (objects_run run) (objects_run more))
 
 nothing_got : (run : List LineDone)
-    → All (λ (done : LineDone). objects_by done.line done.reply ≡ []) run → objects_run run ≡ []
+    → All (λ (done : LineDone). replied_objects done.line done.reply ≡ []) run → objects_run run ≡ []
 nothing_got [] all = refl
 nothing_got (done ∷ run) all =
-    let Is : LineDone → Type 0 = λ d. objects_by d.line d.reply ≡ [] in
+    let Is : LineDone → Type 0 = λ d. replied_objects d.line d.reply ≡ [] in
     λ i. All-head Is done run all i ++ nothing_got run (All-tail Is done run all) i
 
 replies_behind : (run more : List LineDone)
@@ -104,7 +104,7 @@ back_all P (x ∷ xs) ys a = back_all P xs ys (All-tail P x (xs ++ ys) a)
 
 -- what a worker of a load told in all
 pub record IsFullWorker (seed size worker : ℕ) (replies : List Told) : Type 0 where
-  pub puts : count_by is_put replies ≡ size
+  pub puts : count_by is_put_reply replies ≡ size
   pub gets : count_by is_got replies ≡ size
   pub objects : objects_in (lines_of seed size worker) replies ≡ objects_at seed size worker
   pub quiet : (test : Told → Bool) → IsElse test → list_any test replies ≡ false
@@ -122,29 +122,29 @@ quiet_run seed size worker (done ∷ run) all test e =
 
 module _ (seed size worker : ℕ) where
   record IsPut (done : LineDone) : Type 0 where
-    put : is_put done.reply ≡ true
+    put : is_put_reply done.reply ≡ true
     got : is_got done.reply ≡ false
-    objects : objects_by done.line done.reply ≡ []
+    objects : replied_objects done.line done.reply ≡ []
 
   record IsOther (done : LineDone) : Type 0 where
-    put : is_put done.reply ≡ false
+    put : is_put_reply done.reply ≡ false
     got : is_got done.reply ≡ false
-    objects : objects_by done.line done.reply ≡ []
+    objects : replied_objects done.line done.reply ≡ []
 
   record IsGet (done : LineDone) : Type 0 where
-    put : is_put done.reply ≡ false
+    put : is_put_reply done.reply ≡ false
     got : is_got done.reply ≡ true
 
   put_so : (done : LineDone) → IsNumbered (put_of seed size worker) size done
       → IsFullLine seed size worker done → IsPut done
   put_so done n f =
-      let p = put_is (IsSaid seed size worker) secrets (path_of worker n.number)
+      let p = put_is (IsSaid seed size worker) secrets (object_path worker n.number)
       (plain_of seed size worker n.number) done.reply
       (subst (λ (l : ScriptLine). IsFullReply (IsSaid seed size worker) l done.reply) n.line_is f)
       in record {
         put = p.0;
         got = p.1;
-        objects = ap (λ (l : ScriptLine). objects_by l done.reply) n.line_is;
+        objects = ap (λ (l : ScriptLine). replied_objects l done.reply) n.line_is;
       }
 
   reload_so : (done : LineDone) → IsReloading done.line → IsFullLine seed size worker done
@@ -155,29 +155,29 @@ module _ (seed size worker : ℕ) where
       record {
         put = p.0;
         got = p.1;
-        objects = ap (λ (l : ScriptLine). objects_by l done.reply) is;
+        objects = ap (λ (l : ScriptLine). replied_objects l done.reply) is;
       }
 
   module _ (done : LineDone) (number : ℕ) (below : number < size)
-      (is : done.line ≡ get_of worker number) (f : IsFullLine seed size worker done) where
-    get_parts : (is_put done.reply ≡ false) × (is_got done.reply ≡ true)
-        × (objects_by (get_of worker number) done.reply
-        ≡ (path_of worker number, plain_of seed size worker number) ∷ [])
-    get_parts = get_is (IsSaid seed size worker) (path_of worker number)
+      (is : done.line ≡ load_get_line worker number) (f : IsFullLine seed size worker done) where
+    get_parts : (is_put_reply done.reply ≡ false) × (is_got done.reply ≡ true)
+        × (replied_objects (load_get_line worker number) done.reply
+        ≡ (object_path worker number, plain_of seed size worker number) ∷ [])
+    get_parts = get_is (IsSaid seed size worker) (object_path worker number)
         (plain_of seed size worker number) (λ found says. says number below refl) done.reply
         (subst (λ (l : ScriptLine). IsFullReply (IsSaid seed size worker) l done.reply) is f)
 
     get_so : IsGet done
     get_so = record { put = get_parts.0; got = get_parts.1 }
 
-    got_so : objects_by done.line done.reply
-        ≡ (path_of worker number, plain_of seed size worker number) ∷ []
-    got_so = ap (λ (l : ScriptLine). objects_by l done.reply) is ∙ get_parts.2
+    got_so : replied_objects done.line done.reply
+        ≡ (object_path worker number, plain_of seed size worker number) ∷ []
+    got_so = ap (λ (l : ScriptLine). replied_objects l done.reply) is ∙ get_parts.2
 
   all_got : (first count : ℕ) → first + count ≤ size → (run : List LineDone)
-      → lines_in run ≡ map (get_of worker) (range_with_len first count)
+      → lines_in run ≡ map (load_get_line worker) (range_with_len first count)
       → All (IsFullLine seed size worker) run
-      → objects_run run ≡ map (λ number. (path_of worker number, plain_of seed size worker number))
+      → objects_run run ≡ map (λ number. (object_path worker number, plain_of seed size worker number))
       (range_with_len first count)
   all_got first zero few [] is all = refl
   all_got first zero few (done ∷ run) is all =
@@ -192,8 +192,8 @@ module _ (seed size worker : ℕ) where
 
   module _ (run : List LineDone) (all : All (IsFullLine seed size worker) run)
       (p : Splits run (map (put_of seed size worker) (range_with_len 0 size))
-      (reloads_of worker ++ map (get_of worker) (range_with_len 0 size)))
-      (q : Splits p.rest (reloads_of worker) (map (get_of worker) (range_with_len 0 size)))
+      (load_reloads worker ++ map (load_get_line worker) (range_with_len 0 size)))
+      (q : Splits p.rest (load_reloads worker) (map (load_get_line worker) (range_with_len 0 size)))
       (reloads : All (λ (done : LineDone). IsReloading done.line) q.front) where
     run_is : run ≡ p.front ++ (q.front ++ q.rest)
     run_is = p.is ∙ ap (λ l. p.front ++ l) q.is
@@ -218,7 +218,7 @@ module _ (seed size worker : ℕ) where
 
     gets_so : All IsGet q.rest
     gets_so = λ k d below.
-        let n = numbered_all (get_of worker) size q.rest q.rest_is k d below in
+        let n = numbered_all (load_get_line worker) size q.rest q.rest_is k d below in
         get_so (get_or q.rest k d) n.number n.below n.line_is (gets_all k d below)
 
     replies_are : replies_in run ≡ replies_in p.front ++ (replies_in q.front ++ replies_in q.rest)
@@ -231,7 +231,7 @@ module _ (seed size worker : ℕ) where
 
     rest_long : length q.rest ≡ size
     rest_long = sym (length-map q.rest (λ (d : LineDone). d.line)) ∙ ap length q.rest_is
-        ∙ long (get_of worker) 0 size
+        ∙ long (load_get_line worker) 0 size
 
     counted : (test : Told → Bool) → count_by test (replies_in run)
         ≡ count_by test (replies_in p.front) + (count_by test (replies_in q.front)
@@ -241,13 +241,13 @@ module _ (seed size worker : ℕ) where
         ∙ ap (λ n. count_by test (replies_in p.front) + n)
         (count_behind test (replies_in q.front) (replies_in q.rest))
 
-    puts_are : count_by is_put (replies_in run) ≡ size
+    puts_are : count_by is_put_reply (replies_in run) ≡ size
     puts_are = omega (
       arith,
-      counted is_put,
-      count_all is_put p.front (λ k d below. (puts_so k d below).put),
-      count_none is_put q.front (λ k d below. (others_so k d below).put),
-      count_none is_put q.rest (λ k d below. (gets_so k d below).put),
+      counted is_put_reply,
+      count_all is_put_reply p.front (λ k d below. (puts_so k d below).put),
+      count_none is_put_reply q.front (λ k d below. (others_so k d below).put),
+      count_none is_put_reply q.rest (λ k d below. (gets_so k d below).put),
       front_long,
     )
 
@@ -273,7 +273,7 @@ module _ (seed size worker : ℕ) where
     pub full_worker : (replies : List Told) → replies ≡ replies_in run
         → lines_in run ≡ lines_of seed size worker → IsFullWorker seed size worker replies
     full_worker replies is lines = record {
-      puts = ap (count_by is_put) is ∙ puts_are;
+      puts = ap (count_by is_put_reply) is ∙ puts_are;
       gets = ap (count_by is_got) is ∙ gets_are;
       objects = (λ i. objects_in (sym lines i) (is i)) ∙ objects_is run ∙ objects_are;
       quiet = λ test e. list_any_none test replies

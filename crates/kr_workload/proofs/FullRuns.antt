@@ -7,10 +7,11 @@ use Rattle.std.proofs.lemmas.List.{get_or-map, length-map}
 use Rattle.std.proofs.lemmas.List.Elements.{All-contains, All-cons, All-nil}
 use Rattle.std.proofs.lemmas.List.Folds.{list_any_none}
 use Rattle.std.proofs.lemmas.List.FromFn.{get_or-range_with_len}
-use Rattle.std.proofs.lemmas.Option.{get_or_from_slice_get, same_Some, slice_get-get_or}
+use Rattle.std.proofs.lemmas.Option.{get_or_from_slice_get, same_Some, slice_get-get_or, slice_get_within}
 use Rattle.std.proofs.Math.Nat.{eq-or-lt_of_le}
 use Rattle.kr_base.specs.Faults.{Rose}
 use Rattle.kr_base.specs.Lines.{of_seat}
+use Rattle.kr_base.specs.Streams.{TakesAtMost}
 use Rattle.kr_base.proofs.Counting.{Rose-later}
 use Rattle.kr_kms.specs.Calls.{Link}
 use Rattle.kr_kms.specs.Exchanges.{Exchange}
@@ -30,7 +31,7 @@ use Rattle.kr_history.proofs.NoNames.{no_names_no_plugin}
 use Rattle.kr_script.specs.Fleets.{worker_of, Worker as fleet_worker}
 use Rattle.kr_script.specs.declared.script.Part.{Part}
 use Rattle.kr_script.specs.declared.told.Told.{Told}
-use Rattle.kr_workers.specs.Endings.{is_same, kind_of, some_is}
+use Rattle.kr_workers.specs.Endings.{is_same, reply_ending, some_is}
 use Rattle.kr_workers.specs.Histories.{first_place}
 use Rattle.kr_workers.specs.Runs.{LineDone}
 use Rattle.kr_workers.specs.Sentences.{RepliesAreTrue, TellsRun}
@@ -42,9 +43,10 @@ use Rattle.kr_workers.proofs.Sentencing.{histories_tell}
 use Rattle.kr_workload.specs.Endings.{ending_of_load}
 use Rattle.kr_workload.specs.FullLoads.{AreFull, IsBlankRun, LoadsAreFull}
 use Rattle.kr_workload.specs.LoadRuns.{IsLoadRun, opening_rows}
-use Rattle.kr_workload.specs.Loads.{get_of, lines_of, load_fleet, load_worker, put_of, reloads_of}
-use Rattle.kr_workload.specs.Summaries.{Replies, gets_in, objects_of, puts_in}
+use Rattle.kr_workload.specs.Loads.{load_get_line, lines_of, load_fleet, load_worker, put_of, load_reloads}
+use Rattle.kr_workload.specs.Summaries.{Replies, count_gets, objects_of, count_puts}
 use Rattle.kr_workload.specs.inner.Refusing.{refuses, some_refuses}
+use Rattle.kr_workload.proofs.Draws.{worker_draws}
 use Rattle.kr_workload.proofs.Endings.{load_picks, pick}
 use Rattle.kr_workload.proofs.FullReplies.{IsElse, IsFullWorker, full_worker}
 use Rattle.kr_workload.proofs.LoadHistories.{IsLoadEntry, IsLoads, OpensKeyed, is_not_full, is_not_gone, names_keyed}
@@ -94,7 +96,7 @@ none_passes test (x ∷ xs) is =
     All-cons (λ y. test y ≡ false) x xs n.0 (none_passes test xs n.1)
 
 abbrev of_kind : Ending → Told → Bool
-of_kind kind reply = is_same (kind_of reply) kind
+of_kind kind reply = is_same (reply_ending reply) kind
 
 else_memory : IsElse (of_kind ending.Memory)
 else_memory = record {
@@ -183,7 +185,7 @@ module _ (T : Type 0) {L D : Type 0} (truth : Truth) (link : L → Link)
   pub four_parts : length parts ≡ 4
   four_parts = sym (length-map parts worker_of) ∙ ap length r.parts_are
 
-  four_old : length old ≡ 4
+  pub four_old : length old ≡ 4
   four_old = r.one.whole ∙ four_parts
 
   four_new : length new ≡ 4
@@ -234,6 +236,17 @@ module _ (T : Type 0) {L D : Type 0} (truth : Truth) (link : L → Link)
     few_there = seat_few truth link step left count files history o seed size worker
         (slice_index budgets worker) its_part.x was.x.bench now.x.bench now.x.told.0
         run_of.stands its_lines
+
+  -- what a worker draws is little
+  pub draws_few : (number : ℕ) (before after : Worker T L D) → slice_get old number ≡ Some before
+      → slice_get new number ≡ Some after
+      → TakesAtMost (left before.bench.dice) (left after.bench.dice) (44 * (2 * size + 4))
+  draws_few number before after was is =
+      let few : number < 4 = omega (arith, slice_get_within new number after is, four_new) in
+      let part = its_part number few in
+      worker_draws truth link left count step files history o seed size number
+      (slice_index budgets number) part.x before.bench after.bench after.told.0 r.files_are
+      (its_lines number few) (tells.gets number part.x before after part.is was is).stands
 
   -- ---- the history
 
@@ -306,9 +319,9 @@ module _ (T : Type 0) {L D : Type 0} (truth : Truth) (link : L → Link)
           let s = t.stands in
           let lines = s.lines_are ∙ its_lines worker few in
           let puts = map (put_of seed size worker) (range_with_len 0 size) in
-          let gets = map (get_of worker) (range_with_len 0 size) in
-          let p = split_lines s.run puts (reloads_of worker ++ gets) lines in
-          let q = split_lines p.rest (reloads_of worker) gets p.rest_is in
+          let gets = map (load_get_line worker) (range_with_len 0 size) in
+          let p = split_lines s.run puts (load_reloads worker ++ gets) lines in
+          let q = split_lines p.rest (load_reloads worker) gets p.rest_is in
           let none = mapped_all (λ reply. of_kind ending.Memory reply ≡ false)
           (λ (d : LineDone). d.reply) s.run
           (subst (λ l. All (λ reply. of_kind ending.Memory reply ≡ false) l) s.replies_are
@@ -417,9 +430,9 @@ module _ (T : Type 0) {L D : Type 0} (truth : Truth) (link : L → Link)
         ended = load_picks all_told ∙ (λ i. pick (no_faults i) (enough i)
             (none_of ending.Full else_full i) (none_of ending.Unhealthy else_unhealthy i)
             (none_refuse i));
-        puts = (let e = ap puts_in told_are in
+        puts = (let e = ap count_puts told_are in
             omega (arith, e, w0.puts, w1.puts, w2.puts, w3.puts));
-        gets = (let e = ap gets_in told_are in
+        gets = (let e = ap count_gets told_are in
             omega (arith, e, w0.gets, w1.gets, w2.gets, w3.gets));
         objects = ap (objects_of (load_fleet seed size).workers) told_are
             ∙ (λ i. w0.objects i ++ (w1.objects i ++ (w2.objects i ++ (w3.objects i ++ []))));

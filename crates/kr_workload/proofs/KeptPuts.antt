@@ -8,7 +8,7 @@ use Rattle.std.proofs.lemmas.List.{append_assoc}
 use Rattle.std.proofs.lemmas.List.Elements.{All-append, All-cons, All-head, All-nil, All-tail}
 use Rattle.std.proofs.lemmas.Option.{none-some, same_Some, slice_get_within}
 use Rattle.kr_base.specs.Lines.{of_seat}
-use Rattle.kr_config.specs.Kept.{Row, rows_of}
+use Rattle.kr_config.specs.Kept.{ConfigEntry, rows_of}
 use Rattle.kr_kms.specs.Calls.{Link}
 use Rattle.kr_kms.specs.Exchanges.{Exchange}
 use Rattle.kr_kms.specs.Truth.{Truth}
@@ -42,7 +42,7 @@ use Rattle.kr_workers.specs.declared.worker.Worker.{Worker}
 use Rattle.kr_workers.proofs.Sentencing.{done_at}
 use Rattle.kr_workload.specs.KeptPuts.{HasRow, PutsAreKept}
 use Rattle.kr_workload.specs.LoadRuns.{IsLoadRun, opening_rows}
-use Rattle.kr_workload.specs.Loads.{configurations, named_rows, path_of, plain_of}
+use Rattle.kr_workload.specs.Loads.{configurations, named_configuration, object_path, plain_of}
 use Rattle.kr_workload.specs.Loads as load
 use Rattle.kr_workload.proofs.FullRuns.{four_parts, its_lines, its_part, now, of_four, run_of, was}
 use Rattle.kr_workload.proofs.LineParts.{IsOf}
@@ -53,8 +53,8 @@ use Rattle.kr_workload.proofs.RunParts.{own_there, parted}
 
 -- ---- the load's configurations
 
-abbrev OfLoad : (seed : ℕ) → List Row → Type 0
-OfLoad seed rows = Contains (map (λ (q : List ℕ × List Row). q.1) (configurations seed)) rows
+abbrev OfLoad : (seed : ℕ) → List ConfigEntry → Type 0
+OfLoad seed rows = Contains (map (λ (q : List ℕ × List ConfigEntry). q.1) (configurations seed)) rows
 
 abbrev LoadGeneration : (seed : ℕ) → Generation → Type 0
 LoadGeneration seed g = OfLoad seed g.published.rows
@@ -65,9 +65,9 @@ Brings seed (did.Reload replica p expect) = OfLoad seed p.rows
 Brings seed (did.Join replica p) = ⊥
 Brings seed other = ⊤
 
-rows_among : (files : List SettingsFile) (name : List ℕ) (rows : List Row)
+rows_among : (files : List SettingsFile) (name : List ℕ) (rows : List ConfigEntry)
     → rows_at files name ≡ Some rows
-    → Contains (map (λ (q : List ℕ × List Row). q.1) (map named_rows files)) rows
+    → Contains (map (λ (q : List ℕ × List ConfigEntry). q.1) (map named_configuration files)) rows
 rows_among [] name rows is = absurd (none-some rows is)
 rows_among (file ∷ files) name rows is =
     by (bytes_eq file.name name) is (λ e. rows_among files name rows e)
@@ -75,13 +75,13 @@ rows_among (file ∷ files) name rows is =
     by : (b : Bool) → option_map (λ (f : SettingsFile). rows_of f.settings.entries.0)
         (cond b (Some file) (find (λ (f : SettingsFile). bytes_eq f.name name) files)) ≡ Some rows
         → (rows_at files name ≡ Some rows
-        → Contains (map (λ (q : List ℕ × List Row). q.1) (map named_rows files)) rows)
-        → Contains (map (λ (q : List ℕ × List Row). q.1) (map named_rows (file ∷ files))) rows
+        → Contains (map (λ (q : List ℕ × List ConfigEntry). q.1) (map named_configuration files)) rows)
+        → Contains (map (λ (q : List ℕ × List ConfigEntry). q.1) (map named_configuration (file ∷ files))) rows
     by true e again = (0, omega arith, same_Some (rows_of file.settings.entries.0) rows e)
     by false e again =
         let c = again e in (suc c.0, (let l = c.1 in omega (arith, l)), c.2)
 
-brings_of : (seed : ℕ) (files : List SettingsFile) → map named_rows files ≡ configurations seed
+brings_of : (seed : ℕ) (files : List SettingsFile) → map named_configuration files ≡ configurations seed
     → (asked : ScriptLine) (done : Did) → IsOf files asked done → Brings seed done
 brings_of seed files are asked (did.Adopt replica) is = tt
 brings_of seed files are asked (did.Fetch path) is = tt
@@ -91,7 +91,7 @@ brings_of seed files are asked (did.Delete path) is = tt
 brings_of seed files are asked (did.Replace path from) is = tt
 brings_of seed files are asked did.LetGo is = tt
 brings_of seed files are asked (did.Reload replica p expect) (named, file, line, found) =
-    subst (λ fs. Contains (map (λ (q : List ℕ × List Row). q.1) fs) p.rows) are
+    subst (λ fs. Contains (map (λ (q : List ℕ × List ConfigEntry). q.1) fs) p.rows) are
     (rows_among files file p.rows found)
 brings_of seed files are asked (did.Join replica p) is = absurd is
 brings_of seed files are asked (did.Leave replica) is = tt
@@ -148,16 +148,16 @@ module _ (seed : ℕ) where
       (All-tail Is e history brings)
 
   opening_all : (replica : ℕ) (replicas : List (Option Publication))
-      → All (λ (rows : Option (List Row)). (own : List Row) → rows ≡ Some own → OfLoad seed own)
+      → All (λ (rows : Option (List ConfigEntry)). (own : List ConfigEntry) → rows ≡ Some own → OfLoad seed own)
       (settings_of replicas) → All (LoadGeneration seed) (generations_from replica replicas)
   opening_all replica [] all = All-nil (LoadGeneration seed)
   opening_all replica (None ∷ replicas) all =
-      let Is : Option (List Row) → Type 0 =
-      λ rows. (own : List Row) → rows ≡ Some own → OfLoad seed own in
+      let Is : Option (List ConfigEntry) → Type 0 =
+      λ rows. (own : List ConfigEntry) → rows ≡ Some own → OfLoad seed own in
       opening_all (replica + 1) replicas (All-tail Is None (settings_of replicas) all)
   opening_all replica (Some p ∷ replicas) all =
-      let Is : Option (List Row) → Type 0 =
-      λ rows. (own : List Row) → rows ≡ Some own → OfLoad seed own in
+      let Is : Option (List ConfigEntry) → Type 0 =
+      λ rows. (own : List ConfigEntry) → rows ≡ Some own → OfLoad seed own in
       All-cons (LoadGeneration seed) (record { replica = replica; published = p })
       (generations_from (replica + 1) replicas)
       (All-head Is (Some p.rows) (settings_of replicas) all p.rows refl)
@@ -202,7 +202,7 @@ module _ (seed size worker number revision : ℕ) (o : Opening) (front : List En
     (rest : List Entry) (runs : IsRun o (start_of o) (front ++ e ∷ rest))
     (opening : All (LoadGeneration seed) (start_of o).generations)
     (brings : All (λ (x : Entry). Brings seed x.line.did) (front ++ e ∷ rest))
-    (did_is : e.line.did ≡ did.Put (path_of worker number) secrets
+    (did_is : e.line.did ≡ did.Put (object_path worker number) secrets
     (plain_of seed size worker number)) (gave_is : e.line.gave ≡ gave.Written revision) where
   step : IsStep o (state_from (start_of o) front) e
   step = step_there o (start_of o) front e rest runs
@@ -210,20 +210,20 @@ module _ (seed size worker number revision : ℕ) (o : Opening) (front : List En
   writes : Writes (gave.Written revision) o (state_from (start_of o) front) e
   writes = subst (λ g. Writes g o (state_from (start_of o) front) e) gave_is step.writes
 
-  would : WouldWrite o.format (did.Put (path_of worker number) secrets
+  would : WouldWrite o.format (did.Put (object_path worker number) secrets
       (plain_of seed size worker number)) (state_from (start_of o) front).rows e.published
       writes.0
   would = subst (λ d. WouldWrite o.format d (state_from (start_of o) front).rows e.published
       writes.0) did_is writes.1
 
-  answer : IsAnswer (did.Put (path_of worker number) secrets (plain_of seed size worker number))
+  answer : IsAnswer (did.Put (object_path worker number) secrets (plain_of seed size worker number))
       (gave.Written revision) (state_from (start_of o) front) e.line.held
   answer = subst (λ d. IsAnswer d (gave.Written revision) (state_from (start_of o) front)
       e.line.held) did_is (subst (λ g. IsAnswer e.line.did g (state_from (start_of o) front)
       e.line.held) gave_is step.answer)
 
   abbrev the_row : LogRow
-  the_row = put_of (path_of worker number) secrets would.2.stored
+  the_row = put_of (object_path worker number) secrets would.2.stored
       (written_check o.format would.0 secrets)
 
   added : new_rows e.line.gave e.line.did e.row ≡ the_row ∷ []
@@ -304,17 +304,17 @@ module _ (T : Type 0) {L D : Type 0} (truth : Truth) (link : L → Link)
 
   opening : All (LoadGeneration seed) (start_of o).generations
   opening = opening_all seed 0 o.replicas (subst
-      (λ l. All (λ (rows : Option (List Row)). (own : List Row) → rows ≡ Some own
+      (λ l. All (λ (rows : Option (List ConfigEntry)). (own : List ConfigEntry) → rows ≡ Some own
       → OfLoad seed own) l) (sym r.opens) both)
     where
-      one : (own : List Row) → Some (opening_rows seed) ≡ Some own → OfLoad seed own
+      one : (own : List ConfigEntry) → Some (opening_rows seed) ≡ Some own → OfLoad seed own
       one own is = (0, omega arith, same_Some (opening_rows seed) own is)
 
-      both : All (λ (rows : Option (List Row)). (own : List Row) → rows ≡ Some own
+      both : All (λ (rows : Option (List ConfigEntry)). (own : List ConfigEntry) → rows ≡ Some own
           → OfLoad seed own) (Some (opening_rows seed) ∷ (Some (opening_rows seed) ∷ []))
       both =
-          let Is : Option (List Row) → Type 0 =
-          λ rows. (own : List Row) → rows ≡ Some own → OfLoad seed own in
+          let Is : Option (List ConfigEntry) → Type 0 =
+          λ rows. (own : List ConfigEntry) → rows ≡ Some own → OfLoad seed own in
           All-cons Is (Some (opening_rows seed)) (Some (opening_rows seed) ∷ []) one
           (All-cons Is (Some (opening_rows seed)) [] one (All-nil Is))
 
@@ -356,9 +356,9 @@ module _ (T : Type 0) {L D : Type 0} (truth : Truth) (link : L → Link)
         let tells = put_told truth link step left count files history o seed size worker
         (slice_index budgets worker) part.x before.x.bench after.x.bench after.x.told.0 stands
         lines d.done d.there number d.line_is in
-        let written : HasWritten secrets (path_of worker number)
+        let written : HasWritten secrets (object_path worker number)
         (plain_of seed size worker number) d.done.part revision =
-        subst (λ (t : Told). TellsPut secrets (path_of worker number)
+        subst (λ (t : Told). TellsPut secrets (object_path worker number)
         (plain_of seed size worker number) d.done.part t) d.reply_is tells in
         let at_it = parted history written.entry
         (entry_in truth link step left count files history o seed size worker

@@ -1,4 +1,5 @@
 -- Lemmas.
+mod Draws
 mod Endings
 mod Filling
 mod FullReplies
@@ -15,7 +16,7 @@ mod LoadReplies
 mod LoadSeats
 mod LoadTexts
 mod OneListing
-mod Passing
 mod PutParts
 pub mod Ruling
 mod RunParts
+pub mod Streaming

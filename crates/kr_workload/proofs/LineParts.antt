@@ -3,7 +3,7 @@ use Rattle.std.specs.Prelude.{All, ⊤}
 use Rattle.std.proofs.Common.{◌≡◌, ℕ, List, [], ◌∷◌, ◌++◌, Option, None, Some, Result, Ok, Err, inl, inr, refl, ap, sym, subst, ◌∙◌, append-nil}
 use Rattle.std.proofs.lemmas.List.{append_assoc}
 use Rattle.std.proofs.lemmas.List.Elements.{All-append, All-cons, All-nil}
-use Rattle.kr_config.specs.Kept.{Row}
+use Rattle.kr_config.specs.Kept.{ConfigEntry}
 use Rattle.kr_kms.specs.Calls.{Link}
 use Rattle.kr_kms.specs.Truth.{Truth}
 use Rattle.kr_provider.specs.Publication.{Publication}
@@ -223,7 +223,7 @@ module _ {L D : Type 0} (truth : Truth) (link : L → Link) (left : D → Option
 
   -- ---- a reload
 
-  module _ (named : ℕ) (file : List ℕ) (is : asked ≡ line.Reload named file) (rows : List Row)
+  module _ (named : ℕ) (file : List ℕ) (is : asked ≡ line.Reload named file) (rows : List ConfigEntry)
       (there : rows_at files file ≡ Some rows) (replica : ℕ) (old new : Caller)
       (olds news : List L) (dice after : D) where
     brought_makes : (given : Answer)
@@ -257,7 +257,7 @@ module _ {L D : Type 0} (truth : Truth) (link : L → Link) (left : D → Option
     reload_makes (Err why) b = brings_make why b
 
   reloaded_makes : (named : ℕ) (file : List ℕ) → asked ≡ line.Reload named file
-      → (rows : Option (List Row)) → rows_at files file ≡ rows → (old new : Workplace L D)
+      → (rows : Option (List ConfigEntry)) → rows_at files file ≡ rows → (old new : Workplace L D)
       (reply : Reply) → IfRead rows (λ rows. DoesReload truth link left count named rows old reply
       new) → Adding old.caller new.caller
   reloaded_makes named file is None there old new reply d = absurd d

@@ -12,7 +12,7 @@ use Rattle.kr_rollout.specs.declared.line.Gave.{Gave}
 use Rattle.kr_rollout.specs.declared.line.Gave.TheVariants as gave
 use Rattle.kr_rollout.specs.declared.opening.Entry.{Entry}
 use Rattle.kr_store.specs.Rows.{later}
-use Rattle.kr_workload.specs.Loads.{path_of, plain_of}
+use Rattle.kr_workload.specs.Loads.{object_path, plain_of}
 use Rattle.kr_workload.proofs.LoadHistories.{IsLoadEntry, IsLoads}
 use Rattle.kr_workload.proofs.LoadTexts.{one_number, one_worker}
 
@@ -62,13 +62,13 @@ module _ (path : List ℕ) (change : ContentChange) where
 module _ (seed size worker number : ℕ) (small : size ≤ 10000) (few : worker < 4)
     (below : number < size) where
   by_put : (seat other : ℕ) → seat < 4 → other < size → (own : List ℕ)
-      → own ≡ path_of seat other → (b : Bool) → bytes_eq own (path_of worker number) ≡ b
+      → own ≡ object_path seat other → (b : Bool) → bytes_eq own (object_path worker number) ≡ b
       → IsOnly (puts (plain_of seed size worker number))
       (if b then Some (puts (plain_of seed size seat other)) else None)
   by_put seat other less down own is false apart = inl refl
   by_put seat other less down own is true same =
-      let e : path_of seat other ≡ path_of worker number =
-      sym is ∙ (bytes_eq-Decides own (path_of worker number)).0 same in
+      let e : object_path seat other ≡ object_path worker number =
+      sym is ∙ (bytes_eq-Decides own (object_path worker number)).0 same in
       let seats : seat ≡ worker = one_worker seat worker other number less few e in
       let numbers : other ≡ number = one_number seat worker other number less few
       (omega (arith, down, small)) (omega (arith, below, small)) e in
@@ -77,11 +77,11 @@ module _ (seed size worker number : ℕ) (small : size ≤ 10000) (few : worker 
   change_only : (seat : ℕ) → seat < 4 → (given : Gave) (asked : Did)
       → IsLoads seed size seat asked
       → IsOnly (puts (plain_of seed size worker number))
-      (change_at given asked (path_of worker number))
+      (change_at given asked (object_path worker number))
   change_only seat less (gave.Written revision) (did.Put own resource plain) (other, down, is, r, p)
       = subst (λ (d : List ℕ). IsOnly (puts (plain_of seed size worker number))
-      (if bytes_eq own (path_of worker number) then Some (puts d) else None)) (sym p)
-      (by_put seat other less down own is (bytes_eq own (path_of worker number)) refl)
+      (if bytes_eq own (object_path worker number) then Some (puts d) else None)) (sym p)
+      (by_put seat other less down own is (bytes_eq own (object_path worker number)) refl)
   change_only seat less (gave.Written revision) (did.Adopt replica) is = inl refl
   change_only seat less (gave.Written revision) (did.Fetch own) is = inl refl
   change_only seat less (gave.Written revision) (did.After own) is = inl refl
@@ -109,19 +109,19 @@ module _ (seed size worker number : ℕ) (small : size ≤ 10000) (few : worker 
 
   only_entry : (e : Entry) → IsLoadEntry seed size e
       → IsOnly (puts (plain_of seed size worker number))
-      (change_at e.line.gave e.line.did (path_of worker number))
+      (change_at e.line.gave e.line.did (object_path worker number))
   only_entry e own = change_only (seat_of e) own.seat e.line.gave e.line.did own.asks
 
   -- the object was put, and nothing else ever is at its path
   pub stays_put : (history : List Entry) → All (IsLoadEntry seed size) history → (e : Entry)
       → Contains history e → (resource : List ℕ) (revision : ℕ)
-      → e.line.did ≡ did.Put (path_of worker number) resource (plain_of seed size worker number)
+      → e.line.did ≡ did.Put (object_path worker number) resource (plain_of seed size worker number)
       → e.line.gave ≡ gave.Written revision
-      → last_change history (path_of worker number)
+      → last_change history (object_path worker number)
       ≡ Some (puts (plain_of seed size worker number))
   stays_put history all e there resource revision did_is gave_is =
-      last_is (path_of worker number) (puts (plain_of seed size worker number)) history
+      last_is (object_path worker number) (puts (plain_of seed size worker number)) history
       (λ k d in_it. only_entry (get_or history k d) (all k d in_it)) e there
-      ((λ i. change_at (gave_is i) (did_is i) (path_of worker number))
+      ((λ i. change_at (gave_is i) (did_is i) (object_path worker number))
       ∙ ap (λ b. if b then Some (puts (plain_of seed size worker number)) else None)
-      ((bytes_eq-Decides (path_of worker number) (path_of worker number)).1 refl))
+      ((bytes_eq-Decides (object_path worker number) (object_path worker number)).1 refl))

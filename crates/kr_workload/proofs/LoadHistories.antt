@@ -5,7 +5,7 @@ use Rattle.std.proofs.lemmas.Bool.{false≢true}
 use Rattle.std.proofs.lemmas.List.Elements.{All-append, All-cons, All-head, All-nil, All-tail}
 use Rattle.std.proofs.lemmas.Option.{none-some, same_Some}
 use Rattle.kr_base.specs.Limits.{store_limit}
-use Rattle.kr_config.specs.Kept.{Row}
+use Rattle.kr_config.specs.Kept.{ConfigEntry}
 use Rattle.kr_config.specs.Lists.{list_of}
 use Rattle.kr_config.specs.declared.who.Who.TheVariants.{Aesgcm}
 use Rattle.kr_envelope.specs.Prefixes.{prefix}
@@ -37,7 +37,7 @@ use Rattle.kr_store.specs.declared.format.Check.{Check}
 use Rattle.kr_store.specs.declared.format.Format.{Format}
 use Rattle.kr_store.specs.declared.rows.LogRow.{LogRow}
 use Rattle.kr_store.specs.declared.rows.Row as stored_row
-use Rattle.kr_workload.specs.Loads.{path_of, plain_of}
+use Rattle.kr_workload.specs.Loads.{object_path, plain_of}
 use Rattle.kr_workload.proofs.LoadTexts.{path_short}
 use Rattle.kr_workload.proofs.Ruling.{piece_long}
 
@@ -47,7 +47,7 @@ secrets = codes "secrets"
 -- ---- the configurations
 
 -- objects are written by a key of aesgcm of a short name
-pub record WritesByKey (rows : List Row) : Type 0 where
+pub record WritesByKey (rows : List ConfigEntry) : Type 0 where
   pub name : List ℕ
   pub secret : List ℕ
   pub writer : writer_of (list_of rows secrets) ≡ Aesgcm name secret
@@ -64,7 +64,7 @@ IsLoads seed size worker (did.Adopt replica) = ⊤
 IsLoads seed size worker (did.Fetch path) = ⊤
 IsLoads seed size worker did.LetGo = ⊤
 IsLoads seed size worker (did.Put path resource plain) = (number : ℕ) × (number < size)
-    × (path ≡ path_of worker number) × (resource ≡ secrets)
+    × (path ≡ object_path worker number) × (resource ≡ secrets)
     × (plain ≡ plain_of seed size worker number)
 IsLoads seed size worker (did.Reload replica p expect) = WritesByKey p.rows
 IsLoads seed size worker other = ⊥
@@ -481,7 +481,7 @@ module _ (seed size : ℕ) (small : size ≤ 10000) (o : Opening) where
   keyed_from replica (None ∷ replicas) all = keyed_from (replica + 1) replicas
       (All-tail (λ rows. IfSome rows WritesByKey) None (settings_of replicas) all)
   keyed_from replica (Some p ∷ replicas) all =
-      let Is : Option (List Row) → Type 0 = λ rows. IfSome rows WritesByKey in
+      let Is : Option (List ConfigEntry) → Type 0 = λ rows. IfSome rows WritesByKey in
       All-cons Keyed (record { replica = replica; published = p })
       (generations_from (replica + 1) replicas)
       (All-head Is (Some p.rows) (settings_of replicas) all)
@@ -505,7 +505,7 @@ module _ (seed size : ℕ) (small : size ≤ 10000) (o : Opening) where
 
   -- both replicas open with such a configuration
   pub record OpensKeyed : Type 0 where
-    pub rows : List Row
+    pub rows : List ConfigEntry
     pub keyed : WritesByKey rows
     pub settings : settings_of o.replicas ≡ Some rows ∷ (Some rows ∷ [])
     pub blank : o.rows ≡ []
@@ -514,7 +514,7 @@ module _ (seed size : ℕ) (small : size ≤ 10000) (o : Opening) where
   module _ (opens : OpensKeyed) where
     sound_first : IsSound (start_of o) 0
     sound_first =
-        let Is : Option (List Row) → Type 0 = λ rows. IfSome rows WritesByKey in record {
+        let Is : Option (List ConfigEntry) → Type 0 = λ rows. IfSome rows WritesByKey in record {
           keyed = keyed_from 0 o.replicas (subst (λ s. All Is s) (sym opens.settings)
               (All-cons Is (Some opens.rows) (Some opens.rows ∷ []) opens.keyed
               (All-cons Is (Some opens.rows) [] opens.keyed (All-nil Is))));

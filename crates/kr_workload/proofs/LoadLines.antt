@@ -7,7 +7,7 @@ use Rattle.std.proofs.Common.{◌≡◌, ℕ, zero, suc, ◌+◌, ◌<◌, ◌�
 use Rattle.std.proofs.lemmas.Bool.{false≢true}
 use Rattle.std.proofs.lemmas.List.Elements.{All-append, All-cons, All-head, All-nil, All-tail}
 use Rattle.std.proofs.lemmas.Option.{same_Some}
-use Rattle.kr_config.specs.Kept.{Row, rows_of}
+use Rattle.kr_config.specs.Kept.{ConfigEntry, plugins_in, rows_of}
 use Rattle.kr_config.specs.declared.who.Who.TheVariants.{Identity}
 use Rattle.kr_envelope.specs.Prefixes.{prefix}
 use Rattle.kr_envelope.specs.declared.prefix.Kind.TheVariants as kind
@@ -15,11 +15,11 @@ use Rattle.kr_rollout.specs.declared.line.Did.{Did}
 use Rattle.kr_rollout.specs.declared.line.Did.TheVariants as did
 use Rattle.kr_script.specs.declared.script.ScriptLine.{ScriptLine}
 use Rattle.kr_script.specs.declared.script.ScriptLine.TheVariants as line
-use Rattle.kr_workers.specs.Budgets.{budget_of, entries_of}
+use Rattle.kr_workers.specs.Budgets.{budget_of, line_entries}
 use Rattle.kr_workers.specs.Files.{rows_at}
 use Rattle.kr_workers.specs.declared.files.SettingsFile.{SettingsFile}
 use Rattle.kr_workload.specs.LoadRuns.{opening_rows}
-use Rattle.kr_workload.specs.Loads.{configurations, g1, g2, get_of, lines_of, named_rows, of_secrets, put_of, reloads_of}
+use Rattle.kr_workload.specs.Loads.{configurations, g1, g2, load_get_line, lines_of, named_configuration, of_secrets, put_of, load_reloads}
 use Rattle.kr_workload.specs.Streams.{piece}
 use Rattle.kr_workload.proofs.LineParts.{IsOf, IsSimple}
 use Rattle.kr_workload.proofs.LoadHistories.{IsLoads, WritesByKey}
@@ -34,7 +34,7 @@ IsReloading asked = (replica : ℕ) × (file : List ℕ) × (asked ≡ line.Relo
 abbrev pub IsLoadLine : (seed size worker : ℕ) → ScriptLine → Type 0
 IsLoadLine seed size worker asked =
     ((number : ℕ) × (number < size) × (asked ≡ put_of seed size worker number))
-    ⊎ ((number : ℕ) × (number < size) × (asked ≡ get_of worker number))
+    ⊎ ((number : ℕ) × (number < size) × (asked ≡ load_get_line worker number))
     ⊎ IsReloading asked
 
 pub load_simple : (seed size worker : ℕ) (asked : ScriptLine)
@@ -72,22 +72,22 @@ is_reload_line asked = false
 
 -- ---- the files
 
-abbrev found_rows : List ℕ → List (List ℕ × List Row) → Option (List Row)
+abbrev found_rows : List ℕ → List (List ℕ × List ConfigEntry) → Option (List ConfigEntry)
 found_rows name files =
-    option_map (λ (q : List ℕ × List Row). q.1)
-    (find (λ (q : List ℕ × List Row). bytes_eq q.0 name) files)
+    option_map (λ (q : List ℕ × List ConfigEntry). q.1)
+    (find (λ (q : List ℕ × List ConfigEntry). bytes_eq q.0 name) files)
 
 rows_named : (files : List SettingsFile) (name : List ℕ)
-    → rows_at files name ≡ found_rows name (map named_rows files)
+    → rows_at files name ≡ found_rows name (map named_configuration files)
 rows_named [] name = refl
 rows_named (file ∷ files) name = by (bytes_eq file.name name) (rows_named files name)
   where
-    by : (b : Bool) → rows_at files name ≡ found_rows name (map named_rows files)
+    by : (b : Bool) → rows_at files name ≡ found_rows name (map named_configuration files)
         → option_map (λ (f : SettingsFile). rows_of f.settings.entries.0)
         (cond b (Some file) (find (λ (f : SettingsFile). bytes_eq f.name name) files))
-        ≡ option_map (λ (q : List ℕ × List Row). q.1)
-        (cond b (Some (named_rows file))
-        (find (λ (q : List ℕ × List Row). bytes_eq q.0 name) (map named_rows files)))
+        ≡ option_map (λ (q : List ℕ × List ConfigEntry). q.1)
+        (cond b (Some (named_configuration file))
+        (find (λ (q : List ℕ × List ConfigEntry). bytes_eq q.0 name) (map named_configuration files)))
     by true e = refl
     by false e = e
 
@@ -108,7 +108,7 @@ opening_keyed seed = record {
 }
 
 module _ (seed : ℕ) (files : List SettingsFile)
-    (files_are : map named_rows files ≡ configurations seed) where
+    (files_are : map named_configuration files ≡ configurations seed) where
   rows_b : rows_at files (codes "B")
       ≡ Some (of_secrets (g1 seed ∷ (g2 seed ∷ (Identity ∷ []))))
   rows_b = rows_named files (codes "B") ∙ ap (found_rows (codes "B")) files_are
@@ -117,7 +117,7 @@ module _ (seed : ℕ) (files : List SettingsFile)
       ≡ Some (of_secrets (g2 seed ∷ (g1 seed ∷ (Identity ∷ []))))
   rows_c = rows_named files (codes "C") ∙ ap (found_rows (codes "C")) files_are
 
-  file_keyed : (file : List ℕ) (rows : List Row) → (file ≡ codes "B") ⊎ (file ≡ codes "C")
+  file_keyed : (file : List ℕ) (rows : List ConfigEntry) → (file ≡ codes "B") ⊎ (file ≡ codes "C")
       → rows_at files file ≡ Some rows → WritesByKey rows
   file_keyed file rows (inl b) is = subst WritesByKey
       (same_Some (of_secrets (g1 seed ∷ (g2 seed ∷ (Identity ∷ [])))) rows
@@ -135,6 +135,16 @@ module _ (seed : ℕ) (files : List SettingsFile)
         writer = refl;
         short = short_other;
       })
+
+  -- it names no plugin
+  pub file_bare : (file : List ℕ) → (file ≡ codes "B") ⊎ (file ≡ codes "C") → (rows : List ConfigEntry)
+      → rows_at files file ≡ Some rows → plugins_in rows ≡ []
+  file_bare file (inl b) rows is = sym (ap plugins_in
+      (same_Some (of_secrets (g1 seed ∷ (g2 seed ∷ (Identity ∷ [])))) rows
+      (sym rows_b ∙ sym (ap (rows_at files) b) ∙ is)))
+  file_bare file (inr c) rows is = sym (ap plugins_in
+      (same_Some (of_secrets (g2 seed ∷ (g1 seed ∷ (Identity ∷ [])))) rows
+      (sym rows_c ∙ sym (ap (rows_at files) c) ∙ is)))
 
   -- ---- entries
 
@@ -175,13 +185,13 @@ module _ (seed : ℕ) (files : List SettingsFile)
 -- ---- how many entries they may add
 
 line_few : (seed size worker paths : ℕ) (asked : ScriptLine)
-    → IsLoadLine seed size worker asked → entries_of paths asked ≤ 3
+    → IsLoadLine seed size worker asked → line_entries paths asked ≤ 3
 line_few seed size worker paths asked (inl (number, below, is)) =
-    subst (λ (l : ScriptLine). entries_of paths l ≤ 3) (sym is) (omega arith)
+    subst (λ (l : ScriptLine). line_entries paths l ≤ 3) (sym is) (omega arith)
 line_few seed size worker paths asked (inr (inl (number, below, is))) =
-    subst (λ (l : ScriptLine). entries_of paths l ≤ 3) (sym is) (omega arith)
+    subst (λ (l : ScriptLine). line_entries paths l ≤ 3) (sym is) (omega arith)
 line_few seed size worker paths asked (inr (inr (replica, file, is, named))) =
-    subst (λ (l : ScriptLine). entries_of paths l ≤ 3) (sym is) (omega arith)
+    subst (λ (l : ScriptLine). line_entries paths l ≤ 3) (sym is) (omega arith)
 
 all_few : (seed size worker paths : ℕ) (lines : List ScriptLine)
     → All (IsLoadLine seed size worker) lines → budget_of paths lines ≤ 3 * length lines
@@ -203,7 +213,7 @@ numbered P f first (suc size) each = All-cons P (f first)
     (numbered P f (first + 1) size (λ number below. each number (omega (arith, below))))
 
 -- of B and C, at both replicas
-pub reloading : (worker : ℕ) → All IsReloading (reloads_of worker)
+pub reloading : (worker : ℕ) → All IsReloading (load_reloads worker)
 reloading zero =
     let b0 = line.Reload 0 (codes "B") in
     let b1 = line.Reload 1 (codes "B") in
@@ -220,13 +230,13 @@ pub lines_are : (seed size worker : ℕ)
 lines_are seed size worker =
     let P = IsLoadLine seed size worker in
     let puts = map (put_of seed size worker) (range_with_len 0 size) in
-    let gets = map (get_of worker) (range_with_len 0 size) in
-    All-append P puts (reloads_of worker ++ gets)
+    let gets = map (load_get_line worker) (range_with_len 0 size) in
+    All-append P puts (load_reloads worker ++ gets)
     (numbered P (put_of seed size worker) 0 size
     (λ number below. inl (number, omega (arith, below), refl)))
-    (All-append P (reloads_of worker) gets
+    (All-append P (load_reloads worker) gets
     (λ k d below. inr (inr (reloading worker k d below)))
-    (numbered P (get_of worker) 0 size
+    (numbered P (load_get_line worker) 0 size
     (λ number below. inr (inl (number, omega (arith, below), refl)))))
 
 -- they are few
@@ -235,19 +245,19 @@ pub long : (f : ℕ → ScriptLine) (first size : ℕ)
 long f first zero = refl
 long f first (suc size) = ap suc (long f (first + 1) size)
 
-reloads_few : (worker : ℕ) → length (reloads_of worker) ≤ 4
+reloads_few : (worker : ℕ) → length (load_reloads worker) ≤ 4
 reloads_few zero = omega arith
 reloads_few (suc worker) = omega arith
 
 pub lines_few : (seed size worker : ℕ) → length (lines_of seed size worker) ≤ 2 * size + 4
 lines_few seed size worker =
     let puts = map (put_of seed size worker) (range_with_len 0 size) in
-    let gets = map (get_of worker) (range_with_len 0 size) in omega (
+    let gets = map (load_get_line worker) (range_with_len 0 size) in omega (
       arith,
-      length-append puts (reloads_of worker ++ gets),
-      length-append (reloads_of worker) gets,
+      length-append puts (load_reloads worker ++ gets),
+      length-append (load_reloads worker) gets,
       long (put_of seed size worker) 0 size,
-      long (get_of worker) 0 size,
+      long (load_get_line worker) 0 size,
       reloads_few worker,
     )
 

@@ -25,8 +25,8 @@ use Rattle.kr_script.specs.declared.script.ScriptLine.TheVariants as line
 use Rattle.kr_script.specs.declared.told.Told.{Told}
 use Rattle.kr_script.specs.declared.told.Told.TheVariants as told
 use Rattle.kr_workers.specs.Causes.{HasCause, OwnGave, StoreFails, TellsAnswer}
-use Rattle.kr_workers.specs.Endings.{is_same, kind_of}
-use Rattle.kr_workers.specs.Gets.{TellsContent}
+use Rattle.kr_workers.specs.Endings.{is_same, reply_ending}
+use Rattle.kr_workers.specs.Gets.{TellsGotContent}
 use Rattle.kr_workers.specs.Heard.{Heard}
 use Rattle.kr_workers.specs.ScriptLines.{Workplace}
 use Rattle.kr_workers.specs.declared.ending.Ending.TheVariants as ending
@@ -101,7 +101,7 @@ module _ {L D : Type 0} (link : L → Link) (count : D → ℕ) (history : List 
     by_left false = refl
 
     pub no_fault : (asked : ScriptLine) (reply : Told) → Caused asked reply
-        → is_same (kind_of reply) ending.Fault ≡ false
+        → is_same (reply_ending reply) ending.Fault ≡ false
     no_fault asked (told.Put revision) c = refl
     no_fault asked (told.Got revision plain) c = refl
     no_fault asked (told.Deleted revision) c = refl
@@ -232,7 +232,7 @@ module _ {L D : Type 0} (link : L → Link) (count : D → ℕ) (history : List 
         has_data (Some unopened) = false
 
         pub get_ends : (reply : Told) → Caused (line.Get path) reply
-            → TellsContent truth heard o history seat path ahead part reply
+            → TellsGotContent truth heard o history seat path ahead part reply
             → IsReply Said (line.Get path) reply
         get_ends (told.Put revision) c t = absurd c.0
         get_ends (told.Got revision found) c t =

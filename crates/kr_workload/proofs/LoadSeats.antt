@@ -20,9 +20,9 @@ use Rattle.kr_script.specs.declared.script.Part.{Part}
 use Rattle.kr_script.specs.declared.script.ScriptLine.{ScriptLine}
 use Rattle.kr_script.specs.declared.told.Told.{Told}
 use Rattle.kr_script.specs.declared.told.Told.TheVariants as told
-use Rattle.kr_workers.specs.Budgets.{entries_of}
+use Rattle.kr_workers.specs.Budgets.{line_entries}
 use Rattle.kr_workers.specs.Causes.{HasCause}
-use Rattle.kr_workers.specs.Endings.{is_same, kind_of}
+use Rattle.kr_workers.specs.Endings.{is_same, reply_ending}
 use Rattle.kr_workers.specs.Gets.{TellContents, heard_by}
 use Rattle.kr_workers.specs.Histories.{StandsIn, first_place}
 use Rattle.kr_workers.specs.Runs.{LineDone, entries_in}
@@ -30,7 +30,7 @@ use Rattle.kr_workers.specs.ScriptLines.{Does}
 use Rattle.kr_workers.specs.declared.ending.Ending.TheVariants as ending
 use Rattle.kr_workers.specs.declared.files.SettingsFile.{SettingsFile}
 use Rattle.kr_workers.proofs.CausingRuns.{replies_have_causes}
-use Rattle.kr_workload.specs.Loads.{get_of, lines_of, path_of, plain_of, put_of, reloads_of}
+use Rattle.kr_workload.specs.Loads.{load_get_line, lines_of, object_path, plain_of, put_of, load_reloads}
 use Rattle.kr_workload.proofs.LineParts.{IsOf, line_makes}
 use Rattle.kr_workload.proofs.LoadContents.{stays_put}
 use Rattle.kr_workload.proofs.LoadHistories.{IsLoadEntry, at_middle, front_all, secrets}
@@ -98,7 +98,7 @@ module _ {L D : Type 0} (truth : Truth) (link : L → Link) (step : L → Exchan
   -- what the reply to a put tells of its line's part
   pub put_told : (done : LineDone) → Contains s.run done → (number : ℕ)
       → done.line ≡ put_of seed size worker number
-      → TellsPut secrets (path_of worker number) (plain_of seed size worker number) done.part
+      → TellsPut secrets (object_path worker number) (plain_of seed size worker number) done.part
       done.reply
   put_told done there number is =
       let w = All-contains (WasDone truth link step left count files part.replica) s.run done
@@ -106,7 +106,7 @@ module _ {L D : Type 0} (truth : Truth) (link : L → Link) (step : L → Exchan
       there in
       let does = subst (λ (l : ScriptLine). Does truth link left count files part.replica l w.old
       (Ok done.reply) w.new) is w.is.does in
-      put_tells left count secrets (path_of worker number) (plain_of seed size worker number)
+      put_tells left count secrets (object_path worker number) (plain_of seed size worker number)
       part.replica w.old.caller w.new.caller done.part w.is.adds w.old.dice w.new.dice
       w.old.caller.seat does.0 done.reply does.1 does.2
 
@@ -119,14 +119,14 @@ module _ {L D : Type 0} (truth : Truth) (link : L → Link) (step : L → Exchan
   part_few : (done : LineDone) → IsLoadLine seed size worker done.line
       → WasDone truth link step left count files part.replica done → length done.part ≤ 3
   part_few done (inl (number, below, is)) w =
-      subst (λ (asked : ScriptLine). length done.part ≤ entries_of (length done.part) asked) is
+      subst (λ (asked : ScriptLine). length done.part ≤ line_entries (length done.part) asked) is
       w.is.within.few
   part_few done (inr (inl (number, below, is))) w =
-      subst (λ (asked : ScriptLine). length done.part ≤ entries_of (length done.part) asked) is
+      subst (λ (asked : ScriptLine). length done.part ≤ line_entries (length done.part) asked) is
       w.is.within.few
   part_few done (inr (inr (replica, file, is, named))) w =
       let one : length done.part ≤ 1 =
-      subst (λ (asked : ScriptLine). length done.part ≤ entries_of (length done.part) asked) is
+      subst (λ (asked : ScriptLine). length done.part ≤ line_entries (length done.part) asked) is
       w.is.within.few in omega (arith, one)
 
   -- and few
@@ -145,7 +145,7 @@ module _ {L D : Type 0} (truth : Truth) (link : L → Link) (step : L → Exchan
 -- a `get` tells what the worker put
 abbrev pub IsSaid : (seed size worker : ℕ) → (path plain : List ℕ) → Type 0
 IsSaid seed size worker path plain = (number : ℕ) → number < size
-    → path ≡ path_of worker number → plain ≡ plain_of seed size worker number
+    → path ≡ object_path worker number → plain ≡ plain_of seed size worker number
 
 abbrev pub IsFullLine : (seed size worker : ℕ) → LineDone → Type 0
 IsFullLine seed size worker done =
@@ -174,9 +174,9 @@ module _ {L D : Type 0} (truth : Truth) (link : L → Link) (step : L → Exchan
         (first_place o worker budget bench) replies after s done there
 
     -- none is a fault
-    pub none_failed : All (λ (reply : Told). is_same (kind_of reply) ending.Fault ≡ false) replies
+    pub none_failed : All (λ (reply : Told). is_same (reply_ending reply) ending.Fault ≡ false) replies
     none_failed =
-        let P : Told → Type 0 = λ reply. is_same (kind_of reply) ending.Fault ≡ false in
+        let P : Told → Type 0 = λ reply. is_same (reply_ending reply) ending.Fault ≡ false in
         subst (λ l. All P l) (sym s.replies_are)
         (All-map P (λ (d : LineDone). d.reply) s.run (λ k d below.
         let done = get_or s.run k d in
@@ -186,8 +186,8 @@ module _ {L D : Type 0} (truth : Truth) (link : L → Link) (step : L → Exchan
     -- ---- the puts
 
     module _ (p : Splits s.run (map (put_of seed size worker) (range_with_len 0 size))
-        (reloads_of worker ++ map (get_of worker) (range_with_len 0 size)))
-        (q : Splits p.rest (reloads_of worker) (map (get_of worker) (range_with_len 0 size)))
+        (load_reloads worker ++ map (load_get_line worker) (range_with_len 0 size)))
+        (q : Splits p.rest (load_reloads worker) (map (load_get_line worker) (range_with_len 0 size)))
       where
         front_there : (done : LineDone) → Contains p.front done → Contains s.run done
         front_there done c = subst (λ l. Contains l done) (sym p.is)
@@ -200,12 +200,12 @@ module _ {L D : Type 0} (truth : Truth) (link : L → Link) (step : L → Exchan
         puts_numbered : All (IsNumbered (put_of seed size worker) size) p.front
         puts_numbered = numbered_all (put_of seed size worker) size p.front p.front_is
 
-        gets_numbered : All (IsNumbered (get_of worker) size) q.rest
-        gets_numbered = numbered_all (get_of worker) size q.rest q.rest_is
+        gets_numbered : All (IsNumbered (load_get_line worker) size) q.rest
+        gets_numbered = numbered_all (load_get_line worker) size q.rest q.rest_is
 
         put_part : (done : LineDone) → Contains s.run done → (number : ℕ)
             → done.line ≡ put_of seed size worker number
-            → TellsPut secrets (path_of worker number) (plain_of seed size worker number) done.part
+            → TellsPut secrets (object_path worker number) (plain_of seed size worker number) done.part
             done.reply
         put_part = put_told truth link step left count files history o seed size worker budget part
             bench
@@ -222,7 +222,7 @@ module _ {L D : Type 0} (truth : Truth) (link : L → Link) (step : L → Exchan
         put_replied done there n = subst
             (λ (l : ScriptLine). IsReply (IsSaid seed size worker) l done.reply) (sym n.line_is)
             (put_ends link count history (first_place o worker budget bench) after.links
-            after.dice calm (IsSaid seed size worker) (path_of worker n.number)
+            after.dice calm (IsSaid seed size worker) (object_path worker n.number)
             (plain_of seed size worker n.number)
             (piece_long seed (2 + worker * size + n.number)) done.part (inside done there)
             done.reply
@@ -270,10 +270,10 @@ module _ {L D : Type 0} (truth : Truth) (link : L → Link) (step : L → Exchan
             -- the put's own entry
             has_written : (done : LineDone) (number : ℕ)
                 → done.line ≡ put_of seed size worker number → IsFullLine seed size worker done
-                → TellsPut secrets (path_of worker number) (plain_of seed size worker number)
+                → TellsPut secrets (object_path worker number) (plain_of seed size worker number)
                 done.part
                 done.reply
-                → (revision : ℕ) × HasWritten secrets (path_of worker number)
+                → (revision : ℕ) × HasWritten secrets (object_path worker number)
                 (plain_of seed size worker number) done.part revision
             has_written done number is full tells = by done.reply
                 (subst (λ (l : ScriptLine). IsFullReply (IsSaid seed size worker) l done.reply) is
@@ -282,16 +282,16 @@ module _ {L D : Type 0} (truth : Truth) (link : L → Link) (step : L → Exchan
               where
                 by : (reply : Told) → IsFullReply (IsSaid seed size worker)
                     (put_of seed size worker number) reply
-                    → TellsPut secrets (path_of worker number) (plain_of seed size worker number)
+                    → TellsPut secrets (object_path worker number) (plain_of seed size worker number)
                     done.part reply
-                    → (revision : ℕ) × HasWritten secrets (path_of worker number)
+                    → (revision : ℕ) × HasWritten secrets (object_path worker number)
                     (plain_of seed size worker number) done.part revision
                 by (told.Put revision) f t = (revision, t)
                 by reply f t = absurd f
 
             module _ (front : List LineDone) (done : LineDone) (rest : List LineDone)
                 (is : q.rest ≡ front ++ done ∷ rest) (number : ℕ) (below : number < size)
-                (asked : done.line ≡ get_of worker number) where
+                (asked : done.line ≡ load_get_line worker number) where
               run_is : s.run ≡ (p.front ++ (q.front ++ front)) ++ done ∷ rest
               run_is = p.is ∙ ap (λ l. p.front ++ l) (q.is ∙ ap (λ l. q.front ++ l) is
                   ∙ sym (append_assoc q.front front (done ∷ rest)))
@@ -306,7 +306,7 @@ module _ {L D : Type 0} (truth : Truth) (link : L → Link) (step : L → Exchan
                   → history ≡ upto ++ fetch ∷ more
                   → of_seat seat_of worker upto
                   ≡ entries_in (p.front ++ (q.front ++ front)) ++ adopt ∷ []
-                  → last_change upto (path_of worker number)
+                  → last_change upto (object_path worker number)
                   ≡ Some (puts (plain_of seed size worker number))
               known upto fetch more adopt there its =
                   let w = has_written own_put.0 number own_put.2
@@ -327,7 +327,7 @@ module _ {L D : Type 0} (truth : Truth) (link : L → Link) (step : L → Exchan
                   (subst (λ l. All (IsLoadEntry seed size) l) there all)) e in_it secrets w.0
                   w.1.did_is w.1.gave_is
 
-              said : IsSaid seed size worker (path_of worker number)
+              said : IsSaid seed size worker (object_path worker number)
                   (plain_of seed size worker number)
               said other less same = ap (plain_of seed size worker)
                   (one_number worker worker number other few few (omega (arith, below, small))
@@ -343,21 +343,21 @@ module _ {L D : Type 0} (truth : Truth) (link : L → Link) (step : L → Exchan
                   (get_ends link count history (first_place o worker budget bench) after.links
                   after.dice calm (IsSaid seed size worker) truth
                   (heard_by kept (p.front ++ (q.front ++ front)) done) o worker
-                  (path_of worker number)
+                  (object_path worker number)
                   (plain_of seed size worker number)
                   (entries_in (p.front ++ (q.front ++ front))) done.part no_names known said
                   done.reply
                   (subst (λ (l : ScriptLine).
                   HasCause link count l (first_place o worker budget bench)
                   done.reply history after.links after.dice) asked (caused done there))
-                  (tell (p.front ++ (q.front ++ front)) done rest run_is (path_of worker number)
+                  (tell (p.front ++ (q.front ++ front)) done rest run_is (object_path worker number)
                   asked)))
 
             gets_full : All (IsFullLine seed size worker) q.rest
             gets_full = all_by_parts (IsFullLine seed size worker) q.rest
                 (λ front done rest is.
-                let n = at_middle (IsNumbered (get_of worker) size) front done rest
-                (subst (λ l. All (IsNumbered (get_of worker) size) l) is gets_numbered) in
+                let n = at_middle (IsNumbered (load_get_line worker) size) front done rest
+                (subst (λ l. All (IsNumbered (load_get_line worker) size) l) is gets_numbered) in
                 get_full front done rest is n.number n.below n.line_is)
 
             -- ---- all of them

@@ -14,7 +14,7 @@ use Rattle.std.proofs.lemmas.List.Sums.{sum_by-cons}
 use Rattle.std.proofs.lemmas.Map.Lookups.{CmpEqualImpliesEq, exact_bytes, exact_pairs}
 use Rattle.sha2.specs.Sha256.{sha256}
 use Rattle.kr_workload.specs.FullLoads.{FullIsOne, all_objects}
-use Rattle.kr_workload.specs.Summaries.{OneDigest, object_cmp, object_lines, text_of}
+use Rattle.kr_workload.specs.Summaries.{OneDigest, object_cmp, got_lines, summary_text}
 
 -- ---- two lists in order that have the same sums
 
@@ -98,23 +98,23 @@ module _ {X : Type 0} {R : X → X → Ordering} (o : IsTotalOrder R) (exact : C
 
 -- ---- objects
 
-abbrev Object : Type 0
-Object = List ℕ × List ℕ
+abbrev ToldObject : Type 0
+ToldObject = List ℕ × List ℕ
 
 object_total : IsTotalOrder object_cmp
-object_total = then_total (on_total (λ (x : Object). x.0) nat_list_cmp_total)
-    (on_total (λ (x : Object). x.1) nat_list_cmp_total)
+object_total = then_total (on_total (λ (x : ToldObject). x.0) nat_list_cmp_total)
+    (on_total (λ (x : ToldObject). x.1) nat_list_cmp_total)
 
 object_exact : CmpEqualImpliesEq object_cmp
 object_exact = exact_pairs _ _ exact_bytes exact_bytes
 
 pub one_digest : OneDigest
 one_digest objects one other a b = a.digest_is
-    ∙ ap (λ l. sha256 (flat_map object_lines l)) (one_order object_total object_exact objects
+    ∙ ap (λ l. sha256 (flat_map got_lines l)) (one_order object_total object_exact objects
     a.listing b.listing a.same b.same a.sorted b.sorted)
     ∙ sym b.digest_is
 
 pub full_is_one : FullIsOne
 full_is_one seed size one other a b = a.2
-    ∙ ap (text_of seed size (4 * size) (4 * size))
+    ∙ ap (summary_text seed size (4 * size) (4 * size))
     (one_digest (all_objects seed size) a.0 b.0 a.1 b.1) ∙ sym b.2

@@ -1,21 +1,20 @@
 -- The fleet of a load keeps the rules of a fleet file.
 use Rattle.std.proofs.Common.{◌≡◌, ℕ, zero, suc, ◌+◌, ◌*◌, ◌%◌, ◌^◌, ◌<◌, ◌≤◌, Bool, true, false, List, [], ◌∷◌, ◌++◌, codes, length, map, get_or, refl, ◌∙◌, ap, arith}
 use Rattle.std.specs.Prelude.{◌&&◌, ◌||◌, nat_le, decimal}
-use Rattle.std.specs.Int.{IsInRange, to_le_bytes, w32}
+use Rattle.std.specs.Int.{IsInRange}
 use Rattle.std.specs.List.{list_all, list_any, range_with_len}
 use Rattle.std.specs.Str.Parse.{digits_value}
 use Rattle.std.proofs.lemmas.Bool.{le-leb}
 use Rattle.std.proofs.lemmas.Bool.Decides.{nat_tests}
 use Rattle.std.proofs.lemmas.Fmt.{decimal_digit, digits_decimal, length-decimal-le}
-use Rattle.std.proofs.lemmas.List.{length-append, length-take-le}
+use Rattle.std.proofs.lemmas.List.{length-append}
 use Rattle.std.proofs.lemmas.List.Folds.{list_all-append, list_all-map, list_any-append}
 use Rattle.std.proofs.lemmas.Str.Parse.{IsNumeralModel, numerals_by_value, tells_by_index}
 use Rattle.kr_base.specs.Rules.{is_graphic, is_name, is_path}
 use Rattle.kr_script.specs.Rules.{are_distinct, has_long_line, is_line, is_long, is_worker, worker_names}
-use Rattle.rand_core.specs.Steps.{word_bytes}
-use Rattle.rand_chacha.specs.ChaCha.{ChaCha, next_word}
-use Rattle.kr_workload.specs.Loads.{KeepsRules, get_of, lines_of, load_fleet, load_worker, path_of, put_of, reloads_of}
-use Rattle.kr_workload.specs.Streams.{before_piece, piece}
+use Rattle.kr_workload.specs.Loads.{KeepsRules, load_get_line, lines_of, load_fleet, load_worker, object_path, put_of, load_reloads}
+use Rattle.kr_workload.specs.Streams.{stream_key, piece}
+use Rattle.kr_workload.proofs.Streaming.{bytes_long}
 
 -- ---- digits
 
@@ -50,7 +49,7 @@ path_by path some few all =
     λ i. le-leb 1 (length path) some i && le-leb (length path) 1024 few i && all i
 
 pub path_ok : (worker number : ℕ) → worker < 4 → number < 2 ^ 32
-    → is_path (path_of worker number) ≡ true
+    → is_path (object_path worker number) ≡ true
 path_ok worker number w n =
     let begin = codes "/registry/secrets/gen/w" in
     let dash = codes "-" in
@@ -65,7 +64,7 @@ path_ok worker number w n =
     let a = length-append ((begin ++ first) ++ dash) last in
     let b = length-append (begin ++ first) dash in
     let c = length-append begin first in
-    path_by (path_of worker number) (omega (arith, a, b, c))
+    path_by (object_path worker number) (omega (arith, a, b, c))
     (omega (arith, a, b, c, first_short, last_short))
     (both_graphic ((begin ++ first) ++ dash) last
     (both_graphic (begin ++ first) dash
@@ -89,13 +88,13 @@ module _ (seed size worker : ℕ) (small : size < 2 ^ 32) (few : worker < 4) whe
       ∙ all_below (λ number. is_line 2 (put_of seed size worker number)) 0 size
       (λ k lt. path_ok worker k few (omega (arith, lt, small)))
 
-  gets_ok : list_all (is_line 2) (map (get_of worker) (range_with_len 0 size)) ≡ true
+  gets_ok : list_all (is_line 2) (map (load_get_line worker) (range_with_len 0 size)) ≡ true
   gets_ok =
-      list_all-map (is_line 2) (get_of worker) (range_with_len 0 size)
-      ∙ all_below (λ number. is_line 2 (get_of worker number)) 0 size
+      list_all-map (is_line 2) (load_get_line worker) (range_with_len 0 size)
+      ∙ all_below (λ number. is_line 2 (load_get_line worker number)) 0 size
       (λ k lt. path_ok worker k few (omega (arith, lt, small)))
 
-reloads_ok : (worker : ℕ) → list_all (is_line 2) (reloads_of worker) ≡ true
+reloads_ok : (worker : ℕ) → list_all (is_line 2) (load_reloads worker) ≡ true
 reloads_ok zero = refl
 reloads_ok (suc worker) = refl
 
@@ -103,10 +102,10 @@ lines_ok : (seed size worker : ℕ) → size < 2 ^ 32 → worker < 4
     → list_all (is_line 2) (lines_of seed size worker) ≡ true
 lines_ok seed size worker small few =
     let puts = map (put_of seed size worker) (range_with_len 0 size) in
-    let gets = map (get_of worker) (range_with_len 0 size) in
-    list_all-append (is_line 2) puts (reloads_of worker ++ gets)
+    let gets = map (load_get_line worker) (range_with_len 0 size) in
+    list_all-append (is_line 2) puts (load_reloads worker ++ gets)
     ∙ (λ i. puts_ok seed size worker small few i
-    && (list_all-append (is_line 2) (reloads_of worker) gets
+    && (list_all-append (is_line 2) (load_reloads worker) gets
     ∙ (λ j. reloads_ok worker j && gets_ok seed size worker small few j)) i)
 
 -- ---- workers
@@ -140,19 +139,8 @@ names_apart seed size =
 
 -- ---- data
 
-words_long : (k : ℕ) (g : ChaCha)
-    → length (word_bytes (to_le_bytes w32) (next_word 4) k g).0 ≡ 4 * k
-unfolding word_bytes
-words_long zero g = refl
-words_long (suc k) g =
-    let before = word_bytes (to_le_bytes w32) (next_word 4) k g in
-    let more = length-append before.0 (to_le_bytes w32 (next_word 4 before.1).0) in
-    omega (arith, more, words_long k g)
-
 pub piece_long : (seed number : ℕ) → length (piece seed number) ≡ 32
-piece_long seed number =
-    let all = (word_bytes (to_le_bytes w32) (next_word 4) 8 (before_piece seed number)).0 in
-    length-take-le 32 all (omega (arith, words_long 8 (before_piece seed number)))
+piece_long seed number = bytes_long (stream_key seed 0) (32 * number) 32
 
 none_below : (p : ℕ → Bool) (first count : ℕ) → ((k : ℕ) → p k ≡ false)
     → list_any p (range_with_len first count) ≡ false
@@ -177,22 +165,22 @@ puts_short seed size worker =
     (short_put seed size worker)
 
 gets_short : (size worker : ℕ)
-    → list_any is_long (map (get_of worker) (range_with_len 0 size)) ≡ false
+    → list_any is_long (map (load_get_line worker) (range_with_len 0 size)) ≡ false
 gets_short size worker =
-    any_map is_long (get_of worker) (range_with_len 0 size)
-    ∙ none_below (λ number. is_long (get_of worker number)) 0 size (λ k. refl)
+    any_map is_long (load_get_line worker) (range_with_len 0 size)
+    ∙ none_below (λ number. is_long (load_get_line worker number)) 0 size (λ k. refl)
 
-reloads_short : (worker : ℕ) → list_any is_long (reloads_of worker) ≡ false
+reloads_short : (worker : ℕ) → list_any is_long (load_reloads worker) ≡ false
 reloads_short zero = refl
 reloads_short (suc worker) = refl
 
 lines_short : (seed size worker : ℕ) → list_any is_long (lines_of seed size worker) ≡ false
 lines_short seed size worker =
     let puts = map (put_of seed size worker) (range_with_len 0 size) in
-    let gets = map (get_of worker) (range_with_len 0 size) in
-    list_any-append is_long puts (reloads_of worker ++ gets)
+    let gets = map (load_get_line worker) (range_with_len 0 size) in
+    list_any-append is_long puts (load_reloads worker ++ gets)
     ∙ (λ i. puts_short seed size worker i
-    || (list_any-append is_long (reloads_of worker) gets
+    || (list_any-append is_long (load_reloads worker) gets
     ∙ (λ j. reloads_short worker j || gets_short size worker j)) i)
 
 none_long : (seed size : ℕ) → has_long_line (load_fleet seed size) ≡ false

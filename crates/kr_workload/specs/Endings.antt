@@ -3,7 +3,7 @@ use Rattle.std.specs.Prelude.{ℕ, Bool, true, false, List, map}
 use Rattle.std.specs.List.{filter}
 use Rattle.kr_script.specs.declared.told.Told.{Told}
 use Rattle.kr_script.specs.declared.told.Told.TheVariants as told
-use Rattle.kr_workers.specs.Endings.{ending_of}
+use Rattle.kr_workers.specs.Endings.{gravest_ending}
 use Rattle.kr_workers.specs.declared.ending.Ending.{Ending}
 
 -- a verdict that refused a reload says nothing of how the load ended, since it depends on the order
@@ -17,4 +17,4 @@ without_verdicts replies = map (λ (told : List Told × ℕ). (filter counts tol
 
 -- it ended as a fleet without these replies
 abbrev pub ending_of_load : List (List Told × ℕ) → Ending
-ending_of_load replies = ending_of (without_verdicts replies)
+ending_of_load replies = gravest_ending (without_verdicts replies)

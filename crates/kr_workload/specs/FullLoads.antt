@@ -16,24 +16,25 @@ use Rattle.kr_workers.specs.declared.files.SettingsFile.{SettingsFile}
 use Rattle.kr_workers.specs.declared.worker.Worker.{Worker}
 use Rattle.kr_workload.specs.Endings.{ending_of_load}
 use Rattle.kr_workload.specs.LoadRuns.{IsLoadRun}
-use Rattle.kr_workload.specs.Loads.{load_fleet, path_of, plain_of}
-use Rattle.kr_workload.specs.Summaries.{Objects, IsDigest, Replies, gets_in, objects_of, puts_in, text_of}
+use Rattle.kr_workload.specs.Loads.{load_fleet, object_path, plain_of}
+use Rattle.kr_workload.specs.Summaries.{GotObjects, IsDigest, Replies, count_gets, objects_of, count_puts, summary_text}
 
 -- ---- the summary
 
 -- what a worker puts, and is to get: path and data of each of its objects
-abbrev pub objects_at : (seed size worker : ℕ) → Objects
+abbrev pub objects_at : (seed size worker : ℕ) → GotObjects
 objects_at seed size worker = map
-    (λ number. (path_of worker number, plain_of seed size worker number)) (range_with_len 0 size)
+    (λ number. (object_path worker number, plain_of seed size worker number))
+    (range_with_len 0 size)
 
 -- all four of them
-abbrev pub all_objects : (seed size : ℕ) → Objects
+abbrev pub all_objects : (seed size : ℕ) → GotObjects
 all_objects seed size = flat_map (objects_at seed size) (range_with_len 0 4)
 
 -- each worker's objects were put, and got as they were put: nothing here depends on the run
 abbrev pub IsFull : (seed size : ℕ) → (text : List ℕ) → Type 0
 IsFull seed size text = (digest : List ℕ) × IsDigest (all_objects seed size) digest
-    × (text ≡ text_of seed size (4 * size) (4 * size) digest)
+    × (text ≡ summary_text seed size (4 * size) (4 * size) digest)
 
 -- and it is one text
 abbrev pub FullIsOne : Type 0
@@ -43,22 +44,22 @@ FullIsOne = (seed size : ℕ) (one other : List ℕ) → IsFull seed size one �
 -- the replies of such a load
 pub record AreFull (seed size : ℕ) (replies : Replies) : Type 0 where
   pub ended : ending_of_load replies ≡ ending.Done
-  pub puts : puts_in replies ≡ 4 * size
-  pub gets : gets_in replies ≡ 4 * size
+  pub puts : count_puts replies ≡ 4 * size
+  pub gets : count_gets replies ≡ 4 * size
   pub objects : objects_of (load_fleet seed size).workers replies ≡ all_objects seed size
 
 -- ---- when a load is so
 
 -- so many objects of each worker fit into a store
-abbrev pub size_limit : ℕ
-size_limit = 10000
+abbrev pub load_size_limit : ℕ
+load_size_limit = 10000
 
 module _ {T L D : Type 0} (link : L → Link) (count : D → ℕ) where
   -- the store had no rows, there are no plugins, and neither the count of the store's tape rose nor
   -- that of a worker's random source
   pub record IsBlankRun (size : ℕ) (history : List Entry) (o : Opening)
       (old new : List (Worker T L D)) : Type 0 where
-    pub few : size ≤ size_limit
+    pub few : size ≤ load_size_limit
     pub blank : o.rows ≡ []
     pub bare : o.names ≡ []
     pub limit : o.limit ≡ store_limit

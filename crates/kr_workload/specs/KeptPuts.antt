@@ -17,7 +17,7 @@ use Rattle.kr_workers.specs.Sentences.{Replies}
 use Rattle.kr_workers.specs.declared.files.SettingsFile.{SettingsFile}
 use Rattle.kr_workers.specs.declared.worker.Worker.{Worker}
 use Rattle.kr_workload.specs.LoadRuns.{IsLoadRun}
-use Rattle.kr_workload.specs.Loads.{configurations, path_of, plain_of}
+use Rattle.kr_workload.specs.Loads.{configurations, object_path, plain_of}
 use Rattle.kr_workload.specs.Loads as load
 
 -- the row with this revision puts the worker's object of this number: a sealing of its data by a
@@ -27,10 +27,10 @@ pub record HasRow (seed size : ℕ) (rows : List LogRow) (worker number revision
   pub stored : List ℕ
   pub check : Option Check
   pub there : log_row_at rows revision
-      ≡ Some (put_of (path_of worker number) (codes "secrets") stored check)
+      ≡ Some (put_of (object_path worker number) (codes "secrets") stored check)
   pub p : Publication
   pub of_load : Contains (map (λ file. file.1) (configurations seed)) p.rows
-  pub sealing : IsSealing p (codes "secrets") (path_of worker number)
+  pub sealing : IsSealing p (codes "secrets") (object_path worker number)
       (plain_of seed size worker number) stored
 
 -- each put that was done has its row

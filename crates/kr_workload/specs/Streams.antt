@@ -1,26 +1,53 @@
--- The random bytes of a load: streams of ChaCha8.
-use Rattle.std.specs.Prelude.{ℕ, ◌*◌, List, ◌++◌, replicate}
-use Rattle.std.specs.Int.{to_be_bytes, w64}
-use Rattle.rand_core.specs.Steps.{fill_via_u32}
-use Rattle.rand_chacha.specs.ChaCha.{ChaCha, next_word, of_seed}
+-- The random bytes of a load: streams of ChaCha with 8 rounds, each told to its end.
+use Rattle.std.specs.Prelude.{ℕ, ◌+◌, ◌-◌, ◌*◌, ◌/◌, ◌%◌, ◌^◌, nat_lt, List, ◌++◌, length, map, replicate, slice_index, Option, Some, if◌then◌else◌}
+use Rattle.std.specs.Int.{to_be_bytes, to_le_bytes, w32, w64}
+use Rattle.std.specs.List.{range_with_len}
+use Rattle.rand_chacha.specs.ChaCha.{key_of as words_of, word_at}
 
 -- the key of a stream: the seed and the stream's number, each in 8 bytes, high byte first, and 16
 -- zero bytes
-abbrev pub key_of : (seed number : ℕ) → List ℕ
-key_of seed number = (to_be_bytes w64 seed ++ to_be_bytes w64 number) ++ replicate 16 0
+abbrev pub key_bytes : (seed number : ℕ) → List ℕ
+key_bytes seed number = (to_be_bytes w64 seed ++ to_be_bytes w64 number) ++ replicate 16 0
 
--- the generator of a stream at its begin
-abbrev pub stream : (seed number : ℕ) → ChaCha
-stream seed number = of_seed (key_of seed number)
+-- the same as ChaCha's eight words
+abbrev pub stream_key : (seed number : ℕ) → List ℕ
+stream_key seed number = words_of (key_bytes seed number)
 
--- its next 32 bytes, by four double rounds a block, and the generator behind them
-abbrev pub next_piece : ChaCha → List ℕ × ChaCha
-next_piece generator = fill_via_u32 (next_word 4) 32 generator
+-- the byte at a place under a key: its words one behind another, by four double rounds a block and
+-- the nonce 0, each low byte first
+abbrev pub byte_at : (key : List ℕ) → (place : ℕ) → ℕ
+byte_at key place = slice_index (to_le_bytes w32 (word_at 4 key 0 (place / 4))) (place % 4)
 
--- stream 0 before its piece of this number, from 0; a piece is 8 words
-abbrev pub before_piece : (seed number : ℕ) → ChaCha
-before_piece seed number = record (stream seed 0) { word_pos = 8 * number }
+-- so many bytes from a place on
+unfoldable pub bytes_at : (key : List ℕ) → (place count : ℕ) → List ℕ
+bytes_at key place count = map (byte_at key) (range_with_len place count)
 
--- the piece of 32 bytes
+-- what is left behind a place, up to where the words would come again
+abbrev pub rest_at : (key : List ℕ) → (place : ℕ) → List ℕ
+rest_at key place = bytes_at key place (2 ^ 70 - place)
+
+-- the stream of a seed with this number
+abbrev pub stream : (seed number : ℕ) → List ℕ
+stream seed number = rest_at (stream_key seed number) 0
+
+-- the piece of 32 bytes of stream 0 with this number, from 0
 abbrev pub piece : (seed number : ℕ) → List ℕ
-piece seed number = (next_piece (before_piece seed number)).0
+piece seed number = bytes_at (stream_key seed 0) (32 * number) 32
+
+-- ---- random sources
+
+-- what is left of a stream, and how many draws failed
+pub record StreamState : Type 0 where
+  pub left : List ℕ
+  pub faults : ℕ
+
+abbrev pub left_in : StreamState → Option (List ℕ)
+left_in source = Some source.left
+
+-- none failed as long as more is left than any buffer holds
+abbrev pub link_faults : StreamState → ℕ
+link_faults source = if nat_lt (length source.left) (2 ^ 64) then source.faults else 0
+
+-- the random source of a worker, before it draws
+abbrev pub worker_dice : (seed worker : ℕ) → StreamState
+worker_dice seed worker = record { left = stream seed (1 + worker); faults = 0 }

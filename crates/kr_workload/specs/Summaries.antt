@@ -23,41 +23,42 @@ Replies = List (List Told × ℕ)
 
 -- ---- how many puts and gets were done
 
-unfoldable pub is_put : Told → Bool
-is_put (told.Put revision) = true
-is_put other = false
+unfoldable pub is_put_reply : Told → Bool
+is_put_reply (told.Put revision) = true
+is_put_reply other = false
 
 unfoldable pub is_got : Told → Bool
 is_got (told.Got revision plain) = true
 is_got other = false
 
-abbrev pub puts_in : Replies → ℕ
-puts_in [] = 0
-puts_in (told ∷ replies) = count_by is_put told.0 + puts_in replies
+abbrev pub count_puts : Replies → ℕ
+count_puts [] = 0
+count_puts (told ∷ replies) = count_by is_put_reply told.0 + count_puts replies
 
-abbrev pub gets_in : Replies → ℕ
-gets_in [] = 0
-gets_in (told ∷ replies) = count_by is_got told.0 + gets_in replies
+abbrev pub count_gets : Replies → ℕ
+count_gets [] = 0
+count_gets (told ∷ replies) = count_by is_got told.0 + count_gets replies
 
 -- ---- the digest
 
 -- what workers got: paths with data
-abbrev pub Objects : Type 0
-Objects = List (List ℕ × List ℕ)
+abbrev pub GotObjects : Type 0
+GotObjects = List (List ℕ × List ℕ)
 
 -- the path of a `get` and the data of its reply, if there are data
-abbrev pub objects_by : ScriptLine → Told → Objects
-objects_by (line.Get path) (told.Got revision plain) = (path, plain) ∷ []
-objects_by asked reply = []
+abbrev pub replied_objects : ScriptLine → Told → GotObjects
+replied_objects (line.Get path) (told.Got revision plain) = (path, plain) ∷ []
+replied_objects asked reply = []
 
 -- of each line by its reply
-abbrev pub objects_in : List ScriptLine → List Told → Objects
+abbrev pub objects_in : List ScriptLine → List Told → GotObjects
 objects_in [] replies = []
 objects_in (asked ∷ lines) [] = []
-objects_in (asked ∷ lines) (reply ∷ replies) = objects_by asked reply ++ objects_in lines replies
+objects_in (asked ∷ lines) (reply ∷ replies) = replied_objects asked reply
+    ++ objects_in lines replies
 
 -- of each worker by what it told
-abbrev pub objects_of : List Worker → Replies → Objects
+abbrev pub objects_of : List Worker → Replies → GotObjects
 objects_of [] replies = []
 objects_of (worker ∷ workers) [] = []
 objects_of (worker ∷ workers) (told ∷ replies) =
@@ -69,19 +70,19 @@ object_cmp one other =
     ordering_then (slice_cmp nat_cmp one.0 other.0) (slice_cmp nat_cmp one.1 other.1)
 
 -- a path and its data, an LF behind both
-abbrev pub object_lines : List ℕ × List ℕ → List ℕ
-object_lines object = object.0 ++ codes "\n" ++ object.1 ++ codes "\n"
+abbrev pub got_lines : List ℕ × List ℕ → List ℕ
+got_lines object = object.0 ++ codes "\n" ++ object.1 ++ codes "\n"
 
 -- the digest over what was got: SHA-256 of the listing in order
-pub record IsDigest (objects : Objects) (digest : List ℕ) : Type 0 where
-  pub listing : Objects
+pub record IsDigest (objects : GotObjects) (digest : List ℕ) : Type 0 where
+  pub listing : GotObjects
   pub same : IsPermutation objects listing
   pub sorted : IsSorted object_cmp listing
-  pub digest_is : digest ≡ sha256 (flat_map object_lines listing)
+  pub digest_is : digest ≡ sha256 (flat_map got_lines listing)
 
 -- it is one alone
 abbrev pub OneDigest : Type 0
-OneDigest = (objects : Objects) (one other : List ℕ) → IsDigest objects one
+OneDigest = (objects : GotObjects) (one other : List ℕ) → IsDigest objects one
     → IsDigest objects other → one ≡ other
 
 -- ---- the text
@@ -93,8 +94,8 @@ hex_digit number = if nat_lt number 10 then 0x30 + number else 0x57 + number
 abbrev pub hex_text : List ℕ → List ℕ
 hex_text bytes = flat_map (λ byte. hex_digit (byte / 16) ∷ (hex_digit (byte % 16) ∷ [])) bytes
 
-abbrev pub text_of : (seed size puts gets : ℕ) → (digest : List ℕ) → List ℕ
-text_of seed size puts gets digest =
+abbrev pub summary_text : (seed size puts gets : ℕ) → (digest : List ℕ) → List ℕ
+summary_text seed size puts gets digest =
     codes "gen " ++ decimal seed ++ codes " " ++ decimal size
     ++ codes "\nputs " ++ decimal puts ++ codes "\ngets " ++ decimal gets
     ++ codes "\ndigest " ++ hex_text digest ++ codes "\n"
@@ -104,7 +105,7 @@ pub record IsSummary (seed size : ℕ) (workers : List Worker) (replies : Replie
     (text : List ℕ) : Type 0 where
   pub digest : List ℕ
   pub over : IsDigest (objects_of workers replies) digest
-  pub text_is : text ≡ text_of seed size (puts_in replies) (gets_in replies) digest
+  pub text_is : text ≡ summary_text seed size (count_puts replies) (count_gets replies) digest
 
 -- it was written; or the sink failed behind a prefix of it; or memory lacked to make it
 abbrev pub WritesSummary : (seed size : ℕ) → List Worker → Replies

@@ -2,7 +2,7 @@
 ghost use Rattle.std.specs.Prelude.{◌≡◌, IfOk, IsTrue, OnOk, [], ◌∷◌, ◌++◌, codes, length, map};
 ghost use Rattle.kr_config.specs.Kept.{keeps, rows_of};
 ghost use Rattle.kr_config.specs.declared.who.Who.TheVariants.{Aesgcm, Identity};
-ghost use Rattle.kr_workload.specs.Loads.{configurations_by, named_rows, of_secrets};
+ghost use Rattle.kr_workload.specs.Loads.{configurations_by, named_configuration, of_secrets};
 
 use crate::lists::add;
 use kr_base::{Bytes, List, NoMemory, Shared, Text};
@@ -24,10 +24,14 @@ pub const RESOURCE: &str = "secrets";
 
 /// The configurations. A: g1 writes. B: it writes, and g2 is read too. C: g2 writes, and g1 is read
 /// too.
-pub fn files_of(alloc: Global, g1: &[u8], g2: &[u8]) -> Result<List<SettingsFile>, NoMemory>
+pub fn configuration_files(
+    alloc: Global,
+    g1: &[u8],
+    g2: &[u8],
+) -> Result<List<SettingsFile>, NoMemory>
     requires g1 { length g1.now ≡ 32 }
     requires g2 { length g2.now ≡ 32 }
-    ensures { IfOk result (λ files. map named_rows files.0
+    ensures { IfOk result (λ files. map named_configuration files.0
         ≡ configurations_by (Aesgcm (codes "g1") g1.now) (Aesgcm (codes "g2") g2.now)) }
 {
     let mut files = List::new(alloc);
@@ -84,10 +88,10 @@ fn add_file(
     providers: List<Who>,
 ) -> Result<(), NoMemory>
     requires { IsTrue (keeps (of_secrets providers.0)) }
-    ensures { OnOk result (map named_rows files.new.0
-        ≡ map named_rows files.old.0 ++ (name.now, of_secrets providers.0) ∷ []) }
+    ensures { OnOk result (map named_configuration files.new.0
+        ≡ map named_configuration files.old.0 ++ (name.now, of_secrets providers.0) ∷ []) }
 {
-    let settings = Settings::of(alloc, entries_of(alloc, providers)?)?;
+    let settings = Settings::from_entries(alloc, secrets_entries(alloc, providers)?)?;
     let name = Text::copy(alloc, name)?;
     match Shared::new(alloc, settings) {
         Ok(settings) => add(files, SettingsFile { name, settings }),
@@ -95,7 +99,7 @@ fn add_file(
     }
 }
 
-fn entries_of(alloc: Global, providers: List<Who>) -> Result<List<Entry>, NoMemory>
+fn secrets_entries(alloc: Global, providers: List<Who>) -> Result<List<Entry>, NoMemory>
     ensures { IfOk result (λ entries. rows_of entries.0 ≡ of_secrets providers.0) }
 {
     let mut patterns = List::new(alloc);

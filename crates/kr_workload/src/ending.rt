@@ -6,14 +6,14 @@ ghost use Rattle.kr_workload.specs.inner.Refusing.{ending_of_refusals, refuses, 
 
 use kr_base::List;
 use kr_script::Told;
-use kr_workers::{Ending, ending_of};
+use kr_workers::{Ending, gravest_ending};
 
 /// How a load ended: as a fleet whose workers told this, but that the verdicts on its reloads don't
 /// count, since they depend on the order of the workers' turns.
 pub fn ending_of_load(replies: &[List<Told>]) -> Ending
     ensures { result ≡ ending_of_load replies.now }
 {
-    match ending_of(replies) {
+    match gravest_ending(replies) {
         Ending::Refused => ending_of_refusals(replies),
         Ending::Done => Ending::Done,
         Ending::Unhealthy => Ending::Unhealthy,

@@ -15,6 +15,6 @@ mod summary;
 
 pub use ending::ending_of_load;
 pub use laws::{loads_are_full, loads_keep_rules, puts_are_kept, summaries_are_one};
-pub use load::{Load, load_of};
-pub use stream::source_of;
+pub use load::{Load, generate_load};
+pub use stream::{StreamDice, worker_dice};
 pub use summary::write_summary;

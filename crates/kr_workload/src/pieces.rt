@@ -1,11 +1,9 @@
 //! The pieces of a seed's stream 0.
 ghost use Rattle.std.specs.Prelude.{◌≡◌, ◌+◌, ◌<◌, ◌^◌, IfOk, length};
-ghost use Rattle.kr_workload.specs.Streams.{next_piece, piece};
+ghost use Rattle.kr_workload.specs.Streams.{piece};
 
-use crate::stream::stream_of;
+use crate::stream::Stream;
 use kr_base::{Bytes, NoMemory};
-use rand_chacha::ChaCha8Rng;
-use rand_core::utils::fill_bytes_via_u32;
 use std::alloc::Global;
 use std::marker::Model;
 
@@ -15,29 +13,30 @@ use std::marker::Model;
 pub struct Pieces {
     seed: u64,
     number: u64,
-    rng: ChaCha8Rng,
+    stream: Stream,
 }
 
 impl Model for Pieces {
-    ghost use Rattle.std.specs.Prelude.{ℕ, ◌≡◌};
-    ghost use Rattle.kr_workload.specs.Streams.{before_piece};
+    ghost use Rattle.std.specs.Prelude.{ℕ, ◌≡◌, ◌*◌};
+    ghost use Rattle.kr_workload.specs.Streams.{stream_key, rest_at};
 
     ghost Value = { ℕ × ℕ };
 
     ghost view = { λ pieces. (pieces.seed, pieces.number) };
 
-    ghost invariant = { λ pieces. pieces.rng ≡ before_piece pieces.seed pieces.number };
+    ghost invariant = { λ pieces.
+        pieces.stream ≡ rest_at (stream_key pieces.seed 0) (32 * pieces.number) };
 }
 
 impl Pieces {
     /// All of them.
-    pub fn of(seed: u64) -> Pieces
+    pub fn all_pieces(seed: u64) -> Pieces
         ensures { result ≡ (seed, 0) }
     {
         Pieces {
             seed,
             number: 0,
-            rng: stream_of(seed, 0),
+            stream: Stream::of(seed, 0),
         }
     }
 
@@ -48,17 +47,9 @@ impl Pieces {
         ensures long { IfOk result (λ bytes. length bytes ≡ 32) }
         ensures passed { self.new ≡ (self.old.0, self.old.1 + 1) }
     {
-        let piece = draw(&mut self.rng);
+        let mut piece = [0; 32];
+        self.stream.draw(&mut piece);
         self.number += 1;
         Bytes::copy(alloc, &piece)
     }
-}
-
-/// The next 32 bytes.
-fn draw(rng: &mut ChaCha8Rng) -> [u8; 32]
-    ensures { (result, rng.new) ≡ next_piece rng.old }
-{
-    let mut piece = [0; 32];
-    fill_bytes_via_u32(rng, &mut piece);
-    piece
 }

@@ -2,10 +2,10 @@
 ghost use Rattle.std.specs.Prelude.{◌≡◌, ◌<◌, ◌≤◌, IfOk, count_by, map};
 ghost use Rattle.std.specs.String.{string_bytes};
 ghost use Rattle.kr_script.specs.Fleets.{worker_of};
-ghost use Rattle.kr_workload.specs.Summaries.{IsSummary, WritesSummary, gets_in, hex_digit, hex_text};
-ghost use Rattle.kr_workload.specs.Summaries.{is_got, is_put, puts_in, text_of};
+ghost use Rattle.kr_workload.specs.Summaries.{IsSummary, WritesSummary, count_gets, hex_digit, hex_text};
+ghost use Rattle.kr_workload.specs.Summaries.{is_got, is_put_reply, count_puts, summary_text};
 
-use crate::digest::digest_of;
+use crate::digest::digest_replies;
 use kr_base::{List, NoMemory, Sink, write_all};
 use kr_script::{Part, Told, WriteNo};
 use std::alloc::Global;
@@ -24,7 +24,7 @@ pub fn write_summary<K: Sink>(
         (K.held sink.old) (K.held sink.new) (K.count sink.old) (K.count sink.new) result }
     ensures later { K.count sink.old ≤ K.count sink.new }
 {
-    match summary_of(alloc, seed, size, parts, replies) {
+    match load_summary(alloc, seed, size, parts, replies) {
         Ok(text) => match write_all(sink, text.as_bytes()) {
             Ok(()) => Ok(()),
             Err(_) => Err(WriteNo::Failed),
@@ -33,7 +33,7 @@ pub fn write_summary<K: Sink>(
     }
 }
 
-fn summary_of(
+fn load_summary(
     alloc: Global,
     seed: u64,
     size: u32,
@@ -43,15 +43,15 @@ fn summary_of(
     ensures { IfOk result (λ text. IsSummary seed size (map worker_of parts.now) replies.now
         (string_bytes text)) }
 {
-    let digest = digest_of(alloc, parts, replies)?;
-    let puts = puts_in(replies);
-    let gets = gets_in(replies);
-    let text = text_of(alloc, seed, size, puts, gets, &digest)?;
+    let digest = digest_replies(alloc, parts, replies)?;
+    let puts = count_puts(replies);
+    let gets = count_gets(replies);
+    let text = summary_text(alloc, seed, size, puts, gets, &digest)?;
     Ok(text)
 }
 
 /// The lines, by what they tell.
-fn text_of(
+fn summary_text(
     alloc: Global,
     seed: u64,
     size: u32,
@@ -59,29 +59,30 @@ fn text_of(
     gets: u128,
     digest: &[u8],
 ) -> Result<String, NoMemory>
-    ensures { IfOk result (λ text. string_bytes text ≡ text_of seed size puts gets digest.now) }
+    ensures { IfOk result (λ text. string_bytes text
+        ≡ summary_text seed size puts gets digest.now) }
 {
-    let hex = hex_of(alloc, digest)?;
+    let hex = hex_digits(alloc, digest)?;
     Ok(format!(in alloc; "gen {seed} {size}\nputs {puts}\ngets {gets}\ndigest {hex}\n")?)
 }
 
 /// How many puts were done.
-fn puts_in(replies: &[List<Told>]) -> u128
-    ensures { result ≡ puts_in replies.now }
+fn count_puts(replies: &[List<Told>]) -> u128
+    ensures { result ≡ count_puts replies.now }
 {
     let mut puts = 0u128;
     for told in replies {
-        puts += puts_among(told.as_slice()) as u128;
+        puts += count_worker_puts(told.as_slice()) as u128;
     }
     puts
 }
 
-fn puts_among(replies: &[Told]) -> usize
-    ensures { result ≡ count_by is_put replies.now }
+fn count_worker_puts(replies: &[Told]) -> usize
+    ensures { result ≡ count_by is_put_reply replies.now }
 {
     let mut puts = 0;
     for reply in replies {
-        if is_put(reply) {
+        if is_put_reply(reply) {
             puts += 1;
         }
     }
@@ -89,17 +90,17 @@ fn puts_among(replies: &[Told]) -> usize
 }
 
 /// How many gets gave data.
-fn gets_in(replies: &[List<Told>]) -> u128
-    ensures { result ≡ gets_in replies.now }
+fn count_gets(replies: &[List<Told>]) -> u128
+    ensures { result ≡ count_gets replies.now }
 {
     let mut gets = 0u128;
     for told in replies {
-        gets += gets_among(told.as_slice()) as u128;
+        gets += count_worker_gets(told.as_slice()) as u128;
     }
     gets
 }
 
-fn gets_among(replies: &[Told]) -> usize
+fn count_worker_gets(replies: &[Told]) -> usize
     ensures { result ≡ count_by is_got replies.now }
 {
     let mut gets = 0;
@@ -111,9 +112,9 @@ fn gets_among(replies: &[Told]) -> usize
     gets
 }
 
-#[tactic(auto, unfolding(crate::specs::Summaries::is_put))]
-fn is_put(reply: &Told) -> bool
-    ensures { result ≡ is_put reply.now }
+#[tactic(auto, unfolding(crate::specs::Summaries::is_put_reply))]
+fn is_put_reply(reply: &Told) -> bool
+    ensures { result ≡ is_put_reply reply.now }
 {
     matches!(reply, Told::Put { .. })
 }
@@ -126,7 +127,7 @@ fn is_got(reply: &Told) -> bool
 }
 
 /// Two digits of base 16 for each byte.
-fn hex_of(alloc: Global, bytes: &[u8]) -> Result<String, NoMemory>
+fn hex_digits(alloc: Global, bytes: &[u8]) -> Result<String, NoMemory>
     ensures { IfOk result (λ text. string_bytes text ≡ hex_text bytes.now) }
 {
     let mut text = String::new(alloc);

@@ -8,7 +8,7 @@ use Rattle.kr_yaml.specs.Lines.{Token}
 use Rattle.kr_yaml.specs.Forms.{Shape, flat, Form}
 use Rattle.kr_yaml.specs.inner.Open.{State, put, run, closed_value}
 use Rattle.kr_yaml.specs.inner.Standing.{Stands, empty}
-use Rattle.kr_yaml.specs.Reads.{plain, Makes, FormNone, FormTwice, FormDeep, Breaks, IsFirst}
+use Rattle.kr_yaml.specs.Reads.{plain, MakesTree, FormNone, FormTwice, FormDeep, BreaksTree, IsFirst}
 use Rattle.kr_yaml.specs.Reads.{NoTree}
 use Rattle.kr_yaml.specs.declared.yaml_no.YamlNo.{YamlNo}
 use Rattle.kr_yaml.specs.declared.yaml_no.YamlNo.TheVariants.{Outside, Indent, DuplicateKey, Deep}
@@ -83,7 +83,7 @@ front_within xs ys d e s t f g =
 
 -- behind such tokens there is no tree
 abbrev pub Stops : (List Token → Type 0) → Type 0
-Stops P = (ts more : List Token) (d : Data) → P ts → Makes (ts ++ more) d → ⊥
+Stops P = (ts more : List Token) (d : Data) → P ts → MakesTree (ts ++ more) d → ⊥
 
 pub none_stops : Stops FormNone
 none_stops ts more d h m = h more d m.shape m.forms
@@ -101,13 +101,13 @@ pub plain_split : (us before after : List (ℕ × Token)) (n : ℕ) (t : Token)
 plain_split us before after n t e = ap plain e ∙ map-append (λ (u : ℕ × Token). u.1) before
     ((n, t) ∷ after) ∙ sym (append_assoc (plain before) (t ∷ []) (plain after))
 
-breaks_none : (us : List (ℕ × Token)) (n : ℕ) (P : List Token → Type 0) → Stops P → Breaks us n P
-    → (d : Data) → Makes (plain us) d → ⊥
+breaks_none : (us : List (ℕ × Token)) (n : ℕ) (P : List Token → Type 0) → Stops P → BreaksTree us n P
+    → (d : Data) → MakesTree (plain us) d → ⊥
 breaks_none us n P stops b d m = stops (plain b.before ++ b.token ∷ []) (plain b.after) d b.breach
-    (subst (λ ts. Makes ts d) (plain_split us b.before b.after n b.token b.split) m)
+    (subst (λ ts. MakesTree ts d) (plain_split us b.before b.after n b.token b.split) m)
 
 pub first_stops : (us : List (ℕ × Token)) (why : YamlNo) → IsFirst us why → (d : Data)
-    → Makes (plain us) d → ⊥
+    → MakesTree (plain us) d → ⊥
 first_stops us (Outside n) h d m = h
 first_stops us (Indent n) h d m = breaks_none us n FormNone none_stops h d m
 first_stops us (DuplicateKey n) h d m = breaks_none us n FormTwice twice_stops h d m

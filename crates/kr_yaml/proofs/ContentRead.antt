@@ -8,12 +8,12 @@ use Rattle.kr_yaml.specs.Bytes.{behind, skip, spaces, over}
 use Rattle.kr_yaml.specs.Data.{Data, list, mapping, items_of, members_of}
 use Rattle.kr_yaml.specs.Written.{IsKey}
 use Rattle.kr_yaml.specs.Lines.{Token, pair, leaf, IsTail, IsLeaf, scalar, empty_list, flow_list}
-use Rattle.kr_yaml.specs.Lines.{empty_mapping, IsContent, empty_member, member, value}
+use Rattle.kr_yaml.specs.Lines.{empty_mapping, AreContentTokens, empty_member, member, value}
 use Rattle.kr_yaml.specs.inner.Stops.{opens, closes}
-use Rattle.kr_yaml.specs.inner.ScalarReading.{scalar_at, data_of, is_merge}
+use Rattle.kr_yaml.specs.inner.ScalarReading.{leading_scalar, data_of, is_merge}
 use Rattle.kr_yaml.specs.inner.LineReading.{flow_list as read_list, alone, list_alone}
-use Rattle.kr_yaml.specs.inner.LineReading.{mapping_alone, scalar_alone, leaf_at, value_at}
-use Rattle.kr_yaml.specs.inner.LineReading.{member_at, key_at, scalar_or_key, content_at}
+use Rattle.kr_yaml.specs.inner.LineReading.{mapping_alone, scalar_alone, leaf_value, key_value}
+use Rattle.kr_yaml.specs.inner.LineReading.{member_token, key_token, scalar_or_key, content_token}
 use Rattle.kr_yaml.specs.declared.scalar.Scalar.{Scalar}
 use Rattle.kr_yaml.specs.declared.scalar.Context.TheVariants.{Line}
 use Rattle.kr_yaml.proofs.Behind.{is_byte}
@@ -95,7 +95,7 @@ mapping_read : (r : List ℕ) (d : Data) → mapping_alone r ≡ Some d → Leaf
 mapping_read r d h = mapping_by r d (behind 125 r) refl h
 
 scalar_leaf : (bs : List ℕ) (s : Scalar) (rest : List ℕ) → NoSpaceFront bs
-    → scalar_at Line bs ≡ found s rest → closes rest ≡ true → Leaf bs (data_of s)
+    → leading_scalar Line bs ≡ found s rest → closes rest ≡ true → Leaf bs (data_of s)
 scalar_leaf bs s rest f e c =
     let v = line_value bs s rest f c e in
     record {
@@ -107,14 +107,14 @@ scalar_leaf bs s rest f e c =
     }
 
 scalar_end : (bs : List ℕ) (d : Data) (x : Scalar × List ℕ) (v : Bool) → NoSpaceFront bs
-    → scalar_at Line bs ≡ found x.0 x.1 → closes x.1 ≡ v
+    → leading_scalar Line bs ≡ found x.0 x.1 → closes x.1 ≡ v
     → (if v then Some (data_of x.0) else None) ≡ Some d → Leaf bs d
 scalar_end bs d x true f e c h =
     subst (Leaf bs) (some_same (data_of x.0) d h) (scalar_leaf bs x.0 x.1 f e c)
 scalar_end bs d x false f e c h = absurd cc
 
 leaf_by : (bs : List ℕ) (d : Data) (o p : Option (List ℕ)) (q : Option (Scalar × List ℕ))
-    → NoSpaceFront bs → o ≡ behind 91 bs → p ≡ behind 123 bs → scalar_at Line bs ≡ q
+    → NoSpaceFront bs → o ≡ behind 91 bs → p ≡ behind 123 bs → leading_scalar Line bs ≡ q
     → option_map_or list_alone o (option_map_or mapping_alone p (option_map_or scalar_alone q None))
     ≡ Some d → Leaf bs d
 leaf_by bs d (Some r) p q f e g k h =
@@ -124,17 +124,17 @@ leaf_by bs d None (Some r) q f e g k h =
 leaf_by bs d None None (Some x) f e g k h = scalar_end bs d x (closes x.1) f k refl h
 leaf_by bs d None None None f e g k h = absurd cc
 
-leaf_read : (bs : List ℕ) (d : Data) → NoSpaceFront bs → leaf_at bs ≡ Some d → Leaf bs d
-unfolding leaf_at
+leaf_read : (bs : List ℕ) (d : Data) → NoSpaceFront bs → leaf_value bs ≡ Some d → Leaf bs d
+unfolding leaf_value
 leaf_read bs d f h =
-    leaf_by bs d (behind 91 bs) (behind 123 bs) (scalar_at Line bs) f refl refl refl h
+    leaf_by bs d (behind 91 bs) (behind 123 bs) (leading_scalar Line bs) f refl refl refl h
 
 -- a content without a dash, and its tail
 pub record Content (c : ℕ) (bs : List ℕ) (t : Token) : Type 0 where
   pub bytes : List ℕ
   pub tail : List ℕ
   pub whole : bs ≡ bytes ++ tail
-  pub content : IsContent c bytes (t ∷ [])
+  pub content : AreContentTokens c bytes (t ∷ [])
   pub behind : IsTail tail
 
 -- no dash begins an item
@@ -202,7 +202,7 @@ more_spaces (b ∷ r) o h = more_at b r o (skip_is r)
 
 value_by : (c : ℕ) (bs bytes key r : List ℕ) (t : Token) (w : Bool) (o : Option Data)
     → bs ≡ bytes ++ 58 ∷ r → IsKey key bytes → opens r ≡ true → over (skip r) ≡ w
-    → leaf_at (skip r) ≡ o
+    → leaf_value (skip r) ≡ o
     → option_map (λ v. pair c key v) (if w then Some None else option_map (λ d. Some d) o) ≡ Some t
     → Content c bs t
 value_by c bs bytes key r t true o e k p w l h =
@@ -216,14 +216,14 @@ value_by c bs bytes key r t false None e k p w l h = absurd cc
 
 value_read_at : (c : ℕ) (bs bytes key r : List ℕ) (t : Token) → bs ≡ bytes ++ 58 ∷ r
     → IsKey key bytes → opens r ≡ true
-    → option_map (λ v. pair c key v) (value_at r) ≡ Some t → Content c bs t
-unfolding value_at
+    → option_map (λ v. pair c key v) (key_value r) ≡ Some t → Content c bs t
+unfolding key_value
 value_read_at c bs bytes key r t e k p h =
-    value_by c bs bytes key r t (over (skip r)) (leaf_at (skip r)) e k p refl refl h
+    value_by c bs bytes key r t (over (skip r)) (leaf_value (skip r)) e k p refl refl h
 
 key_opens : (c : ℕ) (bs r : List ℕ) (s : Scalar) (t : Token) (v : Bool) → NoSpaceFront bs
-    → scalar_at Line bs ≡ found s (58 ∷ r) → is_merge s ≡ false → opens r ≡ v
-    → (if v then option_map (λ x. pair c s.text x) (value_at r) else None) ≡ Some t
+    → leading_scalar Line bs ≡ found s (58 ∷ r) → is_merge s ≡ false → opens r ≡ v
+    → (if v then option_map (λ x. pair c s.text x) (key_value r) else None) ≡ Some t
     → Content c bs t
 key_opens c bs r s t true f e m o h =
     let k = line_key bs s r f m e in
@@ -231,21 +231,21 @@ key_opens c bs r s t true f e m o h =
 key_opens c bs r s t false f e m o h = absurd cc
 
 key_by : (c : ℕ) (bs r : List ℕ) (s : Scalar) (t : Token) (v : Bool) → NoSpaceFront bs
-    → scalar_at Line bs ≡ found s (58 ∷ r) → is_merge s ≡ v
-    → (if v then None else member_at c s.text r) ≡ Some t → Content c bs t
+    → leading_scalar Line bs ≡ found s (58 ∷ r) → is_merge s ≡ v
+    → (if v then None else member_token c s.text r) ≡ Some t → Content c bs t
 key_by c bs r s t true f e m h = absurd cc
 key_by c bs r s t false f e m h = key_opens c bs r s t (opens r) f e m refl h
 
 colon_by : (c : ℕ) (bs : List ℕ) (x : Scalar × List ℕ) (t : Token) (o : Option (List ℕ))
-    → NoSpaceFront bs → scalar_at Line bs ≡ found x.0 x.1 → o ≡ behind 58 x.1
-    → option_map_or (λ rest. key_at c x.0 rest) o None ≡ Some t → Content c bs t
+    → NoSpaceFront bs → leading_scalar Line bs ≡ found x.0 x.1 → o ≡ behind 58 x.1
+    → option_map_or (λ rest. key_token c x.0 rest) o None ≡ Some t → Content c bs t
 colon_by c bs x t None f e k h = absurd cc
 colon_by c bs x t (Some r) f e k h =
     key_by c bs r x.0 t (is_merge x.0) f (e ∙ ap (λ l. found x.0 l) (behind_cons 58 x.1 r k)) refl h
 
 scalar_content : (c : ℕ) (bs : List ℕ) (x : Scalar × List ℕ) (t : Token) (v : Bool)
-    → NoSpaceFront bs → NoItem bs → scalar_at Line bs ≡ found x.0 x.1 → closes x.1 ≡ v
-    → (if v then Some (leaf c (data_of x.0)) else option_map_or (λ rest. key_at c x.0 rest)
+    → NoSpaceFront bs → NoItem bs → leading_scalar Line bs ≡ found x.0 x.1 → closes x.1 ≡ v
+    → (if v then Some (leaf c (data_of x.0)) else option_map_or (λ rest. key_token c x.0 rest)
     (behind 58 x.1) None)
     ≡ Some t → Content c bs t
 scalar_content c bs x t true f n e k h =
@@ -255,7 +255,7 @@ scalar_content c bs x t false f n e k h = colon_by c bs x t (behind 58 x.1) f e 
 
 content_by : (c : ℕ) (bs : List ℕ) (t : Token) (o p : Option (List ℕ))
     (q : Option (Scalar × List ℕ)) → NoSpaceFront bs → NoItem bs → o ≡ behind 91 bs
-    → p ≡ behind 123 bs → scalar_at Line bs ≡ q
+    → p ≡ behind 123 bs → leading_scalar Line bs ≡ q
     → option_map_or (λ rest. option_map (leaf c) (list_alone rest)) o
     (option_map_or (λ rest. option_map (leaf c) (mapping_alone rest)) p
     (option_map_or (scalar_or_key c) q None)) ≡ Some t → Content c bs t
@@ -269,10 +269,10 @@ content_by c bs t None None (Some x) f n e g k h = scalar_content c bs x t (clos
 content_by c bs t None None None f n e g k h = absurd cc
 
 pub content_read : (c : ℕ) (bs : List ℕ) (t : Token) → NoSpaceFront bs → NoItem bs
-    → content_at c bs ≡ Some t → Content c bs t
-unfolding content_at
+    → content_token c bs ≡ Some t → Content c bs t
+unfolding content_token
 content_read c bs t f n h =
-    content_by c bs t (behind 91 bs) (behind 123 bs) (scalar_at Line bs) f n refl refl refl h
+    content_by c bs t (behind 91 bs) (behind 123 bs) (leading_scalar Line bs) f n refl refl refl h
 
 -- what is written is read
 
@@ -287,18 +287,18 @@ unfolding read_list
 empty_list_makes tail = refl
 
 leaf_makes : (tail : List ℕ) → IsTail tail → (d : Data) (bytes : List ℕ) → IsLeaf d bytes
-    → leaf_at (bytes ++ tail) ≡ Some d
-unfolding leaf_at
+    → leaf_value (bytes ++ tail) ≡ Some d
+unfolding leaf_value
 leaf_makes tail t d bytes (scalar e bs s) = by (value_is_read tail t e bs s) (scalar_start e bs s)
   where
     by : (rest : List ℕ) × IsRead Line e (bs ++ tail) rest × (closes rest ≡ true) → Start bs
-        → leaf_at (bs ++ tail) ≡ Some e
+        → leaf_value (bs ++ tail) ≡ Some e
     by v st =
         ap (λ o. option_map_or list_alone o (option_map_or mapping_alone (behind 123 (bs ++ tail))
-        (option_map_or scalar_alone (scalar_at Line (bs ++ tail)) None)))
+        (option_map_or scalar_alone (leading_scalar Line (bs ++ tail)) None)))
         (start_behind 91 bs tail st st.no_list)
         ∙ ap (λ o. option_map_or mapping_alone o (option_map_or scalar_alone
-        (scalar_at Line (bs ++ tail)) None)) (start_behind 123 bs tail st st.no_mapping)
+        (leading_scalar Line (bs ++ tail)) None)) (start_behind 123 bs tail st st.no_mapping)
         ∙ ap (λ o. option_map_or scalar_alone o None) v.1.reads
         ∙ ap (λ w. if w then Some (data_of v.1.scalar) else None) v.2
         ∙ ap (λ y. Some y) v.1.says
@@ -331,51 +331,51 @@ same_leaf : (c : ℕ) (d : Data) (o p : Option (List ℕ)) (q : Option (Scalar �
 same_leaf c d (Some r) p q h = ap (option_map (leaf c)) h
 same_leaf c d None (Some r) q h = ap (option_map (leaf c)) h
 same_leaf c d None None (Some x) h = same_end c x d (closes x.1)
-    (option_map_or (λ rest. key_at c x.0 rest) (behind 58 x.1) None) h
+    (option_map_or (λ rest. key_token c x.0 rest) (behind 58 x.1) None) h
 same_leaf c d None None None h = absurd cc
 
-content_of_leaf : (c : ℕ) (bs : List ℕ) (d : Data) → leaf_at bs ≡ Some d
-    → content_at c bs ≡ Some (leaf c d)
-unfolding leaf_at content_at
-content_of_leaf c bs d h = same_leaf c d (behind 91 bs) (behind 123 bs) (scalar_at Line bs) h
+content_of_leaf : (c : ℕ) (bs : List ℕ) (d : Data) → leaf_value bs ≡ Some d
+    → content_token c bs ≡ Some (leaf c d)
+unfolding leaf_value content_token
+content_of_leaf c bs d h = same_leaf c d (behind 91 bs) (behind 123 bs) (leading_scalar Line bs) h
 
 pub leaf_is_read : (c : ℕ) (tail : List ℕ) → IsTail tail → (d : Data) (bytes : List ℕ)
-    → IsLeaf d bytes → content_at c (bytes ++ tail) ≡ Some (leaf c d)
+    → IsLeaf d bytes → content_token c (bytes ++ tail) ≡ Some (leaf c d)
 leaf_is_read c tail t d bytes l =
     content_of_leaf c (bytes ++ tail) d (leaf_makes tail t d bytes l)
 
-value_none : (r : List ℕ) → closes r ≡ true → value_at r ≡ Some None
-unfolding value_at
+value_none : (r : List ℕ) → closes r ≡ true → key_value r ≡ Some None
+unfolding key_value
 value_none r c =
-    ap (λ v. if v then Some None else option_map (λ d. Some d) (leaf_at (skip r))) (closes_over r c)
+    ap (λ v. if v then Some None else option_map (λ d. Some d) (leaf_value (skip r))) (closes_over r c)
 
-value_some : (r l : List ℕ) (d : Data) → skip r ≡ l → over l ≡ false → leaf_at l ≡ Some d
-    → value_at r ≡ Some (Some d)
-unfolding value_at
+value_some : (r l : List ℕ) (d : Data) → skip r ≡ l → over l ≡ false → leaf_value l ≡ Some d
+    → key_value r ≡ Some (Some d)
+unfolding key_value
 value_some r l d e o h =
-    ap (λ m. if over m then Some None else option_map (λ d. Some d) (leaf_at m)) e
-    ∙ ap (λ v. if v then Some None else option_map (λ d. Some d) (leaf_at l)) o
+    ap (λ m. if over m then Some None else option_map (λ d. Some d) (leaf_value m)) e
+    ∙ ap (λ v. if v then Some None else option_map (λ d. Some d) (leaf_value l)) o
     ∙ ap (λ o. option_map (λ d. Some d) o) h
 
 key_makes : (c : ℕ) (key bytes r : List ℕ) (v : Option Data) → IsKey key bytes → opens r ≡ true
-    → value_at r ≡ Some v → content_at c (bytes ++ 58 ∷ r) ≡ Some (pair c key v)
-unfolding content_at
+    → key_value r ≡ Some v → content_token c (bytes ++ 58 ∷ r) ≡ Some (pair c key v)
+unfolding content_token
 key_makes c key bytes r v k o h =
     let s = key_start key bytes k in
     let x = key_is_read r o key bytes k in
     let bs = bytes ++ 58 ∷ r in
-    ap (λ y. leaf_or_key c y (behind 123 bs) (scalar_at Line bs)) (start_behind 91 bytes (58 ∷ r) s
+    ap (λ y. leaf_or_key c y (behind 123 bs) (leading_scalar Line bs)) (start_behind 91 bytes (58 ∷ r) s
     s.no_list)
-    ∙ ap (λ y. leaf_or_key c None y (scalar_at Line bs)) (start_behind 123 bytes (58 ∷ r) s
+    ∙ ap (λ y. leaf_or_key c None y (leading_scalar Line bs)) (start_behind 123 bytes (58 ∷ r) s
     s.no_mapping)
     ∙ ap (λ y. leaf_or_key c None None y) x.reads
-    ∙ ap (λ w. if w then None else member_at c x.scalar.text r) x.no_merge
-    ∙ ap (λ w. if w then option_map (λ y. pair c x.scalar.text y) (value_at r) else None) o
+    ∙ ap (λ w. if w then None else member_token c x.scalar.text r) x.no_merge
+    ∙ ap (λ w. if w then option_map (λ y. pair c x.scalar.text y) (key_value r) else None) o
     ∙ ap (λ y. option_map (λ z. pair c x.scalar.text z) y) h
     ∙ ap (λ l. Some (pair c l v)) x.text
 
 pub empty_is_read : (c : ℕ) (tail : List ℕ) → IsTail tail → (key bytes : List ℕ)
-    → IsKey key bytes → content_at c (bytes ++ 58 ∷ tail) ≡ Some (pair c key None)
+    → IsKey key bytes → content_token c (bytes ++ 58 ∷ tail) ≡ Some (pair c key None)
 empty_is_read c tail t key bytes k =
     key_makes c key bytes tail None k (tail_opens tail t) (value_none tail (tail_closes tail t))
 
@@ -438,7 +438,7 @@ skip_leaf bytes rest s =
 
 pub member_is_read : (c n : ℕ) (tail : List ℕ) → IsTail tail → (key bytes : List ℕ) (d : Data)
     (more : List ℕ) → IsKey key bytes → IsLeaf d more
-    → content_at c (bytes ++ 58 ∷ (spaces (suc n) ++ (more ++ tail))) ≡ Some (pair c key (Some d))
+    → content_token c (bytes ++ 58 ∷ (spaces (suc n) ++ (more ++ tail))) ≡ Some (pair c key (Some d))
 member_is_read c n tail t key bytes d more k l =
     let s = leaf_start d more l in
     let rest = more ++ tail in

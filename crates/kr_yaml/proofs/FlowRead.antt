@@ -8,7 +8,7 @@ use Rattle.kr_yaml.specs.Bytes.{behind, skip, spaces}
 use Rattle.kr_yaml.specs.Data.{Data, list, items_of}
 use Rattle.kr_yaml.specs.Written.{IsPart}
 use Rattle.kr_yaml.specs.Lines.{AreParts, last_part, one_more_part}
-use Rattle.kr_yaml.specs.inner.ScalarReading.{scalar_at, data_of, with_front}
+use Rattle.kr_yaml.specs.inner.ScalarReading.{leading_scalar, data_of, with_front}
 use Rattle.kr_yaml.specs.inner.LineReading.{scalars, list_of, flow_list}
 use Rattle.kr_yaml.specs.declared.scalar.Scalar.{Scalar}
 use Rattle.kr_yaml.specs.declared.scalar.Context.TheVariants.{Flow}
@@ -70,7 +70,7 @@ record Split (bs : List ℕ) (d : Data) (z : List ℕ) : Type 0 where
   whole : bs ≡ spaces before ++ (bytes ++ (spaces after ++ z))
   part : IsPart d bytes
 
-split : (bs : List ℕ) (s : Scalar) (x z : List ℕ) → scalar_at Flow (skip bs) ≡ Some (s, x)
+split : (bs : List ℕ) (s : Scalar) (x z : List ℕ) → leading_scalar Flow (skip bs) ≡ Some (s, x)
     → skip x ≡ z → Split bs (data_of s) z
 split bs s x z h e =
     let p = flow_part (skip bs) s x (skip_front bs) h in
@@ -125,7 +125,7 @@ listed_by n ih bs d z ds rest None (Some more) e f s h =
 listed_by n ih bs d z ds rest None None e f s h = absurd cc
 
 listed_scalar : (n : ℕ) → ReadsList n → (bs : List ℕ) (o : Option (Scalar × List ℕ))
-    → scalar_at Flow (skip bs) ≡ o → (ds : List Data) (rest : List ℕ)
+    → leading_scalar Flow (skip bs) ≡ o → (ds : List Data) (rest : List ℕ)
     → with_scalar n o ≡ found ds rest → Listed bs ds rest
 listed_scalar n ih bs None e ds rest h = absurd cc
 listed_scalar n ih bs (Some x) e ds rest h =
@@ -138,7 +138,7 @@ listed_scalar n ih bs (Some x) e ds rest h =
 scalars_read : (n : ℕ) → ReadsList n
 scalars_read zero = λ bs ds rest h. absurd cc
 scalars_read (suc n) = λ bs ds rest h.
-    listed_scalar n (scalars_read n) bs (scalar_at Flow (skip bs)) refl ds rest h
+    listed_scalar n (scalars_read n) bs (leading_scalar Flow (skip bs)) refl ds rest h
 
 abbrev pub FoundList : Type 0
 FoundList = Data × List ℕ
@@ -188,21 +188,21 @@ part_step : (n before after b : ℕ) (d : Data) (bytes more : List ℕ) → IsPa
     ≡ with_front (d ∷ []) (next n (b ∷ more))
 part_step n before after b d bytes more p rest r e =
     let behind_it = spaces after ++ b ∷ more in
-    ap (λ l. with_scalar n (scalar_at Flow l))
+    ap (λ l. with_scalar n (leading_scalar Flow l))
     (skip_spaces before (bytes ++ behind_it) ∙ start_skip bytes behind_it (part_start d bytes p))
     ∙ ap (with_scalar n) r.reads
     ∙ ap (λ x. with_front (x ∷ []) (next n (skip rest))) r.says
     ∙ ap (λ l. with_front (d ∷ []) (next n l)) e
 
-abbrev Makes : List Data → List ℕ → ℕ → List ℕ → Type 0
-Makes ds bytes n rest =
+abbrev MakesTree : List Data → List ℕ → ℕ → List ℕ → Type 0
+MakesTree ds bytes n rest =
     length (bytes ++ 93 ∷ rest) ≤ n → scalars n (bytes ++ 93 ∷ rest) ≡ found ds rest
 
 longer : (a b : List ℕ) (n : ℕ) → length (a ++ b) ≤ n → length b ≤ n
 longer a b n h = let e = length-append a b in omega arith
 
 last_makes : (before after : ℕ) (d : Data) (bytes : List ℕ) → IsPart d bytes → (n : ℕ)
-    (rest : List ℕ) → Makes (d ∷ []) (spaces before ++ (bytes ++ spaces after)) n rest
+    (rest : List ℕ) → MakesTree (d ∷ []) (spaces before ++ (bytes ++ spaces after)) n rest
 last_makes before after d bytes p zero rest h =
     absurd (let k = longer (spaces before ++ (bytes ++ spaces after)) (93 ∷ rest) zero h in omega
     arith)
@@ -212,9 +212,9 @@ last_makes before after d bytes p (suc n) rest h =
     ∙ part_step n before after 93 d bytes rest p r.0 r.1 r.2
 
 more_makes : (before after : ℕ) (d : Data) (bytes : List ℕ) (ds : List Data) (more : List ℕ)
-    → IsPart d bytes → ((n : ℕ) (rest : List ℕ) → Makes ds more n rest) → (n : ℕ)
+    → IsPart d bytes → ((n : ℕ) (rest : List ℕ) → MakesTree ds more n rest) → (n : ℕ)
     (rest : List ℕ)
-    → Makes (d ∷ ds) (spaces before ++ (bytes ++ (spaces after ++ 44 ∷ more))) n rest
+    → MakesTree (d ∷ ds) (spaces before ++ (bytes ++ (spaces after ++ 44 ∷ more))) n rest
 more_makes before after d bytes ds more p ih zero rest h =
     absurd (let k = longer (spaces before ++ (bytes ++ (spaces after ++ 44 ∷ more))) (93 ∷ rest)
     zero h in omega arith)
@@ -232,7 +232,7 @@ more_makes before after d bytes ds more p ih (suc n) rest h =
     ∙ ap (with_front (d ∷ [])) (ih n rest (omega arith))
 
 parts_make : (ds : List Data) (bytes : List ℕ) → AreParts ds bytes → (n : ℕ) (rest : List ℕ)
-    → Makes ds bytes n rest
+    → MakesTree ds bytes n rest
 parts_make ds bytes (last_part before after d bs p) = last_makes before after d bs p
 parts_make ds bytes (one_more_part before after d bs es more p l) =
     more_makes before after d bs es more p (parts_make es more l)

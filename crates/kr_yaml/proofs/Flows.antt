@@ -5,7 +5,7 @@ use Rattle.std.specs.Option.{option_map, option_map_or}
 use Rattle.std.proofs.lemmas.List.{append-nil}
 use Rattle.kr_yaml.specs.Bytes.{behind, skip}
 use Rattle.kr_yaml.specs.Data.{Data}
-use Rattle.kr_yaml.specs.inner.ScalarReading.{scalar_at, data_of, with_front}
+use Rattle.kr_yaml.specs.inner.ScalarReading.{leading_scalar, data_of, with_front}
 use Rattle.kr_yaml.specs.inner.LineReading.{scalars}
 use Rattle.kr_yaml.specs.Shown.{view, views}
 use Rattle.kr_yaml.specs.declared.tree.Tree.{Tree}
@@ -28,19 +28,19 @@ scalars_begin n text = ap (λ m. scalars m text) (omega arith)
     ∙ sym (nil_bytes (scalars (n - 0) text))
 
 scalars_step : (n i : ℕ) (text rest : List ℕ) (ds : List Data) (o : Option (Scalar × List ℕ))
-    → i < n → scalars n text ≡ with_front ds (scalars (n - i) rest) → scalar_at Flow (skip rest) ≡ o
+    → i < n → scalars n text ≡ with_front ds (scalars (n - i) rest) → leading_scalar Flow (skip rest) ≡ o
     → scalars n text ≡ with_front ds (with_scalar (n - (i + 1)) o)
 scalars_step n i text rest ds o h inv e = inv
     ∙ ap (λ m. with_front ds (scalars m rest)) (left n i h)
     ∙ ap (λ o. with_front ds (with_scalar (n - (i + 1)) o)) e
 
 pub scalars_refused : (n i : ℕ) (text rest : List ℕ) (ds : List Data) → i < n
-    → scalars n text ≡ with_front ds (scalars (n - i) rest) → scalar_at Flow (skip rest) ≡ None
+    → scalars n text ≡ with_front ds (scalars (n - i) rest) → leading_scalar Flow (skip rest) ≡ None
     → scalars n text ≡ None
 scalars_refused n i text rest ds h inv e = scalars_step n i text rest ds None h inv e
 
 scalars_read : (n i : ℕ) (text rest : List ℕ) (ds : List Data) (s : Scalar) (after : List ℕ) → i < n
-    → scalars n text ≡ with_front ds (scalars (n - i) rest) → scalar_at Flow (skip rest)
+    → scalars n text ≡ with_front ds (scalars (n - i) rest) → leading_scalar Flow (skip rest)
     ≡ Some (s, after)
     → scalars n text ≡ with_front (ds ++ data_of s ∷ []) (next (n - (i + 1)) (skip after))
 scalars_read n i text rest ds s after h inv e = scalars_step n i text rest ds (Some (s, after)) h
@@ -48,7 +48,7 @@ scalars_read n i text rest ds s after h inv e = scalars_step n i text rest ds (S
 
 pub scalars_go_on : (n i : ℕ) (text rest : List ℕ) (ds : List Data) (s : Scalar)
     (after more : List ℕ) → i < n → scalars n text ≡ with_front ds (scalars (n - i) rest)
-    → scalar_at Flow (skip rest) ≡ Some (s, after)
+    → leading_scalar Flow (skip rest) ≡ Some (s, after)
     → Some more ≡ behind 44 (skip after) → scalars n text ≡ with_front (ds ++ data_of s ∷ [])
     (scalars (n - (i + 1)) more)
 scalars_go_on n i text rest ds s after more h inv e comma = scalars_read n i text rest ds s after h
@@ -57,7 +57,7 @@ scalars_go_on n i text rest ds s after more h inv e comma = scalars_read n i tex
     o (option_map (λ rest. ([], rest)) (behind 93 (skip after))))) (sym comma)
 
 pub scalars_end : (n i : ℕ) (text rest : List ℕ) (ds : List Data) (s : Scalar) (after more : List ℕ)
-    → i < n → scalars n text ≡ with_front ds (scalars (n - i) rest) → scalar_at Flow (skip rest)
+    → i < n → scalars n text ≡ with_front ds (scalars (n - i) rest) → leading_scalar Flow (skip rest)
     ≡ Some (s, after)
     → None ≡ behind 44 (skip after) → Some more ≡ behind 93 (skip after)
     → scalars n text ≡ Some (ds ++ data_of s ∷ [], more)
@@ -69,7 +69,7 @@ scalars_end n i text rest ds s after more h inv e comma bracket = scalars_read n
     ∙ ap (λ l. Some (l, more)) (append-nil (ds ++ data_of s ∷ []))
 
 pub scalars_open : (n i : ℕ) (text rest : List ℕ) (ds : List Data) (s : Scalar) (after : List ℕ)
-    → i < n → scalars n text ≡ with_front ds (scalars (n - i) rest) → scalar_at Flow (skip rest)
+    → i < n → scalars n text ≡ with_front ds (scalars (n - i) rest) → leading_scalar Flow (skip rest)
     ≡ Some (s, after)
     → None ≡ behind 44 (skip after) → None ≡ behind 93 (skip after) → scalars n text ≡ None
 scalars_open n i text rest ds s after h inv e comma bracket = scalars_read n i text rest ds s after

@@ -16,7 +16,7 @@ use Rattle.kr_yaml.specs.inner.TextReading.{before_rest, tokens_from}
 use Rattle.kr_yaml.specs.Bytes.{is_empty}
 use Rattle.kr_yaml.specs.inner.TextReading.{line_tokens}
 use Rattle.kr_base.specs.Numbering.{next_place}
-use Rattle.kr_yaml.specs.Reads.{plain, Makes, FormNone, FormTwice, FormDeep, Breaks, IsFirst}
+use Rattle.kr_yaml.specs.Reads.{plain, MakesTree, FormNone, FormTwice, FormDeep, BreaksTree, IsFirst}
 use Rattle.kr_yaml.specs.Reads.{ReadsTree, OnlyTree, NoTree}
 use Rattle.kr_yaml.specs.inner.Progress.{Fails, Moves, IsGoing, Stays, Extends, ReadsLines}
 use Rattle.kr_yaml.specs.declared.standing.Standing.{Standing as Nodes}
@@ -38,7 +38,7 @@ plain_push (u ∷ us) n t = ap (λ l. u.1 ∷ l) (plain_push us n t)
 
 -- what stands makes a tree
 pub going_makes : (us : List (ℕ × Token)) (nodes : Nodes) → IsGoing us nodes
-    → Makes (plain us) (closed_value (frame_views nodes.nodes.items) (option_map view nodes.value))
+    → MakesTree (plain us) (closed_value (frame_views nodes.nodes.items) (option_map view nodes.value))
 going_makes us nodes g = record {
   shape = g.shape;
   forms = stands_node 0 (plain us)
@@ -66,7 +66,7 @@ none_forms us t st h e more d s form =
     ∙ ap (option_and_then (run more)) (run_more us t st None h e)) ∙ r.runs)
 
 breaks_more : (us : List (ℕ × Token)) (line : ℕ) (P : List Token → Type 0) (n : ℕ) (t : Token)
-    → Breaks us line P → Breaks (us ++ (n, t) ∷ []) line P
+    → BreaksTree us line P → BreaksTree (us ++ (n, t) ∷ []) line P
 breaks_more us line P n t b = record {
   before = b.before;
   token = b.token;
@@ -87,7 +87,7 @@ first_more us (Deep line) n t h = breaks_more us line FormDeep n t h
 first_more us NoMemory n t h = absurd h
 
 breaks_here : (us : List (ℕ × Token)) (nodes : Nodes) (n : ℕ) (t : Token) (P : List Token → Type 0)
-    → IsGoing us nodes → P (plain us ++ t ∷ []) → Breaks (us ++ (n, t) ∷ []) n P
+    → IsGoing us nodes → P (plain us ++ t ∷ []) → BreaksTree (us ++ (n, t) ∷ []) n P
 breaks_here us nodes n t P g h = record {
   before = us;
   token = t;
@@ -105,12 +105,12 @@ failed : (us : List (ℕ × Token)) (nodes : Nodes) (n : ℕ) (t : Token) (why :
     (doubles t (frame_views nodes.nodes.items)) n why → IsFirst (us ++ (n, t) ∷ []) why
 failed us nodes n t (Outside line) g f = absurd f
 failed us nodes n t (Indent line) g f =
-    subst (λ m. Breaks (us ++ (n, t) ∷ []) m FormNone) (sym f.0) (breaks_here us nodes n t FormNone
+    subst (λ m. BreaksTree (us ++ (n, t) ∷ []) m FormNone) (sym f.0) (breaks_here us nodes n t FormNone
     g (none_forms (plain us) t (state_view nodes.nodes.items nodes.value) g.runs f.1))
 failed us nodes n t (DuplicateKey line) g f =
     let m = grows 0 (plain us) (frame_views nodes.nodes.items) (option_map view nodes.value) g.shape
     g.stands t (omega arith) f.1.0 f.1.1 in
-    subst (λ m. Breaks (us ++ (n, t) ∷ []) m FormTwice) (sym f.0)
+    subst (λ m. BreaksTree (us ++ (n, t) ∷ []) m FormTwice) (sym f.0)
     (breaks_here us nodes n t FormTwice g (
       closed_value f.1.0.0 f.1.0.1,
       m.shape,
@@ -123,7 +123,7 @@ failed us nodes n t (Deep line) g f =
     g.stands t (omega arith) f.1.0 f.1.1 in
     let l = frames_levels 0 (plain us ++ t ∷ []) f.1.0.0 f.1.0.1 m.shape m.stands in
     let k = f.1.2 in
-    subst (λ m. Breaks (us ++ (n, t) ∷ []) m FormDeep) (sym f.0) (breaks_here us nodes n t FormDeep
+    subst (λ m. BreaksTree (us ++ (n, t) ∷ []) m FormDeep) (sym f.0) (breaks_here us nodes n t FormDeep
     g (
       closed_value f.1.0.0 f.1.0.1,
       m.shape,
@@ -271,7 +271,7 @@ pub read_made : (wanted : Result (List (ℕ × Token)) ℕ) (progress : Progress
     → view tree ≡ closed_value (frame_views nodes.nodes.items) (option_map view nodes.value)
     → ReadsTree wanted tree
 read_made wanted progress nodes tree r e t = subst (λ w. ReadsTree w tree) (sym r.1)
-    (subst (Makes (plain r.0)) (sym t) (going_makes r.0 nodes (subst (Stays r.0) e r.2)))
+    (subst (MakesTree (plain r.0)) (sym t) (going_makes r.0 nodes (subst (Stays r.0) e r.2)))
 
 pub reads_only : (wanted : Result (List (ℕ × Token)) ℕ) (tree : Tree) → ReadsTree wanted tree
     → OnlyTree wanted (view tree)

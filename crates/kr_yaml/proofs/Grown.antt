@@ -13,7 +13,7 @@ use Rattle.kr_yaml.specs.Forms.{one_more_item, AreMembers, no_members, one_more_
 use Rattle.kr_yaml.specs.Forms.{on_line, to_the_right, list_below}
 use Rattle.kr_yaml.specs.inner.Standing.{Stands, empty, full, in_item, in_value, Holds, held, right}
 use Rattle.kr_yaml.specs.inner.Standing.{below}
-use Rattle.kr_yaml.specs.inner.Open.{Frame, items, members, State, column_of, is_dash_at, close}
+use Rattle.kr_yaml.specs.inner.Open.{Frame, items, members, State, token_column, is_dash_in_column, close}
 use Rattle.kr_yaml.specs.inner.Open.{closed_value, first_state, next, under, put, doubles}
 use Rattle.kr_yaml.specs.inner.Open.{is_repeated}
 
@@ -152,7 +152,7 @@ holds_none : (c : ℕ) (v : Option Data) → Holds c v [] [] v flat
 holds_none c None = right c [] [] None flat (empty (suc c))
 holds_none c (Some d) = held c d
 
-begins : (low : ℕ) (t : Token) → low ≤ column_of t → Grows low [] t false flat (first_state t)
+begins : (low : ℕ) (t : Token) → low ≤ token_column t → Grows low [] t false flat (first_state t)
 begins low (dash c) h = record {
   shape = deeper (both flat flat);
   stands = in_item low c [] [] [] []
@@ -185,7 +185,7 @@ regroup : (us : List Token) (a : Token) (ws : List Token) (t : Token) → us ++ 
 regroup us a ws t = sym (append_assoc us (a ∷ ws) (t ∷ []))
 
 abbrev GrowsIn : ℕ → List Token → List Frame → Option Data → Shape → Type 0
-GrowsIn low ts fs o s = (t : Token) → low ≤ column_of t → (st : State) → put t fs o ≡ Some st
+GrowsIn low ts fs o s = (t : Token) → low ≤ token_column t → (st : State) → put t fs o ≡ Some st
     → Grows low ts t (doubles t fs) s st
 
 item_inner : (c : ℕ) (us ws : List Token) (ds : List Data) (gs : List Frame) (p : Option Data)
@@ -214,7 +214,7 @@ item_inner c us ws ds gs p m n t b inner st before g e =
 
 item_under : (c : ℕ) (us ws : List Token) (ds : List Data) (gs : List Frame) (p : Option Data)
     (m n : Shape) (t : Token) (st : State) (r : Option State) → put t gs p ≡ r → AreItems c us ds m
-    → GrowsIn (suc c) ws gs p n → suc c ≤ column_of t
+    → GrowsIn (suc c) ws gs p n → suc c ≤ token_column t
     → under (items c ds) r ≡ Some st → ItemMore c (us ++ dash c ∷ ws) t (doubles t gs)
     (deeper (both m n)) st
 item_under c us ws ds gs p m n t st None q before rest h e = cc
@@ -248,19 +248,19 @@ item_next c b us ws ds d m n false q before rest st e = cc
 
 item_grows : (c : ℕ) (us ws : List Token) (ds : List Data) (gs : List Frame) (p : Option Data)
     (m n : Shape) → AreItems c us ds m → IsNode (suc c) ws (closed_value gs p) n
-    → GrowsIn (suc c) ws gs p n → (t : Token) (v : Bool) → nat_lt c (column_of t) ≡ v → (st : State)
+    → GrowsIn (suc c) ws gs p n → (t : Token) (v : Bool) → nat_lt c (token_column t) ≡ v → (st : State)
     → (if v then under (items c ds) (put t gs p) else next t (items c ds) (closed_value gs p))
     ≡ Some st → ItemMore c (us ++ dash c ∷ ws) t (if v then doubles t gs else is_repeated t
     (items c ds)) (deeper (both m n)) st
 item_grows c us ws ds gs p m n before node rest t true q st e = item_under c us ws ds gs p m n t st
-    (put t gs p) refl before rest (below_col c (column_of t) q) e
+    (put t gs p) refl before rest (below_col c (token_column t) q) e
 item_grows c us ws ds gs p m n before node rest (dash b) false q st e = item_next c b us ws ds
     (closed_value gs p) m n (b == c) refl before node st e
 item_grows c us ws ds gs p m n before node rest (pair b k v) false q st e = cc
 item_grows c us ws ds gs p m n before node rest (leaf b d) false q st e = cc
 
 abbrev HoldsIn : ℕ → Option Data → List Token → List Frame → Option Data → Shape → Type 0
-HoldsIn c v ts fs o s = (t : Token) → (nat_lt c (column_of t) || is_dash_at c t) ≡ true
+HoldsIn c v ts fs o s = (t : Token) → (nat_lt c (token_column t) || is_dash_in_column c t) ≡ true
     → (st : State) → put t fs o ≡ Some st → HoldsMore c v ts t (doubles t fs) s st
 
 member_inner : (low c : ℕ) (us ws : List Token) (ms : List (List ℕ × Data)) (k : List ℕ)
@@ -288,7 +288,7 @@ member_inner low c us ws ms k v m n t b inner st h before g e =
 member_under : (low c : ℕ) (us ws : List Token) (ms : List (List ℕ × Data)) (k : List ℕ)
     (v : Option Data) (gs : List Frame) (p : Option Data) (m n : Shape) (t : Token) (st : State)
     (r : Option State) → put t gs p ≡ r → low ≤ c → AreMembers c us ms m
-    → HoldsIn c v ws gs p n → (nat_lt c (column_of t) || is_dash_at c t) ≡ true
+    → HoldsIn c v ws gs p n → (nat_lt c (token_column t) || is_dash_in_column c t) ≡ true
     → under (members c ms k) r ≡ Some st
     → Grows low (us ++ pair c k v ∷ ws) t (doubles t gs) (with_keys (keys ms ++ k ∷ []) (both m n))
     st
@@ -359,7 +359,7 @@ member_next low c b us ws ms k l v x d m n false q h before rest st e = cc
 member_grows : (low c : ℕ) (us ws : List Token) (ms : List (List ℕ × Data)) (k : List ℕ)
     (v : Option Data) (gs : List Frame) (p : Option Data) (m n : Shape) → low ≤ c
     → AreMembers c us ms m → IsValue c v ws (closed_value gs p) n → HoldsIn c v ws gs p n
-    → (t : Token) (x : Bool) → (nat_lt c (column_of t) || is_dash_at c t) ≡ x → (st : State)
+    → (t : Token) (x : Bool) → (nat_lt c (token_column t) || is_dash_in_column c t) ≡ x → (st : State)
     → (if x then under (members c ms k) (put t gs p) else next t (members c ms k)
     (closed_value gs p)) ≡ Some st
     → Grows low (us ++ pair c k v ∷ ws) t (if x then doubles t gs else is_repeated t
@@ -403,11 +403,11 @@ dash_below low c ws gs p n h (in_value l b us vs ms key v hs q m r k before rest
 
 right_grows : (c : ℕ) (ws : List Token) (gs : List Frame) (p : Option Data) (n : Shape)
     → Stands (suc c) ws gs p n → GrowsIn (suc c) ws gs p n → (t : Token) (x : Bool)
-    → nat_lt c (column_of t) ≡ x → (x || is_dash_at c t) ≡ true → (st : State)
+    → nat_lt c (token_column t) ≡ x → (x || is_dash_in_column c t) ≡ true → (st : State)
     → put t gs p ≡ Some st
     → HoldsMore c None ws t (doubles t gs) n st
 right_grows c ws gs p n stands rest t true q h st e =
-    let g = rest t (below_col c (column_of t) q) st e in
+    let g = rest t (below_col c (token_column t) q) st e in
     record {
       shape = g.shape;
       holds = right c (ws ++ t ∷ []) st.0 st.1 g.shape g.stands;
@@ -444,7 +444,7 @@ mutual
   grows low ts fs o s (full l c d k) = λ t h st e. cc
   grows low ts fs o s (in_item l c us ws ds gs p m n k before rest) = λ t h st e.
       let g = item_grows c us ws ds gs p m n before (stands_node (suc c) ws gs p n rest)
-      (grows (suc c) ws gs p n rest) t (nat_lt c (column_of t)) refl st e in
+      (grows (suc c) ws gs p n rest) t (nat_lt c (token_column t)) refl st e in
       record {
         shape = deeper (both g.m g.n);
         stands = subst (λ us. Stands low us st.0 st.1 (deeper (both g.m g.n))) g.tokens
@@ -456,17 +456,17 @@ mutual
       }
   grows low ts fs o s (in_value l c us ws ms key v gs p m n k before rest) = λ t h st e.
       member_grows low c us ws ms key v gs p m n k before (holds_value c v ws gs p n rest)
-      (holds_grow c v ws gs p n rest) t (nat_lt c (column_of t) || is_dash_at c t) refl st e
+      (holds_grow c v ws gs p n rest) t (nat_lt c (token_column t) || is_dash_in_column c t) refl st e
 
   pub holds_grow : (c : ℕ) (v : Option Data) (ts : List Token) (fs : List Frame) (o : Option Data)
       (s : Shape) → Holds c v ts fs o s → HoldsIn c v ts fs o s
   holds_grow c v ts fs o s (held b d) = λ t h st e. cc
   holds_grow c v ts fs o s (right b ws gs p n rest) = λ t h st e. right_grows c ws gs p n rest
-      (grows (suc c) ws gs p n rest) t (nat_lt c (column_of t)) refl h st e
+      (grows (suc c) ws gs p n rest) t (nat_lt c (token_column t)) refl h st e
   holds_grow c v ts fs o s (below b vs ws ds gs p m n before rest) = λ t h st e.
       list_grows c (vs ++ dash c ∷ ws) t (doubles t (items c ds ∷ gs)) (deeper (both m n)) st
       (item_grows c vs ws ds gs p m n before (stands_node (suc c) ws gs p n rest)
-      (grows (suc c) ws gs p n rest) t (nat_lt c (column_of t)) refl st e)
+      (grows (suc c) ws gs p n rest) t (nat_lt c (token_column t)) refl st e)
 
 mutual
   -- open nodes are levels

@@ -8,7 +8,7 @@ use Rattle.std.proofs.lemmas.List.{append-nil, append_assoc}
 use Rattle.kr_yaml.specs.Bytes.{behind}
 use Rattle.kr_yaml.specs.inner.Stops.{opens}
 use Rattle.kr_yaml.specs.Lines.{Token, dash}
-use Rattle.kr_yaml.specs.inner.LineReading.{Head, head, onto, dash_behind}
+use Rattle.kr_yaml.specs.inner.LineReading.{Head, head, onto, strip_dash}
 use Rattle.kr_yaml.specs.inner.Seen.{token_view, token_views, IsHead}
 use Rattle.kr_yaml.specs.declared.token.LineToken.{LineToken}
 use Rattle.kr_yaml.specs.declared.token.LineToken.TheVariants.{Dash}
@@ -58,11 +58,11 @@ dash_at rest more None e h = cc
 dash_at rest more (Some r) e h = let both = dash_open (opens r) r more refl
     h in (behind_cons 45 rest r (sym e) ∙ ap (λ r. 45 ∷ r) both.0, both.1)
 
-pub dash_cons : (rest more : List ℕ) → Some more ≡ dash_behind rest
+pub dash_cons : (rest more : List ℕ) → Some more ≡ strip_dash rest
     → (rest ≡ 45 ∷ more) × (opens more ≡ true)
 dash_cons rest more h = dash_at rest more (behind 45 rest) refl h
 
-pub dash_less : (rest more : List ℕ) → Some more ≡ dash_behind rest → length more < length rest
+pub dash_less : (rest more : List ℕ) → Some more ≡ strip_dash rest → length more < length rest
 dash_less rest more h = let e = ap length (dash_cons rest more h).0 in omega arith
 
 pub token_push : (tokens : List LineToken) (t : LineToken) → token_views (tokens ++ t ∷ [])
@@ -79,7 +79,7 @@ onto_onto xs ys h = ap (λ l. record { dashes = l; column = h.column; rest = h.r
     (sym (append_assoc xs ys h.dashes))
 
 pub heads_dash : (text rest more : List ℕ) (tokens : List LineToken) (column : ℕ)
-    → Heads text (token_views tokens) rest → Some more ≡ dash_behind rest
+    → Heads text (token_views tokens) rest → Some more ≡ strip_dash rest
     → column ≡ length text - length rest → Heads text (token_views (tokens ++ Dash column ∷ []))
     more
 heads_dash text rest more tokens column h minus is =
@@ -142,13 +142,13 @@ end_at c b bs false false e f h k =
       rest = b ∷ bs;
     }) f
 
-ends : (c : ℕ) (rest : List ℕ) → None ≡ behind 32 rest → None ≡ dash_behind rest
+ends : (c : ℕ) (rest : List ℕ) → None ≡ behind 32 rest → None ≡ strip_dash rest
     → head c rest ≡ record { dashes = []; column = c; rest = rest }
 ends c [] h k = refl
 ends c (b ∷ bs) h k = end_at c b bs (b == 32) (b == 45) refl refl h k
 
 pub heads_end : (text rest : List ℕ) (tokens : List Token) (column : ℕ) → Heads text tokens rest
-    → None ≡ behind 32 rest → None ≡ dash_behind rest → column ≡ length text - length rest
+    → None ≡ behind 32 rest → None ≡ strip_dash rest → column ≡ length text - length rest
     → IsHead (head 0 text) tokens column rest
 heads_end text rest tokens column h space minus is =
     let e = h.reads ∙ ap (onto h.dashes) (ends (length text - length rest) rest space minus) in

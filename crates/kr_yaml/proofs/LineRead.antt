@@ -10,13 +10,13 @@ use Rattle.std.proofs.lemmas.List.{append_assoc}
 use Rattle.kr_yaml.specs.Characters.{is_allowed}
 use Rattle.kr_yaml.specs.Bytes.{behind, skip, spaces, over}
 use Rattle.kr_yaml.specs.Lines.{Token, dash, pair, leaf, IsTail, spaces_alone, comment_behind}
-use Rattle.kr_yaml.specs.Lines.{IsContent, empty_item, item, empty_member, member, value}
+use Rattle.kr_yaml.specs.Lines.{AreContentTokens, empty_item, item, empty_member, member, value}
 use Rattle.kr_yaml.specs.Lines.{IsLine, empty_line, comment_line, content_line}
 use Rattle.kr_yaml.specs.Texts.{is_parted, is_mark, StandsFor, first_mark, first_dots, no_mark}
 use Rattle.kr_yaml.specs.Texts.{HasTokens}
 use Rattle.kr_yaml.specs.inner.Stops.{opens, closes}
-use Rattle.kr_yaml.specs.inner.LineReading.{content_at, onto, head, tokens_in, tokens_of}
-use Rattle.kr_yaml.specs.inner.TextReading.{marks, begins_blank, goes_on, marks_more}
+use Rattle.kr_yaml.specs.inner.LineReading.{content_token, onto, head, tokens_in, tokenize_line}
+use Rattle.kr_yaml.specs.inner.TextReading.{marks, begins_blank, continues_text, marks_more}
 use Rattle.kr_yaml.specs.inner.TextReading.{line_tokens}
 use Rattle.kr_yaml.proofs.Behind.{is_byte}
 use Rattle.kr_yaml.proofs.Quotes.{behind_cons}
@@ -50,10 +50,10 @@ at_dash c bs o =
       column = c;
       rest = 45 ∷ bs;
     })) o
-    ∙ onto_by c h.dashes (over h.rest) (content_at h.column h.rest)
+    ∙ onto_by c h.dashes (over h.rest) (content_token h.column h.rest)
 
 abbrev last_token : ℕ → List ℕ → Bool → Option (List Token)
-last_token c bs v = if v then Some [] else option_map (λ t. t ∷ []) (content_at c bs)
+last_token c bs v = if v then Some [] else option_map (λ t. t ∷ []) (content_token c bs)
 
 at_content : (c b : ℕ) (bs : List ℕ) → (b == 32) ≡ false → (b == 45 && opens bs) ≡ false
     → tokens_at c (b ∷ bs) ≡ last_token c (b ∷ bs) (b == 35)
@@ -73,12 +73,12 @@ at_content c b bs e f =
 data Spaced : ℕ → List ℕ → List Token → Type 0 where
   empty : (c n : ℕ) → Spaced c (spaces n) []
   remark : (c n : ℕ) (text : List ℕ) → Spaced c (spaces n ++ 35 ∷ text) []
-  full : (c n : ℕ) (bytes tail : List ℕ) (ts : List Token) → IsContent (c + n) bytes ts
+  full : (c n : ℕ) (bytes tail : List ℕ) (ts : List Token) → AreContentTokens (c + n) bytes ts
       → IsTail tail → Spaced c (spaces n ++ (bytes ++ tail)) ts
 
 column_same : (b n c m : ℕ) (bytes : List ℕ) (ts : List Token) → b + n ≡ c + m
-    → IsContent (b + n) bytes ts → IsContent (c + m) bytes ts
-column_same b n c m bytes ts e h = subst (λ k. IsContent k bytes ts) e h
+    → AreContentTokens (b + n) bytes ts → AreContentTokens (c + m) bytes ts
+column_same b n c m bytes ts e h = subst (λ k. AreContentTokens k bytes ts) e h
 
 one_more : (b c n : ℕ) → b ≡ c + 1 → b + n ≡ c + suc n
 one_more b c n e = omega arith
@@ -106,7 +106,7 @@ leaf_first bytes rest s = record {
   no_space = s.no_space;
 }
 
-content_start : (c : ℕ) (bytes : List ℕ) (ts : List Token) → IsContent c bytes ts
+content_start : (c : ℕ) (bytes : List ℕ) (ts : List Token) → AreContentTokens c bytes ts
     → ContentStart bytes
 content_start c bytes ts (empty_item b) = record {
   first = 45;
@@ -138,17 +138,17 @@ at_zero c = omega arith
 
 alone_item : (c : ℕ) (tail : List ℕ) → IsTail tail → Spaced c (45 ∷ tail) (dash c ∷ [])
 alone_item c tail t =
-    full c zero (45 ∷ []) tail (dash c ∷ []) (subst (λ k. IsContent k (45 ∷ []) (dash c ∷ []))
+    full c zero (45 ∷ []) tail (dash c ∷ []) (subst (λ k. AreContentTokens k (45 ∷ []) (dash c ∷ []))
     (at_zero c) (empty_item c)) t
 
 item_of : (c b n : ℕ) (bytes tail : List ℕ) (us : List Token) → b ≡ c + 1
-    → IsContent (b + suc n) bytes us → IsTail tail
+    → AreContentTokens (b + suc n) bytes us → IsTail tail
     → Spaced c (45 ∷ (spaces (suc n) ++ (bytes ++ tail))) (dash c ∷ us)
 item_of c b n bytes tail us e t k =
-    let inner = item c n bytes us (subst (λ m. IsContent (m + suc n) bytes us) e t) in
+    let inner = item c n bytes us (subst (λ m. AreContentTokens (m + suc n) bytes us) e t) in
     subst (λ l. Spaced c (45 ∷ l) (dash c ∷ us)) (append_assoc (spaces (suc n)) bytes tail)
     (full c zero (45 ∷ (spaces (suc n) ++ bytes)) tail (dash c ∷ us)
-    (subst (λ m. IsContent m (45 ∷ (spaces (suc n) ++ bytes)) (dash c ∷ us)) (at_zero c) inner) k)
+    (subst (λ m. AreContentTokens m (45 ∷ (spaces (suc n) ++ bytes)) (dash c ∷ us)) (at_zero c) inner) k)
 
 remark_tail : (c n : ℕ) (text : List ℕ) → opens (spaces n ++ 35 ∷ text) ≡ true
     → Spaced c (45 ∷ (spaces n ++ 35 ∷ text)) (dash c ∷ [])
@@ -156,7 +156,7 @@ remark_tail c zero text o = absurd (clash (sym o))
 remark_tail c (suc n) text o = alone_item c (spaces (suc n) ++ 35 ∷ text) (comment_behind n text)
 
 full_item : (c b n : ℕ) (bytes tail : List ℕ) (us : List Token) → b ≡ c + 1
-    → opens (spaces n ++ (bytes ++ tail)) ≡ true → IsContent (b + n) bytes us → IsTail tail
+    → opens (spaces n ++ (bytes ++ tail)) ≡ true → AreContentTokens (b + n) bytes us → IsTail tail
     → Spaced c (45 ∷ (spaces n ++ (bytes ++ tail))) (dash c ∷ us)
 full_item c b zero bytes tail us e o t k =
     absurd (clash (sym o ∙ not_open bytes tail (content_start (b + zero) bytes us t)))
@@ -195,7 +195,7 @@ no_item_at b bs rest e h = sym (ap first_opens h) ∙ e
 
 content_end : (c b : ℕ) (bs : List ℕ) (ts : List Token) (v : Bool) (o : Option Token)
     → (b == 32) ≡ false → (b == 45 && opens bs) ≡ false → (b == 35) ≡ v
-    → content_at c (b ∷ bs) ≡ o
+    → content_token c (b ∷ bs) ≡ o
     → (if v then Some [] else option_map (λ t. t ∷ []) o) ≡ Some ts → Spaced c (b ∷ bs) ts
 content_end c b bs ts true o e f g k h =
     subst (Spaced c (b ∷ bs)) (some_same [] ts h)
@@ -205,7 +205,7 @@ content_end c b bs ts false (Some t) e f g k h =
     f) k in
     subst (Spaced c (b ∷ bs)) (some_same (t ∷ []) ts h)
     (subst (λ l. Spaced c l (t ∷ [])) (sym r.whole)
-    (full c zero r.bytes r.tail (t ∷ []) (subst (λ m. IsContent m r.bytes (t ∷ [])) (at_zero c)
+    (full c zero r.bytes r.tail (t ∷ []) (subst (λ m. AreContentTokens m r.bytes (t ∷ [])) (at_zero c)
     r.content) r.behind))
 content_end c b bs ts false None e f g k h = absurd cc
 
@@ -222,7 +222,7 @@ line_by c b bs false true e f ih = λ ts h.
     (dash_read c bs ts (tokens_at (c + 1) bs) both.1 ih
     (sym (at_dash c bs both.1) ∙ ap (λ x. tokens_at c (x ∷ bs)) (sym same) ∙ h))
 line_by c b bs false false e f ih = λ ts h.
-    content_end c b bs ts (b == 35) (content_at c (b ∷ bs)) e f refl refl
+    content_end c b bs ts (b == 35) (content_token c (b ∷ bs)) e f refl refl
     (sym (at_content c b bs e f) ∙ h)
 
 line_read : (bs : List ℕ) (c : ℕ) → ReadsFrom c bs
@@ -250,7 +250,7 @@ spaced_line c line ts z h (full b n bytes tail us t k) =
     let e : skip (spaces n ++ (bytes ++ tail)) ≡ bytes ++ tail =
     skip_spaces n (bytes ++ tail) ∙ content_skip bytes tail (content_start (b + n) bytes us t) in
     let at : b + n ≡ n = omega arith in
-    content_line n bytes tail us (subst (λ m. IsContent m bytes us) at t) k
+    content_line n bytes tail us (subst (λ m. AreContentTokens m bytes us) at t) k
     (no_tab bytes tail (ap (behind 9) (sym e) ∙ h))
 
 tokens_by : (line : List ℕ) (ts : List Token) (o : Option (List ℕ)) → behind 9 (skip line) ≡ o
@@ -258,8 +258,8 @@ tokens_by : (line : List ℕ) (ts : List Token) (o : Option (List ℕ)) → behi
 tokens_by line ts (Some x) e h = absurd cc
 tokens_by line ts None e h = spaced_line 0 line ts refl e (line_read line 0 ts h)
 
-tokens_read : (line : List ℕ) (ts : List Token) → tokens_of line ≡ Some ts → IsLine line ts
-unfolding tokens_of
+tokens_read : (line : List ℕ) (ts : List Token) → tokenize_line line ≡ Some ts → IsLine line ts
+unfolding tokenize_line
 tokens_read line ts h = tokens_by line ts (behind 9 (skip line)) refl h
 
 -- what is written is read
@@ -292,7 +292,7 @@ dash_off b (x ∷ more) rest whole e h k =
     ∙ ap (λ c. 45 ∷ (c ∷ more)) (is_byte x 32 both.1)))
 
 last_made : (c : ℕ) (bytes rest : List ℕ) (t : Token) (s : LeafStart bytes)
-    → (bytes ≡ 45 ∷ [] → opens rest ≡ false) → content_at c (bytes ++ rest) ≡ Some t
+    → (bytes ≡ 45 ∷ [] → opens rest ≡ false) → content_token c (bytes ++ rest) ≡ Some t
     → tokens_at c (bytes ++ rest) ≡ Some (t ∷ [])
 last_made c bytes rest t s k h =
     let e = s.begins in
@@ -301,11 +301,11 @@ last_made c bytes rest t s k h =
     ∙ at_content c s.first (s.more ++ rest) s.no_space (dash_off s.first s.more rest bytes e
     s.no_item k)
     ∙ ap (last_token c (s.first ∷ (s.more ++ rest))) s.no_hash
-    ∙ ap (λ l. option_map (λ t. t ∷ []) (content_at c l)) whole
+    ∙ ap (λ l. option_map (λ t. t ∷ []) (content_token c l)) whole
     ∙ ap (option_map (λ t. t ∷ [])) h
 
 content_made : (tail : List ℕ) → IsTail tail → (c : ℕ) (bytes : List ℕ) (ts : List Token)
-    → IsContent c bytes ts → tokens_at c (bytes ++ tail) ≡ Some ts
+    → AreContentTokens c bytes ts → tokens_at c (bytes ++ tail) ≡ Some ts
 content_made tail t c bytes ts (empty_item b) =
     at_dash b tail (tail_opens tail t)
     ∙ ap (option_map (λ us. dash b ∷ us)) (tail_none (b + 1) tail t)
@@ -329,8 +329,8 @@ content_made tail t c bytes ts (value b d bs l h) =
     last_made b bs tail (leaf b d) (leaf_start d bs l) (λ e. absurd (h e))
     (leaf_is_read b tail t d bs l)
 
-tokens_untabbed : (line : List ℕ) → behind 9 (skip line) ≡ None → tokens_of line ≡ tokens_at 0 line
-unfolding tokens_of
+tokens_untabbed : (line : List ℕ) → behind 9 (skip line) ≡ None → tokenize_line line ≡ tokens_at 0 line
+unfolding tokenize_line
 tokens_untabbed line h = ap (λ o. if is_some o then None else tokens_at 0 line) h
 
 untabbed : (b : ℕ) (bs : List ℕ) → ((more : List ℕ) → b ∷ bs ≢ 9 ∷ more) → behind 9 (b ∷ bs) ≡ None
@@ -350,7 +350,7 @@ spaces_untabbed : (n : ℕ) → behind 9 (skip (spaces n)) ≡ None
 spaces_untabbed zero = refl
 spaces_untabbed (suc n) = spaces_untabbed n
 
-tokens_made : (line : List ℕ) (ts : List Token) → IsLine line ts → tokens_of line ≡ Some ts
+tokens_made : (line : List ℕ) (ts : List Token) → IsLine line ts → tokenize_line line ≡ Some ts
 tokens_made line ts (empty_line n) = tokens_untabbed (spaces n) (spaces_untabbed n)
     ∙ spaces_none 0 n
 tokens_made line ts (comment_line n text) =
@@ -388,7 +388,7 @@ and_true : (v : Bool) → (v && true) ≡ v
 and_true true = refl
 and_true false = refl
 
-shut_more : (rest : List ℕ) → closes rest ≡ true → goes_on rest ≡ false
+shut_more : (rest : List ℕ) → closes rest ≡ true → continues_text rest ≡ false
 shut_more rest h =
     ap (λ v. begins_blank rest && not v) h ∙ and_false (begins_blank rest)
 
@@ -401,7 +401,7 @@ parted_blank [] h = absurd (clash h)
 parted_blank (b ∷ bs) h = refl
 
 kind_by : (c : ℕ) (line rest : List ℕ) (v : Bool) → line ≡ c ∷ (c ∷ (c ∷ rest))
-    → closes rest ≡ v → Kind c line (closes rest) (goes_on rest) (is_parted rest)
+    → closes rest ≡ v → Kind c line (closes rest) (continues_text rest) (is_parted rest)
 kind_by c line rest true e h = inl (record {
   rest = rest;
   is = e;
@@ -420,7 +420,7 @@ kind_by c line rest false e h =
 
 kind_third : (c : ℕ) (line l : List ℕ) (o : Option (List ℕ)) → line ≡ c ∷ (c ∷ l)
     → o ≡ behind c l
-    → Kind c line (option_map_or closes o false) (option_map_or goes_on o false)
+    → Kind c line (option_map_or closes o false) (option_map_or continues_text o false)
     (option_map_or is_parted o false)
 kind_third c line l (Some rest) e h =
     kind_by c line rest (closes rest) (e ∙ ap (λ m. c ∷ (c ∷ m)) (behind_cons c l rest h)) refl
@@ -428,7 +428,7 @@ kind_third c line l None e h = inr (refl, refl)
 
 abbrev Kinds : ℕ → List ℕ → Option (List ℕ) → Type 0
 Kinds c line o =
-    Kind c line (option_map_or closes o false) (option_map_or goes_on o false)
+    Kind c line (option_map_or closes o false) (option_map_or continues_text o false)
     (option_map_or is_parted o false)
 
 kind_second : (c : ℕ) (line l : List ℕ) (o : Option (List ℕ)) → line ≡ c ∷ l → o ≡ behind c l
@@ -522,7 +522,7 @@ pub line_has : (first : Bool) (line : List ℕ) (ts : List Token) → line_token
 line_has first line ts h =
     let dashes = kind 45 line in
     let u = unmarked_by (list_all is_allowed (chars line)) first (marks 45 line)
-    (marks_more 45 line) (marks 46 line) (marks_more 46 line) (tokens_of line) ts h in (
+    (marks_more 45 line) (marks 46 line) (marks_more 46 line) (tokenize_line line) ts h in (
       u.allows,
       elim u.left [
         | inl l ↦ begin_stands first line ts (marks 45 line) (marks_more 45 line) (is_mark 45 line)
@@ -551,19 +551,19 @@ pub has_line : (first : Bool) (line : List ℕ) (ts : List Token) → list_all i
     → StandsFor first line ts → line_tokens first line ≡ Some ts
 has_line first line ts a (first_mark tail t) =
     let bs = 45 ∷ (45 ∷ (45 ∷ tail)) in
-    by_marks_is (list_all is_allowed (chars bs)) true (closes tail) (goes_on tail) false false
-    (tokens_of bs) a (shut_more tail (tail_closes tail t)) refl
-    ∙ ap (λ v. if v then Some [] else tokens_of bs) (tail_closes tail t)
+    by_marks_is (list_all is_allowed (chars bs)) true (closes tail) (continues_text tail) false false
+    (tokenize_line bs) a (shut_more tail (tail_closes tail t)) refl
+    ∙ ap (λ v. if v then Some [] else tokenize_line bs) (tail_closes tail t)
 has_line first line ts a (first_dots tail us t l) =
     let bs = 46 ∷ (46 ∷ (46 ∷ tail)) in
-    by_marks_is (list_all is_allowed (chars bs)) true false false (closes tail) (goes_on tail)
-    (tokens_of bs) a refl (shut_more tail (tail_closes tail t))
-    ∙ ap (λ v. if v then None else tokens_of bs) (and_false (closes tail)) ∙ tokens_made bs us l
+    by_marks_is (list_all is_allowed (chars bs)) true false false (closes tail) (continues_text tail)
+    (tokenize_line bs) a refl (shut_more tail (tail_closes tail t))
+    ∙ ap (λ v. if v then None else tokenize_line bs) (and_false (closes tail)) ∙ tokens_made bs us l
 has_line first line ts a (no_mark f bs us e g l) =
     let d = no_kind 45 bs (marks 45 bs) (marks_more 45 bs) (is_mark 45 bs) (kind 45 bs) e in
     let o = no_kind 46 bs (marks 46 bs) (marks_more 46 bs) (is_mark 46 bs) (kind 46 bs) g in
     by_marks_is (list_all is_allowed (chars bs)) f (marks 45 bs) (marks_more 45 bs) (marks 46 bs)
-    (marks_more 46 bs) (tokens_of bs) a d.1 o.1
+    (marks_more 46 bs) (tokenize_line bs) a d.1 o.1
     ∙ ap (λ v. if v then (if f then Some [] else None) else if marks 46 bs && not
-    f then None else tokens_of bs) d.0
-    ∙ ap (λ v. if v && not f then None else tokens_of bs) o.0 ∙ tokens_made bs us l
+    f then None else tokenize_line bs) d.0
+    ∙ ap (λ v. if v && not f then None else tokenize_line bs) o.0 ∙ tokens_made bs us l

@@ -7,11 +7,11 @@ use Rattle.std.proofs.lemmas.List.{append-nil}
 use Rattle.kr_yaml.specs.Data.{Data}
 use Rattle.kr_yaml.specs.Lines.{Token, dash, pair, leaf}
 use Rattle.kr_yaml.specs.Forms.{Shape, flat, Form}
-use Rattle.kr_yaml.specs.inner.Open.{Frame, items, members, State, is_inside, is_repeated, next}
+use Rattle.kr_yaml.specs.inner.Open.{Frame, items, members, State, belongs_to_node, is_repeated, next}
 use Rattle.kr_yaml.specs.inner.Open.{under, put, doubles, run, closed_value}
 use Rattle.kr_yaml.specs.inner.Standing.{Stands, empty}
 use Rattle.kr_yaml.specs.Shown.{view}
-use Rattle.kr_yaml.specs.Reads.{plain, Makes, FormNone, FormTwice, FormDeep, Breaks, IsFirst}
+use Rattle.kr_yaml.specs.Reads.{plain, MakesTree, FormNone, FormTwice, FormDeep, BreaksTree, IsFirst}
 use Rattle.kr_yaml.specs.Reads.{ReadsTree, Refuses}
 use Rattle.kr_yaml.specs.Laws.{OneForm, OneAnswer}
 use Rattle.kr_yaml.specs.declared.tree.Tree.{Tree}
@@ -62,7 +62,7 @@ flat_at t f fs o st false rest h e = let n = next_length t f (closed_value fs o)
 
 repeated_flat : (t : Token) (fs : List Frame) → Flat t fs
 repeated_flat t [] = λ o st h e. cc
-repeated_flat t (f ∷ fs) = λ o st h e. flat_at t f fs o st (is_inside t f) (repeated_flat t fs) h e
+repeated_flat t (f ∷ fs) = λ o st h e. flat_at t f fs o st (belongs_to_node t f) (repeated_flat t fs) h e
 
 -- one token more on a tree
 record More (xs : List Token) (t : Token) (s u : Shape) : Type 0 where
@@ -103,7 +103,7 @@ none_twice ts h k = h [] k.0 k.1 (subst (λ ts. Form ts k.0 k.1) (sym (append-ni
 none_deep : (ts : List Token) → FormNone ts → FormDeep ts → ⊥
 none_deep ts h k = h [] k.0 k.1 (subst (λ ts. Form ts k.0 k.1) (sym (append-nil ts)) k.2)
 
-twice_deep : (xs : List Token) (t : Token) (d : Data) → Makes xs d → FormTwice (xs ++ t ∷ [])
+twice_deep : (xs : List Token) (t : Token) (d : Data) → MakesTree xs d → FormTwice (xs ++ t ∷ [])
     → FormDeep (xs ++ t ∷ []) → ⊥
 twice_deep xs t d m h k =
     let a = one_more xs t d h.0 m.shape h.1 m.forms h.2 in
@@ -147,17 +147,17 @@ record Meets (n m : ℕ) (P Q : List Token → Type 0) : Type 0 where
   before : List Token
   token : Token
   tree : Data
-  makes : Makes before tree
+  makes : MakesTree before tree
   first : P (before ++ token ∷ [])
   second : Q (before ++ token ∷ [])
 
 too_long : (P : List Token → Type 0) (xs ys : List (ℕ × Token)) (n : ℕ) (t : Token) (d : Data)
-    → Stops P → P (plain ys ++ t ∷ []) → Longer xs ys (n, t) → Makes (plain xs) d → ⊥
+    → Stops P → P (plain ys ++ t ∷ []) → Longer xs ys (n, t) → MakesTree (plain xs) d → ⊥
 too_long P xs ys n t d stops h l m = stops (plain ys ++ t ∷ []) (plain l.more) d h
-    (subst (λ ts. Makes ts d) (plain_split xs ys l.more n t l.is) m)
+    (subst (λ ts. MakesTree ts d) (plain_split xs ys l.more n t l.is) m)
 
 meets_at : (us : List (ℕ × Token)) (n m : ℕ) (P Q : List Token → Type 0) → Stops P → Stops Q
-    → (b : Breaks us n P) (c : Breaks us m Q) → Splits b.before c.before (n, b.token) (m, c.token)
+    → (b : BreaksTree us n P) (c : BreaksTree us m Q) → Splits b.before c.before (n, b.token) (m, c.token)
     → Meets n m P Q
 meets_at us n m P Q p q b c (inl h) = record {
   line = ap (λ (u : ℕ × Token). u.0) h.1;
@@ -175,21 +175,21 @@ meets_at us n m P Q p q b c (inr (inr l)) = absurd (too_long P c.before b.before
     b.breach l c.makes)
 
 meets : (us : List (ℕ × Token)) (n m : ℕ) (P Q : List Token → Type 0) → Stops P → Stops Q
-    → Breaks us n P → Breaks us m Q → Meets n m P Q
+    → BreaksTree us n P → BreaksTree us m Q → Meets n m P Q
 meets us n m P Q p q b c = meets_at us n m P Q p q b c (splits b.before c.before b.after c.after
     (n, b.token) (m, c.token) (sym b.split ∙ c.split))
 
-apart_none_twice : (us : List (ℕ × Token)) (n m : ℕ) → Breaks us n FormNone → Breaks us m FormTwice
+apart_none_twice : (us : List (ℕ × Token)) (n m : ℕ) → BreaksTree us n FormNone → BreaksTree us m FormTwice
     → ⊥
 apart_none_twice us n m h k = let a = meets us n m FormNone FormTwice none_stops twice_stops h
     k in none_twice (a.before ++ a.token ∷ []) a.first a.second
 
-apart_none_deep : (us : List (ℕ × Token)) (n m : ℕ) → Breaks us n FormNone → Breaks us m FormDeep
+apart_none_deep : (us : List (ℕ × Token)) (n m : ℕ) → BreaksTree us n FormNone → BreaksTree us m FormDeep
     → ⊥
 apart_none_deep us n m h k = let a = meets us n m FormNone FormDeep none_stops deep_stops h
     k in none_deep (a.before ++ a.token ∷ []) a.first a.second
 
-apart_twice_deep : (us : List (ℕ × Token)) (n m : ℕ) → Breaks us n FormTwice → Breaks us m FormDeep
+apart_twice_deep : (us : List (ℕ × Token)) (n m : ℕ) → BreaksTree us n FormTwice → BreaksTree us m FormDeep
     → ⊥
 apart_twice_deep us n m h k = let a = meets us n m FormTwice FormDeep twice_stops deep_stops h
     k in twice_deep a.before a.token a.tree a.makes a.first a.second

@@ -3,16 +3,16 @@ use Rattle.std.proofs.Common.{◌≡◌, ℕ, ◌+◌, ◌<◌, ◌≤◌, Bool,
 use Rattle.std.proofs.Common.{Option, None, Some, refl, sym, ap, ◌∙◌, subst, arith, suc}
 use Rattle.std.specs.Prelude.{if◌then◌else◌, ◌==◌, ◌||◌, nat_lt, option_and_then}
 use Rattle.kr_yaml.specs.Data.{Data}
-use Rattle.kr_yaml.specs.Lines.{Token, dash, pair, leaf, IsContent, empty_item, item, empty_member}
+use Rattle.kr_yaml.specs.Lines.{Token, dash, pair, leaf, AreContentTokens, empty_item, item, empty_member}
 use Rattle.kr_yaml.specs.Lines.{member, value, IsLine, empty_line, comment_line, content_line}
 use Rattle.kr_yaml.specs.Forms.{Shape, flat, Form}
 use Rattle.kr_yaml.specs.Laws.{OnALine}
-use Rattle.kr_yaml.specs.inner.Open.{Frame, items, members, State, column_of, is_dash_at, is_inside}
+use Rattle.kr_yaml.specs.inner.Open.{Frame, items, members, State, token_column, is_dash_in_column, belongs_to_node}
 use Rattle.kr_yaml.specs.inner.Open.{first_state, next, under, put, doubles, run, closed_value}
 use Rattle.kr_yaml.specs.inner.Open.{place}
 use Rattle.kr_yaml.specs.inner.Standing.{Stands, empty}
 use Rattle.kr_yaml.proofs.Grown.{grows, stands_node}
-use Rattle.kr_yaml.proofs.Putting.{put_inside}
+use Rattle.kr_yaml.proofs.Putting.{put_innermost}
 use Rattle.kr_yaml.proofs.Runs.{run_append, node_ran, start}
 use Rattle.kr_yaml.proofs.Shapes.{one_shape}
 use Rattle.kr_yaml.proofs.Breaches.{went, put_run}
@@ -30,7 +30,7 @@ after_more c e (dash b ∷ ts) h a = (let l = a.0 in omega arith, a.1)
 after_more c e (pair b k v ∷ ts) h a = (let l = a.0 in omega arith, a.1)
 after_more c e (leaf b d ∷ ts) h a = (let l = a.0 in omega arith, a.1)
 
-after_content : (c : ℕ) (bytes : List ℕ) (ts : List Token) → IsContent c bytes ts → After c ts
+after_content : (c : ℕ) (bytes : List ℕ) (ts : List Token) → AreContentTokens c bytes ts → After c ts
 after_content c bytes ts (empty_item b) = (omega arith, tt)
 after_content c bytes ts (item b n bs us h) = (
   omega arith,
@@ -51,13 +51,13 @@ after_line line ts (content_line n bytes tail us c t h) =
 record Behind (t u : Token) : Type 0 where
   column : ℕ
   is : t ≡ dash column
-  right : column < column_of u
+  right : column < token_column u
 
 not_over : (front : List Token) (t : Token) (ts : List Token) → front ++ t ∷ ts ≡ [] → ⊥
 not_over [] t ts e = cc
 not_over (x ∷ front) t ts e = cc
 
-after_column : (c : ℕ) (u : Token) (rest : List Token) → After c (u ∷ rest) → c ≤ column_of u
+after_column : (c : ℕ) (u : Token) (rest : List Token) → After c (u ∷ rest) → c ≤ token_column u
 after_column c (dash b) rest a = a.0
 after_column c (pair b k v) rest a = a.0
 after_column c (leaf b d) rest a = a.0
@@ -88,7 +88,7 @@ UpTo c (f ∷ fs) = (column f ≤ c) × UpTo c fs
 abbrev Ready : ℕ → State → Type 0
 Ready c st = UpTo c st.0 × (st.1 ≡ None)
 
-inside_column : (c : ℕ) (f : Frame) → is_inside (dash c) f ≡ true → column f ≤ c
+inside_column : (c : ℕ) (f : Frame) → belongs_to_node (dash c) f ≡ true → column f ≤ c
 inside_column c (items b ds) e = grind arith
 inside_column c (members b ms k) e = grind arith
 
@@ -111,7 +111,7 @@ ready_next c (items b ds) d st e = ready_same c b (ds ++ d ∷ []) st (c == b) r
 ready_next c (members b ms k) d st e = cc
 
 ready_at : (c : ℕ) (f : Frame) (fs : List Frame) (o : Option Data) (st : State) (v : Bool)
-    → is_inside (dash c) f ≡ v → ((new : State) → put (dash c) fs o ≡ Some new → Ready c new)
+    → belongs_to_node (dash c) f ≡ v → ((new : State) → put (dash c) fs o ≡ Some new → Ready c new)
     → (if v then under f (put (dash c) fs o) else next (dash c) f (closed_value fs o)) ≡ Some st
     → Ready c st
 ready_at c f fs o st true q rest e = ready_under c f fs o st (put (dash c) fs o) refl rest
@@ -123,17 +123,17 @@ ready : (c : ℕ) (fs : List Frame) (o : Option Data) (st : State) → put (dash
 ready c [] None st e = subst (Ready c) (let same : (items c [] ∷ [], None) ≡ st = cc in same)
     ((omega arith, tt), refl)
 ready c [] (Some d) st e = cc
-ready c (f ∷ fs) o st e = ready_at c f fs o st (is_inside (dash c) f) refl
+ready c (f ∷ fs) o st e = ready_at c f fs o st (belongs_to_node (dash c) f) refl
     (λ new h. ready c fs o new h) e
 
 right_or : (b n : ℕ) (v : Bool) → b < n → (nat_lt b n || v) ≡ true
 right_or b n v h = grind arith
 
-is_right : (c : ℕ) (u : Token) (f : Frame) → column f ≤ c → c < column_of u → is_inside u f ≡ true
+is_right : (c : ℕ) (u : Token) (f : Frame) → column f ≤ c → c < token_column u → belongs_to_node u f ≡ true
 is_right c u (items b ds) h k = grind arith
-is_right c u (members b ms l) h k = right_or b (column_of u) (is_dash_at b u) (omega arith)
+is_right c u (members b ms l) h k = right_or b (token_column u) (is_dash_in_column b u) (omega arith)
 
-all_right : (c : ℕ) (u : Token) (fs : List Frame) → UpTo c fs → c < column_of u
+all_right : (c : ℕ) (u : Token) (fs : List Frame) → UpTo c fs → c < token_column u
     → place u fs ≡ length fs
 all_right c u [] h k = refl
 all_right c u (f ∷ fs) h k = ap (λ v. if v then suc (place u fs) else 0) (is_right c u f h.0 k)
@@ -148,16 +148,16 @@ same_twice : (v w x : Bool) → (v ≡ false → w ≡ x) → x ≡ false → (v
 same_twice true w x f h g = g refl
 same_twice false w x f h g = f refl ∙ h
 
-goes_on : (c : ℕ) (xs : List Token) (u : Token) (d : Data) (s : Shape) → c < column_of u
+continues_text : (c : ℕ) (xs : List Token) (u : Token) (d : Data) (s : Shape) → c < token_column u
     → Form (xs ++ dash c ∷ []) d s
     → (e : Data) × (x : Shape) × Form ((xs ++ dash c ∷ []) ++ u ∷ []) e x × (x.twice ≡ s.twice)
-goes_on c xs u d s h f =
+continues_text c xs u d s h f =
     let ts : List Token = xs ++ dash c ∷ [] in
     let y = node_ran 0 ts d s f in
     let old = put_last xs (dash c) y.st (run xs start) refl (sym (run_append xs (dash c ∷ []) start)
     ∙ y.runs) in
     let r = ready c old.0.0 old.0.1 y.st old.1 in
-    let p = put_inside u y.st.0 None (all_right c u y.st.0 r.0 h) in
+    let p = put_innermost u y.st.0 None (all_right c u y.st.0 r.0 h) in
     let new : State = (y.st.0 ++ (first_state u).0, (first_state u).1) in
     let puts : put u y.st.0 y.st.1 ≡ Some new = ap (put u y.st.0) r.1 ∙ p.0 in
     let v = went ts [] start y.st flat (empty 0) y.runs in
@@ -178,7 +178,7 @@ goes_behind : (t u : Token) (xs : List Token) (d : Data) (s : Shape) → Behind 
 goes_behind t u xs d s b f =
     subst (λ t. (e : Data) × (x : Shape) × Form ((xs ++ t ∷ []) ++ u ∷ []) e x
     × (x.twice ≡ s.twice)) (sym b.is)
-    (goes_on b.column xs u d s b.right (subst (λ t. Form (xs ++ t ∷ []) d s) b.is f))
+    (continues_text b.column xs u d s b.right (subst (λ t. Form (xs ++ t ∷ []) d s) b.is f))
 
 pub on_a_line : OnALine
 on_a_line line front rest before t u d s e f = goes_behind t u before d s

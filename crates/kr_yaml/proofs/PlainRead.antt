@@ -8,10 +8,10 @@ use Rattle.std.specs.List.{list_all}
 use Rattle.kr_yaml.specs.Bytes.{behind, spaces, is_blank}
 use Rattle.kr_yaml.specs.Written.{is_indicator, IsPlain, NoSpaceBehind, NoFlowSign}
 use Rattle.kr_yaml.specs.Lines.{IsTail, spaces_alone, comment_behind}
-use Rattle.kr_yaml.specs.inner.Stops.{opens, closes, is_hash, trim, has, stops, length_until}
+use Rattle.kr_yaml.specs.inner.Stops.{opens, closes, is_hash, trim, has, stops, length_before_stop}
 use Rattle.kr_yaml.specs.inner.ScalarReading.{is_space, is_plain, plain_text, plain_scalar}
-use Rattle.kr_yaml.specs.inner.ScalarReading.{plain_at}
-use Rattle.kr_yaml.specs.declared.bytes.Stop.TheVariants.{Colon, Comment, KeyEnd, FlowSign}
+use Rattle.kr_yaml.specs.inner.ScalarReading.{leading_plain}
+use Rattle.kr_yaml.specs.declared.bytes.ScanStop.TheVariants.{Colon, Comment, KeyEnd, FlowSign}
 use Rattle.kr_yaml.specs.declared.scalar.Scalar.{Scalar}
 use Rattle.kr_yaml.specs.declared.scalar.Context.TheVariants.{Line, Flow}
 use Rattle.kr_yaml.proofs.Behind.{is_byte}
@@ -211,11 +211,11 @@ value_made bs front gone s rest f whole inside c h =
 
 -- a plain value on a line
 pub value_read : (bs : List ℕ) (s : Scalar) (rest : List ℕ) → NoSpaceFront bs
-    → closes rest ≡ true → plain_at Line bs ≡ found s rest
+    → closes rest ≡ true → leading_plain Line bs ≡ found s rest
     → (r : PlainSplit bs s rest) × NoSpaceBehind r.text
-unfolding plain_at
+unfolding leading_plain
 value_read bs s rest f c h =
-    let n = length_until (stops KeyEnd) bs in
+    let n = length_before_stop (stops KeyEnd) bs in
     value_made bs (take n bs) (drop n bs) s rest f (take-append-drop n bs)
     (until_inside (stops KeyEnd) bs) c h
 
@@ -236,11 +236,11 @@ key_made bs front gone s r f whole inside h =
 
 -- a plain key
 pub key_read : (bs : List ℕ) (s : Scalar) (r : List ℕ) → NoSpaceFront bs
-    → plain_at Line bs ≡ found s (58 ∷ r)
+    → leading_plain Line bs ≡ found s (58 ∷ r)
     → (text : List ℕ) × (plain_of text ≡ s) × (bs ≡ text ++ 58 ∷ r) × IsPlain text
-unfolding plain_at
+unfolding leading_plain
 key_read bs s r f h =
-    let n = length_until (stops KeyEnd) bs in
+    let n = length_before_stop (stops KeyEnd) bs in
     key_made bs (take n bs) (drop n bs) s r f (take-append-drop n bs)
     (until_inside (stops KeyEnd) bs) h
 
@@ -280,22 +280,22 @@ flow_made bs front gone s rest false f whole inside c h =
 
 -- a plain scalar in a flow list
 pub flow_read : (bs : List ℕ) (s : Scalar) (rest : List ℕ) → NoSpaceFront bs
-    → plain_at Flow bs ≡ found s rest
+    → leading_plain Flow bs ≡ found s rest
     → (r : PlainSplit bs s rest) × NoSpaceBehind r.text × NoFlowSign r.text
-unfolding plain_at
+unfolding leading_plain
 flow_read bs s rest f h =
-    let n = length_until (stops FlowSign) bs in
+    let n = length_before_stop (stops FlowSign) bs in
     flow_made bs (take n bs) (drop n bs) s rest (has Comment (take n bs)) f (take-append-drop n bs)
     (until_inside (stops FlowSign) bs) refl h
 
 -- what is written is read
 
-plain_line : (bs front rest : List ℕ) → take (length_until (stops KeyEnd) bs) bs ≡ front
-    → drop (length_until (stops KeyEnd) bs) bs ≡ rest
-    → plain_at Line bs ≡ plain_scalar (plain_text front rest) rest
-unfolding plain_at
+plain_line : (bs front rest : List ℕ) → take (length_before_stop (stops KeyEnd) bs) bs ≡ front
+    → drop (length_before_stop (stops KeyEnd) bs) bs ≡ rest
+    → leading_plain Line bs ≡ plain_scalar (plain_text front rest) rest
+unfolding leading_plain
 plain_line bs front rest e f =
-    let n = length_until (stops KeyEnd) bs in
+    let n = length_before_stop (stops KeyEnd) bs in
     ap (λ l. plain_scalar (plain_text l (drop n bs)) (drop n bs)) e
     ∙ ap (λ l. plain_scalar (plain_text front l) l) f
 
@@ -305,10 +305,10 @@ plain_made text rest p =
     ap (λ v. if v then found (plain_of text) rest else None) (plain_reads text p)
 
 pub key_reads : (text r : List ℕ) → IsPlain text → opens r ≡ true
-    → plain_at Line (text ++ 58 ∷ r) ≡ found (plain_of text) (58 ∷ r)
+    → leading_plain Line (text ++ 58 ∷ r) ≡ found (plain_of text) (58 ∷ r)
 key_reads text r p o =
-    let stop : length_until (stops KeyEnd) (58 ∷ r) ≡ 0 =
-    ap (λ v. if v || false then 0 else suc (length_until (stops KeyEnd) r)) o in
+    let stop : length_before_stop (stops KeyEnd) (58 ∷ r) ≡ 0 =
+    ap (λ v. if v || false then 0 else suc (length_before_stop (stops KeyEnd) r)) o in
     let cut = until_at (stops KeyEnd) text (58 ∷ r) (key_off text (58 ∷ r) p refl) stop in
     plain_line (text ++ 58 ∷ r) text (58 ∷ r) cut.0 cut.1 ∙ plain_made text (58 ∷ r) p
 
@@ -317,7 +317,7 @@ record TailCut (tail : List ℕ) : Type 0 where
   count : ℕ
   rest : List ℕ
   whole : tail ≡ spaces count ++ rest
-  stop : length_until (stops KeyEnd) rest ≡ 0
+  stop : length_before_stop (stops KeyEnd) rest ≡ 0
   no_hash : is_hash rest ≡ false
   no_colon : behind 58 rest ≡ None
   shut : closes rest ≡ true
@@ -348,7 +348,7 @@ spaces_hash zero rest h = h
 spaces_hash (suc n) rest h = refl
 
 pub value_reads : (text tail : List ℕ) → IsPlain text → NoSpaceBehind text → IsTail tail
-    → (rest : List ℕ) × (plain_at Line (text ++ tail) ≡ found (plain_of text) rest)
+    → (rest : List ℕ) × (leading_plain Line (text ++ tail) ≡ found (plain_of text) rest)
     × (closes rest ≡ true)
 value_reads text tail p e t =
     let c = tail_cut tail t in
@@ -360,7 +360,7 @@ value_reads text tail p e t =
     (inside_spaces KeyEnd c.count c.rest (λ n. spaces_hash n c.rest c.no_hash)) in
     let cut = until_at (stops KeyEnd) (text ++ spaces c.count) c.rest inside c.stop in (
       c.rest,
-      ap (plain_at Line) whole
+      ap (leading_plain Line) whole
           ∙ plain_line ((text ++ spaces c.count) ++ c.rest) (text ++ spaces c.count) c.rest cut.0
           cut.1
           ∙ ap (λ o. plain_scalar (option_map_or (λ _. text ++ spaces c.count) o
@@ -369,22 +369,22 @@ value_reads text tail p e t =
       c.shut,
     )
 
-plain_flow : (bs front rest : List ℕ) → take (length_until (stops FlowSign) bs) bs ≡ front
-    → drop (length_until (stops FlowSign) bs) bs ≡ rest → has Comment front ≡ false
-    → plain_at Flow bs ≡ plain_scalar (trim front) rest
-unfolding plain_at
+plain_flow : (bs front rest : List ℕ) → take (length_before_stop (stops FlowSign) bs) bs ≡ front
+    → drop (length_before_stop (stops FlowSign) bs) bs ≡ rest → has Comment front ≡ false
+    → leading_plain Flow bs ≡ plain_scalar (trim front) rest
+unfolding leading_plain
 plain_flow bs front rest e f c =
-    let n = length_until (stops FlowSign) bs in
+    let n = length_before_stop (stops FlowSign) bs in
     ap (λ l. if has Comment l then None else plain_scalar (trim l) (drop n bs)) e
     ∙ ap (λ l. if has Comment front then None else plain_scalar (trim front) l) f
     ∙ ap (λ v. if v then None else plain_scalar (trim front) rest) c
 
 pub flow_reads : (text : List ℕ) (n b : ℕ) (more : List ℕ) → IsPlain text → NoSpaceBehind text
     → NoFlowSign text → stops FlowSign (b ∷ more) ≡ true
-    → plain_at Flow (text ++ (spaces n ++ b ∷ more)) ≡ found (plain_of text) (b ∷ more)
+    → leading_plain Flow (text ++ (spaces n ++ b ∷ more)) ≡ found (plain_of text) (b ∷ more)
 flow_reads text n b more p e s t =
-    let stop : length_until (stops FlowSign) (b ∷ more) ≡ 0 =
-    ap (λ v. if v then 0 else suc (length_until (stops FlowSign) more)) t in
+    let stop : length_before_stop (stops FlowSign) (b ∷ more) ≡ 0 =
+    ap (λ v. if v then 0 else suc (length_before_stop (stops FlowSign) more)) t in
     let inside = inside_append (stops FlowSign) text (spaces n) (b ∷ more) (λ a u c k. s a u c k)
     (inside_spaces FlowSign n (b ∷ more) (λ m. refl)) in
     let cut = until_at (stops FlowSign) (text ++ spaces n) (b ∷ more) inside stop in
@@ -392,6 +392,6 @@ flow_reads text n b more p e s t =
     (inside_append (stops Comment) text (spaces n) []
     (comment_off text (spaces n ++ []) p (spaces_hash n [] refl))
     (inside_spaces Comment n [] (λ m. spaces_hash m [] refl))) in
-    ap (plain_at Flow) (sym (append_assoc text (spaces n) (b ∷ more)))
+    ap (leading_plain Flow) (sym (append_assoc text (spaces n) (b ∷ more)))
     ∙ plain_flow ((text ++ spaces n) ++ b ∷ more) (text ++ spaces n) (b ∷ more) cut.0 cut.1 none
     ∙ ap (λ l. plain_scalar l (b ∷ more)) (trim_text text n e) ∙ plain_made text (b ∷ more) p

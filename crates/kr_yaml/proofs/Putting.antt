@@ -9,7 +9,7 @@ use Rattle.std.proofs.lemmas.List.{length-take-le}
 use Rattle.kr_yaml.specs.Data.{Data, null}
 use Rattle.kr_yaml.specs.Shown.{view}
 use Rattle.kr_yaml.specs.Lines.{Token, pair}
-use Rattle.kr_yaml.specs.inner.Open.{Frame, members, State, is_inside, close, closed_value}
+use Rattle.kr_yaml.specs.inner.Open.{Frame, members, State, belongs_to_node, close, closed_value}
 use Rattle.kr_yaml.specs.inner.Open.{first_state, begin, next, under, put, doubles, is_repeated}
 use Rattle.kr_yaml.specs.inner.Open.{place}
 use Rattle.kr_yaml.specs.inner.Frames.{frame_view, frame_views, state_view}
@@ -36,7 +36,7 @@ under_onto f fs (Some s) = refl
 
 -- inside of all
 inside_at : (t : Token) (f : Frame) (fs : List Frame) (o : Option Data) (v : Bool)
-    → is_inside t f ≡ v → (if v then suc (place t fs) else 0) ≡ suc (length fs)
+    → belongs_to_node t f ≡ v → (if v then suc (place t fs) else 0) ≡ suc (length fs)
     → (place t fs ≡ length fs → (put t fs o ≡ onto fs (begin t o)) × (doubles t fs ≡ false))
     → (put t (f ∷ fs) o ≡ onto (f ∷ fs) (begin t o)) × (doubles t (f ∷ fs) ≡ false)
 inside_at t f fs o true e h rest =
@@ -47,14 +47,14 @@ inside_at t f fs o true e h rest =
     )
 inside_at t f fs o false e h rest = absurd (omega arith)
 
-pub put_inside : (t : Token) (fs : List Frame) (o : Option Data) → place t fs ≡ length fs
+pub put_innermost : (t : Token) (fs : List Frame) (o : Option Data) → place t fs ≡ length fs
     → (put t fs o ≡ onto fs (begin t o)) × (doubles t fs ≡ false)
-put_inside t [] o h = (onto_nil (begin t o), refl)
-put_inside t (f ∷ fs) o h = inside_at t f fs o (is_inside t f) refl h (put_inside t fs o)
+put_innermost t [] o h = (onto_nil (begin t o), refl)
+put_innermost t (f ∷ fs) o h = inside_at t f fs o (belongs_to_node t f) refl h (put_innermost t fs o)
 
 -- at one of them
 first_at : (t : Token) (f : Frame) (ys : List Frame) (o : Option Data) (v : Bool)
-    → is_inside t f ≡ v → (if v then suc (place t ys) else 0) ≡ 0
+    → belongs_to_node t f ≡ v → (if v then suc (place t ys) else 0) ≡ 0
     → (put t (f ∷ ys) o ≡ next t f (closed_value ys o)) × (doubles t (f ∷ ys) ≡ is_repeated t f)
 first_at t f ys o true e h = absurd (omega arith)
 first_at t f ys o false e h = (
@@ -64,7 +64,7 @@ first_at t f ys o false e h = (
 )
 
 next_at : (t : Token) (x : Frame) (xs : List Frame) (f : Frame) (ys : List Frame) (o : Option Data)
-    (v : Bool) → is_inside t x ≡ v → (if v then suc (place t (xs ++ f ∷ ys)) else 0)
+    (v : Bool) → belongs_to_node t x ≡ v → (if v then suc (place t (xs ++ f ∷ ys)) else 0)
     ≡ suc (length xs)
     → (place t (xs ++ f ∷ ys) ≡ length xs
     → (put t (xs ++ f ∷ ys) o ≡ onto xs (next t f (closed_value ys o)))
@@ -83,12 +83,12 @@ put_next : (t : Token) (xs : List Frame) (f : Frame) (ys : List Frame) (o : Opti
     → place t (xs ++ f ∷ ys) ≡ length xs
     → (put t (xs ++ f ∷ ys) o ≡ onto xs (next t f (closed_value ys o))) × (doubles t (xs ++ f ∷ ys)
     ≡ is_repeated t f)
-put_next t [] f ys o h = let both = first_at t f ys o (is_inside t f) refl h in (
+put_next t [] f ys o h = let both = first_at t f ys o (belongs_to_node t f) refl h in (
   both.0
       ∙ onto_nil (next t f (closed_value ys o)),
   both.1,
 )
-put_next t (x ∷ xs) f ys o h = next_at t x xs f ys o (is_inside t x) refl h (put_next t xs f ys o)
+put_next t (x ∷ xs) f ys o h = next_at t x xs f ys o (belongs_to_node t x) refl h (put_next t xs f ys o)
 
 frames_append : (xs ys : List OpenNode) → frame_views (xs ++ ys) ≡ frame_views xs ++ frame_views ys
 frames_append [] ys = refl
@@ -102,20 +102,20 @@ frames_length (x ∷ xs) = ap suc (frames_length xs)
 pub full_refused : (t : Token) (nodes : List OpenNode) (value : Option Tree) (tree : Tree)
     → place t (frame_views nodes) ≡ length nodes → value ≡ Some tree
     → put t (frame_views nodes) (option_map view value) ≡ None
-full_refused t nodes value tree at is = (put_inside t (frame_views nodes) (option_map view value)
+full_refused t nodes value tree at is = (put_innermost t (frame_views nodes) (option_map view value)
     (at ∙ sym (frames_length nodes))).0
     ∙ ap (λ v. onto (frame_views nodes) (begin t (option_map view v))) is
 
 begun_is : (t : Token) (nodes : List OpenNode) (value : Option Tree) → place t (frame_views nodes)
     ≡ length nodes → value ≡ None → put t (frame_views nodes) (option_map view value)
     ≡ Some (frame_views nodes ++ (first_state t).0, (first_state t).1)
-begun_is t nodes value at is = (put_inside t (frame_views nodes) (option_map view value) (at
+begun_is t nodes value at is = (put_innermost t (frame_views nodes) (option_map view value) (at
     ∙ sym (frames_length nodes))).0
     ∙ ap (λ v. onto (frame_views nodes) (begin t (option_map view v))) is
 
 pub begins_single : (t : Token) (nodes : List OpenNode) (value : Option Tree)
     → place t (frame_views nodes) ≡ length nodes → doubles t (frame_views nodes) ≡ false
-begins_single t nodes value at = (put_inside t (frame_views nodes) (option_map view value) (at
+begins_single t nodes value at = (put_innermost t (frame_views nodes) (option_map view value) (at
     ∙ sym (frames_length nodes))).1
 
 pub begins_value : (t : Token) (nodes : List OpenNode) (value new : Option Tree)

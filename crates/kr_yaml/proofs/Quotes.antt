@@ -6,8 +6,8 @@ use Rattle.std.proofs.lemmas.List.{append_assoc, append-nil}
 use Rattle.std.specs.Prelude.{if◌then◌else◌, ◌==◌, ◌||◌, nat_lt}
 use Rattle.std.specs.Option.{option_map_or}
 use Rattle.kr_yaml.specs.Bytes.{behind}
-use Rattle.kr_yaml.specs.inner.Stops.{stops, length_until, at_stop, ascii_first}
-use Rattle.kr_yaml.specs.declared.bytes.Stop.TheVariants.{SingleQuote, DoubleQuote}
+use Rattle.kr_yaml.specs.inner.Stops.{stops, length_before_stop, at_stop, ascii_first}
+use Rattle.kr_yaml.specs.declared.bytes.ScanStop.TheVariants.{SingleQuote, DoubleQuote}
 use Rattle.kr_yaml.specs.inner.ScalarReading.{with_front, single, single_quote, double}
 use Rattle.kr_yaml.specs.inner.ScalarReading.{behind_backslash}
 use Rattle.kr_yaml.specs.Written.{escape}
@@ -33,20 +33,20 @@ behind_cons c (b ∷ bs) m h = chosen_cons c b bs m (b == c) refl h
 
 -- single quotes
 single_at : (b : ℕ) (bs : List ℕ) (v : Bool) → (b == 39) ≡ v
-    → single bs ≡ with_front (take (length_until (stops SingleQuote) bs) bs)
-    (single (drop (length_until (stops SingleQuote) bs) bs))
+    → single bs ≡ with_front (take (length_before_stop (stops SingleQuote) bs) bs)
+    (single (drop (length_before_stop (stops SingleQuote) bs) bs))
     → single (b ∷ bs) ≡ with_front
-    (take (if v then 0 else suc (length_until (stops SingleQuote) bs)) (b ∷ bs))
-    (single (drop (if v then 0 else suc (length_until (stops SingleQuote) bs)) (b ∷ bs)))
+    (take (if v then 0 else suc (length_before_stop (stops SingleQuote) bs)) (b ∷ bs))
+    (single (drop (if v then 0 else suc (length_before_stop (stops SingleQuote) bs)) (b ∷ bs)))
 single_at b bs true e rest = sym (nil_bytes (single (b ∷ bs)))
 single_at b bs false e rest = ap (λ v. if v then single_quote bs else with_front (b ∷ [])
     (single bs)) e ∙ ap (with_front (b ∷ [])) rest
-    ∙ sym (join_bytes (b ∷ []) (take (length_until (stops SingleQuote) bs) bs)
-    (single (drop (length_until (stops SingleQuote) bs) bs)))
+    ∙ sym (join_bytes (b ∷ []) (take (length_before_stop (stops SingleQuote) bs) bs)
+    (single (drop (length_before_stop (stops SingleQuote) bs) bs)))
 
 pub single_jump : (bs : List ℕ)
-    → single bs ≡ with_front (take (length_until (stops SingleQuote) bs) bs)
-    (single (drop (length_until (stops SingleQuote) bs) bs))
+    → single bs ≡ with_front (take (length_before_stop (stops SingleQuote) bs) bs)
+    (single (drop (length_before_stop (stops SingleQuote) bs) bs))
 single_jump [] = refl
 single_jump (b ∷ bs) = single_at b bs (b == 39) refl (single_jump bs)
 
@@ -70,20 +70,20 @@ single_open [] e h = refl
 single_open (b ∷ bs) e h = open_at (b == 39) bs e h
 
 single_step : (text w rest piece after : List ℕ) → single text ≡ with_front w (single rest)
-    → piece ≡ take (length_until (stops SingleQuote) rest) rest
-    → after ≡ drop (length_until (stops SingleQuote) rest) rest
+    → piece ≡ take (length_before_stop (stops SingleQuote) rest) rest
+    → after ≡ drop (length_before_stop (stops SingleQuote) rest) rest
     → single text ≡ with_front (w ++ piece) (single after)
 single_step text w rest piece after inv pe ae =
     inv ∙ ap (with_front w) (single_jump rest)
-    ∙ sym (join_bytes w (take (length_until (stops SingleQuote) rest) rest)
-    (single (drop (length_until (stops SingleQuote) rest) rest)))
-    ∙ ap (λ p. with_front (w ++ p) (single (drop (length_until (stops SingleQuote) rest) rest)))
+    ∙ sym (join_bytes w (take (length_before_stop (stops SingleQuote) rest) rest)
+    (single (drop (length_before_stop (stops SingleQuote) rest) rest)))
+    ∙ ap (λ p. with_front (w ++ p) (single (drop (length_before_stop (stops SingleQuote) rest) rest)))
     (sym pe)
     ∙ ap (λ a. with_front (w ++ piece) (single a)) (sym ae)
 
 pub single_refused : (text w rest piece after : List ℕ) → single text ≡ with_front w (single rest)
-    → piece ≡ take (length_until (stops SingleQuote) rest) rest
-    → after ≡ drop (length_until (stops SingleQuote) rest) rest
+    → piece ≡ take (length_before_stop (stops SingleQuote) rest) rest
+    → after ≡ drop (length_before_stop (stops SingleQuote) rest) rest
     → at_stop SingleQuote after ≡ true → None ≡ behind 39 after → single text ≡ None
 single_refused text w rest piece after inv pe ae there none = single_step text w rest piece after
     inv pe ae ∙ ap (with_front (w ++ piece)) (single_open after there none)
@@ -93,8 +93,8 @@ ended w m = ap (λ l. Some (l, m)) (append-nil w)
 
 pub single_ended : (text w rest piece after more : List ℕ)
     → single text ≡ with_front w (single rest)
-    → piece ≡ take (length_until (stops SingleQuote) rest) rest
-    → after ≡ drop (length_until (stops SingleQuote) rest) rest
+    → piece ≡ take (length_before_stop (stops SingleQuote) rest) rest
+    → after ≡ drop (length_before_stop (stops SingleQuote) rest) rest
     → Some more ≡ behind 39 after → None ≡ behind 39 more → single text ≡ Some (w ++ piece, more)
 single_ended text w rest piece after more inv pe ae some none =
     single_step text w rest piece after inv pe ae
@@ -104,8 +104,8 @@ single_ended text w rest piece after more inv pe ae some none =
 
 pub single_goes_on : (text w rest piece after more next : List ℕ)
     → single text ≡ with_front w (single rest)
-    → piece ≡ take (length_until (stops SingleQuote) rest) rest
-    → after ≡ drop (length_until (stops SingleQuote) rest) rest
+    → piece ≡ take (length_before_stop (stops SingleQuote) rest) rest
+    → after ≡ drop (length_before_stop (stops SingleQuote) rest) rest
     → Some more ≡ behind 39 after → Some next ≡ behind 39 more
     → single text ≡ with_front ((w ++ piece) ++ (39 ∷ [])) (single next)
 single_goes_on text w rest piece after more next inv pe ae some again =
@@ -124,11 +124,11 @@ or_false true w e = cc
 or_false false w e = (refl, e)
 
 double_at : (b : ℕ) (bs : List ℕ) (v : Bool) → (b == 34 || b == 92) ≡ v
-    → double bs ≡ with_front (take (length_until (stops DoubleQuote) bs) bs)
-    (double (drop (length_until (stops DoubleQuote) bs) bs))
+    → double bs ≡ with_front (take (length_before_stop (stops DoubleQuote) bs) bs)
+    (double (drop (length_before_stop (stops DoubleQuote) bs) bs))
     → double (b ∷ bs) ≡ with_front
-    (take (if v then 0 else suc (length_until (stops DoubleQuote) bs)) (b ∷ bs))
-    (double (drop (if v then 0 else suc (length_until (stops DoubleQuote) bs)) (b ∷ bs)))
+    (take (if v then 0 else suc (length_before_stop (stops DoubleQuote) bs)) (b ∷ bs))
+    (double (drop (if v then 0 else suc (length_before_stop (stops DoubleQuote) bs)) (b ∷ bs)))
 double_at b bs true e rest = sym (nil_bytes (double (b ∷ bs)))
 double_at b bs false e rest =
     let both = or_false (b == 34) (b == 92) e in
@@ -136,24 +136,24 @@ double_at b bs false e rest =
     (b ∷ []) (double bs))) both.0
     ∙ ap (λ v. if v then behind_backslash bs else with_front (b ∷ []) (double bs)) both.1
     ∙ ap (with_front (b ∷ [])) rest
-    ∙ sym (join_bytes (b ∷ []) (take (length_until (stops DoubleQuote) bs) bs)
-    (double (drop (length_until (stops DoubleQuote) bs) bs)))
+    ∙ sym (join_bytes (b ∷ []) (take (length_before_stop (stops DoubleQuote) bs) bs)
+    (double (drop (length_before_stop (stops DoubleQuote) bs) bs)))
 
 pub double_jump : (bs : List ℕ)
-    → double bs ≡ with_front (take (length_until (stops DoubleQuote) bs) bs)
-    (double (drop (length_until (stops DoubleQuote) bs) bs))
+    → double bs ≡ with_front (take (length_before_stop (stops DoubleQuote) bs) bs)
+    (double (drop (length_before_stop (stops DoubleQuote) bs) bs))
 double_jump [] = refl
 double_jump (b ∷ bs) = double_at b bs (b == 34 || b == 92) refl (double_jump bs)
 
 double_step : (text w rest piece after : List ℕ) → double text ≡ with_front w (double rest)
-    → piece ≡ take (length_until (stops DoubleQuote) rest) rest
-    → after ≡ drop (length_until (stops DoubleQuote) rest) rest
+    → piece ≡ take (length_before_stop (stops DoubleQuote) rest) rest
+    → after ≡ drop (length_before_stop (stops DoubleQuote) rest) rest
     → double text ≡ with_front (w ++ piece) (double after)
 double_step text w rest piece after inv pe ae =
     inv ∙ ap (with_front w) (double_jump rest)
-    ∙ sym (join_bytes w (take (length_until (stops DoubleQuote) rest) rest)
-    (double (drop (length_until (stops DoubleQuote) rest) rest)))
-    ∙ ap (λ p. with_front (w ++ p) (double (drop (length_until (stops DoubleQuote) rest) rest)))
+    ∙ sym (join_bytes w (take (length_before_stop (stops DoubleQuote) rest) rest)
+    (double (drop (length_before_stop (stops DoubleQuote) rest) rest)))
+    ∙ ap (λ p. with_front (w ++ p) (double (drop (length_before_stop (stops DoubleQuote) rest) rest)))
     (sym pe)
     ∙ ap (λ a. with_front (w ++ piece) (double a)) (sym ae)
 
@@ -169,8 +169,8 @@ double_open [] e h k = refl
 double_open (b ∷ bs) e h k = two_open (b == 34) (b == 92) bs e h k
 
 pub double_refused : (text w rest piece after : List ℕ) → double text ≡ with_front w (double rest)
-    → piece ≡ take (length_until (stops DoubleQuote) rest) rest
-    → after ≡ drop (length_until (stops DoubleQuote) rest) rest
+    → piece ≡ take (length_before_stop (stops DoubleQuote) rest) rest
+    → after ≡ drop (length_before_stop (stops DoubleQuote) rest) rest
     → at_stop DoubleQuote after ≡ true → None ≡ behind 34 after → None ≡ behind 92 after
     → double text ≡ None
 double_refused text w rest piece after inv pe ae there h k = double_step text w rest piece after inv
@@ -178,8 +178,8 @@ double_refused text w rest piece after inv pe ae there h k = double_step text w 
 
 pub double_ended : (text w rest piece after more : List ℕ)
     → double text ≡ with_front w (double rest)
-    → piece ≡ take (length_until (stops DoubleQuote) rest) rest
-    → after ≡ drop (length_until (stops DoubleQuote) rest) rest
+    → piece ≡ take (length_before_stop (stops DoubleQuote) rest) rest
+    → after ≡ drop (length_before_stop (stops DoubleQuote) rest) rest
     → Some more ≡ behind 34 after → double text ≡ Some (w ++ piece, more)
 double_ended text w rest piece after more inv pe ae some =
     double_step text w rest piece after inv pe ae
@@ -187,8 +187,8 @@ double_ended text w rest piece after more inv pe ae some =
     ∙ ended (w ++ piece) more
 
 double_escape : (text w rest piece after more : List ℕ) → double text ≡ with_front w (double rest)
-    → piece ≡ take (length_until (stops DoubleQuote) rest) rest
-    → after ≡ drop (length_until (stops DoubleQuote) rest) rest
+    → piece ≡ take (length_before_stop (stops DoubleQuote) rest) rest
+    → after ≡ drop (length_before_stop (stops DoubleQuote) rest) rest
     → Some more ≡ behind 92 after → double text ≡ with_front (w ++ piece) (behind_backslash more)
 double_escape text w rest piece after more inv pe ae some =
     double_step text w rest piece after inv pe ae ∙ ap (λ a. with_front (w ++ piece) (double a))
@@ -215,8 +215,8 @@ no_escape [] h = refl
 no_escape (b ∷ bs) h = no_escape_at b bs (nat_lt b 128) refl h
 
 pub double_cut : (text w rest piece after more : List ℕ) → double text ≡ with_front w (double rest)
-    → piece ≡ take (length_until (stops DoubleQuote) rest) rest
-    → after ≡ drop (length_until (stops DoubleQuote) rest) rest
+    → piece ≡ take (length_before_stop (stops DoubleQuote) rest) rest
+    → after ≡ drop (length_before_stop (stops DoubleQuote) rest) rest
     → Some more ≡ behind 92 after → None ≡ ascii_first more → double text ≡ None
 double_cut text w rest piece after more inv pe ae some none = double_escape text w rest piece after
     more inv pe ae some ∙ ap (with_front (w ++ piece)) (no_escape more none)
@@ -235,8 +235,8 @@ first_less b bs m h = let e = ap length (first_cons b bs m h) in omega arith
 
 pub double_unknown : (text w rest piece after more next : List ℕ) (b : ℕ)
     → double text ≡ with_front w (double rest)
-    → piece ≡ take (length_until (stops DoubleQuote) rest) rest
-    → after ≡ drop (length_until (stops DoubleQuote) rest) rest
+    → piece ≡ take (length_before_stop (stops DoubleQuote) rest) rest
+    → after ≡ drop (length_before_stop (stops DoubleQuote) rest) rest
     → Some more ≡ behind 92 after → found b next ≡ ascii_first more → None ≡ escape b
     → double text ≡ None
 double_unknown text w rest piece after more next b inv pe ae some first none =
@@ -247,8 +247,8 @@ double_unknown text w rest piece after more next b inv pe ae some first none =
 
 pub double_goes_on : (text w rest piece after more next : List ℕ) (b c : ℕ)
     → double text ≡ with_front w (double rest)
-    → piece ≡ take (length_until (stops DoubleQuote) rest) rest
-    → after ≡ drop (length_until (stops DoubleQuote) rest) rest
+    → piece ≡ take (length_before_stop (stops DoubleQuote) rest) rest
+    → after ≡ drop (length_before_stop (stops DoubleQuote) rest) rest
     → Some more ≡ behind 92 after → found b next ≡ ascii_first more → Some c ≡ escape b
     → double text ≡ with_front ((w ++ piece) ++ (c ∷ [])) (double next)
 double_goes_on text w rest piece after more next b c inv pe ae some first meant =

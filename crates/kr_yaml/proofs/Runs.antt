@@ -8,7 +8,7 @@ use Rattle.kr_yaml.specs.Lines.{Token, dash, pair}
 use Rattle.kr_yaml.specs.Forms.{Shape, IsNode, no_tokens, one_leaf, one_list, one_mapping, AreItems}
 use Rattle.kr_yaml.specs.Forms.{no_items, one_more_item, AreMembers, no_members, one_more_member}
 use Rattle.kr_yaml.specs.Forms.{IsValue, on_line, to_the_right, list_below}
-use Rattle.kr_yaml.specs.inner.Open.{Frame, items, members, State, column_of, is_dash_at, is_inside}
+use Rattle.kr_yaml.specs.inner.Open.{Frame, items, members, State, token_column, is_dash_in_column, belongs_to_node}
 use Rattle.kr_yaml.specs.inner.Open.{closed_value, next, under, put, run}
 
 append_at : (xs ys : List Token) (o : Option State)
@@ -25,7 +25,7 @@ run_append (t ∷ xs) ys st = append_at xs ys (put t st.0 st.1) (run_append xs y
 -- each token belongs inside
 abbrev pub AllInside : Frame → List Token → Type 0
 AllInside f [] = Unit {0}
-AllInside f (t ∷ ts) = (is_inside t f ≡ true) × AllInside f ts
+AllInside f (t ∷ ts) = (belongs_to_node t f ≡ true) × AllInside f ts
 
 under_at : (f : Frame) (ts : List Token) (o : Option State)
     → ((st : State) → run ts (f ∷ st.0, st.1) ≡ under f (run ts st))
@@ -44,7 +44,7 @@ run_under f (t ∷ ts) h st =
 -- each token stands at this column or further to the right
 abbrev pub Above : ℕ → List Token → Type 0
 Above low [] = Unit {0}
-Above low (t ∷ ts) = (low ≤ column_of t) × Above low ts
+Above low (t ∷ ts) = (low ≤ token_column t) × Above low ts
 
 above_append : (low : ℕ) (xs ys : List Token) → Above low xs → Above low ys → Above low (xs ++ ys)
 above_append low [] ys h k = k
@@ -105,13 +105,13 @@ dash_at_itself c = grind arith
 inside_items : (c : ℕ) (ds : List Data) (ts : List Token) → Above (suc c) ts
     → AllInside (items c ds) ts
 inside_items c ds [] h = tt
-inside_items c ds (t ∷ ts) h = (right_of c (column_of t) h.0, inside_items c ds ts h.1)
+inside_items c ds (t ∷ ts) h = (right_of c (token_column t) h.0, inside_items c ds ts h.1)
 
 inside_members : (c : ℕ) (ms : List (List ℕ × Data)) (k : List ℕ) (ts : List Token)
     → Above (suc c) ts → AllInside (members c ms k) ts
 inside_members c ms k [] h = tt
 inside_members c ms k (t ∷ ts) h = (
-  right_or c (column_of t) (is_dash_at c t) h.0,
+  right_or c (token_column t) (is_dash_in_column c t) h.0,
   inside_members c
       ms k ts h.1,
 )

@@ -15,9 +15,9 @@ use Rattle.kr_yaml.specs.Written.{quoted_part, plain_part, IsKey, quoted_key}
 use Rattle.kr_yaml.specs.Written.{plain_key}
 use Rattle.kr_yaml.specs.Lines.{IsTail}
 use Rattle.kr_yaml.specs.inner.Stops.{opens, closes, stops}
-use Rattle.kr_yaml.specs.inner.ScalarReading.{single, double, plain_at, quoted_scalar, scalar_at}
+use Rattle.kr_yaml.specs.inner.ScalarReading.{single, double, leading_plain, quoted_scalar, leading_scalar}
 use Rattle.kr_yaml.specs.inner.ScalarReading.{data_of, is_merge}
-use Rattle.kr_yaml.specs.declared.bytes.Stop.TheVariants.{FlowSign}
+use Rattle.kr_yaml.specs.declared.bytes.ScanStop.TheVariants.{FlowSign}
 use Rattle.kr_yaml.specs.declared.scalar.Scalar.{Scalar}
 use Rattle.kr_yaml.specs.declared.scalar.Context.{Context}
 use Rattle.kr_yaml.specs.declared.scalar.Context.TheVariants.{Line, Flow}
@@ -175,8 +175,8 @@ double_made bs r s rest e h =
 scalar_by : (context : Context) (bs : List ℕ) (s : Scalar) (rest : List ℕ) (o p : Option (List ℕ))
     → o ≡ behind 39 bs → p ≡ behind 34 bs
     → option_map_or (λ r. quoted_scalar (single r)) o
-    (option_map_or (λ r. quoted_scalar (double r)) p (plain_at context bs)) ≡ found s rest
-    → InQuotes bs s rest ⊎ (plain_at context bs ≡ found s rest)
+    (option_map_or (λ r. quoted_scalar (double r)) p (leading_plain context bs)) ≡ found s rest
+    → InQuotes bs s rest ⊎ (leading_plain context bs ≡ found s rest)
 scalar_by context bs s rest (Some r) p e f h =
     inl (single_made bs r s rest (behind_cons 39 bs r e) h)
 scalar_by context bs s rest None (Some r) e f h =
@@ -184,9 +184,9 @@ scalar_by context bs s rest None (Some r) e f h =
 scalar_by context bs s rest None None e f h = inr h
 
 scalar_read : (context : Context) (bs : List ℕ) (s : Scalar) (rest : List ℕ)
-    → scalar_at context bs ≡ found s rest
-    → InQuotes bs s rest ⊎ (plain_at context bs ≡ found s rest)
-unfolding scalar_at
+    → leading_scalar context bs ≡ found s rest
+    → InQuotes bs s rest ⊎ (leading_plain context bs ≡ found s rest)
+unfolding leading_scalar
 scalar_read context bs s rest h =
     scalar_by context bs s rest (behind 39 bs) (behind 34 bs) refl refl h
 
@@ -204,7 +204,7 @@ pub record Valued (bs : List ℕ) (d : Data) : Type 0 where
   pub behind : IsTail tail
 
 pub line_value : (bs : List ℕ) (s : Scalar) (rest : List ℕ) → NoSpaceFront bs
-    → closes rest ≡ true → scalar_at Line bs ≡ found s rest → Valued bs (data_of s)
+    → closes rest ≡ true → leading_scalar Line bs ≡ found s rest → Valued bs (data_of s)
 line_value bs s rest f c h = elim (scalar_read Line bs s rest h) [
   | inl q ↦ record {
     bytes = q.bytes;
@@ -226,7 +226,7 @@ line_value bs s rest f c h = elim (scalar_read Line bs s rest h) [
 ]
 
 pub line_key : (bs : List ℕ) (s : Scalar) (r : List ℕ) → NoSpaceFront bs → is_merge s ≡ false
-    → scalar_at Line bs ≡ found s (58 ∷ r)
+    → leading_scalar Line bs ≡ found s (58 ∷ r)
     → (bytes : List ℕ) × (bs ≡ bytes ++ 58 ∷ r) × IsKey s.text bytes
 line_key bs s r f m h = elim (scalar_read Line bs s (58 ∷ r) h) [
   | inl q ↦ (q.bytes, q.whole, quoted_key s.text q.bytes q.quoted)
@@ -242,7 +242,7 @@ pub record Parted (bs : List ℕ) (d : Data) (rest : List ℕ) : Type 0 where
   pub scalar : IsPart d bytes
 
 pub flow_part : (bs : List ℕ) (s : Scalar) (rest : List ℕ) → NoSpaceFront bs
-    → scalar_at Flow bs ≡ found s rest → Parted bs (data_of s) rest
+    → leading_scalar Flow bs ≡ found s rest → Parted bs (data_of s) rest
 flow_part bs s rest f h = elim (scalar_read Flow bs s rest h) [
   | inl q ↦ record {
     bytes = q.bytes;
@@ -265,8 +265,8 @@ flow_part bs s rest f h = elim (scalar_read Flow bs s rest h) [
 
 quoted_reads : (context : Context) (text bytes rest : List ℕ) → behind 39 rest ≡ None
     → IsQuoted text bytes
-    → scalar_at context (bytes ++ rest) ≡ found (record { text = text; plain = false }) rest
-unfolding scalar_at
+    → leading_scalar context (bytes ++ rest) ≡ found (record { text = text; plain = false }) rest
+unfolding leading_scalar
 quoted_reads context text bytes rest h (in_single t) =
     ap (λ l. quoted_scalar (single l)) (append_assoc (with_quotes_twice t) (39 ∷ []) rest)
     ∙ ap quoted_scalar (single_reads t rest h)
@@ -275,22 +275,22 @@ quoted_reads context text bytes rest h (in_double t w e) =
     ∙ ap quoted_scalar (double_reads t w rest e)
 
 plain_reads_at : (context : Context) (text rest : List ℕ) → IsPlain text
-    → scalar_at context (text ++ rest) ≡ plain_at context (text ++ rest)
-unfolding scalar_at plain_start
+    → leading_scalar context (text ++ rest) ≡ leading_plain context (text ++ rest)
+unfolding leading_scalar plain_start
 plain_reads_at context text rest p =
     let s = plain_start text p in
     let no_single = start_behind 39 text rest s (not_first p.first 39 refl p.no_indicator) in
     let no_double = start_behind 34 text rest s (not_first p.first 34 refl p.no_indicator) in
     ap (λ o. option_map_or (λ r. quoted_scalar (single r)) o
     (option_map_or (λ r. quoted_scalar (double r)) (behind 34 (text ++ rest))
-    (plain_at context (text ++ rest)))) no_single
-    ∙ ap (λ o. option_map_or (λ r. quoted_scalar (double r)) o (plain_at context (text ++ rest)))
+    (leading_plain context (text ++ rest)))) no_single
+    ∙ ap (λ o. option_map_or (λ r. quoted_scalar (double r)) o (leading_plain context (text ++ rest)))
     no_double
 
 pub record IsRead (context : Context) (d : Data) (bs rest : List ℕ) : Type 0 where
   pub scalar : Scalar
   pub says : data_of scalar ≡ d
-  pub reads : scalar_at context bs ≡ found scalar rest
+  pub reads : leading_scalar context bs ≡ found scalar rest
 
 pub value_is_read : (tail : List ℕ) → IsTail tail → (d : Data) (bytes : List ℕ)
     → IsScalar d bytes
@@ -321,7 +321,7 @@ pub record KeyReads (key bs r : List ℕ) : Type 0 where
   pub scalar : Scalar
   pub text : scalar.text ≡ key
   pub no_merge : is_merge scalar ≡ false
-  pub reads : scalar_at Line bs ≡ found scalar (58 ∷ r)
+  pub reads : leading_scalar Line bs ≡ found scalar (58 ∷ r)
 
 pub key_is_read : (r : List ℕ) → opens r ≡ true → (key bytes : List ℕ) → IsKey key bytes
     → KeyReads key (bytes ++ 58 ∷ r) r

@@ -8,7 +8,7 @@ use Rattle.kr_yaml.specs.Lines.{Token}
 use Rattle.kr_yaml.specs.Forms.{Shape, flat}
 use Rattle.kr_yaml.specs.inner.Open.{State, put, doubles, run, closed_value}
 use Rattle.kr_yaml.specs.inner.Standing.{Stands, empty}
-use Rattle.kr_yaml.specs.Reads.{plain, Makes, FormNone, FormTwice, FormDeep, Breaks, IsFirst}
+use Rattle.kr_yaml.specs.Reads.{plain, MakesTree, FormNone, FormTwice, FormDeep, BreaksTree, IsFirst}
 use Rattle.kr_yaml.specs.Reads.{Refuses}
 use Rattle.kr_yaml.specs.Laws.{AnswerOf, SomeAnswer}
 use Rattle.kr_yaml.specs.declared.yaml_no.YamlNo.{YamlNo}
@@ -32,7 +32,7 @@ record Broke (us : List (ℕ × Token)) : Type 0 where
   why : YamlNo
   first : IsFirst us why
 
-makes : (us : List (ℕ × Token)) (g : Stood us) → Makes (plain us) (closed_value g.st.0 g.st.1)
+makes : (us : List (ℕ × Token)) (g : Stood us) → MakesTree (plain us) (closed_value g.st.0 g.st.1)
 makes us g = record {
   shape = g.shape;
   forms = stands_node 0 (plain us) g.st.0 g.st.1 g.shape
@@ -42,7 +42,7 @@ makes us g = record {
 }
 
 breaks : (us : List (ℕ × Token)) (n : ℕ) (t : Token) (P : List Token → Type 0) → Stood us
-    → P (plain us ++ t ∷ []) → Breaks (us ++ (n, t) ∷ []) n P
+    → P (plain us ++ t ∷ []) → BreaksTree (us ++ (n, t) ∷ []) n P
 breaks us n t P g h = record {
   before = us;
   token = t;

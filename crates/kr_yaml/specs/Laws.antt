@@ -22,16 +22,16 @@ OneForm = (ts : List Token) (d e : Data) (s t : Shape) → Form ts d s → Form 
     → (d ≡ e) × (s ≡ t)
 
 -- two answers are one, unless one of them is want of memory
-abbrev pub AreOne : Result Tree YamlNo → Result Tree YamlNo → Type 0
-AreOne (Ok x) (Ok y) = view x ≡ view y
-AreOne (Ok x) (Err why) = why ≡ NoMemory
-AreOne (Err why) (Ok x) = why ≡ NoMemory
-AreOne (Err why) (Err other) = (why ≡ NoMemory) ⊎ (other ≡ NoMemory) ⊎ (why ≡ other)
+abbrev pub AreOneTree : Result Tree YamlNo → Result Tree YamlNo → Type 0
+AreOneTree (Ok x) (Ok y) = view x ≡ view y
+AreOneTree (Ok x) (Err why) = why ≡ NoMemory
+AreOneTree (Err why) (Ok x) = why ≡ NoMemory
+AreOneTree (Err why) (Err other) = (why ≡ NoMemory) ⊎ (other ≡ NoMemory) ⊎ (why ≡ other)
 
 -- a text is answered by one tree, or by one breach
 abbrev pub OneAnswer : Type 0
 OneAnswer = (wanted : Result (List (ℕ × Token)) ℕ) (a b : Result Tree YamlNo)
-    → Reads wanted a → Reads wanted b → AreOne a b
+    → Reads wanted a → Reads wanted b → AreOneTree a b
 
 -- a tree, or a refusal other than want of memory
 abbrev pub AnswerOf : Result (List (ℕ × Token)) ℕ → Type 0

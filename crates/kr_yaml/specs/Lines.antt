@@ -39,23 +39,23 @@ pub data IsLeaf : Data → List ℕ → Type 0 where
 
 -- The tokens of a content that begins at this column: an item, which may have a content of its
 -- own behind it, a member, or else a scalar or a flow value.
-pub data IsContent : ℕ → List ℕ → List Token → Type 0 where
-  empty_item : (c : ℕ) → IsContent c (45 ∷ []) (dash c ∷ [])
-  item : (c n : ℕ) (bytes : List ℕ) (ts : List Token) → IsContent (c + 1 + suc n) bytes ts
-      → IsContent c (45 ∷ (spaces (suc n) ++ bytes)) (dash c ∷ ts)
+pub data AreContentTokens : ℕ → List ℕ → List Token → Type 0 where
+  empty_item : (c : ℕ) → AreContentTokens c (45 ∷ []) (dash c ∷ [])
+  item : (c n : ℕ) (bytes : List ℕ) (ts : List Token) → AreContentTokens (c + 1 + suc n) bytes ts
+      → AreContentTokens c (45 ∷ (spaces (suc n) ++ bytes)) (dash c ∷ ts)
   empty_member : (c : ℕ) (key bytes : List ℕ) → IsKey key bytes
-      → IsContent c (bytes ++ 58 ∷ []) (pair c key None ∷ [])
+      → AreContentTokens c (bytes ++ 58 ∷ []) (pair c key None ∷ [])
   member : (c n : ℕ) (key bytes : List ℕ) (d : Data) (more : List ℕ) → IsKey key bytes
       → IsLeaf d more
-      → IsContent c (bytes ++ 58 ∷ (spaces (suc n) ++ more)) (pair c key (Some d) ∷ [])
+      → AreContentTokens c (bytes ++ 58 ∷ (spaces (suc n) ++ more)) (pair c key (Some d) ∷ [])
   value : (c : ℕ) (d : Data) (bytes : List ℕ) → IsLeaf d bytes → bytes ≢ 45 ∷ []
-      → IsContent c bytes (leaf c d ∷ [])
+      → AreContentTokens c bytes (leaf c d ∷ [])
 
 -- The tokens of a line. One that is empty or a comment has none; no content follows a tab.
 pub data IsLine : List ℕ → List Token → Type 0 where
   empty_line : (n : ℕ) → IsLine (spaces n) []
   comment_line : (n : ℕ) (text : List ℕ) → IsLine (spaces n ++ 35 ∷ text) []
-  content_line : (n : ℕ) (bytes tail : List ℕ) (ts : List Token) → IsContent n bytes ts
+  content_line : (n : ℕ) (bytes tail : List ℕ) (ts : List Token) → AreContentTokens n bytes ts
       → IsTail tail → ((more : List ℕ) → bytes ≢ 9 ∷ more)
       → IsLine (spaces n ++ (bytes ++ tail)) ts
 

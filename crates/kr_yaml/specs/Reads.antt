@@ -16,7 +16,7 @@ abbrev pub plain : List (ℕ × Token) → List Token
 plain us = map (λ u. u.1) us
 
 -- they form this tree, of at most 16 levels, in which no mapping has a key twice
-pub record Makes (ts : List Token) (d : Data) : Type 0 where
+pub record MakesTree (ts : List Token) (d : Data) : Type 0 where
   pub shape : Shape
   pub forms : Form ts d shape
   pub levels : shape.levels ≤ 16
@@ -38,25 +38,26 @@ FormDeep ts = (d : Data) × (s : Shape) × Form ts d s × (16 < s.levels)
 -- breach that comes first in the text is also the first in the order Indent, DuplicateKey, Deep on
 -- its line: only the first token of a line can be one that can't go on, or go on with a mapping,
 -- since what stands behind a dash on its line begins a node of its own.
-pub record Breaks (us : List (ℕ × Token)) (line : ℕ) (Breach : List Token → Type 0) : Type 0 where
+pub record BreaksTree (us : List (ℕ × Token)) (line : ℕ) (Breach : List Token → Type 0)
+    : Type 0 where
   pub before : List (ℕ × Token)
   pub token : Token
   pub after : List (ℕ × Token)
   pub split : us ≡ before ++ (line, token) ∷ after
   pub tree : Data
-  pub makes : Makes (plain before) tree
+  pub makes : MakesTree (plain before) tree
   pub breach : Breach (plain before ++ token ∷ [])
 
 -- the first breach of the tokens
 abbrev pub IsFirst : List (ℕ × Token) → YamlNo → Type 0
 IsFirst us (Outside line) = ⊥
-IsFirst us (Indent line) = Breaks us line FormNone
-IsFirst us (DuplicateKey line) = Breaks us line FormTwice
-IsFirst us (Deep line) = Breaks us line FormDeep
+IsFirst us (Indent line) = BreaksTree us line FormNone
+IsFirst us (DuplicateKey line) = BreaksTree us line FormTwice
+IsFirst us (Deep line) = BreaksTree us line FormDeep
 IsFirst us NoMemory = ⊥
 
 abbrev pub ReadsTree : Result (List (ℕ × Token)) ℕ → Tree → Type 0
-ReadsTree (Ok us) tree = Makes (plain us) (view tree)
+ReadsTree (Ok us) tree = MakesTree (plain us) (view tree)
 ReadsTree (Err n) tree = ⊥
 
 abbrev pub Refuses : Result (List (ℕ × Token)) ℕ → YamlNo → Type 0
@@ -78,7 +79,7 @@ OnlyTree (Err n) tree = ⊥
 
 -- the tree of a text: each of its lines has tokens, and they make this tree
 abbrev pub HasTree : Result (List (ℕ × Token)) ℕ → Data → Type 0
-HasTree (Ok us) d = Makes (plain us) d
+HasTree (Ok us) d = MakesTree (plain us) d
 HasTree (Err n) d = ⊥
 
 -- where this is answered there is no tree. Want of memory says nothing.

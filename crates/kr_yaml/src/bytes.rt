@@ -3,12 +3,12 @@ ghost use Rattle.std.specs.Prelude.{◌≡◌, true, ◌<◌, ◌≤◌, length,
 ghost use Rattle.std.specs.Option.{option_map};
 ghost use Rattle.kr_yaml.specs.Bytes.{behind, skip, over};
 ghost use Rattle.kr_yaml.specs.inner.Stops.{trim, opens, closes, is_hash, is_colon, is_comment};
-ghost use Rattle.kr_yaml.specs.inner.Stops.{is_flow, is_single, is_double, stops, length_until};
+ghost use Rattle.kr_yaml.specs.inner.Stops.{is_flow, is_single, is_double, stops, length_before_stop};
 ghost use Rattle.kr_yaml.specs.inner.Stops.{has, at_stop, ascii_first};
 
 /// What ends a part of a line.
 #[derive(Clone, Copy)]
-pub enum Stop {
+pub enum ScanStop {
     /// A `:` at the end or before a space.
     Colon,
     /// A `#` behind a space.
@@ -25,7 +25,7 @@ pub enum Stop {
 
 /// What stands behind this character, where the text begins with it.
 #[tactic(auto, using(crate::proofs::Behind::behind_is))]
-pub fn behind(text: &str, mark: char) -> Option<&str>
+pub fn strip_mark(text: &str, mark: char) -> Option<&str>
     requires { mark < 128 }
     ensures { option_map (λ rest. rest.now) result ≡ behind mark text.now }
 {
@@ -37,7 +37,7 @@ pub fn ascii_first(text: &str) -> Option<(u8, &str)>
     ensures { option_map (λ found. (found.0, found.1.now)) result ≡ ascii_first text.now }
 {
     match text.as_bytes() {
-        [byte, ..] if *byte < 128 => match behind(text, char::from(*byte)) {
+        [byte, ..] if *byte < 128 => match strip_mark(text, char::from(*byte)) {
             Some(rest) => Some((*byte, rest)),
             None => None,
         },
@@ -60,7 +60,7 @@ pub fn skip(text: &str) -> &str
     ensures { result.now ≡ skip text.now }
 {
     let mut rest = text;
-    while let Some(more) = behind(rest, ' ') {
+    while let Some(more) = strip_mark(rest, ' ') {
         rest = more;
     }
     rest
@@ -88,7 +88,7 @@ pub fn opens(bytes: &[u8]) -> bool
 }
 
 /// Whether it is empty or a comment.
-pub fn over(bytes: &[u8]) -> bool
+pub fn is_blank_or_comment(bytes: &[u8]) -> bool
     ensures { result ≡ over bytes.now }
 {
     match bytes {
@@ -101,8 +101,8 @@ pub fn over(bytes: &[u8]) -> bool
 pub fn closes(text: &str) -> bool
     ensures { result ≡ closes text.now }
 {
-    match behind(text, ' ') {
-        Some(rest) => over(skip(rest).as_bytes()),
+    match strip_mark(text, ' ') {
+        Some(rest) => is_blank_or_comment(skip(rest).as_bytes()),
         None => text.is_empty(),
     }
 }
@@ -165,23 +165,23 @@ fn is_double(bytes: &[u8]) -> bool
     }
 }
 
-fn stops(stop: Stop, bytes: &[u8]) -> bool
+fn stops(stop: ScanStop, bytes: &[u8]) -> bool
     ensures { result ≡ stops stop bytes.now }
 {
     match stop {
-        Stop::Colon => is_colon(bytes),
-        Stop::Comment => is_comment(bytes),
-        Stop::KeyEnd => is_colon(bytes) || is_comment(bytes),
-        Stop::FlowSign => is_flow(bytes),
-        Stop::SingleQuote => is_single(bytes),
-        Stop::DoubleQuote => is_double(bytes),
+        ScanStop::Colon => is_colon(bytes),
+        ScanStop::Comment => is_comment(bytes),
+        ScanStop::KeyEnd => is_colon(bytes) || is_comment(bytes),
+        ScanStop::FlowSign => is_flow(bytes),
+        ScanStop::SingleQuote => is_single(bytes),
+        ScanStop::DoubleQuote => is_double(bytes),
     }
 }
 
 /// How many bytes stand before the first place where this stands, or before the end.
 #[tactic(auto, using(crate::proofs::Until::until_stops, crate::proofs::Until::until_ends, crate::proofs::Until::tail_is))]
-pub fn length_until(stop: Stop, bytes: &[u8]) -> usize
-    ensures value { result ≡ length_until (stops stop) bytes.now }
+pub fn length_before_stop(stop: ScanStop, bytes: &[u8]) -> usize
+    ensures value { result ≡ length_before_stop (stops stop) bytes.now }
     ensures within { result ≤ length bytes.now }
 {
     for index in 0..bytes.len() {
@@ -194,17 +194,17 @@ pub fn length_until(stop: Stop, bytes: &[u8]) -> usize
 
 /// The text in two, before the first place where this stands or at the end.
 #[tactic(auto, using(crate::proofs::Until::until_ascii, crate::proofs::Until::until_there))]
-pub fn cut_before(stop: Stop, text: &str) -> (&str, &str)
-    ensures front { result.0.now ≡ take (length_until (stops stop) text.now) text.now }
-    ensures rest { result.1.now ≡ drop (length_until (stops stop) text.now) text.now }
+pub fn split_at_stop(stop: ScanStop, text: &str) -> (&str, &str)
+    ensures front { result.0.now ≡ take (length_before_stop (stops stop) text.now) text.now }
+    ensures rest { result.1.now ≡ drop (length_before_stop (stops stop) text.now) text.now }
     ensures there { at_stop stop result.1.now ≡ true }
 {
-    cut(text, length_until(stop, text.as_bytes()))
+    cut(text, length_before_stop(stop, text.as_bytes()))
 }
 
 /// Whether this stands somewhere.
-pub fn has(stop: Stop, bytes: &[u8]) -> bool
+pub fn has(stop: ScanStop, bytes: &[u8]) -> bool
     ensures { result ≡ has stop bytes.now }
 {
-    length_until(stop, bytes) < bytes.len()
+    length_before_stop(stop, bytes) < bytes.len()
 }

@@ -3,17 +3,17 @@ ghost use Rattle.std.specs.Prelude.{◌≡◌, IfOk, length, map};
 ghost use Rattle.std.specs.Option.{option_map};
 ghost use Rattle.kr_yaml.specs.Lines.{Token, dash, leaf, pair};
 ghost use Rattle.kr_yaml.specs.inner.LineReading.{scalars, flow_list, flow_mapping, list_alone};
-ghost use Rattle.kr_yaml.specs.inner.LineReading.{mapping_alone, leaf_at, value_at, member_at};
-ghost use Rattle.kr_yaml.specs.inner.LineReading.{key_at, content_at, Head, head, dash_behind};
-ghost use Rattle.kr_yaml.specs.inner.LineReading.{tokens_in, tokens_of};
+ghost use Rattle.kr_yaml.specs.inner.LineReading.{mapping_alone, leaf_value, key_value, member_token};
+ghost use Rattle.kr_yaml.specs.inner.LineReading.{key_token, content_token, Head, head, strip_dash};
+ghost use Rattle.kr_yaml.specs.inner.LineReading.{tokens_in, tokenize_line};
 ghost use Rattle.kr_yaml.specs.Shown.{view};
 ghost use Rattle.kr_yaml.specs.inner.Seen.{token_view, token_views, lent_trees, lent_tree};
 ghost use Rattle.kr_yaml.specs.inner.Seen.{list_tokens, IsHead};
 ghost use Rattle.kr_yaml.specs.inner.Gives.{Gives};
 
-use crate::bytes::{behind, closes, opens, over, skip};
+use crate::bytes::{closes, is_blank_or_comment, opens, skip, strip_mark};
 use crate::line_error::LineError;
-use crate::scalar::{Context, Scalar, is_merge, scalar_at, tree_of};
+use crate::scalar::{Context, Scalar, is_merge, leading_scalar, scalar_tree};
 use crate::token::LineToken;
 use crate::tree::Tree;
 use kr_base::{List, NoMemory, Text};
@@ -27,18 +27,18 @@ fn scalars(alloc: Global, text: &str) -> Result<(List<Tree>, &str), LineError>
     let mut trees = List::new(alloc);
     let mut rest = text;
     'scalars: for step in 0..text.len() {
-        let (scalar, after) = match scalar_at(alloc, Context::Flow, skip(rest)) {
+        let (scalar, after) = match leading_scalar(alloc, Context::Flow, skip(rest)) {
             Ok(found) => found,
             Err(why) => return Err(why),
         };
-        match trees.push(tree_of(scalar)) {
+        match trees.push(scalar_tree(scalar)) {
             Ok(()) => {}
             Err(_) => return Err(LineError::NoMemory),
         }
         let after = skip(after);
-        match behind(after, ',') {
+        match strip_mark(after, ',') {
             Some(more) => rest = more,
-            None => match behind(after, ']') {
+            None => match strip_mark(after, ']') {
                 Some(more) => return Ok((trees, more)),
                 None => return Err(LineError::Form),
             },
@@ -52,7 +52,7 @@ fn scalars(alloc: Global, text: &str) -> Result<(List<Tree>, &str), LineError>
 fn flow_list(alloc: Global, text: &str) -> Result<(Tree, &str), LineError>
     ensures { Gives lent_tree (flow_list text.now) result }
 {
-    if let Some(rest) = behind(text, ']') {
+    if let Some(rest) = strip_mark(text, ']') {
         return Ok((Tree::Items(List::new(alloc)), rest));
     }
     match scalars(alloc, text) {
@@ -81,7 +81,7 @@ fn list_alone(alloc: Global, text: &str) -> Result<Tree, LineError>
 fn mapping_alone(alloc: Global, text: &str) -> Result<Tree, LineError>
     ensures { Gives view (mapping_alone text.now) result }
 {
-    match behind(text, '}') {
+    match strip_mark(text, '}') {
         Some(rest) => {
             if closes(rest) {
                 Ok(Tree::Members(List::new(alloc)))
@@ -94,20 +94,20 @@ fn mapping_alone(alloc: Global, text: &str) -> Result<Tree, LineError>
 }
 
 /// A scalar or a flow value up to the end of the line.
-#[tactic(auto, unfolding(crate::specs::inner::LineReading::leaf_at))]
-fn leaf_at(alloc: Global, text: &str) -> Result<Tree, LineError>
-    ensures { Gives view (leaf_at text.now) result }
+#[tactic(auto, unfolding(crate::specs::inner::LineReading::leaf_value))]
+fn leaf_value(alloc: Global, text: &str) -> Result<Tree, LineError>
+    ensures { Gives view (leaf_value text.now) result }
 {
-    if let Some(rest) = behind(text, '[') {
+    if let Some(rest) = strip_mark(text, '[') {
         return list_alone(alloc, rest);
     }
-    if let Some(rest) = behind(text, '{') {
+    if let Some(rest) = strip_mark(text, '{') {
         return mapping_alone(alloc, rest);
     }
-    match scalar_at(alloc, Context::Line, text) {
+    match leading_scalar(alloc, Context::Line, text) {
         Ok((scalar, rest)) => {
             if closes(rest) {
-                Ok(tree_of(scalar))
+                Ok(scalar_tree(scalar))
             } else {
                 Err(LineError::Form)
             }
@@ -117,68 +117,68 @@ fn leaf_at(alloc: Global, text: &str) -> Result<Tree, LineError>
 }
 
 /// What stands behind the `:` of a key.
-#[tactic(auto, unfolding(crate::specs::inner::LineReading::value_at))]
-fn value_at(alloc: Global, text: &str) -> Result<Option<Tree>, LineError>
-    ensures { Gives (λ value. option_map view value) (value_at text.now) result }
+#[tactic(auto, unfolding(crate::specs::inner::LineReading::key_value))]
+fn key_value(alloc: Global, text: &str) -> Result<Option<Tree>, LineError>
+    ensures { Gives (λ value. option_map view value) (key_value text.now) result }
 {
     let text = skip(text);
-    if over(text.as_bytes()) {
+    if is_blank_or_comment(text.as_bytes()) {
         return Ok(None);
     }
-    Ok(Some(leaf_at(alloc, text)?))
+    Ok(Some(leaf_value(alloc, text)?))
 }
 
 /// A key and what stands behind its `:`.
-fn key_at(alloc: Global, column: usize, key: Scalar, rest: &str) -> Result<LineToken, LineError>
-    ensures { Gives token_view (key_at column key rest.now) result }
+fn key_token(alloc: Global, column: usize, key: Scalar, rest: &str) -> Result<LineToken, LineError>
+    ensures { Gives token_view (key_token column key rest.now) result }
 {
     if is_merge(&key) {
         return Err(LineError::Form);
     }
-    member_at(alloc, column, key.text, rest)
+    member_token(alloc, column, key.text, rest)
 }
 
-fn member_at(alloc: Global, column: usize, key: Text, rest: &str) -> Result<LineToken, LineError>
-    ensures { Gives token_view (member_at column key rest.now) result }
+fn member_token(alloc: Global, column: usize, key: Text, rest: &str) -> Result<LineToken, LineError>
+    ensures { Gives token_view (member_token column key rest.now) result }
 {
     if !opens(rest.as_bytes()) {
         return Err(LineError::Form);
     }
-    let value = value_at(alloc, rest)?;
+    let value = key_value(alloc, rest)?;
     Ok(LineToken::Pair { column, key, value })
 }
 
 /// The last token of a line.
-#[tactic(auto, unfolding(crate::specs::inner::LineReading::content_at))]
-fn content_at(alloc: Global, column: usize, text: &str) -> Result<LineToken, LineError>
-    ensures { Gives token_view (content_at column text.now) result }
+#[tactic(auto, unfolding(crate::specs::inner::LineReading::content_token))]
+fn content_token(alloc: Global, column: usize, text: &str) -> Result<LineToken, LineError>
+    ensures { Gives token_view (content_token column text.now) result }
 {
-    if let Some(rest) = behind(text, '[') {
+    if let Some(rest) = strip_mark(text, '[') {
         let value = list_alone(alloc, rest)?;
         return Ok(LineToken::Leaf { column, value });
     }
-    if let Some(rest) = behind(text, '{') {
+    if let Some(rest) = strip_mark(text, '{') {
         let value = mapping_alone(alloc, rest)?;
         return Ok(LineToken::Leaf { column, value });
     }
-    let (scalar, rest) = scalar_at(alloc, Context::Line, text)?;
+    let (scalar, rest) = leading_scalar(alloc, Context::Line, text)?;
     if closes(rest) {
         return Ok(LineToken::Leaf {
             column,
-            value: tree_of(scalar),
+            value: scalar_tree(scalar),
         });
     }
-    match behind(rest, ':') {
-        Some(rest) => key_at(alloc, column, scalar, rest),
+    match strip_mark(rest, ':') {
+        Some(rest) => key_token(alloc, column, scalar, rest),
         None => Err(LineError::Form),
     }
 }
 
 /// What stands behind a dash that begins an item.
-fn dash_behind(text: &str) -> Option<&str>
-    ensures { option_map (λ rest. rest.now) result ≡ dash_behind text.now }
+fn strip_dash(text: &str) -> Option<&str>
+    ensures { option_map (λ rest. rest.now) result ≡ strip_dash text.now }
 {
-    match behind(text, '-') {
+    match strip_mark(text, '-') {
         Some(rest) => {
             if opens(rest.as_bytes()) {
                 Some(rest)
@@ -199,12 +199,12 @@ fn head(alloc: Global, text: &str) -> Result<(List<LineToken>, usize, &str), NoM
     let mut tokens = List::new(alloc);
     let mut rest = text;
     'dashes: loop {
-        if let Some(more) = behind(rest, ' ') {
+        if let Some(more) = strip_mark(rest, ' ') {
             rest = more;
             continue;
         }
         let column = text.len() - rest.len();
-        let Some(more) = dash_behind(rest) else {
+        let Some(more) = strip_dash(rest) else {
             return Ok((tokens, column, rest));
         };
         match tokens.push(LineToken::Dash { column }) {
@@ -216,21 +216,21 @@ fn head(alloc: Global, text: &str) -> Result<(List<LineToken>, usize, &str), NoM
 }
 
 /// The tokens of a line.
-#[tactic(auto, unfolding(crate::specs::inner::LineReading::tokens_of))]
-pub fn tokens_of(alloc: Global, line: &str) -> Result<List<LineToken>, LineError>
-    ensures { Gives list_tokens (tokens_of line.now) result }
+#[tactic(auto, unfolding(crate::specs::inner::LineReading::tokenize_line))]
+pub fn tokenize_line(alloc: Global, line: &str) -> Result<List<LineToken>, LineError>
+    ensures { Gives list_tokens (tokenize_line line.now) result }
 {
-    if behind(skip(line), '\t').is_some() {
+    if strip_mark(skip(line), '\t').is_some() {
         return Err(LineError::Form);
     }
     let (mut tokens, column, rest) = match head(alloc, line) {
         Ok(head) => head,
         Err(_) => return Err(LineError::NoMemory),
     };
-    if over(rest.as_bytes()) {
+    if is_blank_or_comment(rest.as_bytes()) {
         return Ok(tokens);
     }
-    let token = content_at(alloc, column, rest)?;
+    let token = content_token(alloc, column, rest)?;
     match tokens.push(token) {
         Ok(()) => Ok(tokens),
         Err(_) => Err(LineError::NoMemory),

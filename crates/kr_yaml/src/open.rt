@@ -4,7 +4,7 @@ ghost use Rattle.std.specs.Prelude.{vec_len, IfOk};
 ghost use Rattle.std.specs.Option.{option_map};
 ghost use Rattle.kr_yaml.specs.Shown.{view};
 ghost use Rattle.kr_yaml.specs.inner.Seen.{token_view};
-ghost use Rattle.kr_yaml.specs.inner.Open.{Frame, items, members, column_of, is_dash_at, is_inside};
+ghost use Rattle.kr_yaml.specs.inner.Open.{Frame, items, members, token_column, is_dash_in_column, belongs_to_node};
 ghost use Rattle.kr_yaml.specs.inner.Open.{close, closed_value, first_state, next, put};
 ghost use Rattle.kr_yaml.specs.inner.Open.{is_repeated, doubles, place};
 ghost use Rattle.kr_yaml.specs.inner.Frames.{frame_view, frame_views, state_view};
@@ -31,8 +31,8 @@ pub enum OpenNode {
     Members(OpenMapping),
 }
 
-fn column_of(token: &LineToken) -> usize
-    ensures { result ≡ column_of (token_view token.now) }
+fn token_column(token: &LineToken) -> usize
+    ensures { result ≡ token_column (token_view token.now) }
 {
     match token {
         LineToken::Dash { column } => *column,
@@ -41,8 +41,8 @@ fn column_of(token: &LineToken) -> usize
     }
 }
 
-fn is_dash_at(column: usize, token: &LineToken) -> bool
-    ensures { result ≡ is_dash_at column (token_view token.now) }
+fn is_dash_in_column(column: usize, token: &LineToken) -> bool
+    ensures { result ≡ is_dash_in_column column (token_view token.now) }
 {
     match token {
         LineToken::Dash { column: own } => *own == column,
@@ -52,13 +52,13 @@ fn is_dash_at(column: usize, token: &LineToken) -> bool
 }
 
 /// Whether the token belongs to the last item or member.
-fn is_inside(token: &LineToken, node: &OpenNode) -> bool
-    ensures { result ≡ is_inside (token_view token.now) (frame_view node.now) }
+fn belongs_to_node(token: &LineToken, node: &OpenNode) -> bool
+    ensures { result ≡ belongs_to_node (token_view token.now) (frame_view node.now) }
 {
     match node {
-        OpenNode::Items { column, .. } => *column < column_of(token),
+        OpenNode::Items { column, .. } => *column < token_column(token),
         OpenNode::Members(mapping) => {
-            mapping.column < column_of(token) || is_dash_at(mapping.column, token)
+            mapping.column < token_column(token) || is_dash_in_column(mapping.column, token)
         }
     }
 }
@@ -69,7 +69,7 @@ pub fn place(token: &LineToken, nodes: &[OpenNode]) -> usize
     ensures within { result ≤ length nodes.now }
 {
     for (index, node) in nodes.iter().enumerate() {
-        if !is_inside(token, node) {
+        if !belongs_to_node(token, node) {
             return index;
         }
     }

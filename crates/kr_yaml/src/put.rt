@@ -32,7 +32,7 @@ fn or_null(value: Option<Tree>) -> Tree
 
 /// Closes the nodes from this one on, the innermost first.
 #[tactic(auto, using(crate::proofs::Closing::closed_pop, crate::proofs::Closing::take_pop, crate::proofs::Putting::closed_or_null))]
-pub fn close_from(
+pub fn close_nodes(
     nodes: &mut Vec<OpenNode>,
     at: usize,
     value: Option<Tree>,
@@ -56,7 +56,7 @@ pub fn close_from(
 }
 
 /// Goes on with an open node, whose last item or member has this value.
-fn go_on(
+fn continue_node(
     alloc: Global,
     node: OpenNode,
     value: Tree,
@@ -116,7 +116,7 @@ fn begin(alloc: Global, token: LineToken) -> Result<(Option<OpenNode>, Option<Tr
 }
 
 /// Puts a token that is inside of all nodes.
-fn put_inside(
+fn put_innermost(
     alloc: Global,
     nodes: Vec<OpenNode>,
     value: Option<Tree>,
@@ -148,7 +148,7 @@ fn put_inside(
 }
 
 /// Puts a token that is inside of the nodes before this one.
-fn put_at(
+fn put_under_node(
     alloc: Global,
     nodes: Vec<OpenNode>,
     at: usize,
@@ -162,14 +162,14 @@ fn put_at(
         (doubles (token_view token) (frame_views nodes.items)) result }
 {
     let mut nodes = nodes;
-    let tree = match close_from(&mut nodes, at + 1, value) {
+    let tree = match close_nodes(&mut nodes, at + 1, value) {
         Ok(tree) => tree,
         Err(_) => return Err(PlaceError::NoMemory),
     };
     let Some(node) = nodes.pop() else {
         return Err(PlaceError::NoMemory);
     };
-    let (node, value) = match go_on(alloc, node, tree, token) {
+    let (node, value) = match continue_node(alloc, node, tree, token) {
         Ok(more) => more,
         Err(why) => return Err(why),
     };
@@ -192,7 +192,7 @@ pub fn put(
 {
     let at = place(&token, nodes.as_slice());
     if at == nodes.len() {
-        return put_inside(alloc, nodes, value, token);
+        return put_innermost(alloc, nodes, value, token);
     }
-    put_at(alloc, nodes, at, value, token)
+    put_under_node(alloc, nodes, at, value, token)
 }

@@ -5,7 +5,7 @@ ghost use Rattle.kr_yaml.specs.inner.Seen.{token_view, token_views, list_tokens}
 ghost use Rattle.kr_yaml.specs.inner.Gives.{Gives};
 ghost use Rattle.std.specs.Option.{option_map};
 ghost use Rattle.kr_yaml.specs.Bytes.{behind_three};
-ghost use Rattle.kr_yaml.specs.inner.TextReading.{marks, begins_blank, goes_on, marks_more};
+ghost use Rattle.kr_yaml.specs.inner.TextReading.{marks, begins_blank, continues_text, marks_more};
 ghost use Rattle.kr_yaml.specs.inner.TextReading.{is_foreign, line_tokens};
 ghost use Rattle.kr_yaml.specs.Bytes.{is_empty};
 ghost use Rattle.kr_yaml.specs.inner.TextReading.{tokens_from};
@@ -14,13 +14,13 @@ ghost use Rattle.kr_yaml.specs.inner.Progress.{Moves, Extends, ReadsLines};
 ghost use Rattle.kr_yaml.specs.Reads.{Reads, OnlyTree, NoTree, ReadsText, IsOnlyTree, HasNoTree};
 ghost use Rattle.kr_yaml.specs.Shown.{view};
 
-use crate::bytes::{behind, closes, over, skip};
+use crate::bytes::{closes, is_blank_or_comment, skip, strip_mark};
 use crate::characters::are_allowed;
-use crate::line::tokens_of;
+use crate::line::tokenize_line;
 use crate::line_error::LineError;
 use crate::place_error::PlaceError;
 use crate::progress::Progress;
-use crate::put::{close_from, put};
+use crate::put::{close_nodes, put};
 use crate::standing::Standing;
 use crate::token::LineToken;
 use crate::tree::Tree;
@@ -33,9 +33,9 @@ fn behind_three(mark: char, line: &str) -> Option<&str>
     requires { mark < 128 }
     ensures { option_map (λ rest. rest.now) result ≡ behind_three mark line.now }
 {
-    match behind(line, mark) {
-        Some(rest) => match behind(rest, mark) {
-            Some(rest) => behind(rest, mark),
+    match strip_mark(line, mark) {
+        Some(rest) => match strip_mark(rest, mark) {
+            Some(rest) => strip_mark(rest, mark),
             None => None,
         },
         None => None,
@@ -62,8 +62,8 @@ fn begins_blank(bytes: &[u8]) -> bool
     }
 }
 
-fn goes_on(rest: &str) -> bool
-    ensures { result ≡ goes_on rest.now }
+fn continues_text(rest: &str) -> bool
+    ensures { result ≡ continues_text rest.now }
 {
     begins_blank(rest.as_bytes()) && !closes(rest)
 }
@@ -74,7 +74,7 @@ fn marks_more(mark: char, line: &str) -> bool
     ensures { result ≡ marks_more mark line.now }
 {
     match behind_three(mark, line) {
-        Some(rest) => goes_on(rest),
+        Some(rest) => continues_text(rest),
         None => false,
     }
 }
@@ -102,13 +102,13 @@ fn line_tokens(alloc: Global, first: bool, line: &str) -> Result<List<LineToken>
     if marks('.', line) && !first {
         return Err(LineError::Form);
     }
-    tokens_of(alloc, line)
+    tokenize_line(alloc, line)
 }
 
 fn is_empty(line: &str) -> bool
     ensures { result ≡ is_empty line.now }
 {
-    over(skip(line).as_bytes())
+    is_blank_or_comment(skip(line).as_bytes())
 }
 
 fn is_still_first(first: bool, line: &str) -> bool
@@ -212,7 +212,7 @@ fn read_tokens(alloc: Global, text: &str) -> Result<Tree, YamlNo>
         Progress::Broken(why) => return Err(why),
     };
     let Standing { mut nodes, value } = standing;
-    match close_from(&mut nodes, 0, value) {
+    match close_nodes(&mut nodes, 0, value) {
         Ok(tree) => Ok(tree),
         Err(_) => Err(YamlNo::NoMemory),
     }

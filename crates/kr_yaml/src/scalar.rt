@@ -3,13 +3,13 @@ ghost use Rattle.std.specs.Prelude.{◌≡◌, ◌<◌, IfSome};
 ghost use Rattle.std.specs.List.{list_all};
 ghost use Rattle.kr_yaml.specs.Bytes.{is_blank};
 ghost use Rattle.kr_yaml.specs.inner.ScalarReading.{is_merge, single, double, is_plain, is_space};
-ghost use Rattle.kr_yaml.specs.inner.ScalarReading.{is_null, plain_text, plain_scalar, plain_at};
-ghost use Rattle.kr_yaml.specs.inner.ScalarReading.{scalar_at, data_of, quoted_scalar};
+ghost use Rattle.kr_yaml.specs.inner.ScalarReading.{is_null, plain_text, plain_scalar, leading_plain};
+ghost use Rattle.kr_yaml.specs.inner.ScalarReading.{leading_scalar, data_of, quoted_scalar};
 ghost use Rattle.kr_yaml.specs.Written.{escape, is_indicator};
 ghost use Rattle.kr_yaml.specs.Shown.{view};
 ghost use Rattle.kr_yaml.specs.inner.Gives.{Gives, with_rest};
 
-use crate::bytes::{Stop, ascii_first, behind, cut_before, has, trim};
+use crate::bytes::{ScanStop, ascii_first, has, split_at_stop, strip_mark, trim};
 use crate::line_error::LineError;
 use crate::tree::Tree;
 use kr_base::Text;
@@ -41,15 +41,15 @@ fn single(alloc: Global, text: &str) -> Result<(Text, &str), LineError>
     let mut word = String::new(alloc);
     let mut rest = text;
     'pieces: loop {
-        let (piece, after) = cut_before(Stop::SingleQuote, rest);
+        let (piece, after) = split_at_stop(ScanStop::SingleQuote, rest);
         match word.push_str(piece) {
             Ok(()) => {}
             Err(_) => return Err(LineError::NoMemory),
         }
-        let Some(more) = behind(after, '\'') else {
+        let Some(more) = strip_mark(after, '\'') else {
             return Err(LineError::Form);
         };
-        let Some(more) = behind(more, '\'') else {
+        let Some(more) = strip_mark(more, '\'') else {
             return Ok((Text::from_string(word), more));
         };
         match word.push('\'') {
@@ -83,15 +83,15 @@ fn double(alloc: Global, text: &str) -> Result<(Text, &str), LineError>
     let mut word = String::new(alloc);
     let mut rest = text;
     'pieces: loop {
-        let (piece, after) = cut_before(Stop::DoubleQuote, rest);
+        let (piece, after) = split_at_stop(ScanStop::DoubleQuote, rest);
         match word.push_str(piece) {
             Ok(()) => {}
             Err(_) => return Err(LineError::NoMemory),
         }
-        if let Some(more) = behind(after, '"') {
+        if let Some(more) = strip_mark(after, '"') {
             return Ok((Text::from_string(word), more));
         }
-        let Some(more) = behind(after, '\\') else {
+        let Some(more) = strip_mark(after, '\\') else {
             return Err(LineError::Form);
         };
         let Some((byte, more)) = ascii_first(more) else {
@@ -140,7 +140,7 @@ fn is_plain(text: &str) -> bool
         [byte, rest @ ..] => {
             !is_indicator(*byte)
                 && !(*byte == b'-' && is_space(rest))
-                && !has(Stop::Colon, bytes)
+                && !has(ScanStop::Colon, bytes)
                 && !are_blank(bytes)
         }
     }
@@ -165,24 +165,24 @@ fn plain_scalar<'a>(
 fn plain_text<'a>(front: &'a str, rest: &str) -> &'a str
     ensures { result.now ≡ plain_text front.now rest.now }
 {
-    match behind(rest, ':') {
+    match strip_mark(rest, ':') {
         Some(_) => front,
         None => trim(front),
     }
 }
 
-#[tactic(auto, unfolding(crate::specs::inner::ScalarReading::plain_at))]
-fn plain_at(alloc: Global, context: Context, text: &str) -> Result<(Scalar, &str), LineError>
-    ensures { Gives with_rest (plain_at context text.now) result }
+#[tactic(auto, unfolding(crate::specs::inner::ScalarReading::leading_plain))]
+fn leading_plain(alloc: Global, context: Context, text: &str) -> Result<(Scalar, &str), LineError>
+    ensures { Gives with_rest (leading_plain context text.now) result }
 {
     match context {
         Context::Line => {
-            let (front, rest) = cut_before(Stop::KeyEnd, text);
+            let (front, rest) = split_at_stop(ScanStop::KeyEnd, text);
             plain_scalar(alloc, plain_text(front, rest), rest)
         }
         Context::Flow => {
-            let (front, rest) = cut_before(Stop::FlowSign, text);
-            if has(Stop::Comment, front.as_bytes()) {
+            let (front, rest) = split_at_stop(ScanStop::FlowSign, text);
+            if has(ScanStop::Comment, front.as_bytes()) {
                 return Err(LineError::Form);
             }
             plain_scalar(alloc, trim(front), rest)
@@ -191,23 +191,27 @@ fn plain_at(alloc: Global, context: Context, text: &str) -> Result<(Scalar, &str
 }
 
 /// The scalar that the text begins with, and what stands behind it.
-#[tactic(auto, unfolding(crate::specs::inner::ScalarReading::scalar_at))]
-pub fn scalar_at(alloc: Global, context: Context, text: &str) -> Result<(Scalar, &str), LineError>
-    ensures { Gives with_rest (scalar_at context text.now) result }
+#[tactic(auto, unfolding(crate::specs::inner::ScalarReading::leading_scalar))]
+pub fn leading_scalar(
+    alloc: Global,
+    context: Context,
+    text: &str,
+) -> Result<(Scalar, &str), LineError>
+    ensures { Gives with_rest (leading_scalar context text.now) result }
 {
-    if let Some(rest) = behind(text, '\'') {
+    if let Some(rest) = strip_mark(text, '\'') {
         return match single(alloc, rest) {
             Ok((text, rest)) => Ok((Scalar { text, plain: false }, rest)),
             Err(why) => Err(why),
         };
     }
-    if let Some(rest) = behind(text, '"') {
+    if let Some(rest) = strip_mark(text, '"') {
         return match double(alloc, rest) {
             Ok((text, rest)) => Ok((Scalar { text, plain: false }, rest)),
             Err(why) => Err(why),
         };
     }
-    plain_at(alloc, context, text)
+    leading_plain(alloc, context, text)
 }
 
 fn is_null(scalar: &Scalar) -> bool
@@ -223,8 +227,8 @@ pub fn is_merge(scalar: &Scalar) -> bool
     if !scalar.plain {
         return false;
     }
-    match behind(scalar.text.as_str(), '<') {
-        Some(rest) => match behind(rest, '<') {
+    match strip_mark(scalar.text.as_str(), '<') {
+        Some(rest) => match strip_mark(rest, '<') {
             Some(rest) => are_blank(rest.as_bytes()),
             None => false,
         },
@@ -233,7 +237,7 @@ pub fn is_merge(scalar: &Scalar) -> bool
 }
 
 /// What a scalar says.
-pub fn tree_of(scalar: Scalar) -> Tree
+pub fn scalar_tree(scalar: Scalar) -> Tree
     ensures { view result ≡ data_of scalar }
 {
     if is_null(&scalar) {

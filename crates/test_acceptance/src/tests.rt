@@ -1,10 +1,14 @@
 //! What the tests of this crate share: configurations, and calls over a world in memory.
 use kr_base::{Bytes, List, MemDice, MemSink, MemSource, NoMemory, Text};
 use kr_kms::TablePlugin;
-use kr_top::{MemWorld, run_alone};
+use kr_top::{MemWorld, World, run, run_alone};
 use std::alloc::Global;
+use std::sync::Wait;
+use std::thread::Threads;
 
+mod at_once;
 mod classes;
+mod gate;
 mod load;
 mod pages;
 mod values;
@@ -61,7 +65,7 @@ fn both<A: Drop, B: Drop>(
 }
 
 /// A list of the item alone.
-fn one_in<T: Drop>(alloc: Global, item: T) -> Result<List<T>, NoMemory> {
+fn list_of_one<T: Drop>(alloc: Global, item: T) -> Result<List<T>, NoMemory> {
     let mut all = List::new(alloc);
     match all.push(item) {
         Ok(()) => Ok(all),
@@ -84,13 +88,13 @@ fn owned(alloc: Global, words: &str) -> Result<Vec<String>, NoMemory> {
 /// A file of this name.
 fn file(alloc: Global, name: &str, content: &str) -> Result<List<(Text, Bytes)>, NoMemory> {
     let content = Bytes::copy(alloc, content.as_bytes());
-    one_in(alloc, both(Text::copy(alloc, name), content)?)
+    list_of_one(alloc, both(Text::copy(alloc, name), content)?)
 }
 
 /// The random source of the only seat.
 fn dice(alloc: Global, bytes: &[u8]) -> Result<List<(u32, MemDice)>, NoMemory> {
     let bytes = Bytes::copy(alloc, bytes)?;
-    one_in(alloc, (0, MemDice::new(bytes, List::new(alloc))))
+    list_of_one(alloc, (0, MemDice::new(bytes, List::new(alloc))))
 }
 
 fn world(alloc: Global, call: &Call<'_>) -> Result<MemWorld<TablePlugin>, NoMemory> {
@@ -103,7 +107,7 @@ fn sink(alloc: Global, room: usize) -> Result<MemSink, NoMemory> {
     MemSink::new(Bytes::new(alloc), room, List::new(alloc))
 }
 
-fn streams_of(alloc: Global, input: &[u8]) -> Result<Streams, NoMemory> {
+fn input_streams(alloc: Global, input: &[u8]) -> Result<Streams, NoMemory> {
     let said = both(sink(alloc, 3_000_000), sink(alloc, 1000));
     let (input, said) = both(Bytes::copy(alloc, input), said)?;
     let (output, errors) = said;
@@ -114,11 +118,11 @@ fn streams_of(alloc: Global, input: &[u8]) -> Result<Streams, NoMemory> {
     })
 }
 
-fn left_by(alloc: Global, call: &Call<'_>) -> Result<Left, NoMemory> {
-    let around = both(world(alloc, call), streams_of(alloc, call.input));
+fn run_call(alloc: Global, call: &Call<'_>) -> Result<Left, NoMemory> {
+    let around = both(world(alloc, call), input_streams(alloc, call.input));
     let (words, around) = both(owned(alloc, call.words), around)?;
     let (mut world, mut streams) = around;
-    let left = left_in(alloc, words.as_slice(), &mut world, &mut streams);
+    let left = collect_left(alloc, words.as_slice(), &mut world, &mut streams);
     drop(words);
     drop(world);
     drop(streams);
@@ -126,7 +130,7 @@ fn left_by(alloc: Global, call: &Call<'_>) -> Result<Left, NoMemory> {
 }
 
 /// What a call of these words leaves.
-fn left_in(
+fn collect_left(
     alloc: Global,
     words: &[String],
     world: &mut MemWorld<TablePlugin>,
@@ -148,8 +152,31 @@ fn left_in(
         status,
         output,
         errors,
-        dice_is_back: world.dice_of(0).is_some(),
+        dice_is_back: world.seat_dice(0).is_some(),
     })
+}
+
+/// The status and the output of a call on the world.
+fn called<R: Threads + Wait + Sync, W: World>(
+    rt: &R,
+    alloc: Global,
+    words: &str,
+    world: &mut W,
+) -> Result<(u8, Bytes), NoMemory> {
+    let (words, mut streams) = both(owned(alloc, words), input_streams(alloc, b""))?;
+    let status = run(
+        rt,
+        alloc,
+        words.as_slice(),
+        world,
+        &mut streams.input,
+        &mut streams.output,
+        &mut streams.errors,
+    );
+    let output = Bytes::copy(alloc, streams.output.bytes());
+    drop(words);
+    drop(streams);
+    Ok((status, output?))
 }
 
 /// The words of `decrypt` for a secret.

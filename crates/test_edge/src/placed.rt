@@ -1,7 +1,7 @@
 //! A tape over a file in memory, which tells its bytes.
 ghost use Rattle.std.specs.Prelude.{◌≡◌, None, Some};
 
-use kr_base::{Bytes, List, MemTape, Tape};
+use kr_base::{Bytes, Failed, List, MemTape, Tape};
 use kr_edge::{FileTape, PlacedFile, PlacedNo};
 use kr_kms::Access;
 use std::alloc::Global;
@@ -31,14 +31,13 @@ impl PlacedFile for MemFile {
 
     ghost synced = { λ file. file.synced };
 
-    // It tells no length that it was to have.
+    // It tells no length that it was to have, and not how often it failed.
     ghost lengths = { λ file. None };
 
-    fn len(&mut self) -> Result<u64, PlacedNo> {
-        match self.held.len() {
-            Ok(n) => Ok(n),
-            Err(_) => Err(PlacedNo::Failed),
-        }
+    ghost stops = { λ file. None };
+
+    fn len(&mut self) -> Result<u64, Failed> {
+        self.held.len()
     }
 
     fn read_at(&mut self, at: u64, into: &mut [u8]) -> Result<usize, PlacedNo> {
@@ -68,18 +67,15 @@ impl PlacedFile for MemFile {
     }
 
     // One that would be longer than it is fails.
-    fn set_len(&mut self, len: u64) -> Result<(), PlacedNo> {
+    fn set_len(&mut self, len: u64) -> Result<(), Failed> {
         self.synced = false;
         if len > self.held.bytes().len() as u64 {
-            return Err(PlacedNo::Failed);
+            return Err(Failed);
         }
-        match self.held.cut(len) {
-            Ok(()) => Ok(()),
-            Err(_) => Err(PlacedNo::Failed),
-        }
+        self.held.cut(len)
     }
 
-    fn sync_data(&mut self) -> Result<(), PlacedNo> {
+    fn sync_data(&mut self) -> Result<(), Failed> {
         self.synced = true;
         Ok(())
     }

@@ -110,7 +110,7 @@ fn a_read_that_breaks_off_is_a_fault(rt: HostRuntime) -> Result<(), Fail> {
 }
 
 #[test]
-fn a_write_that_stops_or_takes_little_goes_on(rt: HostRuntime) -> Result<(), Fail> {
+fn a_short_write_is_continued(rt: HostRuntime) -> Result<(), Fail> {
     let mut double = Double::new(
         rt.alloc(),
         &[

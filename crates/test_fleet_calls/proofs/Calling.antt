@@ -2,7 +2,7 @@
 use Rattle.std.proofs.Common.{◌≡◌, ℕ, ◌+◌, ◌≤◌, Bool, true, false, List, [], length, get_or, None, sym, ap, subst, ◌∙◌, arith, inl, inr, Contains, All}
 use Rattle.std.specs.Prelude.{◌*◌, IfOk, Option, Result, Ok, Err}
 use Rattle.std.proofs.lemmas.List.Elements.{All-contains, All-contains_itself}
-use Rattle.kr_config.specs.Kept.{Row, plugins_in, rows_of}
+use Rattle.kr_config.specs.Kept.{ConfigEntry, plugins_in, rows_of}
 use Rattle.kr_config.specs.declared.settings.Settings.{Settings}
 use Rattle.kr_kms.specs.Calls.{Link}
 use Rattle.kr_kms.specs.Truth.{Truth}
@@ -20,7 +20,7 @@ use Rattle.kr_rollout.specs.Callers.{holding, reloads_in}
 use Rattle.kr_history.specs.Calls.{AreServed, IsIdle}
 use Rattle.kr_rollout.specs.Openings.{NamesAmong}
 use Rattle.kr_history.specs.Parts.{AddsWithin}
-use Rattle.kr_history.proofs.PartsAdd.{parts_add_up, same_within}
+use Rattle.kr_history.proofs.PartsAdd.{parts_sum_to_whole, same_within}
 use Rattle.kr_rewrite.specs.Drives.{IsDrive, IsIdleAtEnd}
 use Rattle.kr_rewrite.specs.declared.outcome.Report.{Report}
 use Rattle.test_fleet_calls.specs.Desks.{IsBench, IsCallerOf, is_spent, one_name, parts_of}
@@ -38,14 +38,14 @@ one_among linked asked settings e same h = subst
     (λ name c. subst (λ l. Contains l name) e (h name c)))
 
 -- and the link serves what names no other
-pub one_serves : (linked : List (List ℕ)) (rows : List Row) → linked ≡ one_name
+pub one_serves : (linked : List (List ℕ)) (rows : List ConfigEntry) → linked ≡ one_name
     → NamesAmong one_name rows → HasLinks linked rows
 one_serves linked rows e h = λ name c. subst (λ l. Contains l name) (sym e)
     (All-contains (λ n. Contains one_name n) (plugins_in rows) name h c)
 
 -- what is shared of a configuration names what its settings name
 pub names_shared : {E : Type 0} (shared : Result Publication E) (p : Publication)
-    (rows : List Row) → IfOk shared (λ q. q ≡ p) → p.rows ≡ rows → NamesAmong one_name rows
+    (rows : List ConfigEntry) → IfOk shared (λ q. q ≡ p) → p.rows ≡ rows → NamesAmong one_name rows
     → IfOk shared (λ q. NamesAmong one_name q.rows)
 names_shared (Err why) p rows same is h = tt
 names_shared (Ok q) p rows same is h = subst (λ r. NamesAmong one_name r)
@@ -57,7 +57,7 @@ served names linked n e = subst (λ l. All (λ name. Contains l name) names) (sy
     (subst (λ l. All (λ name. Contains one_name name) l) (sym n)
     (All-contains_itself one_name))
 
-pub among : (names : List (List ℕ)) (rows : List Row) → names ≡ one_name
+pub among : (names : List (List ℕ)) (rows : List ConfigEntry) → names ≡ one_name
     → NamesAmong one_name rows → NamesAmong names rows
 among names rows e h = subst (λ n. NamesAmong n rows) (sym e) h
 
@@ -96,7 +96,7 @@ pub caller_after : (old new : Caller) (replicas left later entries brought : ℕ
     → (then ≡ false → holding new.mine ≡ None) → IsCallerOf new replicas later then
 caller_after old new replicas left later entries brought puts ended then c (part, a, w) few idle =
     let mine : reloads_in new.mine ≡ reloads_in old.mine + reloads_in part =
-    ap (λ (x : Caller). reloads_in x.mine) a.new_is ∙ parts_add_up.reloads old.mine part in
+    ap (λ (x : Caller). reloads_in x.mine) a.new_is ∙ parts_sum_to_whole.reloads old.mine part in
     let budget : get_or new.opening.reloads new.seat 0 ≡ get_or old.opening.reloads old.seat 0 =
     ap (λ (x : Caller). get_or x.opening.reloads x.seat 0) a.new_is in
     record {

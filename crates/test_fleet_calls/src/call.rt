@@ -10,7 +10,7 @@
 //!     step REPLICA AFTER               one step of a rewrite; `-` for AFTER begins it
 //!     drive REPLICA AFTER              all of them
 use crate::desk::Desk;
-use crate::linked::{Spelled, bench_of, end_bench};
+use crate::linked::{Spelled, end_bench, parse_bench};
 use crate::telling::tell;
 use kr_base::{Bytes, Shared, Text, both};
 use kr_config::Settings;
@@ -18,7 +18,8 @@ use kr_history::Acts;
 use kr_kms::Kms;
 use std::alloc::Global;
 use test_support::{
-    NamedValues, Page, Wrong, bytes_of, kept, number_before, number_of, own_text_of, two_words,
+    NamedValues, Page, Wrong, kept, own_text_or_empty, parse_hex, parse_number, split_number,
+    two_words,
 };
 
 /// A call with its arguments.
@@ -71,25 +72,25 @@ impl Call {
         line: &str,
     ) -> Result<Call, Wrong> {
         let (word, rest) = two_words(line)?;
-        match key_of(word)? {
-            Key::Read => read_of(alloc, rest),
-            Key::Write => write_of(alloc, rest),
+        match parse_key(word)? {
+            Key::Read => parse_read(alloc, rest),
+            Key::Write => parse_write(alloc, rest),
             Key::Delete => {
                 let path = kept(alloc, rest)?;
                 Ok(Call::Delete { path })
             }
             Key::Leave => {
-                let replica = number_of(rest)?;
+                let replica = parse_number(rest)?;
                 Ok(Call::Leave { replica })
             }
-            Key::Reload => load_of(named, rest, true),
-            Key::Join => load_of(named, rest, false),
+            Key::Reload => parse_load(named, rest, true),
+            Key::Join => parse_load(named, rest, false),
             Key::Refresh => {
-                let replica = number_of(rest)?;
+                let replica = parse_number(rest)?;
                 Ok(Call::Refresh { replica })
             }
-            Key::Step => rewrite_of(alloc, rest, false),
-            Key::Drive => rewrite_of(alloc, rest, true),
+            Key::Step => parse_rewrite(alloc, rest, false),
+            Key::Drive => parse_rewrite(alloc, rest, true),
         }
     }
 }
@@ -108,7 +109,7 @@ enum Key {
     Drive,
 }
 
-fn key_of(word: &str) -> Result<Key, Wrong> {
+fn parse_key(word: &str) -> Result<Key, Wrong> {
     match word {
         "read" => Ok(Key::Read),
         "write" => Ok(Key::Write),
@@ -124,19 +125,19 @@ fn key_of(word: &str) -> Result<Key, Wrong> {
 }
 
 /// `REPLICA PATH`.
-fn read_of(alloc: Global, words: &str) -> Result<Call, Wrong> {
-    let (replica, path) = number_before(words)?;
+fn parse_read(alloc: Global, words: &str) -> Result<Call, Wrong> {
+    let (replica, path) = split_number(words)?;
     let path = kept(alloc, path)?;
     Ok(Call::Read { replica, path })
 }
 
 /// `REPLICA PATH RESOURCE HEX`.
-fn write_of(alloc: Global, words: &str) -> Result<Call, Wrong> {
-    let (replica, rest) = number_before(words)?;
+fn parse_write(alloc: Global, words: &str) -> Result<Call, Wrong> {
+    let (replica, rest) = split_number(words)?;
     let (path, rest) = two_words(rest)?;
     let (resource, plain) = two_words(rest)?;
     let names = both(kept(alloc, path), kept(alloc, resource));
-    match both(names, bytes_of(alloc, plain)) {
+    match both(names, parse_hex(alloc, plain)) {
         Ok((names, plain)) => {
             let (path, resource) = names;
             let plain = Bytes::from_vec(plain);
@@ -152,8 +153,8 @@ fn write_of(alloc: Global, words: &str) -> Result<Call, Wrong> {
 }
 
 /// `REPLICA NAME`.
-fn load_of(named: &NamedValues<Settings>, words: &str, again: bool) -> Result<Call, Wrong> {
-    let (replica, name) = number_before(words)?;
+fn parse_load(named: &NamedValues<Settings>, words: &str, again: bool) -> Result<Call, Wrong> {
+    let (replica, name) = split_number(words)?;
     let settings = named.share(name)?;
     if again {
         return Ok(Call::Reload { replica, settings });
@@ -162,9 +163,9 @@ fn load_of(named: &NamedValues<Settings>, words: &str, again: bool) -> Result<Ca
 }
 
 /// `REPLICA AFTER`.
-fn rewrite_of(alloc: Global, words: &str, all: bool) -> Result<Call, Wrong> {
-    let (replica, after) = number_before(words)?;
-    let after = own_text_of(alloc, after)?;
+fn parse_rewrite(alloc: Global, words: &str, all: bool) -> Result<Call, Wrong> {
+    let (replica, after) = split_number(words)?;
+    let after = own_text_or_empty(alloc, after)?;
     if all {
         return Ok(Call::Drive { replica, after });
     }
@@ -212,7 +213,7 @@ fn change_bench<A: Acts, L: Spelled>(
     words: &str,
     page: &mut Page,
 ) -> Result<(), Wrong> {
-    let bench = bench_of(alloc, words)?;
+    let bench = parse_bench(alloc, words)?;
     end_bench(desk.change(bench), page);
     Ok(())
 }

@@ -17,9 +17,9 @@ ghost use Rattle.test_fleet_calls.specs.Openings.{IsCore};
 
 use crate::call::serve_line;
 use crate::desk::Desk;
-use crate::linked::{Spelled, bench_of, end_bench, end_benches};
+use crate::linked::{Spelled, end_bench, end_benches, parse_bench};
 use crate::naming::name_all;
-use crate::opening::{Budget, Terms, core_of, terms_of};
+use crate::opening::{Budget, Terms, core_over_store, parse_terms};
 use crate::stored::add_rows;
 use crate::two::{play_two, seated};
 use kr_base::{MemDice, MemTape, both};
@@ -32,7 +32,7 @@ use kr_rollout::Core;
 use kr_store::Store;
 use std::alloc::Global;
 use std::sync::Wait;
-use test_support::{NamedValues, Page, Wrong, behind, load_store, two_lines, two_words};
+use test_support::{NamedValues, Page, Wrong, load_store, strip_key, two_lines, two_words};
 
 /// How many bytes a tape may have.
 const ROOM: usize = 262_144;
@@ -66,9 +66,9 @@ fn begin<L: Spelled, R: Wait>(
 ) -> Result<(), Wrong> {
     let (second, rest) = two_lines(rest);
     let (third, calls) = two_lines(rest);
-    let stored = behind("store", second)?;
-    let (store, terms) = both(load_store(alloc, stored, ROOM), terms_of(named, third))?;
-    match bench_of::<L>(alloc, words) {
+    let stored = strip_key("store", second)?;
+    let (store, terms) = both(load_store(alloc, stored, ROOM), parse_terms(named, third))?;
+    match parse_bench::<L>(alloc, words) {
         Ok(bench) => play(rt, alloc, named, store, terms, bench, words, calls, page),
         Err(why) => {
             drop(store);
@@ -93,7 +93,7 @@ fn play<L: Spelled, R: Wait>(
     requires { IsBench (names_of L.link bench.links) bench.pages }
 {
     let (budget, with_rival) = (terms.budget, terms.with_rival);
-    let made = core_of(alloc, &mut bench, store, &terms);
+    let made = core_over_store(alloc, &mut bench, store, &terms);
     drop(terms);
     match made {
         Ok(core) => {
@@ -125,7 +125,7 @@ fn play_with_rival<L: Spelled, R: Wait>(
     requires core { IsCore budget core }
     requires bench { IsBench (names_of L.link bench.links) bench.pages }
 {
-    let other = match bench_of(alloc, words) {
+    let other = match parse_bench(alloc, words) {
         Ok(other) => other,
         Err(why) => {
             drop(core);

@@ -54,7 +54,7 @@ fn may(ended: bool, replicas: u32, replica: u32) -> bool
 }
 
 /// Whether it may make one for the object at this path.
-fn may_at(ended: bool, replicas: u32, replica: u32, path: &str) -> bool
+fn may_call(ended: bool, replicas: u32, replica: u32, path: &str) -> bool
     ensures { IsTrue result → (ended ≡ false) × (replica < replicas) × IsPath path.now }
 {
     may(ended, replicas, replica) && path_ok(path)
@@ -122,7 +122,7 @@ impl<A: Acts, L: Kms> Desk<A, L> {
     /// The object at the path. Where the seat is spent, or there is no such replica or path, no
     /// call is made, as with those below.
     pub fn read(&mut self, alloc: Global, replica: u32, path: &str) -> Result<Done<Read>, Wrong> {
-        if !may_at(self.ended, self.replicas, replica, path) {
+        if !may_call(self.ended, self.replicas, replica, path) {
             return Err(Wrong::Form);
         }
         let done = read(alloc, &mut self.acts, replica, &mut self.bench, path);
@@ -139,7 +139,7 @@ impl<A: Acts, L: Kms> Desk<A, L> {
         path: &str,
         plain: &[u8],
     ) -> Result<Done<u64>, Wrong> {
-        if !may_at(self.ended, self.replicas, replica, path) {
+        if !may_call(self.ended, self.replicas, replica, path) {
             return Err(Wrong::Form);
         }
         if !resource_ok(resource) {

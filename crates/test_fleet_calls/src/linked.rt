@@ -11,7 +11,7 @@ use kr_keywrap::{ExampleRing, KeyLink};
 use kr_kms::{Kms, TablePlugin};
 use kr_provider::{Bench, Links};
 use std::alloc::Global;
-use test_support::{Page, Wrong, kept, longs_of, number_before, two_words};
+use test_support::{Page, Wrong, kept, parse_longs, split_number, two_words};
 
 /// How many keys a bench holds expanded.
 const PAGES: u32 = 64;
@@ -112,20 +112,20 @@ fn add_counted(bytes: &mut Vec<u8>, size: u32) -> Result<(), Wrong> {
 
 /// `KEYID FAILS DRAWN DICEFAILS`: a bench with a link whose calls of these numbers fail, and so
 /// many random bytes, whose draws of these numbers fail.
-pub fn bench_of<L: Spelled>(alloc: Global, words: &str) -> Result<Bench<L, MemDice>, Wrong>
+pub fn parse_bench<L: Spelled>(alloc: Global, words: &str) -> Result<Bench<L, MemDice>, Wrong>
     ensures { IfOk result (λ bench. IsBench (names_of L.link bench.links) bench.pages) }
 {
     let (key_id, rest) = two_words(words)?;
     let (fails, rest) = two_words(rest)?;
-    let fails = longs_of(alloc, fails)?;
-    match both(L::spelled(alloc, key_id, fails), dice_of(alloc, rest)) {
-        Ok((link, dice)) => bench_with(alloc, link, dice),
+    let fails = parse_longs(alloc, fails)?;
+    match both(L::spelled(alloc, key_id, fails), parse_dice(alloc, rest)) {
+        Ok((link, dice)) => bench_of_link(alloc, link, dice),
         Err(why) => Err(why),
     }
 }
 
 /// A bench with this link and this random source.
-fn bench_with<L: Kms + Drop>(
+fn bench_of_link<L: Kms + Drop>(
     alloc: Global,
     link: L,
     dice: MemDice,
@@ -149,9 +149,9 @@ fn bench_with<L: Kms + Drop>(
 }
 
 /// `DRAWN DICEFAILS`: a random source.
-fn dice_of(alloc: Global, words: &str) -> Result<MemDice, Wrong> {
-    let (size, fails) = number_before(words)?;
-    let (bytes, fails) = both(counted_bytes(alloc, size), longs_of(alloc, fails))?;
+fn parse_dice(alloc: Global, words: &str) -> Result<MemDice, Wrong> {
+    let (size, fails) = split_number(words)?;
+    let (bytes, fails) = both(counted_bytes(alloc, size), parse_longs(alloc, fails))?;
     Ok(MemDice::new(bytes, fails))
 }
 

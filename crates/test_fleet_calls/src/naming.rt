@@ -27,7 +27,11 @@ fn name_planned(alloc: Global, named: &mut NamedValues<Settings>, rest: &str) ->
     let (wide, rest) = two_words(rest)?;
     let (turned, rest) = two_words(rest)?;
     let (from, to) = two_words(rest)?;
-    let made = planned(alloc, named.at(from)?.get(), named.at(to)?.get())?;
+    let made = planned(
+        alloc,
+        named.find_named(from)?.get(),
+        named.find_named(to)?.get(),
+    )?;
     let Plan {
         wide: first,
         turned: second,

@@ -13,7 +13,7 @@ use kr_provider::{Bench, Published};
 use kr_rollout::Core;
 use kr_store::Store;
 use std::alloc::Global;
-use test_support::{NamedValues, Wrong, number_before, shared, two_words};
+use test_support::{NamedValues, Wrong, shared, split_number, two_words};
 
 /// How many configurations each seat may bring, and how many lines the journal may have.
 #[derive(Clone, Copy)]
@@ -34,10 +34,10 @@ pub struct Terms {
 
 /// `KIND ROOM RELOADS NAME NAME`: `two` for two callers, the journal's room, how many
 /// configurations each seat may bring, and each replica's settings, `-` for one that is out.
-pub fn terms_of(named: &NamedValues<Settings>, words: &str) -> Result<Terms, Wrong> {
+pub fn parse_terms(named: &NamedValues<Settings>, words: &str) -> Result<Terms, Wrong> {
     let (kind, rest) = two_words(words)?;
-    let (room, rest) = number_before(rest)?;
-    let (reloads, names) = number_before(rest)?;
+    let (room, rest) = split_number(rest)?;
+    let (reloads, names) = split_number(rest)?;
     let (first, second) = two_words(names)?;
     let (first, second) = both(named.share(first), named.share_some(second))?;
     Ok(Terms {
@@ -85,7 +85,7 @@ fn published_some<L: Kms>(
 }
 
 /// A core over the store.
-pub fn core_of<L: Kms>(
+pub fn core_over_store<L: Kms>(
     alloc: Global,
     bench: &mut Bench<L, MemDice>,
     store: Store<MemTape>,
@@ -123,7 +123,7 @@ fn one_name(alloc: Global) -> Result<List<Text>, Wrong>
 type Lists = (List<Option<Shared<Published>>>, List<Text>);
 
 /// The configurations of both replicas in a list, and the name of the plugin in another.
-fn lists_of(
+fn replica_lists(
     alloc: Global,
     first: Shared<Published>,
     second: Option<Shared<Published>>,
@@ -160,7 +160,7 @@ fn started(
         drop(second);
         return Err(Wrong::Form);
     }
-    let (replicas, names) = match lists_of(alloc, first, second) {
+    let (replicas, names) = match replica_lists(alloc, first, second) {
         Ok(lists) => lists,
         Err(why) => {
             drop(store);

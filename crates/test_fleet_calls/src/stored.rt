@@ -7,7 +7,7 @@ use test_support::Page;
 pub fn add_rows(page: &mut Page, store: &Store<MemTape>) {
     for before in 0..store.revision() {
         let revision = before + 1;
-        match store.row_at(revision) {
+        match store.row_by_revision(revision) {
             Some(RowRef::Put(row)) => add_put(page, row),
             Some(RowRef::Delete(path)) => add_delete(page, revision, path),
             None => {}

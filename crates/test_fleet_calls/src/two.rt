@@ -18,7 +18,7 @@ use kr_provider::Bench;
 use kr_rollout::Core;
 use std::alloc::Global;
 use std::sync::Wait;
-use test_support::{NamedValues, Page, Wrong, number_before};
+use test_support::{NamedValues, Page, Wrong, split_number};
 
 /// A fleet of the core, and its two seats.
 pub type Seated = (Fleet<MemTape>, Seat<MemTape>, Seat<MemTape>);
@@ -33,7 +33,7 @@ pub fn seated(alloc: Global, core: Core<MemTape>, budget: Budget) -> Option<Seat
 {
     let half = (budget.room / 2) as u64;
     match Fleet::new(alloc, core, &[half, half]) {
-        Ok(made) => two_of(made),
+        Ok(made) => two_seats(made),
         Err(refused) => {
             drop(refused);
             None
@@ -42,7 +42,7 @@ pub fn seated(alloc: Global, core: Core<MemTape>, budget: Budget) -> Option<Seat
 }
 
 /// A fleet with its last two seats.
-fn two_of(made: (Fleet<MemTape>, List<Seat<MemTape>>)) -> Option<Seated>
+fn two_seats(made: (Fleet<MemTape>, List<Seat<MemTape>>)) -> Option<Seated>
     ensures { IfSome result (λ two. (two.0 ≡ made.0) × Contains made.1.0 two.1
         × Contains made.1.0 two.2) }
 {
@@ -94,8 +94,8 @@ pub fn play_two<L: Spelled, R: Wait>(
     requires other { IsBench (names_of L.link other.links) other.pages }
 {
     let (fleet, first, second) = seats;
-    let rival = Desk::new(fleet.at(rt, second), other, 2, budget.reloads);
-    let between = Between::new(alloc, fleet.at(rt, first), rival);
+    let rival = Desk::new(fleet.seat_caller(rt, second), other, 2, budget.reloads);
+    let between = Between::new(alloc, fleet.seat_caller(rt, first), rival);
     let mut desk = Desk::new(between, own, 2, budget.reloads);
     let done = serve_both(alloc, named, &mut desk, calls, page);
     let (between, bench) = desk.into_parts();
@@ -133,7 +133,7 @@ fn serve_either<A: Acts, B: Acts, L: Spelled>(
     page: &mut Page,
 ) -> Result<(), Wrong> {
     if let Some(words) = line.strip_prefix("between ") {
-        let (number, line) = number_before(words)?;
+        let (number, line) = split_number(words)?;
         desk.plan(number, Call::spelled(alloc, named, line)?);
         return Ok(());
     }

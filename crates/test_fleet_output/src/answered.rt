@@ -4,13 +4,13 @@
 //!     found REVISION, written REVISION, changed REVISION, full BYTES
 //!     adopted GENERATION, reloaded GENERATION, joined GENERATION, moved GENERATION,
 //!     present GENERATION, departed GENERATION, gone REPLICA
-use crate::verdict::verdict_of;
+use crate::verdict::parse_verdict;
 use kr_rollout::Gave;
 use std::alloc::Global;
-use test_support::{Wrong, long_of, number_of};
+use test_support::{Wrong, parse_long, parse_number};
 
 /// Reads an answer; a number behind a word that takes none, or a word not listed, is no form.
-pub fn gave_of(alloc: Global, text: &str) -> Result<Gave, Wrong> {
+pub fn parse_gave(alloc: Global, text: &str) -> Result<Gave, Wrong> {
     match text.split_once(' ') {
         Some((word, rest)) => with_more(alloc, word, rest),
         None => alone(text),
@@ -29,9 +29,9 @@ fn alone(word: &str) -> Result<Gave, Wrong> {
 
 fn with_more(alloc: Global, word: &str, rest: &str) -> Result<Gave, Wrong> {
     match word {
-        "refused" => Ok(Gave::Refused(verdict_of(alloc, rest)?)),
-        "found" | "written" | "changed" | "full" => of_store(word, long_of(rest)?),
-        _ => of_replica(word, number_of(rest)?),
+        "refused" => Ok(Gave::Refused(parse_verdict(alloc, rest)?)),
+        "found" | "written" | "changed" | "full" => of_store(word, parse_long(rest)?),
+        _ => of_replica(word, parse_number(rest)?),
     }
 }
 

@@ -6,19 +6,19 @@ use crate::configuration::published;
 use kr_base::{Bytes, Text, both};
 use kr_rollout::Did;
 use std::alloc::Global;
-use test_support::{Wrong, bytes_of, long_of, number_of, own_text_of, two_words};
+use test_support::{Wrong, own_text_or_empty, parse_hex, parse_long, parse_number, two_words};
 
 /// Reads what a seat did. A path, a resource and the hex stand as words, so none holds a space.
-pub fn did_of(alloc: Global, text: &str) -> Result<Did, Wrong> {
+pub fn parse_did(alloc: Global, text: &str) -> Result<Did, Wrong> {
     if text == "letgo" {
         return Ok(Did::LetGo);
     }
     let (kind, rest) = two_words(text)?;
     match kind {
-        "put" => put_of(alloc, rest),
-        "replace" => replace_of(alloc, rest),
-        "fetch" | "after" | "delete" => about_path(kind, own_text_of(alloc, rest)?),
-        _ => about_replica(alloc, kind, number_of(rest)?),
+        "put" => parse_put(alloc, rest),
+        "replace" => parse_replace(alloc, rest),
+        "fetch" | "after" | "delete" => about_path(kind, own_text_or_empty(alloc, rest)?),
+        _ => about_replica(alloc, kind, parse_number(rest)?),
     }
 }
 
@@ -48,11 +48,14 @@ fn about_replica(alloc: Global, kind: &str, replica: u32) -> Result<Did, Wrong> 
 }
 
 /// `PATH RESOURCE HEX`.
-fn put_of(alloc: Global, rest: &str) -> Result<Did, Wrong> {
+fn parse_put(alloc: Global, rest: &str) -> Result<Did, Wrong> {
     let (path, rest) = two_words(rest)?;
     let (resource, plain) = two_words(rest)?;
-    let names = both(own_text_of(alloc, path), own_text_of(alloc, resource));
-    match both(names, bytes_of(alloc, plain)) {
+    let names = both(
+        own_text_or_empty(alloc, path),
+        own_text_or_empty(alloc, resource),
+    );
+    match both(names, parse_hex(alloc, plain)) {
         Ok((names, plain)) => {
             let (path, resource) = names;
             let plain = Bytes::from_vec(plain);
@@ -67,11 +70,11 @@ fn put_of(alloc: Global, rest: &str) -> Result<Did, Wrong> {
 }
 
 /// `PATH REVISION`.
-fn replace_of(alloc: Global, rest: &str) -> Result<Did, Wrong> {
+fn parse_replace(alloc: Global, rest: &str) -> Result<Did, Wrong> {
     let (path, revision) = two_words(rest)?;
-    let revision = long_of(revision)?;
+    let revision = parse_long(revision)?;
     Ok(Did::Replace {
-        path: own_text_of(alloc, path)?,
+        path: own_text_or_empty(alloc, path)?,
         revision,
     })
 }

@@ -4,14 +4,14 @@ use kr_config::Settings;
 use kr_kms::TablePlugin;
 use kr_provider::{Links, Published, publish};
 use std::alloc::Global;
-use test_support::{Wrong, settings_of, shared};
+use test_support::{Wrong, parse_settings, shared};
 
 const FILE: &str = r#"{"apiVersion":"apiserver.config.k8s.io/v1","kind":"EncryptionConfiguration",
 "resources":[{"resources":["secrets"],"providers":[{"identity":{}}]}]}"#;
 
 /// Publishes one configuration, whose provider is identity: no plugin is asked, nothing is drawn.
 pub fn published(alloc: Global) -> Result<Shared<Published>, Wrong> {
-    publish_bare(alloc, settings_of(alloc, FILE)?)
+    publish_bare(alloc, parse_settings(alloc, FILE)?)
 }
 
 /// Publishes settings that name no plugin.

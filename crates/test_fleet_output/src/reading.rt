@@ -6,16 +6,16 @@
 //!     next                     the worker behind it is at hand
 //!     print                    prints the output
 //!     # TEXT                   says nothing
-use crate::answered::gave_of;
-use crate::asked::did_of;
+use crate::answered::parse_gave;
+use crate::asked::parse_did;
 use crate::fleet_output::FleetOutput;
-use crate::told::told_of;
+use crate::told::parse_told;
 use kr_base::both;
 use kr_rollout::Line;
 use kr_script::read_script;
 use std::alloc::{AllocError, Global};
 use std::mem;
-use test_support::{Wrong, answer_or_line, bytes_of, first_word, number_before};
+use test_support::{Wrong, answer_or_line, first_word, parse_hex, split_number};
 
 /// Takes the line up, and tells what is printed for it.
 pub fn answer(
@@ -36,19 +36,24 @@ fn act(alloc: Global, current: &mut Option<FleetOutput>, line: &str) -> Result<V
             Ok(Vec::new(alloc))
         }
         _ => match current {
-            Some(page) => act_on(alloc, page, key, rest),
+            Some(page) => act_by_words(alloc, page, key, rest),
             None => Err(Wrong::Form),
         },
     }
 }
 
-fn act_on(alloc: Global, page: &mut FleetOutput, key: &str, rest: &str) -> Result<Vec<u8>, Wrong> {
+fn act_by_words(
+    alloc: Global,
+    page: &mut FleetOutput,
+    key: &str,
+    rest: &str,
+) -> Result<Vec<u8>, Wrong> {
     if key == "print" {
         return page.print(alloc);
     }
     match key {
-        "event" => page.add_line(line_of(alloc, rest)?)?,
-        "reply" => page.add_reply(told_of(alloc, rest)?)?,
+        "event" => page.add_line(parse_line(alloc, rest)?)?,
+        "reply" => page.add_reply(parse_told(alloc, rest)?)?,
         "next" => page.end_worker(alloc)?,
         _ => return Err(Wrong::Form),
     }
@@ -57,7 +62,7 @@ fn act_on(alloc: Global, page: &mut FleetOutput, key: &str, rest: &str) -> Resul
 
 /// `HEX`.
 fn begin(alloc: Global, rest: &str) -> Result<FleetOutput, Wrong> {
-    let file = bytes_of(alloc, rest)?;
+    let file = parse_hex(alloc, rest)?;
     let script = read_script(alloc, file.as_slice());
     drop(file);
     match script {
@@ -70,12 +75,12 @@ fn begin(alloc: Global, rest: &str) -> Result<FleetOutput, Wrong> {
 }
 
 /// `SEAT DID | GAVE`.
-fn line_of(alloc: Global, rest: &str) -> Result<Line, Wrong> {
-    let (seat, rest) = number_before(rest)?;
+fn parse_line(alloc: Global, rest: &str) -> Result<Line, Wrong> {
+    let (seat, rest) = split_number(rest)?;
     let Some((did, gave)) = rest.split_once(" | ") else {
         return Err(Wrong::Form);
     };
-    match both(gave_of(alloc, gave), did_of(alloc, did)) {
+    match both(parse_gave(alloc, gave), parse_did(alloc, did)) {
         Ok((gave, did)) => Ok(Line {
             seat,
             did,

@@ -5,13 +5,13 @@
 //!     reloaded GENERATION, joined GENERATION, present GENERATION, left GENERATION, gone
 //!     refreshed GENERATION, unchanged, moved GENERATION, refused VERDICT, value NUMBER
 //!     unhealthy NAME FIELD TEXT, plugin NAME, dice SEAT, store, full, memory
-use crate::verdict::verdict_of;
+use crate::verdict::parse_verdict;
 use kr_base::{Bytes, both};
 use kr_kms::Field;
 use kr_provider::ValueNo;
 use kr_script::Told;
 use std::alloc::Global;
-use test_support::{Wrong, bytes_of, long_of, number_of, own_text_of, two_words};
+use test_support::{Wrong, own_text_or_empty, parse_hex, parse_long, parse_number, two_words};
 
 /// The refusals of values, in the order of their numbers, from 1.
 const REFUSALS: [ValueNo; 15] = [
@@ -33,7 +33,7 @@ const REFUSALS: [ValueNo; 15] = [
 ];
 
 /// Reads a reply; the number of a value is that of its refusal, from 1.
-pub fn told_of(alloc: Global, text: &str) -> Result<Told, Wrong> {
+pub fn parse_told(alloc: Global, text: &str) -> Result<Told, Wrong> {
     match text.split_once(' ') {
         Some((word, rest)) => with_more(alloc, word, rest),
         None => alone(text),
@@ -58,13 +58,13 @@ fn with_more(alloc: Global, word: &str, rest: &str) -> Result<Told, Wrong> {
         "rewritten" => rewritten(rest),
         "unhealthy" => unhealthy(alloc, rest),
         "plugin" => Ok(Told::FaultPlugin {
-            name: own_text_of(alloc, rest)?,
+            name: own_text_or_empty(alloc, rest)?,
         }),
         "refused" => Ok(Told::Refused {
-            verdict: verdict_of(alloc, rest)?,
+            verdict: parse_verdict(alloc, rest)?,
         }),
-        "put" | "deleted" => of_store(word, long_of(rest)?),
-        _ => of_replica(word, number_of(rest)?),
+        "put" | "deleted" => of_store(word, parse_long(rest)?),
+        _ => of_replica(word, parse_number(rest)?),
     }
 }
 
@@ -103,10 +103,10 @@ fn value(number: usize) -> Result<Told, Wrong> {
 /// `REVISION HEX`.
 fn got(alloc: Global, rest: &str) -> Result<Told, Wrong> {
     let (revision, plain) = two_words(rest)?;
-    let revision = long_of(revision)?;
+    let revision = parse_long(revision)?;
     Ok(Told::Got {
         revision,
-        plain: Bytes::from_vec(bytes_of(alloc, plain)?),
+        plain: Bytes::from_vec(parse_hex(alloc, plain)?),
     })
 }
 
@@ -116,10 +116,10 @@ fn rewritten(rest: &str) -> Result<Told, Wrong> {
     let (fresh, rest) = two_words(rest)?;
     let (changed, left) = two_words(rest)?;
     Ok(Told::Rewritten {
-        rewritten: long_of(rewritten)?,
-        fresh: long_of(fresh)?,
-        changed: long_of(changed)?,
-        left: long_of(left)?,
+        rewritten: parse_long(rewritten)?,
+        fresh: parse_long(fresh)?,
+        changed: parse_long(changed)?,
+        left: parse_long(left)?,
     })
 }
 
@@ -127,14 +127,17 @@ fn rewritten(rest: &str) -> Result<Told, Wrong> {
 fn unhealthy(alloc: Global, rest: &str) -> Result<Told, Wrong> {
     let (name, rest) = two_words(rest)?;
     let (field, text) = two_words(rest)?;
-    let field = field_of(field)?;
-    match both(own_text_of(alloc, name), own_text_of(alloc, text)) {
+    let field = parse_field(field)?;
+    match both(
+        own_text_or_empty(alloc, name),
+        own_text_or_empty(alloc, text),
+    ) {
         Ok((name, text)) => Ok(Told::Unhealthy { name, field, text }),
         Err(why) => Err(why),
     }
 }
 
-fn field_of(word: &str) -> Result<Field, Wrong> {
+fn parse_field(word: &str) -> Result<Field, Wrong> {
     match word {
         "version" => Ok(Field::Version),
         "healthz" => Ok(Field::Healthz),

@@ -3,11 +3,11 @@ use kr_base::{Bytes, both};
 use kr_config::{Class, Who};
 use kr_judge::Verdict;
 use std::alloc::Global;
-use test_support::{Wrong, kept, number_of, two_words};
+use test_support::{Wrong, kept, parse_number, two_words};
 
 /// The verdict of a line's last words, as `verdict_text` prints it: `pass`, or the reason with its
 /// generation or path, its class and its provider.
-pub fn verdict_of(alloc: Global, text: &str) -> Result<Verdict, Wrong> {
+pub fn parse_verdict(alloc: Global, text: &str) -> Result<Verdict, Wrong> {
     if text == "pass" {
         return Ok(Verdict::Pass);
     }
@@ -23,7 +23,7 @@ pub fn verdict_of(alloc: Global, text: &str) -> Result<Verdict, Wrong> {
 /// `PATH WHO`.
 fn stored(alloc: Global, rest: &str) -> Result<Verdict, Wrong> {
     let (path, who) = two_words(rest)?;
-    match both(kept(alloc, path), who_of(alloc, who)) {
+    match both(kept(alloc, path), parse_provider(alloc, who)) {
         Ok((path, who)) => Ok(Verdict::DropsStored { path, who }),
         Err(why) => Err(why),
     }
@@ -32,9 +32,9 @@ fn stored(alloc: Global, rest: &str) -> Result<Verdict, Wrong> {
 /// `GENERATION CLASS WHO`.
 fn numbered(alloc: Global, is_writer: bool, rest: &str) -> Result<Verdict, Wrong> {
     let (generation, rest) = two_words(rest)?;
-    let generation = number_of(generation)?;
+    let generation = parse_number(generation)?;
     let (class, who) = two_words(rest)?;
-    match both(class_of(alloc, class), who_of(alloc, who)) {
+    match both(parse_class(alloc, class), parse_provider(alloc, who)) {
         Ok((class, who)) => Ok(placed(is_writer, generation, class, who)),
         Err(why) => Err(why),
     }
@@ -55,7 +55,7 @@ fn placed(is_writer: bool, generation: u32, class: Class, who: Who) -> Verdict {
     }
 }
 
-fn class_of(alloc: Global, text: &str) -> Result<Class, Wrong> {
+fn parse_class(alloc: Global, text: &str) -> Result<Class, Wrong> {
     if text == "*.*" {
         return Ok(Class::Rest);
     }
@@ -66,7 +66,7 @@ fn class_of(alloc: Global, text: &str) -> Result<Class, Wrong> {
 }
 
 /// A provider by its kind and name; a key's secret is empty.
-fn who_of(alloc: Global, text: &str) -> Result<Who, Wrong> {
+fn parse_provider(alloc: Global, text: &str) -> Result<Who, Wrong> {
     if text == "identity" {
         return Ok(Who::Identity);
     }

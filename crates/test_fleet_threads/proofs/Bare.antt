@@ -2,7 +2,7 @@
 use Rattle.std.proofs.Common.{◌≡◌, ℕ, false, List, [], ◌∷◌, ◌++◌, length, All, Contains, Option, None, Some, Result, Ok, ap, refl, sym, subst, ◌∙◌}
 use Rattle.std.specs.Prelude.{IfSome}
 use Rattle.std.proofs.lemmas.List.Elements.{All-nil, All-cons}
-use Rattle.kr_config.specs.Kept.{Row}
+use Rattle.kr_config.specs.Kept.{ConfigEntry}
 use Rattle.kr_provider.specs.Publication.{Publication, names_plugin}
 use Rattle.kr_provider.proofs.Lists.{no_names}
 use Rattle.kr_rollout.specs.declared.opening.Opening.{Opening}
@@ -13,7 +13,7 @@ use Rattle.kr_opening.specs.Replicas.{IsFirstIn}
 use Rattle.kr_rollout.specs.CoreStarts.{Starts}
 use Rattle.test_fleet_threads.specs.NewCores.{IsOneBare, IsNewCore}
 
-bare_names : (rows : List Row) → names_plugin rows ≡ false → NamesAmong [] rows
+bare_names : (rows : List ConfigEntry) → names_plugin rows ≡ false → NamesAmong [] rows
 bare_names rows e = subst (λ named. All (λ name. Contains [] name) named) (sym (no_names rows e))
     (All-nil (λ name. Contains [] name))
 

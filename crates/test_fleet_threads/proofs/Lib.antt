@@ -3,4 +3,4 @@ pub mod Bare
 pub mod Beginning
 pub mod Leaving
 pub mod Naming
-pub mod Working
+pub mod Reading

@@ -1,7 +1,7 @@
 -- A configuration that names the plugin `p` alone.
 use Rattle.std.proofs.Common.{◌≡◌, ℕ, suc, List, [], ◌∷◌, refl, sym, subst, arith, Contains, All}
 use Rattle.std.proofs.lemmas.List.Elements.{All-cons, All-nil}
-use Rattle.kr_config.specs.Kept.{Row, plugins_in, rows_of}
+use Rattle.kr_config.specs.Kept.{ConfigEntry, plugins_in, rows_of}
 use Rattle.kr_config.specs.declared.settings.Settings.{Settings}
 use Rattle.kr_provider.specs.Names.{HasLinks}
 use Rattle.kr_provider.specs.Publication.{Publication}
@@ -22,7 +22,7 @@ serves linked asked settings same h =
     subst (λ (s : Settings). HasLinks linked (rows_of s.entries.0)) same h
 
 -- what just this link serves names no other plugin
-pub names_it : (linked : List (List ℕ)) (p : Publication) (rows : List Row) → linked ≡ one_name
+pub names_it : (linked : List (List ℕ)) (p : Publication) (rows : List ConfigEntry) → linked ≡ one_name
     → p.rows ≡ rows → HasLinks linked rows → NamesAmong one_name p.rows
 names_it linked p rows e same h = subst (NamesAmong one_name) (sym same)
     (from_each (λ name. Contains one_name name) (plugins_in rows)

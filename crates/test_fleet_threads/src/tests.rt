@@ -1,21 +1,19 @@
-//! Two seats of one core and a list of both seats' events; and two workers that read at the same
-//! time: neither keeps the other one out.
+//! Two seats of one core and a list of both seats' events; and two callers of one fleet, of which
+//! one reads while the other one waits for its plugin.
 mod beginning;
 mod core_in_memory;
-mod fleet;
-mod hired;
 mod linked;
 mod lists;
-mod parts;
 mod published;
+mod readers;
 mod single;
 mod waiting;
 
 use crate::tests::core_in_memory::core;
-use crate::tests::fleet::both_read;
 use crate::tests::linked::plugin;
 use crate::tests::lists::both_left;
-use crate::tests::single::both_of;
+use crate::tests::readers::both_read;
+use crate::tests::single::both_values;
 use crate::tests::waiting::Waiting;
 use std::alloc::Global;
 use std::sync::Wait;
@@ -31,20 +29,22 @@ fn a_list_of_events_is_made(rt: HostRuntime) -> Result<(), Fail> {
     Ok(())
 }
 
-/// Each worker's plugin answers only once the other one's was asked.
+/// The first caller's plugin waits, in the midst of its unwrap, until the second one's read was
+/// answered.
 #[test]
-fn two_workers_unwrap_at_the_same_time(rt: HostRuntime) -> Result<(), Fail> {
-    let got = both_wait(&rt, rt.alloc()).ok_or("no fleet")?;
+fn a_read_is_answered_while_another_unwraps(rt: HostRuntime) -> Result<(), Fail> {
+    let got = one_waits(&rt, rt.alloc()).ok_or("no fleet")?;
     assert_eq!(rt; got, 2);
     Ok(())
 }
 
-/// How many of two workers got what they read, where each one's plugin waits for the other's.
-fn both_wait<R: Threads + Wait + Sync>(rt: &R, alloc: Global) -> Option<u32> {
-    let (first, second) = both_of(plugin(alloc), plugin(alloc))?;
-    let own = AtomicBool::new(false);
-    let other = AtomicBool::new(false);
-    let first = Waiting::new(first, &own, &other);
-    let second = Waiting::new(second, &other, &own);
-    both_read(rt, alloc, first, second)
+/// How many of two callers get what they read, where the first one's plugin waits for the second.
+fn one_waits<R: Threads + Wait + Sync>(rt: &R, alloc: Global) -> Option<u32> {
+    let (first, second) = both_values(plugin(alloc), plugin(alloc))?;
+    let core = beginning::core(alloc)?;
+    let answered = AtomicBool::new(false);
+    let at_once = AtomicBool::new(true);
+    let first = Waiting::new(first, &answered);
+    let second = Waiting::new(second, &at_once);
+    both_read(rt, alloc, core, first, second, &answered)
 }

@@ -4,7 +4,7 @@ use Rattle.std.specs.Prelude.{◌==◌, ◌&&◌, ◌||◌, IsTrue}
 use Rattle.std.specs.List.{list_any}
 use Rattle.std.proofs.lemmas.List.{length-append, length-map}
 use Rattle.std.proofs.lemmas.Bool.Decides.{Decides-eqb}
-use Rattle.kr_judge.specs.Boards.{GenerationState, is_live, left_by, without_current, is_current_of, changed_at, MayHold}
+use Rattle.kr_judge.specs.Boards.{GenerationState, is_live, left_by, without_current, is_replica_current, changed_at, MayHold}
 
 pub length_added : (replica : ℕ) (gs : List GenerationState) (new : GenerationState) (n : ℕ) → length gs ≡ n → length (without_current replica gs ++ new ∷ []) ≡ n + 1
 length_added replica gs new n h = omega (arith, h, length-append (without_current replica gs) (new ∷ []), length-map gs (left_by replica))
@@ -28,9 +28,9 @@ may_hold replica number gs new is live none = subst (λ n. MayHold n (without_cu
     at [] = (live, omega (arith, none))
     at (g ∷ rest) = at rest
 
-pub has_current : (replica : ℕ) (gs : List GenerationState) (new : GenerationState) → new.replica ≡ replica → new.current ≡ true → IsTrue (list_any (is_current_of replica) (without_current replica gs ++ new ∷ []))
+pub has_current : (replica : ℕ) (gs : List GenerationState) (new : GenerationState) → new.replica ≡ replica → new.current ≡ true → IsTrue (list_any (is_replica_current replica) (without_current replica gs ++ new ∷ []))
 has_current replica [] new own current = ap (λ v. v || false) (ap (λ c. c && (new.replica == replica)) current ∙ (Decides-eqb new.replica replica).1 own)
-has_current replica (g ∷ gs) new own current = or_true (is_current_of replica (left_by replica g)) (has_current replica gs new own current)
+has_current replica (g ∷ gs) new own current = or_true (is_replica_current replica (left_by replica g)) (has_current replica gs new own current)
   where
     or_true : (u : Bool) {v : Bool} → v ≡ true → (u || v) ≡ true
     or_true true h = refl

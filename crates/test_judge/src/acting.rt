@@ -18,9 +18,10 @@
 use crate::asking::ask;
 use crate::named::{NamedSettings, writer};
 use crate::play::{Play, Then};
+use kr_paths::Path;
 use std::alloc::{AllocError, Global};
 use std::mem;
-use test_support::{Wrong, answer_or_line, first_word, number_before, number_of, two_words};
+use test_support::{Wrong, answer_or_line, first_word, parse_number, split_number, two_words};
 
 /// Makes the line's call, and tells what is printed for it.
 pub fn answer(
@@ -44,7 +45,7 @@ fn act(
         "settings" => silent(alloc, named.add_settings(alloc, rest)),
         "board" => silent(alloc, begin(alloc, current, rest)),
         _ => match current {
-            Some(play) => act_on(alloc, named, play, key, rest),
+            Some(play) => act_by_words(alloc, named, play, key, rest),
             None => Err(Wrong::Form),
         },
     }
@@ -59,7 +60,7 @@ fn silent(alloc: Global, done: Result<(), Wrong>) -> Result<Vec<u8>, Wrong> {
 }
 
 /// Makes a call on the board.
-fn act_on(
+fn act_by_words(
     alloc: Global,
     named: &NamedSettings,
     play: &mut Play,
@@ -70,9 +71,9 @@ fn act_on(
         "add" => silent(alloc, add(named, play, rest, Then::Stays)),
         "hold" => silent(alloc, add(named, play, rest, Then::IsHeld)),
         "leave" => silent(alloc, add(named, play, rest, Then::Leaves)),
-        "need" => silent(alloc, set_need(named, play, rest)),
-        "keep" => silent(alloc, propose(named, play, rest, true)),
-        "undo" => silent(alloc, propose(named, play, rest, false)),
+        "need" => silent(alloc, set_need(alloc, named, play, rest)),
+        "keep" => silent(alloc, propose(alloc, named, play, rest, true)),
+        "undo" => silent(alloc, propose(alloc, named, play, rest, false)),
         "drop" => {
             play.drop_need(rest);
             Ok(Vec::new(alloc))
@@ -83,27 +84,42 @@ fn act_on(
 
 /// `ROOM`.
 fn begin(alloc: Global, current: &mut Option<Play>, rest: &str) -> Result<(), Wrong> {
-    let play = Play::new(alloc, number_of(rest)?)?;
+    let play = Play::new(alloc, parse_number(rest)?)?;
     drop(mem::replace(current, Some(play)));
     Ok(())
 }
 
 /// `REPLICA NAME`.
 fn add(named: &NamedSettings, play: &mut Play, rest: &str, then: Then) -> Result<(), Wrong> {
-    let (replica, name) = number_before(rest)?;
+    let (replica, name) = split_number(rest)?;
     play.add(replica, named.share(name)?, then)
 }
 
 /// `PATH RESOURCE NAME`.
-fn set_need(named: &NamedSettings, play: &mut Play, rest: &str) -> Result<(), Wrong> {
+fn set_need(
+    alloc: Global,
+    named: &NamedSettings,
+    play: &mut Play,
+    rest: &str,
+) -> Result<(), Wrong> {
     let (path, rest) = two_words(rest)?;
     let (resource, name) = two_words(rest)?;
-    play.set_need(path, resource, writer(named, resource, name)?)
+    let who = writer(named, resource, name)?;
+    let path = Path::copy(alloc, path)?;
+    play.set_need(&path, resource, who)
 }
 
 /// `PATH RESOURCE NAME`.
-fn propose(named: &NamedSettings, play: &mut Play, rest: &str, keep: bool) -> Result<(), Wrong> {
+fn propose(
+    alloc: Global,
+    named: &NamedSettings,
+    play: &mut Play,
+    rest: &str,
+    keep: bool,
+) -> Result<(), Wrong> {
     let (path, rest) = two_words(rest)?;
     let (resource, name) = two_words(rest)?;
-    play.propose(path, resource, writer(named, resource, name)?, keep)
+    let who = writer(named, resource, name)?;
+    let path = Path::copy(alloc, path)?;
+    play.propose(&path, resource, who, keep)
 }

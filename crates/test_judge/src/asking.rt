@@ -3,7 +3,7 @@ use crate::named::{NamedSettings, writer};
 use crate::play::Play;
 use crate::printing::{numbers_line, paths_line, verdict_line};
 use std::alloc::Global;
-use test_support::{Wrong, number_before, two_words};
+use test_support::{Wrong, split_number, two_words};
 
 /// Takes the line's words apart, and asks the play what they ask.
 pub fn ask(
@@ -30,8 +30,8 @@ fn judge(
     times: u32,
     rest: &str,
 ) -> Result<Vec<u8>, Wrong> {
-    let (replica, name) = number_before(rest)?;
-    let verdict = play.judge(times, replica, named.at(name)?.get())?;
+    let (replica, name) = split_number(rest)?;
+    let verdict = play.judge(times, replica, named.find_named(name)?.get())?;
     let line = verdict_line(alloc, &verdict);
     drop(verdict);
     line
@@ -44,7 +44,7 @@ fn judge_again(
     play: &Play,
     rest: &str,
 ) -> Result<Vec<u8>, Wrong> {
-    let (times, rest) = number_before(rest)?;
+    let (times, rest) = split_number(rest)?;
     judge(alloc, named, play, times, rest)
 }
 

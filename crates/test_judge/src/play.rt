@@ -4,6 +4,7 @@ ghost use Rattle.std.specs.Prelude.{◌≡◌, None};
 use kr_base::Shared;
 use kr_config::{Settings, Who};
 use kr_judge::{Board, PathSet, Verdict};
+use kr_paths::Path;
 use std::alloc::Global;
 use std::marker::Model;
 use test_support::Wrong;
@@ -76,7 +77,7 @@ impl Play {
     }
 
     /// The need of the path, in place of the one it had.
-    pub fn set_need(&mut self, path: &str, resource: &str, who: &Who) -> Result<(), Wrong> {
+    pub fn set_need(&mut self, path: &Path, resource: &str, who: &Who) -> Result<(), Wrong> {
         match self.board.set_need(path, resource, who) {
             Ok(()) => Ok(()),
             Err(_) => Err(Wrong::Memory),
@@ -86,7 +87,7 @@ impl Play {
     /// Proposes the need, and keeps it or lets it go.
     pub fn propose(
         &mut self,
-        path: &str,
+        path: &Path,
         resource: &str,
         who: &Who,
         keep: bool,

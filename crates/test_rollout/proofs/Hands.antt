@@ -23,11 +23,11 @@ use Rattle.kr_rollout.specs.declared.opening.Opening.{Opening}
 use Rattle.kr_history.specs.Acting.{Caller, AddsEntry}
 use Rattle.kr_rollout.specs.Entries.{seat_of}
 use Rattle.kr_rollout.specs.Openings.{NamesAmong}
-use Rattle.kr_rollout.specs.Callers.{Allows, IsResealing, MayAsk, Records, Shows, brings_settings, did_of, gave_of, found_by, found_from, found_in, found_then, holding, holding_from, holding_then, reloads_in}
+use Rattle.kr_rollout.specs.Callers.{Allows, IsResealing, MayAsk, Records, ShowsEntry, brings_settings, did_of, gave_of, found_by, found_from, found_in, found_then, holding, holding_from, holding_then, reloads_in}
 use Rattle.kr_rollout.specs.Cores.{CoreState, Applies}
 use Rattle.test_rollout.specs.declared.hand.Hand.{Hand}
 use Rattle.test_support.specs.declared.wrong.Wrong.{Wrong}
-use Rattle.test_rollout.specs.Hands.{AreHands, IsHand, Permits, found_after, gain_of, held_after, kind_of, left_after, row_in, hand_after}
+use Rattle.test_rollout.specs.Hands.{AreHands, IsHand, Permits, found_after, answer_gain, held_after, event_effect, left_after, row_in, hand_after}
 
 -- ---- lists
 
@@ -63,9 +63,9 @@ reloads_more : (own : List Entry) (e : Entry)
 reloads_more [] e = omega arith
 reloads_more (x ∷ own) e = omega (arith, reloads_more own e)
 
-held_is : (given : Answer) (e : Entry) (now : Option (ℕ × Publication)) → Shows given e
+held_is : (given : Answer) (e : Entry) (now : Option (ℕ × Publication)) → ShowsEntry given e
     → option_map (λ x. x.1) (holding_then (gave_of given) e.published now)
-    ≡ held_after (gain_of given) (option_map (λ x. x.1) now)
+    ≡ held_after (answer_gain given) (option_map (λ x. x.1) now)
 held_is (answer.Adopted number p) e now shown = ap (λ q. option_map (λ x. x.1) (holding_then (gave_of (answer.Adopted number p)) q now)) shown
 held_is (answer.Gone replica) e now shown = refl
 held_is (answer.Found row) e now shown = refl
@@ -83,8 +83,8 @@ held_is (answer.Present number) e now shown = refl
 held_is (answer.Departed number) e now shown = refl
 held_is answer.NoMemory e now shown = refl
 
-row_is : (given : Answer) (e : Entry) → Shows given e
-    → found_by (gave_of given) e.row ≡ row_in (gain_of given)
+row_is : (given : Answer) (e : Entry) → ShowsEntry given e
+    → found_by (gave_of given) e.row ≡ row_in (answer_gain given)
 row_is (answer.Adopted number p) e shown = refl
 row_is (answer.Gone replica) e shown = refl
 row_is (answer.Found row) e shown = shown
@@ -102,9 +102,9 @@ row_is (answer.Present number) e shown = refl
 row_is (answer.Departed number) e shown = refl
 row_is answer.NoMemory e shown = refl
 
-found_is : (asked : Event) (given : Answer) (e : Entry) (now : Option Row) → Shows given e
+found_is : (asked : Event) (given : Answer) (e : Entry) (now : Option Row) → ShowsEntry given e
     → found_then (did_of asked) (gave_of given) e.row now
-    ≡ found_after (kind_of asked) (gain_of given) now
+    ≡ found_after (event_effect asked) (answer_gain given) now
 found_is (event.Adopt replica) given e now shown = refl
 found_is (event.Fetch path) given e now shown = row_is given e shown
 found_is (event.After path) given e now shown = row_is given e shown
@@ -118,7 +118,7 @@ found_is (event.Leave replica) given e now shown = refl
 
 left_is : (o : Opening) (seat : ℕ) (own : List Entry) (asked : Event) (n : ℕ)
     → reloads_in own + n ≡ get_or o.reloads seat 0 → Allows o seat own asked
-    → reloads_in own + cond (brings_settings (did_of asked)) 1 0 + left_after (kind_of asked) n
+    → reloads_in own + cond (brings_settings (did_of asked)) 1 0 + left_after (event_effect asked) n
     ≡ get_or o.reloads seat 0
 left_is o seat own (event.Adopt replica) n h a = omega (arith, h)
 left_is o seat own (event.Fetch path) n h a = omega (arith, h)
@@ -136,17 +136,17 @@ left_is o seat own (event.Leave replica) n h a = omega (arith, h)
 module _ (o : Opening) (seat : ℕ) (own : List Entry) (asked : Event) (given : Answer) (e : Entry)
     (r : Records seat asked given e) (may : Allows o seat own asked) where
   pub hand_taken : (hand : Hand) → IsHand o seat own hand
-      → IsHand o seat (own ++ e ∷ []) (hand_after (kind_of asked) (gain_of given) hand)
+      → IsHand o seat (own ++ e ∷ []) (hand_after (event_effect asked) (answer_gain given) hand)
   hand_taken hand h = record {
     held = ap (option_map (λ x. x.1)) (holding_more None own e
         ∙ ap (λ g. holding_then g e.published (holding own)) r.gave_is)
         ∙ held_is given e (holding own) r.shows
-        ∙ ap (held_after (gain_of given)) h.held;
+        ∙ ap (held_after (answer_gain given)) h.held;
     found = found_more None own e
         ∙ (λ i. found_then (r.did_is i) (r.gave_is i) e.row (found_in own))
         ∙ found_is asked given e (found_in own) r.shows
-        ∙ ap (found_after (kind_of asked) (gain_of given)) h.found;
-    left = ap (λ n. n + left_after (kind_of asked) hand.left) (reloads_more own e
+        ∙ ap (found_after (event_effect asked) (answer_gain given)) h.found;
+    left = ap (λ n. n + left_after (event_effect asked) hand.left) (reloads_more own e
         ∙ ap (λ d. reloads_in own + cond (brings_settings d) 1 0) r.did_is)
         ∙ left_is o seat own asked hand.left h.left may;
     replicas = h.replicas;
@@ -162,7 +162,7 @@ caller_taken : (old new : Caller) (seen : List Entry) (left : ℕ) (asked : Even
       mine = old.mine ++ e ∷ [];
       left = left;
     } → Records old.seat asked given e → MayAsk old.opening old.seat old.mine asked
-    → next ≡ hand_after (kind_of asked) (gain_of given) hand
+    → next ≡ hand_after (event_effect asked) (answer_gain given) hand
     → IsHand old.opening old.seat old.mine hand → IsHand new.opening new.seat new.mine next
 caller_taken old new seen left asked given e hand next is r may next_is h =
     subst (λ (c : Caller). IsHand c.opening c.seat c.mine next) (sym is)
@@ -195,7 +195,7 @@ module _ (old new : CoreState) (seat : ℕ) (asked : Event) (given : Answer)
 
   hands_taken : (hands : List Hand) (hand : Hand) → slice_get hands seat ≡ Some hand
       → AreHands old hands
-      → AreHands new (slice_set hands seat (hand_after (kind_of asked) (gain_of given) hand))
+      → AreHands new (slice_set hands seat (hand_after (event_effect asked) (answer_gain given) hand))
   hands_taken hands hand there h = record {
     many = length-set hands seat next ∙ h.many
         ∙ ap (λ (o : Opening). length o.reloads) (sym opening_is);
@@ -203,7 +203,7 @@ module _ (old new : CoreState) (seat : ℕ) (asked : Event) (given : Answer)
   }
     where
       next : Hand
-      next = hand_after (kind_of asked) (gain_of given) hand
+      next = hand_after (event_effect asked) (answer_gain given) hand
 
       by : (place : ℕ) → (seat ≡ place) ⊎ (seat ≡ place → ⊥) → (other : Hand)
           → slice_get (slice_set hands seat next) place ≡ Some other
@@ -240,7 +240,7 @@ this_held : (x : Option (ℕ × Publication)) (p : Publication) → option_map (
 this_held None p e = absurd (none-some p e)
 this_held (Some y) p e = (y, refl, same_Some y.1 p e)
 
-pub plain_names : (names : List (List ℕ)) (rows : List settings_row.Row)
+pub plain_names : (names : List (List ℕ)) (rows : List settings_row.ConfigEntry)
     → names_plugin rows ≡ false → NamesAmong names rows
 plain_names names rows e =
     subst (λ named. All (λ name. Contains names name) named) (sym (no_names rows e))
@@ -299,7 +299,7 @@ pub act_taken : (view old new : CoreState) (seat : ℕ) (asked : Event) (given :
     (hands : List Hand) (hand next : Hand) → old ≡ view
     → MayAsk view.opening seat (of_seat seat_of seat view.history) asked
     → Applies old seat asked given new → hand ≡ get_or hands seat hand
-    → next ≡ hand_after (kind_of asked) (gain_of given) hand
+    → next ≡ hand_after (event_effect asked) (answer_gain given) hand
     → AreHands old hands → AreHands new (slice_set hands seat next)
 act_taken view old new seat asked given hands hand next is may a e next_is h =
     let own_may = subst (λ (c : CoreState). MayAsk c.opening seat (of_seat seat_of seat c.history)
@@ -351,7 +351,7 @@ caller_may view caller hand (Ok asked) is l h m =
 
 pub caller_acted : (view old new : Caller) (asked : Event) (given : Answer) (hand next : Hand)
     → old ≡ view → MayAsk view.opening view.seat view.mine asked → AddsEntry old asked given new
-    → next ≡ hand_after (kind_of asked) (gain_of given) hand
+    → next ≡ hand_after (event_effect asked) (answer_gain given) hand
     → IsHand old.opening old.seat old.mine hand → IsHand new.opening new.seat new.mine next
 caller_acted view old new asked given hand next is may a next_is h =
     let own_may = subst (λ (c : Caller). MayAsk c.opening c.seat c.mine asked) (sym is) may in

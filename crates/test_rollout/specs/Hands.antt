@@ -46,23 +46,23 @@ pub record IsNew (replicas : List (Option Publication)) (reloads : List ℕ) (c 
 
 -- ---- what an event and its answer do to a hand
 
-abbrev pub kind_of : Event → Kind
-kind_of (event.Adopt replica) = Forgets
-kind_of (event.Fetch path) = Looks
-kind_of (event.After path) = Looks
-kind_of (event.Put path resource plain stored) = Leaves
-kind_of (event.Delete path) = Leaves
-kind_of (event.Replace path revision stored) = Leaves
-kind_of event.LetGo = Leaves
-kind_of (event.Reload replica p expect) = Brings
-kind_of (event.Join replica p) = Brings
-kind_of (event.Leave replica) = Leaves
+abbrev pub event_effect : Event → Kind
+event_effect (event.Adopt replica) = Forgets
+event_effect (event.Fetch path) = Looks
+event_effect (event.After path) = Looks
+event_effect (event.Put path resource plain stored) = Leaves
+event_effect (event.Delete path) = Leaves
+event_effect (event.Replace path revision stored) = Leaves
+event_effect event.LetGo = Leaves
+event_effect (event.Reload replica p expect) = Brings
+event_effect (event.Join replica p) = Brings
+event_effect (event.Leave replica) = Leaves
 
-abbrev pub gain_of : Answer → Gain
-gain_of (answer.Adopted number p) = Held p
-gain_of (answer.Found row) = Found row
-gain_of answer.Released = Released
-gain_of given = Nothing
+abbrev pub answer_gain : Answer → Gain
+answer_gain (answer.Adopted number p) = Held p
+answer_gain (answer.Found row) = Found row
+answer_gain answer.Released = Released
+answer_gain given = Nothing
 
 abbrev pub held_after : Gain → Option Publication → Option Publication
 held_after (Held p) now = Some p

@@ -3,7 +3,7 @@ ghost use Rattle.std.specs.Prelude.{IfOk};
 ghost use Rattle.kr_rollout.specs.Callers.{MayAsk};
 ghost use Rattle.test_rollout.specs.Hands.{AreTerms};
 
-use crate::hand::{Hand, gain_of, kind_of};
+use crate::hand::{Hand, answer_gain, event_effect};
 use crate::request::Request;
 use crate::terms::Terms;
 use kr_base::{List, MemTape};
@@ -64,26 +64,26 @@ impl Alone {
         if seat != 0 {
             return request.refused();
         }
-        let event = self.event_for(alloc, request)?;
+        let event = self.permitted_event(alloc, request)?;
         self.act(event)
     }
 
     /// The event as which the seat may ask for this now.
-    fn event_for(&self, alloc: Global, request: Request) -> Result<Event, Wrong>
+    fn permitted_event(&self, alloc: Global, request: Request) -> Result<Event, Wrong>
         ensures { IfOk result (λ event.
             MayAsk self.now.opening self.now.seat self.now.mine event) }
     {
         self.solo.known();
-        self.hand.event_for(alloc, request)
+        self.hand.permitted_event(alloc, request)
     }
 
     /// Makes the event, if the journal isn't full, and puts what it hands out into the hand.
     fn act(&mut self, event: Event) -> Result<(), Wrong>
         requires { MayAsk self.old.opening self.old.seat self.old.mine event }
     {
-        let kind = kind_of(&event);
+        let kind = event_effect(&event);
         let answer = self.solo.act(event)?;
-        self.hand.take(kind, gain_of(answer));
+        self.hand.take(kind, answer_gain(answer));
         Ok(())
     }
 

@@ -15,14 +15,15 @@ use kr_base::{Bytes, Text, both};
 use kr_rollout::{Event, Gave};
 use std::alloc::Global;
 use test_support::{
-    Page, Wrong, bytes_of, first_word, number_before, number_of, option_of, own_text_of, two_words,
+    Page, Wrong, first_word, own_text_or_empty, parse_hex, parse_number, parse_option,
+    split_number, two_words,
 };
 
 impl Play {
     /// `SEAT EVENT`: makes the event, and prints its line; of a core with one caller at its close.
     pub fn once(&mut self, alloc: Global, page: &mut Page, rest: &str) -> Result<(), Wrong> {
-        let (seat, event) = number_before(rest)?;
-        let request = request_of(alloc, &self.named, event)?;
+        let (seat, event) = split_number(rest)?;
+        let request = parse_request(alloc, &self.named, event)?;
         self.ask(alloc, seat, request)?;
         match &self.stage {
             Stage::Running(table) => add_last(alloc, page, table, seat),
@@ -42,9 +43,9 @@ impl Play {
     /// `TIMES SEAT REPLICA NAME NAME`: reloads the replica as often with the two configurations in
     /// turn, and prints the last line and how many there are.
     pub fn turns(&mut self, alloc: Global, page: &mut Page, rest: &str) -> Result<(), Wrong> {
-        let (times, rest) = number_before(rest)?;
-        let (seat, rest) = number_before(rest)?;
-        let (replica, names) = number_before(rest)?;
+        let (times, rest) = split_number(rest)?;
+        let (seat, rest) = split_number(rest)?;
+        let (replica, names) = split_number(rest)?;
         let (first, second) = two_words(names)?;
         self.table()?;
         for turn in 0..times {
@@ -56,7 +57,7 @@ impl Play {
 
     /// Reloads the replica with the configuration.
     fn turn(&mut self, alloc: Global, seat: u32, replica: u32, name: &str) -> Result<(), Wrong> {
-        let request = reload_of(&self.named, replica, name, None)?;
+        let request = reload_request(&self.named, replica, name, None)?;
         self.ask(alloc, seat, request)
     }
 }
@@ -69,15 +70,15 @@ fn add_turns(alloc: Global, page: &mut Page, table: &Table, seat: u32) -> Result
     Ok(())
 }
 
-fn request_of(alloc: Global, named: &Named, event: &str) -> Result<Request, Wrong> {
+fn parse_request(alloc: Global, named: &Named, event: &str) -> Result<Request, Wrong> {
     let (key, rest) = first_word(event);
     match key {
         "put" => putting(alloc, rest),
         "replace" => Ok(Request::Replace),
         "letgo" => Ok(Request::Plain(Event::LetGo)),
-        "fetch" | "after" | "delete" => Ok(about_path(key, own_text_of(alloc, rest)?)),
+        "fetch" | "after" | "delete" => Ok(about_path(key, own_text_or_empty(alloc, rest)?)),
         "reload" | "join" => bringing(named, key, rest),
-        _ => about_replica(key, number_of(rest)?),
+        _ => about_replica(key, parse_number(rest)?),
     }
 }
 
@@ -85,8 +86,11 @@ fn request_of(alloc: Global, named: &Named, event: &str) -> Result<Request, Wron
 fn putting(alloc: Global, rest: &str) -> Result<Request, Wrong> {
     let (path, rest) = two_words(rest)?;
     let (resource, plain) = two_words(rest)?;
-    let names = both(own_text_of(alloc, path), own_text_of(alloc, resource));
-    match both(names, bytes_of(alloc, plain)) {
+    let names = both(
+        own_text_or_empty(alloc, path),
+        own_text_or_empty(alloc, resource),
+    );
+    match both(names, parse_hex(alloc, plain)) {
         Ok((names, plain)) => {
             let (path, resource) = names;
             let plain = Bytes::from_vec(plain);
@@ -118,16 +122,16 @@ fn about_replica(key: &str, replica: u32) -> Result<Request, Wrong> {
 
 /// `REPLICA NAME`, and for a reload `EXPECTED` behind it.
 fn bringing(named: &Named, key: &str, rest: &str) -> Result<Request, Wrong> {
-    let (replica, rest) = number_before(rest)?;
+    let (replica, rest) = split_number(rest)?;
     if key == "join" {
         let published = named.share(rest)?;
         return Ok(Request::Plain(Event::Join { replica, published }));
     }
     let (name, expect) = two_words(rest)?;
-    reload_of(named, replica, name, option_of(expect)?)
+    reload_request(named, replica, name, parse_option(expect)?)
 }
 
-fn reload_of(
+fn reload_request(
     named: &Named,
     replica: u32,
     name: &str,

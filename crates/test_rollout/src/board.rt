@@ -5,7 +5,7 @@ ghost use Rattle.kr_opening.specs.Replicas.{IsFirstIn};
 use crate::line_text::add_refusal;
 use kr_base::{List, MemTape, Shared};
 use kr_config::Settings;
-use kr_opening::board_of;
+use kr_opening::make_opening_board;
 use kr_store::Store;
 use std::alloc::Global;
 use test_support::{Page, Wrong};
@@ -20,10 +20,10 @@ pub fn add_board(
     room: u32,
 ) -> Result<(), Wrong> {
     let all = replicas.as_slice();
-    if !is_first_in(all) || all.len() > 16 || all.len() as u64 > room as u64 {
+    if !has_first_replica(all) || all.len() > 16 || all.len() as u64 > room as u64 {
         return Err(Wrong::Form);
     }
-    match board_of(alloc, store, replicas, room) {
+    match make_opening_board(alloc, store, replicas, room) {
         Ok(board) => {
             add_live(page, board.live());
             drop(board);
@@ -34,7 +34,7 @@ pub fn add_board(
 }
 
 /// Whether the first replica is in.
-fn is_first_in(replicas: &[Option<Shared<Settings>>]) -> bool
+fn has_first_replica(replicas: &[Option<Shared<Settings>>]) -> bool
     ensures { IsTrue result → IsFirstIn replicas.now }
 {
     match replicas {

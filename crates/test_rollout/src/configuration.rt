@@ -4,7 +4,7 @@ use kr_config::Settings;
 use kr_kms::TablePlugin;
 use kr_provider::{Links, Published, publish};
 use std::alloc::Global;
-use test_support::{NamedValues, Wrong, add, settings_of, shared, two_words};
+use test_support::{NamedValues, Wrong, add, parse_settings, shared, two_words};
 
 /// Configurations that lines named.
 #[derive(Drop)]
@@ -70,21 +70,21 @@ impl Named {
         all: &mut List<Option<Shared<Settings>>>,
     ) -> Result<(), Wrong> {
         for name in names.split(',') {
-            add(all, self.settings_of(name))?;
+            add(all, self.parse_settings(name))?;
         }
         Ok(())
     }
 
-    fn settings_of(&self, name: &str) -> Result<Option<Shared<Settings>>, Wrong> {
+    fn parse_settings(&self, name: &str) -> Result<Option<Shared<Settings>>, Wrong> {
         if name == "-" {
             return Ok(None);
         }
-        Ok(Some(self.all.at(name)?.get().settings.share()?))
+        Ok(Some(self.all.find_named(name)?.get().settings.share()?))
     }
 }
 
 fn published(alloc: Global, text: &str) -> Result<Shared<Published>, Wrong> {
-    match settings_of(alloc, text) {
+    match parse_settings(alloc, text) {
         Ok(settings) => publish_bare(alloc, settings),
         Err(why) => Err(why),
     }

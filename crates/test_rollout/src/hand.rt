@@ -1,6 +1,6 @@
 //! What a hand keeps of a seat.
 ghost use Rattle.std.specs.Prelude.{◌≡◌, Some, IfOk};
-ghost use Rattle.test_rollout.specs.Hands.{kind_of, gain_of, hand_after};
+ghost use Rattle.test_rollout.specs.Hands.{event_effect, answer_gain, hand_after};
 
 use kr_base::Shared;
 use kr_provider::Published;
@@ -48,8 +48,8 @@ pub enum Gain {
 }
 
 /// What this event does to a hand.
-pub fn kind_of(event: &Event) -> Kind
-    ensures { result ≡ kind_of event.now }
+pub fn event_effect(event: &Event) -> Kind
+    ensures { result ≡ event_effect event.now }
 {
     match event {
         Event::Adopt { .. } => Kind::Forgets,
@@ -66,8 +66,8 @@ pub fn kind_of(event: &Event) -> Kind
 }
 
 /// What this answer puts into a hand.
-pub fn gain_of(answer: Answer) -> Gain
-    ensures { result ≡ gain_of answer }
+pub fn answer_gain(answer: Answer) -> Gain
+    ensures { result ≡ answer_gain answer }
 {
     match answer {
         Answer::Adopted { published, .. } => Gain::Held(published),

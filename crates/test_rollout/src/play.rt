@@ -15,7 +15,7 @@ use kr_rollout::Line;
 use kr_store::Store;
 use std::alloc::Global;
 use std::mem;
-use test_support::{Page, Wrong, long_of, number_before, numbers_of, two_words};
+use test_support::{Page, Wrong, parse_long, parse_numbers, split_number, two_words};
 
 /// A store, or a core over it.
 #[derive(Drop)]
@@ -101,7 +101,7 @@ impl Play {
 
     /// `ROOM NAMES`: prints the board of the store and these settings.
     pub fn board(&mut self, alloc: Global, page: &mut Page, rest: &str) -> Result<(), Wrong> {
-        let (room, names) = number_before(rest)?;
+        let (room, names) = split_number(rest)?;
         let replicas = self.named.settings(alloc, names)?;
         add_board(alloc, page, self.store()?, &replicas, room)
     }
@@ -117,7 +117,7 @@ impl Play {
         let terms = self.terms(alloc, rest)?;
         match self.take_store() {
             Ok(store) => {
-                self.start_with(alloc, page, store, terms, is_alone);
+                self.start_over_store(alloc, page, store, terms, is_alone);
                 Ok(())
             }
             Err(why) => {
@@ -134,8 +134,8 @@ impl Play {
     {
         let (room, rest) = two_words(words)?;
         let (reloads, names) = two_words(rest)?;
-        let room = long_of(room)?;
-        let reloads = numbers_of(alloc, reloads);
+        let room = parse_long(room)?;
+        let reloads = parse_numbers(alloc, reloads);
         match both(self.named.replicas(alloc, names), reloads) {
             Ok((replicas, reloads)) => Terms::new(replicas, reloads, room),
             Err(why) => Err(why),
@@ -143,7 +143,7 @@ impl Play {
     }
 
     /// Starts a core over the store, which takes its place, or stays there where none starts.
-    fn start_with(
+    fn start_over_store(
         &mut self,
         alloc: Global,
         page: &mut Page,

@@ -28,11 +28,11 @@ const ROOM: usize = 65_536;
 
 /// Does what the line says, and tells what is printed for it.
 pub fn answer(alloc: Global, play: &mut Play, line: &str) -> Result<Vec<u8>, AllocError> {
-    answer_or_line(alloc, page_of(alloc, play, line))
+    answer_or_line(alloc, print_line(alloc, play, line))
 }
 
 /// What the line prints.
-fn page_of(alloc: Global, play: &mut Play, line: &str) -> Result<Vec<u8>, Wrong> {
+fn print_line(alloc: Global, play: &mut Play, line: &str) -> Result<Vec<u8>, Wrong> {
     let mut page = Page::new(alloc);
     match act(alloc, play, &mut page, line) {
         Ok(()) => page.into_bytes(),

@@ -40,7 +40,7 @@ impl Request {
 
 impl Hand {
     /// The event as which the seat may ask for this now.
-    pub fn event_for(&self, alloc: Global, request: Request) -> Result<Event, Wrong>
+    pub fn permitted_event(&self, alloc: Global, request: Request) -> Result<Event, Wrong>
         ensures { IfOk result (λ event. Permits self.now event) }
     {
         match request {
@@ -103,7 +103,7 @@ impl Hand {
     ) -> Result<Event, Wrong>
         ensures { IfOk result (λ event. Permits self.now event) }
     {
-        match self.sealed_at(alloc, &path, &resource, &plain) {
+        match self.seal_by_held(alloc, &path, &resource, &plain) {
             Ok(stored) => Ok(Event::Put {
                 path,
                 resource,
@@ -120,7 +120,7 @@ impl Hand {
     }
 
     /// The value of the data, sealed by what it holds.
-    fn sealed_at(
+    fn seal_by_held(
         &self,
         alloc: Global,
         path: &Text,
@@ -131,10 +131,11 @@ impl Hand {
             Permits self.now (Put path.now resource.now plain.now stored)) }
     {
         let held = self.held()?;
-        if !is_place(path, resource) {
+        let text = path.as_str();
+        if !is_place(text, resource) {
             return Err(Wrong::Form);
         }
-        let stored = sealed(alloc, held, resource, path, plain)?;
+        let stored = sealed(alloc, held, resource, text, plain)?;
         Ok(stored)
     }
 
@@ -143,11 +144,12 @@ impl Hand {
     {
         let held = self.held()?;
         let row = self.found()?;
-        if !is_place(&row.path, &row.resource) {
+        let text = row.path.as_str();
+        if !is_place(text, &row.resource) {
             return Err(Wrong::Form);
         }
         let stored = resealed(alloc, held, row)?;
-        match copy_of(alloc, &row.path) {
+        match copy_text(alloc, text) {
             Ok(path) => Ok(Event::Replace {
                 path,
                 revision: row.revision,
@@ -162,16 +164,16 @@ impl Hand {
 }
 
 /// Whether the texts are a path and a resource.
-fn is_place(path: &Text, resource: &Text) -> bool
+fn is_place(path: &str, resource: &Text) -> bool
     ensures { IsTrue result → IsPath path.now × IsResource resource.now }
 {
-    path_ok(path.as_str()) && resource_ok(resource.as_str())
+    path_ok(path) && resource_ok(resource.as_str())
 }
 
-fn copy_of(alloc: Global, text: &Text) -> Result<Text, Wrong>
+fn copy_text(alloc: Global, text: &str) -> Result<Text, Wrong>
     ensures { IfOk result (λ copy. copy ≡ text.now) }
 {
-    Ok(Text::copy(alloc, text.as_str())?)
+    Ok(Text::copy(alloc, text)?)
 }
 
 /// Whether the text is a path or empty.

@@ -27,7 +27,7 @@ pub fn sealed(
     alloc: Global,
     published: &Shared<Published>,
     resource: &Text,
-    path: &Text,
+    path: &str,
     plain: &Bytes,
 ) -> Result<Bytes, Wrong>
     requires { IsPath path.now }
@@ -37,8 +37,8 @@ pub fn sealed(
     if !is_plain(published.get()) {
         return Err(Wrong::Form);
     }
-    let mut bench = bench_of(alloc, published)?;
-    let value = bench.seal(alloc, resource.as_str(), path.as_str(), plain.as_slice());
+    let mut bench = adopted_bench(alloc, published)?;
+    let value = bench.seal(alloc, resource.as_str(), path, plain.as_slice());
     end(bench);
     match value {
         Ok(value) => Ok(value),
@@ -52,7 +52,7 @@ pub fn resealed(alloc: Global, published: &Shared<Published>, row: &Row) -> Resu
     ensures { IfOk result (λ value. IsResealing published.now row.now row.now.path value) }
 {
     let plain = unsealed(alloc, published, row)?;
-    let value = sealed(alloc, published, &row.resource, &row.path, &plain)?;
+    let value = sealed(alloc, published, &row.resource, row.path.as_str(), &plain)?;
     Ok(value)
 }
 
@@ -68,7 +68,7 @@ fn unsealed(alloc: Global, published: &Shared<Published>, row: &Row) -> Result<B
     if !is_plain(published.get()) {
         return Err(Wrong::Form);
     }
-    let mut bench = bench_of(alloc, published)?;
+    let mut bench = adopted_bench(alloc, published)?;
     let plain = opened(
         alloc,
         &mut bench,
@@ -109,7 +109,7 @@ pub fn is_plain(published: &Published) -> bool
 }
 
 /// A bench that adopted the configuration.
-fn bench_of(alloc: Global, published: &Shared<Published>) -> Result<PlainBench, Wrong>
+fn adopted_bench(alloc: Global, published: &Shared<Published>) -> Result<PlainBench, Wrong>
     requires { names_plugin published.now.rows ≡ false }
     ensures { IfOk result (λ bench. bench.published ≡ Some published.now) }
 {

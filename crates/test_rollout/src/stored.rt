@@ -2,7 +2,7 @@
 use kr_base::{Bytes, MemTape, VALUE_LIMIT, path_ok, resource_ok};
 use kr_store::{Check, PutNo, Row, RowRef, Store};
 use std::alloc::Global;
-use test_support::{Page, Wrong, bytes_of, long_of, two_words};
+use test_support::{Page, Wrong, parse_hex, parse_long, two_words};
 
 /// `PATH RESOURCE CHECK HEX`: writes the row as it stands.
 pub fn put_row(
@@ -15,9 +15,9 @@ pub fn put_row(
     let (resource, rest) = two_words(rest)?;
     let (check, stored) = two_words(rest)?;
     let check = Check {
-        value: long_of(check)?,
+        value: parse_long(check)?,
     };
-    let stored = Bytes::from_vec(bytes_of(alloc, stored)?);
+    let stored = Bytes::from_vec(parse_hex(alloc, stored)?);
     if !path_ok(path) || !resource_ok(resource) || stored.as_slice().len() as u64 > VALUE_LIMIT {
         drop(stored);
         return Err(Wrong::Form);
@@ -40,7 +40,7 @@ pub fn put_row(
 pub fn add_rows(page: &mut Page, store: &Store<MemTape>) {
     for before in 0..store.revision() {
         let revision = before + 1;
-        match store.row_at(revision) {
+        match store.row_by_revision(revision) {
             Some(RowRef::Put(row)) => add_put(page, row),
             Some(RowRef::Delete(path)) => add_delete(page, revision, path),
             None => {}

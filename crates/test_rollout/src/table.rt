@@ -7,7 +7,7 @@ ghost use Rattle.kr_rollout.specs.Cores.{Applies};
 ghost use Rattle.kr_rollout.specs.Entries.{seat_of};
 ghost use Rattle.test_rollout.specs.Hands.{AreTerms, fresh};
 
-use crate::hand::{Hand, gain_of, kind_of};
+use crate::hand::{Hand, answer_gain, event_effect};
 use crate::request::Request;
 use crate::terms::Terms;
 use kr_base::{MemTape, NoMemory};
@@ -38,7 +38,7 @@ impl Model for Table {
 
 /// A hand for each seat, with what it may bring.
 #[tactic(auto, using(crate::proofs::Starting::fresh_more, crate::proofs::Starting::fresh_begin, crate::proofs::Starting::fresh_end))]
-fn hands_of(alloc: Global, replicas: u32, reloads: &[u32]) -> Result<Vec<Hand>, NoMemory>
+fn fresh_hands(alloc: Global, replicas: u32, reloads: &[u32]) -> Result<Vec<Hand>, NoMemory>
     ensures { IfOk result (λ hands. hands.items ≡ map (fresh replicas) reloads.now) }
 {
     let mut hands = Vec::new(alloc);
@@ -63,7 +63,7 @@ impl Table {
         requires { AreTerms terms.replicas.0 terms.reloads.items terms.room }
     {
         let many = terms.count();
-        let hands = match hands_of(alloc, many, terms.reloads.as_slice()) {
+        let hands = match fresh_hands(alloc, many, terms.reloads.as_slice()) {
             Ok(hands) => hands,
             Err(NoMemory) => return Err((StartNo::NoMemory, store)),
         };
@@ -75,13 +75,13 @@ impl Table {
 
     /// Asks this for the seat, if it may ask for it.
     pub fn ask(&mut self, alloc: Global, seat: u32, request: Request) -> Result<(), Wrong> {
-        let event = self.event_for(alloc, seat, request)?;
+        let event = self.permitted_event(alloc, seat, request)?;
         self.act(seat, event);
         Ok(())
     }
 
     /// The event as which the seat may ask for this now.
-    fn event_for(&self, alloc: Global, seat: u32, request: Request) -> Result<Event, Wrong>
+    fn permitted_event(&self, alloc: Global, seat: u32, request: Request) -> Result<Event, Wrong>
         ensures { IfOk result (λ event. (length self.now.history < self.now.room)
             × MayAsk self.now.opening seat (of_seat seat_of seat self.now.history) event) }
     {
@@ -91,7 +91,7 @@ impl Table {
         if self.core.is_full() {
             return request.refused();
         }
-        hand.event_for(alloc, request)
+        hand.permitted_event(alloc, request)
     }
 
     /// Makes the event, and puts what it hands out into the seat's hand.
@@ -100,9 +100,9 @@ impl Table {
         requires may { MayAsk self.old.opening seat (of_seat seat_of seat self.old.history) event }
         ensures { (answer : Answer) × Applies self.old seat event answer self.new }
     {
-        let kind = kind_of(&event);
+        let kind = event_effect(&event);
         let answer = self.core.apply(seat, event);
-        self.hands[seat as usize].take(kind, gain_of(answer));
+        self.hands[seat as usize].take(kind, answer_gain(answer));
     }
 
     /// The journal so far.

@@ -22,7 +22,7 @@ pub struct Terms {
 
 /// Whether the numbers make at most so many together.
 #[tactic(auto, using(crate::proofs::Starting::within_begin, crate::proofs::Starting::within_more, crate::proofs::Starting::within_end))]
-fn are_within(numbers: &[u32], room: u64) -> bool
+fn sum_fits_room(numbers: &[u32], room: u64) -> bool
     ensures { IsTrue result → sum numbers.now ≤ room }
 {
     let mut left = room;
@@ -53,7 +53,7 @@ fn are_bare(replicas: &[Option<Shared<Published>>]) -> bool
 }
 
 /// Whether the first replica is in.
-fn is_first_in(replicas: &[Option<Shared<Published>>]) -> bool
+fn has_first_replica(replicas: &[Option<Shared<Published>>]) -> bool
     ensures { IsTrue result → IsFirstIn replicas.now }
 {
     match replicas {
@@ -71,11 +71,11 @@ fn may_start(replicas: &[Option<Shared<Published>>], reloads: &[u32], room: u64)
     ensures seats { IsTrue result → (1 ≤ length reloads.now) × (length reloads.now ≤ 64) }
     ensures room { IsTrue result → (sum reloads.now ≤ room) × (room ≤ 4000000) }
 {
-    is_first_in(replicas)
+    has_first_replica(replicas)
         && replicas.len() <= 16
         && are_bare(replicas)
         && (1..=64).contains(&reloads.len())
-        && are_within(reloads, room)
+        && sum_fits_room(reloads, room)
         && room <= 4_000_000
 }
 

@@ -1,7 +1,7 @@
 //! The one place that calls `run`.
 use crate::case::{Case, Plugin};
 use crate::lists::add;
-use crate::opening::{Streams, streams_of, world_of};
+use crate::opening::{Streams, case_streams, case_world};
 use crate::world::FailingWorld;
 use kr_base::{Bytes, Dice, List, NoMemory, Sink, Source, Tape, Text, both, whole};
 use kr_kms::{Kms, World, WorldCall};
@@ -61,12 +61,12 @@ pub struct LinkAsked {
 }
 
 /// Makes the case's call.
-pub fn left_by<R: Threads + Wait + Sync>(
+pub fn run_case<R: Threads + Wait + Sync>(
     rt: &R,
     alloc: Global,
     case: &Case,
 ) -> Result<Left, NoMemory> {
-    let (mut world, mut streams) = both(world_of(alloc, case), streams_of(alloc, case))?;
+    let (mut world, mut streams) = both(case_world(alloc, case), case_streams(alloc, case))?;
     let status = run(
         rt,
         alloc,
@@ -76,14 +76,14 @@ pub fn left_by<R: Threads + Wait + Sync>(
         &mut streams.output,
         &mut streams.errors,
     );
-    let left = left_in(alloc, case, status, &world, &streams);
+    let left = collect_left(alloc, case, status, &world, &streams);
     drop(world);
     drop(streams);
     left
 }
 
 /// What the call left, which ended with this status.
-fn left_in(
+fn collect_left(
     alloc: Global,
     case: &Case,
     status: u8,
@@ -127,7 +127,7 @@ fn add_dice_left(
     all: &mut List<DiceLeft>,
 ) -> Result<(), NoMemory> {
     for (seat, _content) in &case.dice {
-        let home = match world.dice_of(*seat) {
+        let home = match world.seat_dice(*seat) {
             Some(dice) => Some((dice.bytes().len(), dice.faults())),
             None => None,
         };
@@ -169,12 +169,12 @@ fn tapes_left(
 }
 
 /// The bytes of the tape of a name and how often it failed, if it is there.
-fn home_of(
+fn left_tape(
     alloc: Global,
     world: &FailingWorld,
     name: &str,
 ) -> Result<Option<(Bytes, u64)>, NoMemory> {
-    match world.tape_of(name) {
+    match world.named_tape(name) {
         Some(tape) => Ok(Some((Bytes::copy(alloc, tape.bytes())?, tape.faults()))),
         None => Ok(None),
     }
@@ -182,13 +182,13 @@ fn home_of(
 
 /// What is left of the tape of a name.
 fn tape_left(alloc: Global, world: &FailingWorld, name: &str) -> Result<TapeLeft, NoMemory> {
-    let (name, home) = both(Text::copy(alloc, name), home_of(alloc, world, name))?;
+    let (name, home) = both(Text::copy(alloc, name), left_tape(alloc, world, name))?;
     Ok(TapeLeft { name, home })
 }
 
 /// What is left of a link of the case.
 fn link_left(alloc: Global, world: &FailingWorld, plugin: &Plugin) -> Result<LinkLeft, NoMemory> {
-    let home = match world.link_of(plugin.seat, plugin.name.as_str()) {
+    let home = match world.seat_link(plugin.seat, plugin.name.as_str()) {
         Some(link) => Some((link.made(), link.faults())),
         None => None,
     };

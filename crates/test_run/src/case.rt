@@ -80,7 +80,7 @@ impl Case {
     }
 
     /// The numbers of the object's calls that fail.
-    pub fn fails_of(&self, alloc: Global, object: Object) -> Result<List<u64>, NoMemory> {
+    pub fn failing_calls(&self, alloc: Global, object: Object) -> Result<List<u64>, NoMemory> {
         let mut numbers = Vec::new(alloc);
         for (other, number) in &self.fails {
             if *other == object {
@@ -91,7 +91,7 @@ impl Case {
     }
 
     /// The numbers of such calls of the tape that fail.
-    pub fn tape_fails_of(
+    pub fn failing_tape_calls(
         &self,
         alloc: Global,
         calls: TapeCalls,

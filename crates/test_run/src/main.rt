@@ -33,9 +33,9 @@ fn finish<R: Threads + Wait + Sync, W: Write>(
     let Some(case) = current else {
         return Ok(());
     };
-    match calling::left_by(rt, alloc, case) {
+    match calling::run_case(rt, alloc, case) {
         Ok(left) => {
-            let line = printing::line_of(alloc, case, &left);
+            let line = printing::case_report(alloc, case, &left);
             drop(left);
             write_line(output, line?)
         }

@@ -17,10 +17,10 @@ pub struct Streams {
 }
 
 /// The streams of the case.
-pub fn streams_of(alloc: Global, case: &Case) -> Result<Streams, NoMemory> {
+pub fn case_streams(alloc: Global, case: &Case) -> Result<Streams, NoMemory> {
     let output = sink(alloc, case, Object::Output, case.room);
     let errors = sink(alloc, case, Object::Errors, 65536);
-    let (input, said) = both(input_of(alloc, case), both(output, errors))?;
+    let (input, said) = both(case_input(alloc, case), both(output, errors))?;
     let (output, errors) = said;
     Ok(Streams {
         input,
@@ -29,8 +29,8 @@ pub fn streams_of(alloc: Global, case: &Case) -> Result<Streams, NoMemory> {
     })
 }
 
-fn input_of(alloc: Global, case: &Case) -> Result<SteppedSource, NoMemory> {
-    let fails = case.fails_of(alloc, Object::Input);
+fn case_input(alloc: Global, case: &Case) -> Result<SteppedSource, NoMemory> {
+    let fails = case.failing_calls(alloc, Object::Input);
     let (content, fails) = both(Bytes::copy(alloc, case.input.as_slice()), fails)?;
     Ok(SteppedSource {
         source: MemSource::new(content, fails),
@@ -39,7 +39,7 @@ fn input_of(alloc: Global, case: &Case) -> Result<SteppedSource, NoMemory> {
 }
 
 fn sink(alloc: Global, case: &Case, object: Object, room: usize) -> Result<SteppedSink, NoMemory> {
-    let fails = case.fails_of(alloc, object)?;
+    let fails = case.failing_calls(alloc, object)?;
     Ok(SteppedSink {
         sink: MemSink::new(Bytes::new(alloc), room, fails)?,
         step: case.step,
@@ -51,22 +51,22 @@ const TAPE_ROOM: usize = 4_194_304;
 
 fn add_tapes(alloc: Global, case: &Case, all: &mut List<(Text, MemTape)>) -> Result<(), NoMemory> {
     for (name, content) in &case.tapes {
-        let tape = tape_of(alloc, case, name.as_str(), content);
+        let tape = named_tape(alloc, case, name.as_str(), content);
         add(all, both(Text::copy(alloc, name.as_str()), tape))?;
     }
     Ok(())
 }
 
-fn tapes_of(alloc: Global, case: &Case) -> Result<List<(Text, MemTape)>, NoMemory> {
+fn case_tapes(alloc: Global, case: &Case) -> Result<List<(Text, MemTape)>, NoMemory> {
     let mut all = List::new(alloc);
     let done = add_tapes(alloc, case, &mut all);
     whole(all, done)
 }
 
-fn tape_of(alloc: Global, case: &Case, name: &str, content: &[u8]) -> Result<MemTape, NoMemory> {
+fn named_tape(alloc: Global, case: &Case, name: &str, content: &[u8]) -> Result<MemTape, NoMemory> {
     let room = content.len().saturating_add(TAPE_ROOM);
-    let reads = case.tape_fails_of(alloc, TapeCalls::Reads, name);
-    let writes = case.tape_fails_of(alloc, TapeCalls::Writes, name);
+    let reads = case.failing_tape_calls(alloc, TapeCalls::Reads, name);
+    let writes = case.failing_tape_calls(alloc, TapeCalls::Writes, name);
     let (reads, writes) = both(reads, writes)?;
     match Bytes::copy(alloc, content) {
         Ok(content) => MemTape::new(content, room, reads, writes),
@@ -84,12 +84,12 @@ fn add_links(
     all: &mut List<(u32, TurningPlugin)>,
 ) -> Result<(), NoMemory> {
     for plugin in &case.plugins {
-        add(all, both(Ok(plugin.seat), link_of(alloc, plugin)))?;
+        add(all, both(Ok(plugin.seat), turning_link(alloc, plugin)))?;
     }
     Ok(())
 }
 
-fn links_of(alloc: Global, case: &Case) -> Result<List<(u32, TurningPlugin)>, NoMemory> {
+fn seat_links(alloc: Global, case: &Case) -> Result<List<(u32, TurningPlugin)>, NoMemory> {
     let mut all = List::new(alloc);
     let done = add_links(alloc, case, &mut all);
     whole(all, done)
@@ -106,13 +106,13 @@ fn add_changes(
     Ok(())
 }
 
-fn changes_of(alloc: Global, plugin: &Plugin) -> Result<List<(u64, Text)>, NoMemory> {
+fn plugin_changes(alloc: Global, plugin: &Plugin) -> Result<List<(u64, Text)>, NoMemory> {
     let mut all = List::new(alloc);
     let done = add_changes(alloc, plugin, &mut all);
     whole(all, done)
 }
 
-fn table_of(alloc: Global, plugin: &Plugin) -> Result<TablePlugin, NoMemory> {
+fn plugin_table(alloc: Global, plugin: &Plugin) -> Result<TablePlugin, NoMemory> {
     let named = both(
         Text::copy(alloc, plugin.name.as_str()),
         Text::copy(alloc, plugin.key_id.as_str()),
@@ -121,7 +121,7 @@ fn table_of(alloc: Global, plugin: &Plugin) -> Result<TablePlugin, NoMemory> {
         Text::copy(alloc, plugin.version.as_str()),
         Text::copy(alloc, plugin.healthz.as_str()),
     );
-    let fails = numbers_of(alloc, plugin.fails.as_slice());
+    let fails = copy_numbers(alloc, plugin.fails.as_slice());
     let (texts, fails) = both(both(named, told), fails)?;
     let (named, told) = texts;
     let (name, key_id) = named;
@@ -129,12 +129,12 @@ fn table_of(alloc: Global, plugin: &Plugin) -> Result<TablePlugin, NoMemory> {
     Ok(TablePlugin::new(name, key_id, plugin.salt, version, healthz, fails))
 }
 
-fn link_of(alloc: Global, plugin: &Plugin) -> Result<TurningPlugin, NoMemory> {
-    let (table, changes) = both(table_of(alloc, plugin), changes_of(alloc, plugin))?;
+fn turning_link(alloc: Global, plugin: &Plugin) -> Result<TurningPlugin, NoMemory> {
+    let (table, changes) = both(plugin_table(alloc, plugin), plugin_changes(alloc, plugin))?;
     Ok(TurningPlugin::new(table, changes))
 }
 
-fn numbers_of(alloc: Global, numbers: &[u64]) -> Result<List<u64>, NoMemory> {
+fn copy_numbers(alloc: Global, numbers: &[u64]) -> Result<List<u64>, NoMemory> {
     Ok(List::from_vec(Vec::from_slice(alloc, numbers)?))
 }
 
@@ -146,14 +146,14 @@ fn add_files(alloc: Global, case: &Case, all: &mut List<(Text, Bytes)>) -> Resul
     Ok(())
 }
 
-fn files_of(alloc: Global, case: &Case) -> Result<List<(Text, Bytes)>, NoMemory> {
+fn case_files(alloc: Global, case: &Case) -> Result<List<(Text, Bytes)>, NoMemory> {
     let mut all = List::new(alloc);
     let done = add_files(alloc, case, &mut all);
     whole(all, done)
 }
 
 fn one_dice(alloc: Global, case: &Case, seat: u32, content: &[u8]) -> Result<MemDice, NoMemory> {
-    let fails = case.fails_of(alloc, Object::Dice(seat));
+    let fails = case.failing_calls(alloc, Object::Dice(seat));
     let (content, fails) = both(Bytes::copy(alloc, content), fails)?;
     Ok(MemDice::new(content, fails))
 }
@@ -166,17 +166,20 @@ fn add_dice(alloc: Global, case: &Case, all: &mut List<(u32, MemDice)>) -> Resul
     Ok(())
 }
 
-fn dice_of(alloc: Global, case: &Case) -> Result<List<(u32, MemDice)>, NoMemory> {
+fn seat_dice(alloc: Global, case: &Case) -> Result<List<(u32, MemDice)>, NoMemory> {
     let mut all = List::new(alloc);
     let done = add_dice(alloc, case, &mut all);
     whole(all, done)
 }
 
 /// The world of the case.
-pub fn world_of(alloc: Global, case: &Case) -> Result<FailingWorld, NoMemory> {
-    let stored = both(files_of(alloc, case), tapes_of(alloc, case));
-    let drawn = both(dice_of(alloc, case), links_of(alloc, case));
-    let (objects, fails) = both(both(stored, drawn), case.fails_of(alloc, Object::Files))?;
+pub fn case_world(alloc: Global, case: &Case) -> Result<FailingWorld, NoMemory> {
+    let stored = both(case_files(alloc, case), case_tapes(alloc, case));
+    let drawn = both(seat_dice(alloc, case), seat_links(alloc, case));
+    let (objects, fails) = both(
+        both(stored, drawn),
+        case.failing_calls(alloc, Object::Files),
+    )?;
     let (stored, drawn) = objects;
     let (files, tapes) = stored;
     let (dice, links) = drawn;

@@ -1,6 +1,6 @@
 //! A plugin in memory that takes other key ids as it is called.
 ghost use Rattle.std.specs.Prelude.{◌≡◌, None};
-ghost use Rattle.kr_kms.specs.Exchanges.{KeepsLink};
+ghost use Rattle.kr_kms.specs.Exchanges.{KeepsLink, TellsAnswer};
 ghost use Rattle.kr_kms.specs.Truth.{untold};
 
 use kr_base::{Annotations, Bytes, List, NoMemory, Text};
@@ -77,9 +77,12 @@ impl Kms for TurningPlugin {
     // No more is said of its exchanges than of any link's.
     ghost step = { λ old exchange new. KeepsLink
         (record { name = old.plugin.name; count = old.plugin.calls.faults; status = None }) exchange
-        (record { name = new.plugin.name; count = new.plugin.calls.faults; status = None }) };
+        (record { name = new.plugin.name; count = new.plugin.calls.faults; status = None })
+        × TellsAnswer untold None exchange };
 
-    ghost keeps = { λ old exchange new h. h };
+    ghost keeps = { λ old exchange new h. h.0 };
+
+    ghost tells = { λ old exchange new h. h.1 };
 
     fn name(&self) -> &str {
         self.plugin.name()

@@ -9,7 +9,7 @@ use std::alloc::{AllocError, Global};
 const MOST: usize = 2048;
 
 /// The case's name, and what the call left.
-pub fn line_of(alloc: Global, case: &Case, left: &Left) -> Result<String, AllocError> {
+pub fn case_report(alloc: Global, case: &Case, left: &Left) -> Result<String, AllocError> {
     let mut line = String::new(alloc);
     let done = add_all(alloc, &mut line, case, left);
     whole(line, done)

@@ -3,7 +3,7 @@ use crate::case::{Case, Object, Plugin, TapeCalls};
 use crate::spelling::{add_bytes, spelled_bytes};
 use kr_base::both;
 use std::alloc::{AllocError, Global};
-use test_support::{Wrong, first_word, long_of, number_of, two_words};
+use test_support::{Wrong, first_word, parse_long, parse_number, two_words};
 
 /// Adds what the line says to the case. A line that is empty or begins with `#` says nothing.
 pub fn add_line(alloc: Global, current: &mut Option<Case>, line: &str) -> Result<(), Wrong> {
@@ -27,11 +27,11 @@ pub fn add_line(alloc: Global, current: &mut Option<Case>, line: &str) -> Result
         "key" => add_key_id(alloc, case, rest),
         "fails" => add_fails(alloc, case, rest),
         "room" => {
-            case.room = size_of(rest)?;
+            case.room = parse_size(rest)?;
             Ok(())
         }
         "step" => {
-            case.step = size_of(rest)?;
+            case.step = parse_size(rest)?;
             Ok(())
         }
         _ => Err(Wrong::Form),
@@ -49,8 +49,8 @@ fn spelled_text(alloc: Global, spelled: &str) -> Result<String, Wrong> {
 }
 
 /// A number of bytes, at most 2^32 - 1.
-fn size_of(text: &str) -> Result<usize, Wrong> {
-    Ok(number_of(text)? as usize)
+fn parse_size(text: &str) -> Result<usize, Wrong> {
+    Ok(parse_number(text)? as usize)
 }
 
 /// The words of the call, parted by single spaces.
@@ -91,7 +91,7 @@ fn add_file_line(alloc: Global, case: &mut Case, rest: &str) -> Result<(), Wrong
 /// A seat's number, and the random bytes that it has.
 fn add_dice(alloc: Global, case: &mut Case, rest: &str) -> Result<(), Wrong> {
     let (seat, content) = first_word(rest);
-    let seat = number_of(seat)?;
+    let seat = parse_number(seat)?;
     let content = spelled_bytes(alloc, content)?;
     case.dice.push((seat, content)).map_err(AllocError::from)?;
     Ok(())
@@ -102,17 +102,17 @@ fn add_plugin(alloc: Global, case: &mut Case, rest: &str) -> Result<(), Wrong> {
     let (seat, rest) = two_words(rest)?;
     let (name, rest) = two_words(rest)?;
     let (key_id, salt) = two_words(rest)?;
-    let seat = number_of(seat)?;
+    let seat = parse_number(seat)?;
     let Ok(salt) = salt.parse::<u8>() else {
         return Err(Wrong::Form);
     };
-    let plugin = plugin_of(alloc, seat, name, key_id, salt)?;
+    let plugin = healthy_plugin(alloc, seat, name, key_id, salt)?;
     case.plugins.push(plugin).map_err(AllocError::from)?;
     Ok(())
 }
 
 /// A healthy plugin whose calls don't fail.
-fn plugin_of(
+fn healthy_plugin(
     alloc: Global,
     seat: u32,
     name: &str,
@@ -151,7 +151,7 @@ fn set_status(alloc: Global, case: &mut Case, rest: &str) -> Result<(), Wrong> {
 /// it.
 fn add_key_id(alloc: Global, case: &mut Case, rest: &str) -> Result<(), Wrong> {
     let (number, key_id) = two_words(rest)?;
-    let number = long_of(number)?;
+    let number = parse_long(number)?;
     let key_id = spelled_text(alloc, key_id)?;
     let Some(plugin) = case.plugins.last_mut() else {
         return Err(Wrong::Form);
@@ -175,9 +175,9 @@ fn add_fails(alloc: Global, case: &mut Case, rest: &str) -> Result<(), Wrong> {
     if name == "plugin" {
         return add_plugin_fails(case, numbers);
     }
-    let object = object_of(name)?;
+    let object = parse_object(name)?;
     for number in numbers.split(' ') {
-        let number = long_of(number)?;
+        let number = parse_long(number)?;
         case.fails.push((object, number)).map_err(AllocError::from)?;
     }
     Ok(())
@@ -189,7 +189,7 @@ fn add_plugin_fails(case: &mut Case, numbers: &str) -> Result<(), Wrong> {
         return Err(Wrong::Form);
     };
     for number in numbers.split(' ') {
-        let number = long_of(number)?;
+        let number = parse_long(number)?;
         plugin.fails.push(number).map_err(AllocError::from)?;
     }
     Ok(())
@@ -211,7 +211,7 @@ fn add_tape_fails(
     numbers: &str,
 ) -> Result<(), Wrong> {
     for number in numbers.split(' ') {
-        let number = long_of(number)?;
+        let number = parse_long(number)?;
         let fails = (calls, spelled_text(alloc, tape)?, number);
         case.tape_fails.push(fails).map_err(AllocError::from)?;
     }
@@ -219,7 +219,7 @@ fn add_tape_fails(
 }
 
 /// `input`, `output`, `errors`, `files`, or `dice:SEAT`.
-fn object_of(name: &str) -> Result<Object, Wrong> {
+fn parse_object(name: &str) -> Result<Object, Wrong> {
     match name {
         "input" => Ok(Object::Input),
         "output" => Ok(Object::Output),
@@ -229,7 +229,7 @@ fn object_of(name: &str) -> Result<Object, Wrong> {
             let Some(seat) = name.strip_prefix("dice:") else {
                 return Err(Wrong::Form);
             };
-            Ok(Object::Dice(number_of(seat)?))
+            Ok(Object::Dice(parse_number(seat)?))
         }
     }
 }

@@ -3,7 +3,7 @@
 //! is bytes in hex, `\(N*HEX)` N times these.
 use hex::FromHexError;
 use std::alloc::{AllocError, Global};
-use test_support::{Wrong, number_of};
+use test_support::{Wrong, parse_number};
 
 /// The bytes that the text spells.
 pub fn spelled_bytes(alloc: Global, text: &str) -> Result<Vec<u8>, Wrong> {
@@ -63,7 +63,7 @@ fn add_hex(alloc: Global, bytes: &mut Vec<u8>, inside: &str) -> Result<(), Wrong
         bytes.extend_from_slice(piece.as_slice())?;
         return Ok(());
     };
-    let times = number_of(times)?;
+    let times = parse_number(times)?;
     let piece = decoded(alloc, digits)?;
     for _ in 0..times {
         bytes.extend_from_slice(piece.as_slice())?;

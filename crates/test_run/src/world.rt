@@ -1,5 +1,5 @@
 //! The world in memory, of which calls fail by their numbers too.
-ghost use Rattle.std.specs.Prelude.{None};
+ghost use Rattle.std.specs.Prelude.{⊤, None};
 
 use crate::plugin::TurningPlugin;
 use kr_base::{Bytes, List, MemDice, MemTape, Text};
@@ -43,18 +43,18 @@ impl FailingWorld {
     }
 
     /// Lends the random source of the seat, if it is there.
-    pub fn dice_of(&self, seat: u32) -> Option<&MemDice> {
-        self.inner.dice_of(seat)
+    pub fn seat_dice(&self, seat: u32) -> Option<&MemDice> {
+        self.inner.seat_dice(seat)
     }
 
     /// Lends the tape of the name, if it is there.
-    pub fn tape_of(&self, name: &str) -> Option<&MemTape> {
-        self.inner.tape_of(name)
+    pub fn named_tape(&self, name: &str) -> Option<&MemTape> {
+        self.inner.named_tape(name)
     }
 
     /// Lends the link of the seat to the plugin, if it is there.
-    pub fn link_of(&self, seat: u32, plugin: &str) -> Option<&TurningPlugin> {
-        self.inner.link_of(seat, plugin)
+    pub fn seat_link(&self, seat: u32, plugin: &str) -> Option<&TurningPlugin> {
+        self.inner.seat_link(seat, plugin)
     }
 
     /// What it was asked for so far.
@@ -80,6 +80,11 @@ impl World for FailingWorld {
       tapes = (⟦<MemWorld<TurningPlugin> as World>⟧.told world.inner).tapes;
       links = (⟦<MemWorld<TurningPlugin> as World>⟧.told world.inner).links;
     } };
+
+    // No more is said of its links than that they were handed out and came back.
+    ghost lent = { λ seat link. ⊤ };
+
+    ghost took = { λ seat link. ⊤ };
 
     fn faults(&self) -> u64 {
         self.faults.total()

@@ -8,7 +8,7 @@ use Rattle.kr_script.specs.declared.script.ScriptNo.{ScriptNo}
 use Rattle.kr_script.specs.declared.script.ScriptNo.TheVariants.{Breach, Replicas, Workers, TooLarge}
 use Rattle.kr_script.specs.declared.script.ScriptNo.TheVariants.{NoMemory}
 use Rattle.kr_script.specs.Fleets.{Fleet}
-use Rattle.kr_script.specs.Meanings.{Means}
+use Rattle.kr_script.specs.Meanings.{MeansScript}
 use Rattle.test_script.specs.FleetText.{fleet_text}
 
 -- This is printed for what a file means. Nothing is printed where memory was wanting.
@@ -22,7 +22,7 @@ Prints (Err NoMemory) printed = ⊥
 
 abbrev pub TellsFile : List ℕ → List ℕ → Type 0
 TellsFile file printed =
-    (meaning : Result Fleet ScriptNo) × Means file meaning × Prints meaning printed
+    (meaning : Result Fleet ScriptNo) × MeansScript file meaning × Prints meaning printed
 
 -- the file of a line: a dash alone stands for the empty one, and hex for any other
 abbrev pub file_of : List ℕ → Option (List ℕ)

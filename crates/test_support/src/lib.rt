@@ -8,11 +8,11 @@ mod stores;
 mod words;
 mod wrong;
 
-pub use named_values::{NamedValues, settings_of, shared};
+pub use named_values::{NamedValues, parse_settings, shared};
 pub use page::Page;
 pub use stores::load_store;
 pub use words::{
-    add, behind, bytes_of, first_word, kept, long_of, longs_of, number_before, number_of,
-    numbers_of, option_of, own_text_of, two_lines, two_words,
+    add, first_word, kept, own_text_or_empty, parse_hex, parse_long, parse_longs, parse_number,
+    parse_numbers, parse_option, split_number, strip_key, two_lines, two_words,
 };
 pub use wrong::{Wrong, answer_or_line};

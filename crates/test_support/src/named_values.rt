@@ -34,7 +34,7 @@ impl<T: Drop> NamedValues<T> {
     }
 
     /// The value of the name.
-    pub fn at(&self, name: &str) -> Result<&Shared<T>, Wrong> {
+    pub fn find_named(&self, name: &str) -> Result<&Shared<T>, Wrong> {
         for own in &self.all {
             if own.0.as_str() == name {
                 return Ok(&own.1);
@@ -45,7 +45,7 @@ impl<T: Drop> NamedValues<T> {
 
     /// One more owner of the value of the name.
     pub fn share(&self, name: &str) -> Result<Shared<T>, Wrong> {
-        Ok(self.at(name)?.share()?)
+        Ok(self.find_named(name)?.share()?)
     }
 
     /// The same; none for `-`.
@@ -61,7 +61,7 @@ impl NamedValues<Settings> {
     /// `NAME JSON`.
     pub fn add_settings(&mut self, alloc: Global, rest: &str) -> Result<(), Wrong> {
         let (name, text) = two_words(rest)?;
-        self.add(alloc, name, settings_of(alloc, text))
+        self.add(alloc, name, parse_settings(alloc, text))
     }
 }
 
@@ -79,7 +79,7 @@ pub fn shared<T: Drop>(alloc: Global, value: T) -> Result<Shared<T>, Wrong>
 }
 
 /// The settings of a configuration, in JSON or YAML.
-pub fn settings_of(alloc: Global, text: &str) -> Result<Shared<Settings>, Wrong> {
+pub fn parse_settings(alloc: Global, text: &str) -> Result<Shared<Settings>, Wrong> {
     match read(alloc, text.as_bytes()) {
         Ok(settings) => shared(alloc, settings),
         Err(ConfigErr::No(_)) => Err(Wrong::Form),

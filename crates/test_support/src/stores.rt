@@ -1,5 +1,5 @@
 //! Stores in memory by lines.
-use crate::words::{bytes_of, longs_of, number_before, two_words};
+use crate::words::{parse_hex, parse_longs, split_number, two_words};
 use crate::wrong::Wrong;
 use kr_base::{Bytes, List, MemTape, both};
 use kr_store::Store;
@@ -9,9 +9,9 @@ use std::alloc::Global;
 /// of these numbers fail.
 pub fn load_store(alloc: Global, words: &str, room: usize) -> Result<Store<MemTape>, Wrong> {
     let (content, rest) = two_words(words)?;
-    let (limit, fails) = number_before(rest)?;
-    let (content, fails) = both(bytes_of(alloc, content), longs_of(alloc, fails))?;
-    let tape = tape_of(alloc, content, fails, room)?;
+    let (limit, fails) = split_number(rest)?;
+    let (content, fails) = both(parse_hex(alloc, content), parse_longs(alloc, fails))?;
+    let tape = failing_tape(alloc, content, fails, room)?;
     match Store::load(alloc, tape, limit as u64) {
         Ok(store) => Ok(store),
         Err(refused) => {
@@ -22,7 +22,7 @@ pub fn load_store(alloc: Global, words: &str, room: usize) -> Result<Store<MemTa
 }
 
 /// A tape of these bytes, whose writes of these numbers fail.
-fn tape_of(
+fn failing_tape(
     alloc: Global,
     content: Vec<u8>,
     fails: List<u64>,

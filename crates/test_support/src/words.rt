@@ -48,7 +48,7 @@ pub fn two_lines(text: &str) -> (&str, &str) {
 }
 
 /// What stands behind the key.
-pub fn behind<'a>(key: &str, line: &'a str) -> Result<&'a str, Wrong> {
+pub fn strip_key<'a>(key: &str, line: &'a str) -> Result<&'a str, Wrong> {
     let (word, rest) = two_words(line)?;
     if word == key {
         Ok(rest)
@@ -58,7 +58,7 @@ pub fn behind<'a>(key: &str, line: &'a str) -> Result<&'a str, Wrong> {
 }
 
 /// A number of 32 bits in digits.
-pub fn number_of(text: &str) -> Result<u32, Wrong> {
+pub fn parse_number(text: &str) -> Result<u32, Wrong> {
     match text.parse::<u32>() {
         Ok(number) => Ok(number),
         Err(_) => Err(Wrong::Form),
@@ -66,13 +66,13 @@ pub fn number_of(text: &str) -> Result<u32, Wrong> {
 }
 
 /// A number of 32 bits in digits, and what stands behind the space.
-pub fn number_before(text: &str) -> Result<(u32, &str), Wrong> {
+pub fn split_number(text: &str) -> Result<(u32, &str), Wrong> {
     let (number, rest) = two_words(text)?;
-    Ok((number_of(number)?, rest))
+    Ok((parse_number(number)?, rest))
 }
 
 /// A number of 64 bits in digits.
-pub fn long_of(text: &str) -> Result<u64, Wrong> {
+pub fn parse_long(text: &str) -> Result<u64, Wrong> {
     match text.parse::<u64>() {
         Ok(number) => Ok(number),
         Err(_) => Err(Wrong::Form),
@@ -80,7 +80,7 @@ pub fn long_of(text: &str) -> Result<u64, Wrong> {
 }
 
 /// Numbers of 64 bits parted by commas; `-` stands for none.
-pub fn longs_of(alloc: Global, word: &str) -> Result<List<u64>, Wrong> {
+pub fn parse_longs(alloc: Global, word: &str) -> Result<List<u64>, Wrong> {
     let mut numbers = List::new(alloc);
     if word == "-" {
         return Ok(numbers);
@@ -91,13 +91,13 @@ pub fn longs_of(alloc: Global, word: &str) -> Result<List<u64>, Wrong> {
 
 fn add_longs(numbers: &mut List<u64>, word: &str) -> Result<(), Wrong> {
     for part in word.split(',') {
-        numbers.push(long_of(part)?)?;
+        numbers.push(parse_long(part)?)?;
     }
     Ok(())
 }
 
 /// Numbers of 32 bits parted by commas.
-pub fn numbers_of(alloc: Global, word: &str) -> Result<Vec<u32>, Wrong> {
+pub fn parse_numbers(alloc: Global, word: &str) -> Result<Vec<u32>, Wrong> {
     let mut numbers = Vec::new(alloc);
     let done = add_numbers(&mut numbers, word);
     whole(numbers, done)
@@ -105,32 +105,32 @@ pub fn numbers_of(alloc: Global, word: &str) -> Result<Vec<u32>, Wrong> {
 
 fn add_numbers(numbers: &mut Vec<u32>, word: &str) -> Result<(), Wrong> {
     for part in word.split(',') {
-        numbers.push(number_of(part)?)?;
+        numbers.push(parse_number(part)?)?;
     }
     Ok(())
 }
 
 /// A number of 32 bits; `-` stands for none.
-pub fn option_of(word: &str) -> Result<Option<u32>, Wrong> {
+pub fn parse_option(word: &str) -> Result<Option<u32>, Wrong> {
     if word == "-" {
         return Ok(None);
     }
-    Ok(Some(number_of(word)?))
+    Ok(Some(parse_number(word)?))
 }
 
 /// The text of a word; `-` stands for the empty one.
-pub fn text_of(word: &str) -> &str {
+pub fn text_or_empty(word: &str) -> &str {
     if word == "-" { "" } else { word }
 }
 
 /// The same as a text of its own.
-pub fn own_text_of(alloc: Global, word: &str) -> Result<Text, Wrong> {
-    kept(alloc, text_of(word))
+pub fn own_text_or_empty(alloc: Global, word: &str) -> Result<Text, Wrong> {
+    kept(alloc, text_or_empty(word))
 }
 
 /// The bytes of digits in hex; `-` stands for none.
-pub fn bytes_of(alloc: Global, word: &str) -> Result<Vec<u8>, Wrong> {
-    match hex::decode(alloc, text_of(word)) {
+pub fn parse_hex(alloc: Global, word: &str) -> Result<Vec<u8>, Wrong> {
+    match hex::decode(alloc, text_or_empty(word)) {
         Ok(bytes) => Ok(bytes),
         Err(FromHexError::OutOfMemory) => Err(Wrong::Memory),
         Err(_) => Err(Wrong::Form),

@@ -65,34 +65,34 @@ WordsAskFor (name ∷ []) case = ⊥
 WordsAskFor (name ∷ key ∷ words) case = AskUnderKey name key words case
 
 -- the words of a line: it is cut at each space
-abbrev pub words_of : List ℕ → List (List ℕ)
-words_of line = slice_split (λ byte. byte == 32) line
+abbrev pub split_words : List ℕ → List (List ℕ)
+split_words line = slice_split (λ byte. byte == 32) line
 
 -- a line asks for a case
 abbrev pub Asks : List ℕ → Case → Type 0
-Asks line case = WordsAskFor (words_of line) case
+Asks line case = WordsAskFor (split_words line) case
 
 -- the word for bytes, in lower case
 abbrev pub word_of : List ℕ → List ℕ
 word_of [] = codes "-"
 word_of (byte ∷ rest) = encode_lower (byte ∷ rest)
 
-abbrev pub name_of : ModeNo → List ℕ
-name_of Short = codes "Short"
-name_of BadBlock = codes "BadBlock"
-name_of BadPadding = codes "BadPadding"
-name_of BadTag = codes "BadTag"
+abbrev pub mode_refusal_name : ModeNo → List ℕ
+mode_refusal_name Short = codes "Short"
+mode_refusal_name BadBlock = codes "BadBlock"
+mode_refusal_name BadPadding = codes "BadPadding"
+mode_refusal_name BadTag = codes "BadTag"
 
-abbrev pub wrap_name_of : WrapNo → List ℕ
-wrap_name_of Length = codes "Length"
-wrap_name_of Check = codes "Check"
+abbrev pub wrap_refusal_name : WrapNo → List ℕ
+wrap_refusal_name Length = codes "Length"
+wrap_refusal_name Check = codes "Check"
 
 -- what is printed for an outcome
 abbrev pub outcome_text : Outcome → List ℕ
 outcome_text (Bytes bytes) = word_of bytes.items
 outcome_text KeyLength = codes "KeyLength"
-outcome_text (Refused why) = name_of why
-outcome_text (NotWrapped why) = wrap_name_of why
+outcome_text (Refused why) = mode_refusal_name why
+outcome_text (NotWrapped why) = wrap_refusal_name why
 
 -- ---- a law for a reader: the word that is printed for bytes stands for them where it is read
 

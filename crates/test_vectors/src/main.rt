@@ -14,7 +14,7 @@ use std::io::{self, BufRead, BufReader, BufWriter, Write};
 
 /// What is printed for a line: the outcome of its case, or `line` where it isn't one.
 fn answer(alloc: Global, line: &str) -> Result<String, AllocError> {
-    match reading::case_of(alloc, line) {
+    match reading::parse_case(alloc, line) {
         Ok(case) => running::outcome(alloc, &case)?.text(alloc),
         Err(LineError::Form) => format!(in alloc; "line"),
         Err(LineError::Memory) => Err(AllocError),

@@ -1,7 +1,7 @@
 //! What a case comes to, and how it is printed.
 
 ghost use Rattle.std.specs.Prelude.{◌≡◌, IfOk, string_bytes};
-ghost use Rattle.test_vectors.specs.Words.{name_of, outcome_text, wrap_name_of};
+ghost use Rattle.test_vectors.specs.Words.{mode_refusal_name, outcome_text, wrap_refusal_name};
 
 use kr_keywrap::WrapNo;
 use kr_modes::ModeNo;
@@ -26,14 +26,14 @@ impl Outcome {
             Outcome::Bytes(bytes) if bytes.is_empty() => "-".to_string(alloc),
             Outcome::Bytes(bytes) => hex::encode(alloc, bytes.as_slice()),
             Outcome::KeyLength => "KeyLength".to_string(alloc),
-            Outcome::Refused(why) => name_of(*why).to_string(alloc),
-            Outcome::NotWrapped(why) => wrap_name_of(*why).to_string(alloc),
+            Outcome::Refused(why) => mode_refusal_name(*why).to_string(alloc),
+            Outcome::NotWrapped(why) => wrap_refusal_name(*why).to_string(alloc),
         }
     }
 }
 
-fn name_of(why: ModeNo) -> &'static str
-    ensures { result.now ≡ name_of why }
+fn mode_refusal_name(why: ModeNo) -> &'static str
+    ensures { result.now ≡ mode_refusal_name why }
 {
     match why {
         ModeNo::Short => "Short",
@@ -43,8 +43,8 @@ fn name_of(why: ModeNo) -> &'static str
     }
 }
 
-fn wrap_name_of(why: WrapNo) -> &'static str
-    ensures { result.now ≡ wrap_name_of why }
+fn wrap_refusal_name(why: WrapNo) -> &'static str
+    ensures { result.now ≡ wrap_refusal_name why }
 {
     match why {
         WrapNo::Length => "Length",

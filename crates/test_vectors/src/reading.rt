@@ -4,7 +4,7 @@
 ghost use Rattle.std.specs.Prelude.{◌≡◌, ◌↔◌, ◌≤◌, ◌<◌, ◌⊎◌, ℕ, List, [], ◌∷◌, length, map, IsTrue, IfOk, IfErr};
 ghost use Rattle.std.specs.Int.{w16, from_be_bytes};
 ghost use Rattle.kr_keywrap.specs.KeyWrap.{IsWrappable};
-ghost use Rattle.test_vectors.specs.Words.{AskFor, Asks, StandFor, StandsFor, WordsAskFor, words_of};
+ghost use Rattle.test_vectors.specs.Words.{AskFor, Asks, StandFor, StandsFor, WordsAskFor, split_words};
 
 use crate::case::{Case, Expansion, KeyData, MOST, MOST_INFO, MOST_OUTPUT, Operand, Operation};
 use hex::FromHexError;
@@ -17,19 +17,19 @@ pub enum LineError {
 }
 
 /// The case of a line. `Form` comes exactly where there is none.
-pub fn case_of(alloc: Global, line: &str) -> Result<Case, LineError>
+pub fn parse_case(alloc: Global, line: &str) -> Result<Case, LineError>
     ensures asked { IfOk result (Asks line.now) }
     ensures refused { IfErr result (λ why. (why ≡ LineError.Memory)
         ⊎ ((case : Case) → ¬ Asks line.now case)) }
 {
-    match words_of(alloc, line) {
+    match split_words(alloc, line) {
         Ok(words) => case_of_words(alloc, words.as_slice()),
         Err(_) => Err(LineError::Memory),
     }
 }
 
-fn words_of(alloc: Global, line: &str) -> Result<Vec<&str>, AllocError>
-    ensures { IfOk result (λ words. map (λ word. word.now) words.items ≡ words_of line.now) }
+fn split_words(alloc: Global, line: &str) -> Result<Vec<&str>, AllocError>
+    ensures { IfOk result (λ words. map (λ word. word.now) words.items ≡ split_words line.now) }
 {
     let mut words = Vec::new(alloc);
     for word in line.split(' ') {

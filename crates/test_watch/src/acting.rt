@@ -16,8 +16,8 @@ use crate::printing::{page_lines, since_lines};
 use std::alloc::{AllocError, Global};
 use std::mem;
 use test_support::{
-    Wrong, answer_or_line, bytes_of, first_word, long_of, number_before, number_of, own_text_of,
-    two_words,
+    Wrong, answer_or_line, first_word, own_text_or_empty, parse_hex, parse_long, parse_number,
+    split_number, two_words,
 };
 
 /// Makes the line's call, and tells what is printed for it.
@@ -35,7 +35,7 @@ fn act(alloc: Global, current: &mut Option<Play>, line: &str) -> Result<Vec<u8>,
         "#" => Ok(Vec::new(alloc)),
         "watch" => silent(alloc, begin(alloc, current, rest)),
         _ => match current {
-            Some(play) => act_on(alloc, play, key, rest),
+            Some(play) => act_by_words(alloc, play, key, rest),
             None => Err(Wrong::Form),
         },
     }
@@ -51,14 +51,14 @@ fn silent(alloc: Global, done: Result<(), Wrong>) -> Result<Vec<u8>, Wrong> {
 
 /// `KEEP REVISION`.
 fn begin(alloc: Global, current: &mut Option<Play>, rest: &str) -> Result<(), Wrong> {
-    let (keep, revision) = number_before(rest)?;
-    let play = Play::new(alloc, keep, long_of(revision)?)?;
+    let (keep, revision) = split_number(rest)?;
+    let play = Play::new(alloc, keep, parse_long(revision)?)?;
     drop(mem::replace(current, Some(play)));
     Ok(())
 }
 
 /// Makes a call on the watch, once or as often as the line says.
-fn act_on(alloc: Global, play: &mut Play, key: &str, rest: &str) -> Result<Vec<u8>, Wrong> {
+fn act_by_words(alloc: Global, play: &mut Play, key: &str, rest: &str) -> Result<Vec<u8>, Wrong> {
     match key {
         "seed" => silent(alloc, seed(alloc, play, rest)),
         "again" => again(alloc, play, rest),
@@ -68,7 +68,7 @@ fn act_on(alloc: Global, play: &mut Play, key: &str, rest: &str) -> Result<Vec<u
 
 /// `TIMES CALL ..`.
 fn again(alloc: Global, play: &mut Play, rest: &str) -> Result<Vec<u8>, Wrong> {
-    let (times, rest) = number_before(rest)?;
+    let (times, rest) = split_number(rest)?;
     let (key, rest) = first_word(rest);
     make(alloc, play, times, key, rest)
 }
@@ -85,7 +85,7 @@ fn make(
         "delete" => silent(alloc, play.note(alloc, times, Wrote::Delete, rest)),
         "replace" => silent(alloc, play.note(alloc, times, Wrote::Replace, rest)),
         "list" => list(alloc, play, times, rest),
-        "since" => since(alloc, play, times, rest),
+        "since" => later_changes(alloc, play, times, rest),
         _ => Err(Wrong::Form),
     }
 }
@@ -95,11 +95,11 @@ fn seed(alloc: Global, play: &mut Play, rest: &str) -> Result<(), Wrong> {
     let (path, rest) = two_words(rest)?;
     let (resource, rest) = two_words(rest)?;
     let (revision, plain) = two_words(rest)?;
-    let revision = long_of(revision)?;
+    let revision = parse_long(revision)?;
     if plain == "?" {
         return play.seed(alloc, path, resource, revision, None);
     }
-    let plain = bytes_of(alloc, plain)?;
+    let plain = parse_hex(alloc, plain)?;
     let done = play.seed(alloc, path, resource, revision, Some(plain.as_slice()));
     drop(plain);
     done
@@ -109,7 +109,7 @@ fn seed(alloc: Global, play: &mut Play, rest: &str) -> Result<(), Wrong> {
 fn put(alloc: Global, play: &mut Play, times: u32, rest: &str) -> Result<(), Wrong> {
     let (path, rest) = two_words(rest)?;
     let (resource, plain) = two_words(rest)?;
-    let plain = bytes_of(alloc, plain)?;
+    let plain = parse_hex(alloc, plain)?;
     let wrote = Wrote::Put {
         resource,
         plain: plain.as_slice(),
@@ -123,8 +123,8 @@ fn put(alloc: Global, play: &mut Play, times: u32, rest: &str) -> Result<(), Wro
 fn list(alloc: Global, play: &Play, times: u32, rest: &str) -> Result<Vec<u8>, Wrong> {
     let (resource, rest) = two_words(rest)?;
     let (after, limit) = two_words(rest)?;
-    let limit = number_of(limit)?;
-    let after = own_text_of(alloc, after)?;
+    let limit = parse_number(limit)?;
+    let after = own_text_or_empty(alloc, after)?;
     let page = play.list(times, resource, after.as_str(), limit);
     drop(after);
     let page = page?;
@@ -134,8 +134,8 @@ fn list(alloc: Global, play: &Play, times: u32, rest: &str) -> Result<Vec<u8>, W
 }
 
 /// `REVISION`.
-fn since(alloc: Global, play: &Play, times: u32, rest: &str) -> Result<Vec<u8>, Wrong> {
-    let told = play.since(times, long_of(rest)?);
+fn later_changes(alloc: Global, play: &Play, times: u32, rest: &str) -> Result<Vec<u8>, Wrong> {
+    let told = play.later_changes(times, parse_long(rest)?);
     let lines = since_lines(alloc, &told);
     drop(told);
     lines

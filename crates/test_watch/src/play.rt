@@ -4,7 +4,7 @@ ghost use Rattle.kr_rollout.specs.declared.line.Gave.TheVariants.{Written};
 
 use kr_base::{Bytes, List, NoMemory, Shared, Text};
 use kr_rollout::{Did, Gave, Line};
-use kr_watch::{Change, Item, Listing, SinceNo, Watch, noted_is_newest};
+use kr_watch::{Item, Listing, ObjectChange, SinceNo, Watch, noted_is_newest};
 use std::alloc::Global;
 use std::marker::Model;
 use test_support::Wrong;
@@ -56,7 +56,7 @@ impl Play {
         revision: u64,
         plain: Option<&[u8]>,
     ) -> Result<(), Wrong> {
-        let item = item_of(alloc, path, resource, revision, plain)?;
+        let item = make_item(alloc, path, resource, revision, plain)?;
         match self.watch.seed(item) {
             Ok(()) => Ok(()),
             Err(NoMemory) => Err(Wrong::Memory),
@@ -72,7 +72,7 @@ impl Play {
         path: &str,
     ) -> Result<(), Wrong> {
         for _ in 0..times {
-            let did = did_of(alloc, wrote, path)?;
+            let did = line_event(alloc, wrote, path)?;
             self.write(did)?;
         }
         Ok(())
@@ -86,7 +86,7 @@ impl Play {
         }
         let revision = self.newest + 1;
         noted_is_newest();
-        let line = line_of(did, revision);
+        let line = written_line(did, revision);
         let noted = self.watch.apply(&line);
         drop(line);
         match noted {
@@ -116,16 +116,20 @@ impl Play {
     }
 
     /// The changes above the revision, after as many answers.
-    pub fn since(&self, times: u32, revision: u64) -> Result<List<Shared<Change>>, SinceNo> {
+    pub fn later_changes(
+        &self,
+        times: u32,
+        revision: u64,
+    ) -> Result<List<Shared<ObjectChange>>, SinceNo> {
         for _ in 1..times {
-            drop(self.watch.since(revision));
+            drop(self.watch.later_changes(revision));
         }
-        self.watch.since(revision)
+        self.watch.later_changes(revision)
     }
 }
 
 /// An object with copies of its texts.
-fn item_of(
+fn make_item(
     alloc: Global,
     path: &str,
     resource: &str,
@@ -147,7 +151,7 @@ fn item_of(
 }
 
 /// The event of a line.
-fn did_of(alloc: Global, wrote: Wrote<'_>, path: &str) -> Result<Did, Wrong> {
+fn line_event(alloc: Global, wrote: Wrote<'_>, path: &str) -> Result<Did, Wrong> {
     let path = Text::copy(alloc, path)?;
     match wrote {
         Wrote::Put { resource, plain } => Ok(Did::Put {
@@ -161,7 +165,7 @@ fn did_of(alloc: Global, wrote: Wrote<'_>, path: &str) -> Result<Did, Wrong> {
 }
 
 /// A line whose row has this revision.
-fn line_of(did: Did, revision: u64) -> Line
+fn written_line(did: Did, revision: u64) -> Line
     ensures { result.gave ≡ Written revision }
 {
     Line {

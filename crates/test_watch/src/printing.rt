@@ -1,6 +1,6 @@
 //! What is printed: a page or changes, a line each, behind a line that counts them.
 use kr_base::{List, Shared};
-use kr_watch::{Change, Item, Listing, SinceNo, What};
+use kr_watch::{Item, Listing, ObjectChange, SinceNo, What};
 use std::alloc::Global;
 use test_support::{Page, Wrong};
 
@@ -35,7 +35,7 @@ fn item_line(alloc: Global, page: &mut Page, item: &Item) {
 /// `changes` and how many there are, then the changes; or `gone`, or `ahead`, and a revision.
 pub fn since_lines(
     alloc: Global,
-    told: &Result<List<Shared<Change>>, SinceNo>,
+    told: &Result<List<Shared<ObjectChange>>, SinceNo>,
 ) -> Result<Vec<u8>, Wrong> {
     let mut page = Page::new(alloc);
     match told {
@@ -52,7 +52,7 @@ fn add_counted(page: &mut Page, word: &str, number: u64) {
     page.end_line();
 }
 
-fn add_changes(page: &mut Page, changes: &[Shared<Change>]) {
+fn add_changes(page: &mut Page, changes: &[Shared<ObjectChange>]) {
     add_counted(page, "changes", changes.len() as u64);
     for change in changes {
         change_line(page, change.get());
@@ -60,7 +60,7 @@ fn add_changes(page: &mut Page, changes: &[Shared<Change>]) {
 }
 
 /// `REVISION KIND PATH`.
-fn change_line(page: &mut Page, change: &Change) {
+fn change_line(page: &mut Page, change: &ObjectChange) {
     page.number(change.revision);
     page.word(match change.what {
         What::Put => "put",

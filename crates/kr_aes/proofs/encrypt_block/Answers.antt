@@ -17,5 +17,5 @@ pub returns : goal.returns
 unfolding cipher
 returns c =
     let at : c.loop-round.round ≡ round_count c.args.rounds = omega (arith, some_rounds c.args.rounds, c.count-last.ensures) in
-    c.block_of.ensures ∙ c.last_forward_round-ciphered.ensures
+    c.columns_to_block.ensures ∙ c.last_forward_round-ciphered.ensures
     ∙ rw (c.loop-round.invariant, c.count-last.ensures, at) refl

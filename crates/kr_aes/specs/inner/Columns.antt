@@ -1,11 +1,11 @@
 -- A state as the words of its columns, and the columns that a round makes.
 use Rattle.std.specs.Prelude.{◌≡◌, ℕ, ◌<◌, List, [], ◌∷◌, bit_xor, slice_index}
-use Rattle.kr_aes.specs.Cipher.{column_sum, sbox, state_of, word_byte}
+use Rattle.kr_aes.specs.Cipher.{column_sum, sbox, cell_state, word_byte}
 use Rattle.kr_aes.specs.InverseCipher.{inverse_sbox}
 
 -- the block with these columns
 abbrev pub block_of_columns : List ℕ → List ℕ
-block_of_columns columns = state_of (λ row column. word_byte (slice_index columns column) row)
+block_of_columns columns = cell_state (λ row column. word_byte (slice_index columns column) row)
 
 -- the word has these bytes, each added to the key's
 abbrev pub IsKeyed : (ℕ → ℕ) → ℕ → ℕ → Type 0

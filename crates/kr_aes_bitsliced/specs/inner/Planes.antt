@@ -2,7 +2,7 @@
 -- own. Bytes lie by rows of the state (FIPS 197 section 3.4), so that rows move as whole words.
 use Rattle.std.specs.Prelude.{ℕ, ◌+◌, ◌*◌, List, [], ◌∷◌, get_or, slice_index}
 use Rattle.std.specs.Int.{bit_at}
-use Rattle.kr_aes.specs.Cipher.{byte_of, state_of}
+use Rattle.kr_aes.specs.Cipher.{byte_of, cell_state}
 use Rattle.kr_aes_bitsliced.specs.declared.planes.Planes.{Planes}
 
 -- the place of a byte in a row and a column
@@ -21,8 +21,8 @@ sliced_byte planes b p = byte_of (λ k. bit_at (slice_index (plane planes k) p) 
 
 -- block b
 unfoldable pub sliced_block : Planes → ℕ → List ℕ
-sliced_block planes b = state_of (λ row column. sliced_byte planes b (place_of row column))
+sliced_block planes b = cell_state (λ row column. sliced_byte planes b (place_of row column))
 
 -- the block whose bytes lie by rows
 abbrev pub block_of_rows : List ℕ → List ℕ
-block_of_rows rows = state_of (λ row column. slice_index rows (place_of row column))
+block_of_rows rows = cell_state (λ row column. slice_index rows (place_of row column))

@@ -1,8 +1,9 @@
 -- How a fleet comes to its workers: what its replicas publish, and the core that starts.
-use Rattle.std.specs.Prelude.{◌≡◌, ℕ, false, List, [], ◌∷◌, ◌++◌, Option, Some, Result, Ok, Err}
+use Rattle.std.specs.Prelude.{◌≡◌, ℕ, Bool, false, true, List, [], ◌∷◌, ◌++◌, Option, None, Some, Result, Ok, Err}
 use Rattle.std.specs.Str.{bytes_eq}
-use Rattle.kr_config.specs.Kept.{Row}
+use Rattle.kr_config.specs.Kept.{ConfigEntry}
 use Rattle.kr_kms.specs.Calls.{Link}
+use Rattle.kr_kms.specs.Truth.{Truth}
 use Rattle.kr_provider.specs.Names.{HasLinks}
 use Rattle.kr_provider.specs.Publication.{Publication}
 use Rattle.kr_rollout.specs.Cores.{CoreState}
@@ -10,9 +11,9 @@ use Rattle.kr_rollout.specs.Openings.{opening_by}
 use Rattle.kr_store.specs.Stores.{Kept}
 use Rattle.kr_watch.specs.declared.item.Item.{Item}
 use Rattle.kr_cmd_steps.specs.Around.{Around}
-use Rattle.kr_cmd_fleet.specs.FleetFiles.{NamedRows, no_file, rows_at}
+use Rattle.kr_cmd_fleet.specs.FleetFiles.{NamedRows, no_file, file_entries}
 use Rattle.kr_cmd_fleet.specs.Fleets.{Begun, Replicas, publishing}
-use Rattle.kr_cmd_fleet.specs.declared.fleet_file.Plan.{Plan}
+use Rattle.kr_cmd_fleet.specs.declared.fleet_file.LoadedFleet.{LoadedFleet}
 use Rattle.kr_cmd_messages.specs.declared.refusal.Stop.{Stop}
 use Rattle.kr_cmd_fleet.specs.inner.Plans.{plan_of}
 use Rattle.kr_cmd_steps.specs.inner.Lent.{with_lent_dice, with_lent_links}
@@ -20,12 +21,17 @@ use Rattle.kr_cmd_steps.specs.inner.ProgramNames.{names_in}
 use Rattle.kr_cmd_steps.specs.inner.Phases.{Does}
 use Rattle.kr_cmd_steps.specs.inner.Tapes.{stored_of}
 
+-- what plugins are asked may be told; not where someone watches, since it isn't said yet what the
+-- reading of the live rows asks
+abbrev pub MayHear : Truth → (watched : Bool) → Around → Type 0
+MayHear truth watched a = (a.truth ≡ truth) × (watched ≡ true → a.heard ≡ None)
+
 -- ---- what the replicas publish
 
 -- the file of a replica that is in was read, and there is a link to each plugin that it names
 abbrev pub MayPublish : (names : List (List ℕ)) → List NamedRows → (file : List ℕ) → Type 0
 MayPublish names files file = bytes_eq file no_file ≡ false
-    → (rows : List Row) × (rows_at files file ≡ Some rows) × HasLinks names rows
+    → (rows : List ConfigEntry) × (file_entries files file ≡ Some rows) × HasLinks names rows
 
 -- with these links and this random source of the first seat out
 abbrev pub with_first : {L : Type 0} → (L → Link) → List L → Option (List ℕ) → ℕ → Around
@@ -48,7 +54,7 @@ PublishesNext files replica old new (Err stop) =
 -- ---- the core
 
 -- the core of a plan over a store, at its begin
-abbrev pub first_core : Plan → (reloads : List ℕ) → (room : ℕ) → Kept → Replicas → CoreState
+abbrev pub first_core : LoadedFleet → (reloads : List ℕ) → (room : ℕ) → Kept → Replicas → CoreState
 first_core plan reloads room store replicas = record {
   opening = opening_by store replicas (names_in plan.programs) reloads;
   history = [];
@@ -56,7 +62,7 @@ first_core plan reloads room store replicas = record {
 }
 
 -- what the workers begin with
-abbrev pub begun_with : Plan → (budgets : List ℕ) → Kept → Replicas → List Item → Begun
+abbrev pub begun_with : LoadedFleet → (budgets : List ℕ) → Kept → Replicas → List Item → Begun
 begun_with plan budgets store replicas items = record {
   plan = plan_of plan;
   stored = stored_of store;

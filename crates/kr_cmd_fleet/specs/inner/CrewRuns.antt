@@ -12,7 +12,7 @@ use Rattle.kr_store.specs.declared.rows.LogRow.{LogRow}
 use Rattle.kr_workers.specs.Histories.{IsOneHistory}
 use Rattle.kr_workers.specs.declared.worker.Worker.{Worker}
 use Rattle.kr_cmd_fleet.specs.declared.fleet.Record.{Record}
-use Rattle.kr_cmd_fleet.specs.declared.fleet_file.Plan.{Plan}
+use Rattle.kr_cmd_fleet.specs.declared.fleet_file.LoadedFleet.{LoadedFleet}
 use Rattle.kr_cmd_fleet.specs.declared.outfit.Outfit.{Outfit}
 use Rattle.kr_cmd_fleet.specs.declared.watch_start.WatchStart.{WatchStart}
 use Rattle.kr_cmd_messages.specs.declared.refusal.Stop.{Stop}
@@ -31,7 +31,7 @@ pub record KeepsStore (o : Opening) (rows : List LogRow) (store : Kept) : Type 0
 
 module _ {T L D : Type 0} (truth : Truth) (link : L → Link) (step : L → Exchange → L → Type 0)
     (left : D → Option (List ℕ))
-    (count : D → ℕ) (plan : Plan) (budgets : List ℕ) (o : Opening)
+    (count : D → ℕ) (plan : LoadedFleet) (budgets : List ℕ) (o : Opening)
     (start : WatchStart) (workers : List (Worker T L D)) where
   -- the workers did their lines in one history
   pub record WorkersRan (made : Record) (store : Kept) (outfits : List (Outfit L D))

@@ -5,7 +5,7 @@ use Rattle.kr_script.specs.declared.script.Part.{Part}
 use Rattle.kr_provider.specs.KeyPages.{size_of}
 use Rattle.kr_workers.specs.Budgets.{all_reloads}
 use Rattle.kr_workers.specs.declared.worker.Worker.{Worker}
-use Rattle.kr_cmd_fleet.specs.declared.fleet_file.Plan.{Plan}
+use Rattle.kr_cmd_fleet.specs.declared.fleet_file.LoadedFleet.{LoadedFleet}
 use Rattle.kr_cmd_fleet.specs.declared.outfit.Outfit.{Outfit}
 use Rattle.kr_cmd_steps.specs.inner.ProgramNames.{names_in}
 
@@ -45,7 +45,7 @@ module _ {T L D : Type 0} where
         → IsFresh (slice_index_or parts i part) (slice_index_or workers i worker)
 
 -- a core at its begin, for the workers of this plan, with as much room as their budgets
-pub record IsReadyCore (plan : Plan) (budgets : List ℕ) (core : CoreState) : Type 0 where
+pub record IsReadyCore (plan : LoadedFleet) (budgets : List ℕ) (core : CoreState) : Type 0 where
   pub begin : core.history ≡ []
   pub names : core.opening.names ≡ names_in plan.programs
   pub reloads : core.opening.reloads ≡ all_reloads plan.script.workers.0

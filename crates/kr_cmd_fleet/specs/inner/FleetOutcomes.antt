@@ -26,12 +26,21 @@ abbrev pub settled_if : Bool → (store : List ℕ) → Around → Around
 settled_if false store mid = mid
 settled_if true store mid = settled_behind store mid
 
+-- what is said of workers, as they began and as they ended, and of what was heard up to them
+abbrev pub Beginning : (T L D : Type 0) → Type 1
+Beginning T L D = (heard : Option (List Exchange))
+    → (workers ended : List (fleet_worker.Worker T L D)) → Type 0
+
+-- nothing is
+abbrev pub Anyhow : (T L D : Type 0) → Beginning T L D
+Anyhow T L D = λ heard workers ended. ⊤
+
 module _ (T : Type 0) {L D : Type 0} (truth : Truth) (link : L → Link)
     (step : L → Exchange → L → Type 0)
     (left : D → Option (List ℕ)) (count : D → ℕ) where
   -- the workers ran, and left this record; the store was settled behind them, if so
-  pub record LeavesRecord (settled watched : Bool) (steps : Steps Begun) (store : List ℕ)
-      (plan : FleetPlan) (old new : Around) (made : Record) : Type 0 where
+  pub record LeavesRecord (Begins : Beginning T L D) (settled watched : Bool) (steps : Steps Begun)
+      (store : List ℕ) (plan : FleetPlan) (old new : Around) (made : Record) : Type 0 where
     pub begun : Begun
     pub plan_is : begun.plan ≡ plan
     pub mid : Around
@@ -40,6 +49,7 @@ module _ (T : Type 0) {L D : Type 0} (truth : Truth) (link : L → Link)
     pub ended : List (fleet_worker.Worker T L D)
     pub runs : RunsFleet truth link step left count store begun (settled_if settled store mid) new
         history ended
+    pub begins : Begins mid.heard runs.workers ended
     pub lines : made.lines.0 ≡ map (λ (e : Entry). e.line) history
     pub replies : made.replies.0 ≡ map (λ (w : fleet_worker.Worker T L D). w.told) ended
     pub items_are : made.start.items.0 ≡ begun.items
@@ -58,11 +68,11 @@ module _ (T : Type 0) {L D : Type 0} (truth : Truth) (link : L → Link)
     pub home : IsHome old new
 
   -- what these steps up to the workers give
-  abbrev pub RunsBy : (watched : Bool) → Steps Begun → (store : List ℕ) → FleetPlan
-      → (old new : Around) → Result Record Stop → Type 0
-  RunsBy watched steps store plan old new (Ok made) =
-      LeavesRecord false watched steps store plan old new made
-  RunsBy watched steps store plan old new (Err stop) =
+  abbrev pub RunsBy : Beginning T L D → (watched : Bool) → Steps Begun → (store : List ℕ)
+      → FleetPlan → (old new : Around) → Result Record Stop → Type 0
+  RunsBy Begins watched steps store plan old new (Ok made) =
+      LeavesRecord Begins false watched steps store plan old new made
+  RunsBy Begins watched steps store plan old new (Err stop) =
       Does steps old new (Err stop) ⊎ LacksWorkers steps store old new stop
 
   -- the workers ran, and the store couldn't be settled behind them
@@ -71,15 +81,15 @@ module _ (T : Type 0) {L D : Type 0} (truth : Truth) (link : L → Link)
     pub begun : Begun
     pub mid : Around
     pub does : Does steps old mid (Ok begun)
-    pub fails : FailsToSettle store begun mid new stop
+    pub fails : FailsToSettle T truth link step left count store begun mid new stop
     pub home : IsHome old new
 
   -- what these steps up to the workers give, where the store is settled behind them
-  abbrev pub SettlesBy : (watched : Bool) → Steps Begun → (store : List ℕ) → FleetPlan
-      → (old new : Around) → Result Record Stop → Type 0
-  SettlesBy watched steps store plan old new (Ok made) =
-      LeavesRecord true watched steps store plan old new made
-  SettlesBy watched steps store plan old new (Err stop) =
+  abbrev pub SettlesBy : Beginning T L D → (watched : Bool) → Steps Begun → (store : List ℕ)
+      → FleetPlan → (old new : Around) → Result Record Stop → Type 0
+  SettlesBy Begins watched steps store plan old new (Ok made) =
+      LeavesRecord Begins true watched steps store plan old new made
+  SettlesBy Begins watched steps store plan old new (Err stop) =
       Does steps old new (Err stop) ⊎ LacksWorkers steps store old new stop
       ⊎ LacksSettling steps store old new stop
 

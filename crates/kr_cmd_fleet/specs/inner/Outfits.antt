@@ -1,6 +1,6 @@
 -- What the workers of a fleet have of the world, while it is out.
-use Rattle.std.specs.Prelude.{◌≡◌, ◌≢◌, ◌<◌, ◌≤◌, ℕ, ◌+◌, List, [], ◌∷◌, All, Contains, Option, Result, Ok, Err, length, ⊤}
-use Rattle.kr_config.specs.Kept.{Row}
+use Rattle.std.specs.Prelude.{◌≡◌, ◌≢◌, ◌<◌, ◌≤◌, ℕ, ◌+◌, List, [], ◌∷◌, All, Contains, Option, Result, Ok, Err, length, map, ⊤}
+use Rattle.kr_config.specs.Kept.{ConfigEntry}
 use Rattle.kr_kms.specs.Calls.{Link}
 use Rattle.kr_kms.specs.Outside.{Outside, same_seat}
 use Rattle.kr_provider.specs.AskedLinks.{AskedOnly}
@@ -18,7 +18,7 @@ use Rattle.kr_cmd_steps.specs.inner.ProgramNames.{names_in}
 
 -- they are those of a configuration, each once
 abbrev pub ArePlugins : List Program → Type 0
-ArePlugins programs = (rows : List Row) × (names_in programs ≡ plugin_order rows)
+ArePlugins programs = (rows : List ConfigEntry) × (names_in programs ≡ plugin_order rows)
 
 module _ {L D : Type 0} (link : L → Link) (left : D → Option (List ℕ)) (count : D → ℕ) where
   -- the outfits of the seats from this one on stand as if they were at home
@@ -44,6 +44,10 @@ module _ {L D : Type 0} (link : L → Link) where
     AreLater [] (new ∷ news) = ⊥
     AreLater (old ∷ olds) [] = ⊥
     AreLater (old ∷ olds) (new ∷ news) = IsLater old new × AreLater olds news
+
+-- the links of each
+abbrev pub links_of : {L D : Type 0} → List (Outfit L D) → List (List L)
+links_of {L} {D} outfits = map (λ (outfit : Outfit L D). outfit.links) outfits
 
 -- ---- what is out
 

@@ -4,16 +4,16 @@ use Rattle.kr_base.specs.Faults.{Rose}
 use Rattle.kr_base.specs.Told.{Agrees}
 use Rattle.kr_kms.specs.Outside.{Outside, file_faults}
 use Rattle.kr_script.specs.Fleets.{Fleet, fleet_of}
-use Rattle.kr_script.specs.Meanings.{Means}
-use Rattle.kr_script.specs.Rules.{IsFleet, IsWhole, IsWithin}
+use Rattle.kr_script.specs.Meanings.{MeansScript}
+use Rattle.kr_script.specs.Rules.{IsFleet, IsWhole, KeepsFleetLimits}
 use Rattle.kr_script.specs.declared.script.Script.{Script}
 use Rattle.kr_script.specs.declared.script.ScriptNo.{ScriptNo}
 use Rattle.kr_script.specs.declared.script.ScriptNo.TheVariants as no
 use Rattle.kr_workers.specs.declared.files.SettingsFile.{SettingsFile}
 use Rattle.kr_provider.specs.PluginOrder.{plugin_order}
 use Rattle.kr_cmd_steps.specs.Around.{Around, with_world}
-use Rattle.kr_cmd_fleet.specs.FleetFiles.{FleetPlan, IsFleetFile, MeansFleet, NamedRows, all_rows, files_in, all_files, named_rows, rows_at}
-use Rattle.kr_cmd_fleet.specs.declared.fleet_file.Plan.{Plan}
+use Rattle.kr_cmd_fleet.specs.FleetFiles.{FleetPlan, IsFleetFile, MeansFleet, NamedRows, all_rows, files_in, all_files, named_rows, file_entries}
+use Rattle.kr_cmd_fleet.specs.declared.fleet_file.LoadedFleet.{LoadedFleet}
 use Rattle.kr_cmd_messages.specs.declared.refusal.Limit.TheVariants as limit
 use Rattle.kr_cmd_messages.specs.declared.refusal.Object.TheVariants.{Files}
 use Rattle.kr_cmd_messages.specs.declared.refusal.Refusal.{Refusal}
@@ -34,7 +34,7 @@ script_stop no.NoMemory = NoMemory
 
 -- the script that the bytes mean, or why there is none
 abbrev pub ReadsBytes : List ℕ → Result Script Stop → Type 0
-ReadsBytes bytes (Ok script) = Means bytes (Ok (fleet_of script))
+ReadsBytes bytes (Ok script) = MeansScript bytes (Ok (fleet_of script))
 ReadsBytes bytes (Err (Refused why)) = MeansFleet bytes (Err why)
 ReadsBytes bytes (Err NoMemory) = ⊤
 ReadsBytes bytes result = ⊥
@@ -58,7 +58,7 @@ fleet_in_result (Err stop) = Err stop
 
 -- it keeps the rules of a fleet file
 abbrev pub IsRuled : Fleet → Type 0
-IsRuled fleet = IsFleet fleet × IsWhole fleet × IsWithin fleet
+IsRuled fleet = IsFleet fleet × IsWhole fleet × KeepsFleetLimits fleet
 
 -- ---- the configurations
 
@@ -67,8 +67,9 @@ named files = map named_rows files
 
 -- each of these names has a file that was read, and what was read before stays
 pub record Covers (old new : List NamedRows) (names : List (List ℕ)) : Type 0 where
-  pub read : All (λ name. IsSome (rows_at new name)) names
-  pub stays : (name : List ℕ) → IsSome (rows_at old name) → rows_at new name ≡ rows_at old name
+  pub read : All (λ name. IsSome (file_entries new name)) names
+  pub stays : (name : List ℕ) → IsSome (file_entries old name)
+      → file_entries new name ≡ file_entries old name
 
 -- these names were gone through: their files are there, and what the rest does completes it; or
 -- they ended the command
@@ -83,14 +84,14 @@ GoesThrough old_files new_files more old new (Err stop) = (a : Around) (names : 
 
 -- ---- all of it
 
-abbrev pub plan_of : Plan → FleetPlan
+abbrev pub plan_of : LoadedFleet → FleetPlan
 plan_of plan = record {
   fleet = fleet_of plan.script;
   files = named plan.files.0;
   programs = plan.programs;
 }
 
-abbrev pub plan_in : Result Plan Stop → Result FleetPlan Stop
+abbrev pub plan_in : Result LoadedFleet Stop → Result FleetPlan Stop
 plan_in (Ok plan) = Ok (plan_of plan)
 plan_in (Err stop) = Err stop
 
@@ -99,6 +100,6 @@ plan_in (Err stop) = Err stop
 pub record IsWholePlan (plan : FleetPlan) : Type 0 where
   pub rules : IsFleet plan.fleet
   pub whole : IsWhole plan.fleet
-  pub within : IsWithin plan.fleet
-  pub read : All (λ name. IsSome (rows_at plan.files name)) (all_files plan.fleet)
+  pub within : KeepsFleetLimits plan.fleet
+  pub read : All (λ name. IsSome (file_entries plan.files name)) (all_files plan.fleet)
   pub programs : names_in plan.programs ≡ plugin_order (all_rows plan.files)

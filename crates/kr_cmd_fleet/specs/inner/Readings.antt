@@ -22,10 +22,10 @@ use Rattle.kr_watch.specs.declared.item.Item.{Item}
 use Rattle.kr_cmd_fleet.specs.FirstItems.{item_with, reading_rows}
 use Rattle.kr_cmd_fleet.specs.declared.outfit.Outfit.{Outfit}
 use Rattle.kr_cmd_fleet.specs.inner.Beginnings.{with_first}
-use Rattle.kr_cmd_steps.specs.Around.{Around}
+use Rattle.kr_cmd_steps.specs.Around.{Around, IsUnheard}
 use Rattle.kr_cmd_steps.specs.inner.Phases.{Does}
-use Rattle.kr_cmd_fleet.specs.declared.watch_start.ReadNo.{ReadNo}
-use Rattle.kr_cmd_fleet.specs.declared.watch_start.ReadNo.TheVariants as no
+use Rattle.kr_cmd_fleet.specs.declared.watch_start.RowReadNo.{RowReadNo}
+use Rattle.kr_cmd_fleet.specs.declared.watch_start.RowReadNo.TheVariants as no
 use Rattle.kr_cmd_fleet.specs.declared.watch_start.WatchStart.{WatchStart}
 use Rattle.kr_cmd_messages.specs.declared.refusal.Object.TheVariants.{Plugin}
 use Rattle.kr_cmd_messages.specs.declared.refusal.Stop.{Stop}
@@ -59,7 +59,7 @@ module _ {L : Type 0} (truth : Truth) (link : L → Link) (p : Publication) wher
       row.stored olds result news
 
   -- the row's item has what a bench read; or its plugin failed, or there was no memory
-  abbrev pub ReadsRow : Row → (olds : List L) → Result Item ReadNo → (news : List L) → Type 0
+  abbrev pub ReadsRow : Row → (olds : List L) → Result Item RowReadNo → (news : List L) → Type 0
   ReadsRow row olds (Ok item) news = (result : Result Opened UnsealNo)
       × Unsealed row olds result news × Answered result × (item ≡ item_with row (plain_of result))
   ReadsRow row olds (Err (no.PluginFailed name)) news =
@@ -70,7 +70,7 @@ module _ {L : Type 0} (truth : Truth) (link : L → Link) (p : Publication) wher
 -- ---- rows
 
 -- how the steps end by which rows are read; a plugin's fault has its link's count
-abbrev pub IsReadEnd : {L : Type 0} → (L → Link) → List L → Result (List Item × ℕ) ReadNo
+abbrev pub IsReadEnd : {L : Type 0} → (L → Link) → List L → Result (List Item × ℕ) RowReadNo
     → Result (List Item) Stop → Type 0
 IsReadEnd link links (Ok items) made = made ≡ Ok items.0
 IsReadEnd link links (Err (no.PluginFailed name)) made =
@@ -100,19 +100,19 @@ AreReadOf truth p (row ∷ rows) (item ∷ items) =
 -- ---- rows, with a bench over these links
 
 -- the plugin that failed has a link
-abbrev pub NamesALink : (names : List (List ℕ)) → ReadNo → Type 0
+abbrev pub NamesALink : (names : List (List ℕ)) → RowReadNo → Type 0
 NamesALink names (no.PluginFailed name) = Contains names name
 NamesALink names no.NoMemory = ⊤
 
-abbrev pub Names : {A : Type 0} → (names : List (List ℕ)) → Result A ReadNo → Type 0
+abbrev pub Names : {A : Type 0} → (names : List (List ℕ)) → Result A RowReadNo → Type 0
 Names names (Ok x) = ⊤
 Names names (Err why) = NamesALink names why
 
 -- they were read one behind another, or one of them ended that
 pub record ReadsAll {L : Type 0} (truth : Truth) (link : L → Link) (p : Publication)
-    (rows : List Row) (olds : List L) (result : Result (List Item × ℕ) ReadNo) (news : List L)
+    (rows : List Row) (olds : List L) (result : Result (List Item × ℕ) RowReadNo) (news : List L)
     : Type 0 where
-  pub does : (left : Option (List ℕ)) (count : ℕ) (a : Around) → a.truth ≡ truth
+  pub does : (left : Option (List ℕ)) (count : ℕ) (a : Around) → IsUnheard truth a
       → (made : Result (List Item) Stop) → IsReadEnd link news result made
       → Does (reading_rows p rows []) (with_first link olds left count a)
       (with_first link news left count a) made

@@ -1,23 +1,21 @@
 -- The workers at a core that starts with what replicas published.
-use Rattle.std.specs.Prelude.{◌≡◌, ◌⊎◌, false, ℕ, Bool, List, [], length, Option, Result, Ok, Err}
+use Rattle.std.specs.Prelude.{◌≡◌, false, ℕ, Bool, List, length, Option, Result}
 use Rattle.kr_kms.specs.Calls.{Link}
 use Rattle.kr_kms.specs.Exchanges.{Exchange}
 use Rattle.kr_kms.specs.Truth.{Truth}
 use Rattle.kr_store.specs.Stores.{Kept}
 use Rattle.kr_watch.specs.declared.item.Item.{Item}
+use Rattle.kr_workers.specs.declared.worker.Worker.{Worker}
 use Rattle.kr_cmd_steps.specs.Around.{Around}
-use Rattle.kr_cmd_fleet.specs.FleetFiles.{FleetPlan}
 use Rattle.kr_cmd_fleet.specs.Fleets.{Begun, Replicas, launching, starting}
-use Rattle.kr_cmd_steps.specs.Steps.{Steps}
-use Rattle.kr_cmd_fleet.specs.declared.fleet.Record.{Record}
-use Rattle.kr_cmd_fleet.specs.declared.fleet_file.Plan.{Plan}
+use Rattle.kr_cmd_fleet.specs.StartExchanges.{AsksFirst, BeganWith, WereAsked, links_in}
+use Rattle.kr_cmd_fleet.specs.declared.fleet_file.LoadedFleet.{LoadedFleet}
 use Rattle.kr_cmd_fleet.specs.declared.outfit.Outfit.{Outfit}
 use Rattle.kr_cmd_messages.specs.declared.refusal.Stop.{Stop}
 use Rattle.kr_cmd_fleet.specs.inner.Crews.{outfits_of}
 use Rattle.kr_cmd_fleet.specs.inner.Plans.{plan_of}
-use Rattle.kr_cmd_fleet.specs.inner.FleetOutcomes.{LacksWorkers, LeavesRecord}
 use Rattle.kr_cmd_steps.specs.inner.Lent.{with_lent_tape}
-use Rattle.kr_cmd_fleet.specs.inner.Outfits.{AreLater, AreNamed, with_outfits}
+use Rattle.kr_cmd_fleet.specs.inner.Outfits.{AreLater, AreNamed, links_of, with_outfits}
 use Rattle.kr_cmd_steps.specs.inner.ProgramNames.{names_in}
 use Rattle.kr_cmd_fleet.specs.inner.Readings.{KnowsItems}
 use Rattle.kr_cmd_steps.specs.inner.Phases.{Does}
@@ -35,8 +33,8 @@ module _ {L D : Type 0} (link : L → Link) (left : D → Option (List ℕ)) (co
 
   -- the replicas published while the outfits were as they were before, and where someone watches
   -- the live rows were read: what the core's start does completes it
-  pub record IsPublished (truth : Truth) (watched : Bool) (plan : Plan) (budgets : List ℕ)
-      (name : List ℕ) (store : Kept) (a : Around) (olds outfits : Outfits L D)
+  pub record IsPublished (truth : Truth) (watched : Bool) (plan : LoadedFleet) (budgets : List ℕ)
+      (name : List ℕ) (store : Kept) (first a : Around) (olds outfits : Outfits L D)
       (replicas : Replicas) (items : List Item) : Type 0 where
     pub are_named : AreNamed link (names_in plan.programs) olds
     pub seats : length olds ≡ length plan.script.workers.0
@@ -45,20 +43,45 @@ module _ {L D : Type 0} (link : L → Link) (left : D → Option (List ℕ)) (co
         → Does (starting (plan_of plan) (stored_of store) budgets replicas items)
         (with_crew name store outfits a) (with_crew name kept outfits a) result
         → Does (launching watched (plan_of plan) (stored_of store) budgets)
-        (with_crew name store olds a) (with_crew name kept outfits a) result
+        first (with_crew name kept outfits a) result
     pub known : KnowsItems watched truth store.rows replicas items
 
-  module _ (T : Type 0) (truth : Truth) (step : L → Exchange → L → Type 0) (watched : Bool)
-      (steps : Steps Begun) (store : List ℕ)
-      (plan : FleetPlan) (outfits : Outfits L D) (old new : Around) where
-    -- the workers ran, and began with these outfits
-    pub record LeavesCrew (made : Record) : Type 0 where
-      pub leaves :
-          LeavesRecord T truth link step left count false watched steps store plan old new made
-      pub outfits_are : outfits_of leaves.runs.workers ≡ outfits
+-- ---- what is said of the workers
 
-    -- what these steps up to the workers give
-    abbrev pub RunsWith : Result Record Stop → Type 0
-    RunsWith (Ok made) = LeavesCrew made
-    RunsWith (Err stop) = Does steps old new (Err stop)
-        ⊎ LacksWorkers T truth link step left count steps store old new stop
+module _ {T L D : Type 0} (told : Option (List Exchange)) where
+  -- they began with these outfits, when this was heard, and left those
+  abbrev pub TakesOutfits : (outfits back : Outfits L D) → (heard : Option (List Exchange))
+      → (workers ended : List (Worker T L D)) → Type 0
+  TakesOutfits outfits back heard workers ended =
+      (heard ≡ told) × (outfits_of workers ≡ outfits) × (outfits_of ended ≡ back)
+
+  module _ (step : L → Exchange → L → Type 0) (watched : Bool) (exchanges : List Exchange) where
+    -- while no one watches, the first outfit's links had answered just this
+    abbrev pub AsksOutfits : (olds back : Outfits L D) → (heard : Option (List Exchange))
+        → (workers ended : List (Worker T L D)) → Type 0
+    AsksOutfits olds back heard workers ended = (heard ≡ told)
+        × (watched ≡ false → AsksFirst step exchanges (links_of olds) (links_in workers))
+        × (links_in ended ≡ links_of back)
+
+    -- the links were lent, and come back
+    abbrev pub BeginsLent : (lent took : ℕ → L → Type 0) → (heard : Option (List Exchange))
+        → (workers ended : List (Worker T L D)) → Type 0
+    BeginsLent lent took heard workers ended = (heard ≡ told)
+        × (watched ≡ false → BeganWith lent took step exchanges workers ended)
+
+-- ---- what the start asked
+
+-- the links of these outfits were asked just this, by which this was done
+pub record StartsFrom {L D : Type 0} (step : L → Exchange → L → Type 0) (olds : Outfits L D)
+    (Done : List Exchange → Type 0) : Type 0 where
+  pub exchanges : List Exchange
+  pub news : List (List L)
+  pub asks : AsksFirst step exchanges (links_of olds) news
+  pub done : Done exchanges
+
+-- links that were lent were
+pub record StartsLent {L : Type 0} (lent : ℕ → L → Type 0) (step : L → Exchange → L → Type 0)
+    (Done : List Exchange → Type 0) : Type 0 where
+  pub exchanges : List Exchange
+  pub asked : WereAsked lent step exchanges
+  pub done : Done exchanges

@@ -1,5 +1,5 @@
 -- What the phases of `rewrite` give to it.
-use Rattle.std.specs.Prelude.{◌≡◌, ◌+◌, ◌*◌, ◌<◌, ◌≤◌, ◌⊎◌, ℕ, false, List, [], ◌∷◌, length, Contains, Option, None, Some, Result, Ok, Err, ⊤}
+use Rattle.std.specs.Prelude.{◌≡◌, ◌+◌, ◌-◌, ◌*◌, ◌^◌, ◌<◌, ◌≤◌, ◌⊎◌, ℕ, false, List, [], ◌∷◌, length, Contains, Option, None, Some, Result, Ok, Err, ⊤}
 use Rattle.kr_base.specs.Limits.{store_limit, journal_limit}
 use Rattle.kr_kms.specs.Calls.{Link}
 use Rattle.kr_provider.specs.AskedLinks.{HasLinkWith}
@@ -24,7 +24,7 @@ use Rattle.kr_cmd_messages.specs.declared.refusal.Outcome.{Outcome}
 use Rattle.kr_cmd_messages.specs.declared.refusal.Refusal.TheVariants.{Limit}
 use Rattle.kr_cmd_messages.specs.declared.refusal.Stop.{Stop}
 use Rattle.kr_cmd_messages.specs.declared.refusal.Stop.TheVariants.{Refused, Fault, NoMemory}
-use Rattle.kr_cmd_messages.specs.declared.report.Counts.{Counts}
+use Rattle.kr_cmd_messages.specs.declared.report.RewriteCounts.{RewriteCounts}
 
 -- the live rows of a store, and what a tape tells
 abbrev pub LiveRows : Type 0
@@ -58,7 +58,8 @@ StartsAlone store p names room (Ok core) = MayStart store.rows (Some p.rows ∷ 
 StartsAlone store p names room (Err refused) = (cause : StartNo)
     × IsNoStart store.rows (Some p.rows ∷ []) cause × (refused.0 ≡ start_stop cause)
 
--- a core at its opening, of one replica and one seat that brings no configuration
+-- a core at its opening, of one replica and one seat that brings no configuration, over a tape whose
+-- count of faults can rise
 pub record IsAlone (core : CoreState) : Type 0 where
   pub p : Publication
   pub replicas : core.opening.replicas ≡ Some p ∷ []
@@ -67,14 +68,15 @@ pub record IsAlone (core : CoreState) : Type 0 where
   pub room : HasRoom core.opening.rows core.room
   pub within : core.opening.limit ≡ store_limit
   pub whole : core.opening.torn ≡ false
+  pub counts : core.opening.count < 2 ^ 64 - 1
 
 abbrev pub opened_store : CoreState → Stored
 opened_store core = record { format = core.opening.format; rows = core.opening.rows }
 
 -- ---- the end
 
-abbrev pub counts_of : Report → Counts
-counts_of report = record {
+abbrev pub report_counts : Report → RewriteCounts
+report_counts report = record {
   rewritten = report.rewritten;
   fresh = report.fresh;
   changed = report.changed;
@@ -102,12 +104,12 @@ IsDriveStop link store links dice no.NoMemory stop = stop ≡ NoMemory
 IsDriveStop link store links dice why stop = ⊥
 
 -- the report as the output, where there is memory for its text
-abbrev pub IsReported : Counts → Ended → Type 0
+abbrev pub IsReported : RewriteCounts → Ended → Type 0
 IsReported counts ended = (ended.said ≡ Some counts)
     × ((ended.made ≡ Ok (report_outcome counts)) ⊎ (ended.made ≡ Err NoMemory))
 
 -- what is told once the store is settled: a value, or a report in front of a stop
-abbrev pub to_settle : Result Outcome Stop → Option Counts → Result Ended Stop
+abbrev pub to_settle : Result Outcome Stop → Option RewriteCounts → Result Ended Stop
 to_settle (Ok outcome) said = Ok (record { made = Ok outcome; said = said })
 to_settle (Err stop) None = Err stop
 to_settle (Err stop) (Some counts) = Ok (record { made = Err stop; said = Some counts })

@@ -10,12 +10,12 @@ use Rattle.kr_kms.specs.Outside.{Outside, with_call, file_faults, same_seat, sam
 use Rattle.kr_kms.specs.declared.world.WorldCall.{WorldCall}
 use Rattle.kr_kms.specs.declared.world.WorldCall.TheVariants as calls
 use Rattle.kr_kms.specs.declared.world.WorldCall.TheVariants.{RandomSource}
-use Rattle.kr_config.specs.Kept.{Row, rows_of}
+use Rattle.kr_config.specs.Kept.{ConfigEntry, rows_of}
 use Rattle.kr_config.specs.declared.settings.Settings.{Settings}
-use Rattle.kr_config.specs.Meanings.{Means}
+use Rattle.kr_config.specs.Meanings.{MeansConfig}
 use Rattle.kr_config.specs.declared.refusal.ConfigNo.{ConfigNo}
 use Rattle.kr_cmd_steps.specs.Around.{Around, Stays, IsHome, Ends}
-use Rattle.kr_cmd_steps.specs.Commands.{silently}
+use Rattle.kr_cmd_steps.specs.Phases.{silently}
 use Rattle.kr_cmd_steps.specs.Configuration.{Entries, IsConfiguration}
 use Rattle.kr_cmd_steps.specs.Steps.{Steps, Left}
 use Rattle.kr_cmd_messages.specs.declared.refusal.Object.TheVariants.{Input, Files}
@@ -47,14 +47,14 @@ AskedFor old new call (Err why) = AskedUnless old new call why
 
 -- the settings that the bytes mean, or the breach
 abbrev pub ReadsRows : List ℕ → Result Settings Stop → Type 0
-ReadsRows bytes (Ok settings) = Means bytes (Ok (rows_of settings.entries.0))
+ReadsRows bytes (Ok settings) = MeansConfig bytes (Ok (rows_of settings.entries.0))
 ReadsRows bytes (Err (Refused why)) =
-    (breach : ConfigNo) × Means bytes (Err breach) × (why ≡ Configuration breach)
+    (breach : ConfigNo) × MeansConfig bytes (Err breach) × (why ≡ Configuration breach)
 ReadsRows bytes (Err NoMemory) = ⊤
 ReadsRows bytes result = ⊥
 
 -- the rows in settings
-abbrev pub rows_in : Result Settings Stop → Result (List Row) Stop
+abbrev pub rows_in : Result Settings Stop → Result (List ConfigEntry) Stop
 rows_in (Ok settings) = Ok (rows_of settings.entries.0)
 rows_in (Err stop) = Err stop
 

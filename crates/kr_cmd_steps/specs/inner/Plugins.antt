@@ -12,7 +12,8 @@ use Rattle.kr_provider.specs.declared.refusal.SealNo.TheVariants as seal
 use Rattle.kr_provider.specs.declared.refusal.UnsealNo.{UnsealNo}
 use Rattle.kr_provider.specs.declared.refusal.UnsealNo.TheVariants as unseal
 use Rattle.kr_provider.specs.declared.refusal.ValueNo.TheVariants as value
-use Rattle.kr_cmd_steps.specs.Commands.{freshness, silently}
+use Rattle.kr_cmd_steps.specs.ValueSteps.{freshness}
+use Rattle.kr_cmd_steps.specs.Phases.{silently}
 use Rattle.kr_base.specs.Visible.{visible}
 use Rattle.kr_cmd_messages.specs.declared.refusal.Object.TheVariants.{Dice, Plugin}
 use Rattle.kr_cmd_messages.specs.declared.refusal.Outcome.{Outcome}

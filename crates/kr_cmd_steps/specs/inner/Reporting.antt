@@ -6,15 +6,15 @@ use Rattle.kr_cmd_messages.specs.declared.command.Command.{Command}
 use Rattle.kr_cmd_messages.specs.declared.refusal.Outcome.{Outcome}
 use Rattle.kr_cmd_messages.specs.declared.refusal.Stop.{Stop}
 use Rattle.kr_cmd_messages.specs.Reports.{report_text}
-use Rattle.kr_cmd_messages.specs.declared.report.Counts.{Counts}
+use Rattle.kr_cmd_messages.specs.declared.report.RewriteCounts.{RewriteCounts}
 
 -- a command that reported said this last
-abbrev pub saying : Option Counts → Around → Around
+abbrev pub saying : Option RewriteCounts → Around → Around
 saying None a = a
 saying (Some counts) a = with_what_is_said (report_text counts) a
 
 -- what is written of a report where a command stopped
-abbrev pub said_text : Option Counts → List ℕ
+abbrev pub said_text : Option RewriteCounts → List ℕ
 said_text None = []
 said_text (Some counts) = report_text counts
 

@@ -14,7 +14,7 @@ use Rattle.kr_store.specs.declared.rows.LogRow.{LogRow}
 use Rattle.kr_store.specs.declared.rows.Row.{Row}
 use Rattle.kr_store.specs.declared.answers.StoreNo.{StoreNo}
 use Rattle.kr_store.specs.declared.answers.StoreNo.TheVariants as no
-use Rattle.kr_cmd_steps.specs.Commands.{silently}
+use Rattle.kr_cmd_steps.specs.Phases.{silently}
 use Rattle.kr_cmd_steps.specs.StoreFiles.{Stored, with_row}
 use Rattle.kr_base.specs.Visible.{visible}
 use Rattle.kr_cmd_messages.specs.declared.refusal.Breach.TheVariants as breach
@@ -120,6 +120,6 @@ answered (Ok done) line = Ok (silently line)
 answered (Err stop) line = Err stop
 
 -- the path of the row where a walk over the live rows is; the empty one at its begin
-abbrev pub path_of : Option Row → List ℕ
-path_of None = []
-path_of (Some row) = row.path
+abbrev pub walk_path : Option Row → List ℕ
+walk_path None = []
+walk_path (Some row) = row.path

@@ -1,7 +1,7 @@
 -- What the phases of `judge` give to it.
 use Rattle.std.specs.Prelude.{◌≡◌, ℕ, List, length, All, Option, IsSome, Result, Ok, Err, ⊤}
 use Rattle.kr_base.specs.declared.list.List as lists
-use Rattle.kr_config.specs.Kept.{Row}
+use Rattle.kr_config.specs.Kept.{ConfigEntry}
 use Rattle.kr_config.specs.declared.settings.Settings.{Settings}
 use Rattle.kr_judge.specs.declared.verdict.Verdict.{Verdict}
 use Rattle.kr_opening.specs.Replicas.{rows_in}
@@ -13,7 +13,7 @@ use Rattle.kr_cmd_messages.specs.declared.refusal.Stop.TheVariants.{Words, Refus
 
 -- the settings of replicas by their rows
 abbrev pub replica_rows : Result (lists.List (Option Settings)) Stop
-    → Result (List (Option (List Row))) Stop
+    → Result (List (Option (List ConfigEntry))) Stop
 replica_rows (Ok replicas) = Ok (rows_in replicas.0)
 replica_rows (Err stop) = Err stop
 
@@ -22,7 +22,8 @@ abbrev pub AreIn : ℕ → List (Option Settings) → Type 0
 AreIn count replicas = (length replicas ≡ count) × All (λ replica. IsSome replica) replicas
 
 -- a verdict, or why there is none
-abbrev pub Judges : List LogRow → List (Option (List Row)) → ℕ → List Row → Result Verdict Stop
+abbrev pub Judges : List LogRow → List (Option (List ConfigEntry)) → ℕ → List ConfigEntry
+    → Result Verdict Stop
     → Type 0
 Judges stored replicas replica rows (Ok verdict) =
     IsJudged stored replicas replica rows (Ok verdict)

@@ -13,7 +13,7 @@ use Rattle.kr_config.specs.declared.pattern.Pattern.{Pattern}
 use Rattle.kr_config.specs.declared.who.Who.{Who}
 use Rattle.kr_config.specs.declared.who.Who.TheVariants.{Identity}
 use Rattle.kr_config.specs.Patterns.{matches, covers_group, covers_rest}
-use Rattle.kr_config.specs.Kept.{Row}
+use Rattle.kr_config.specs.Kept.{ConfigEntry}
 use Rattle.kr_config.specs.Lists.{class_list}
 use Rattle.kr_config.specs.Classes.{class_cmp, classes_in, IsTableOf}
 use Rattle.kr_config.specs.Nexts.{comes_after}
@@ -22,19 +22,19 @@ abbrev pub class_at : ClassPlace → Class
 class_at place = place.class
 
 -- a pattern that speaks of all of a class
-abbrev pub speaks_of : Class → Pattern → Bool
-speaks_of (Exact text) pattern = matches pattern text
-speaks_of (Group group) pattern = covers_group pattern group
-speaks_of Rest pattern = covers_rest pattern
+abbrev pub covers_class : Class → Pattern → Bool
+covers_class (Exact text) pattern = matches pattern text
+covers_class (Group group) pattern = covers_group pattern group
+covers_class Rest pattern = covers_rest pattern
 
 -- the providers of the entry at a place, or identity alone behind the last
-abbrev pub list_at : List Row → ℕ → List Who
-list_at [] place = Identity ∷ []
-list_at (row ∷ rows) zero = row.providers
-list_at (row ∷ rows) (suc place) = list_at rows place
+abbrev pub entry_list : List ConfigEntry → ℕ → List Who
+entry_list [] place = Identity ∷ []
+entry_list (row ∷ rows) zero = row.providers
+entry_list (row ∷ rows) (suc place) = entry_list rows place
 
-abbrev pub IsListed : List Row → ClassPlace → Type 0
-IsListed rows own = list_at rows own.entry ≡ class_list rows own.class
+abbrev pub IsListed : List ConfigEntry → ClassPlace → Type 0
+IsListed rows own = entry_list rows own.entry ≡ class_list rows own.class
 
 -- each comes before those behind it
 abbrev pub ascend : List Class → Bool
@@ -46,26 +46,26 @@ abbrev pub has_class : List Class → Class → Bool
 has_class classes class = list_any (λ own. is_eq (class_cmp own class)) classes
 
 -- in order those that the entries tell apart, and no others
-abbrev pub are_classes_of : List Row → List Class → Bool
+abbrev pub are_classes_of : List ConfigEntry → List Class → Bool
 are_classes_of rows classes = ascend classes
     && list_all (has_class (Rest ∷ classes_in rows)) classes
     && list_all (has_class classes) (Rest ∷ classes_in rows)
 
 -- the lists by the places, and those of the classes
-abbrev pub lists_by_place : List Row → List ClassPlace → List (List Who)
-lists_by_place rows index = map (λ own. list_at rows own.entry) index
+abbrev pub lists_by_place : List ConfigEntry → List ClassPlace → List (List Who)
+lists_by_place rows index = map (λ own. entry_list rows own.entry) index
 
-abbrev pub lists_by_class : List Row → List ClassPlace → List (List Who)
+abbrev pub lists_by_class : List ConfigEntry → List ClassPlace → List (List Who)
 lists_by_class rows index = map (λ own. class_list rows own.class) index
 
 -- classes with the places of their lists
-pub record ArePlaces (rows : List Row) (classes : List Class) (index : List ClassPlace)
+pub record ArePlaces (rows : List ConfigEntry) (classes : List Class) (index : List ClassPlace)
     : Type 0 where
   pub each : map class_at index ≡ classes
   pub lists : All (IsListed rows) index
 
 -- the table of the entries, with the places of the classes' lists
-pub record IsIndexOf (rows : List Row) (index : List ClassPlace) : Type 0 where
+pub record IsIndexOf (rows : List ConfigEntry) (index : List ClassPlace) : Type 0 where
   pub table : IsTableOf (rows ∷ []) (map class_at index)
   pub lists : All (IsListed rows) index
 

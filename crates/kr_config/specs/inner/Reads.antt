@@ -16,7 +16,7 @@ use Rattle.kr_config.specs.declared.reading.JsonNo.{JsonNo}
 use Rattle.kr_config.specs.declared.reading.JsonNo.TheVariants.{Form}
 use Rattle.kr_config.specs.declared.reading.JsonNo.TheVariants as json
 use Rattle.kr_config.specs.declared.settings.Entry.{Entry}
-use Rattle.kr_config.specs.Kept.{Row, row_of, rows_of}
+use Rattle.kr_config.specs.Kept.{ConfigEntry, entry_lists, rows_of}
 
 abbrev pub Reads : {T : Type 0} → Result T ConfigNo → Result T ConfigErr → Type 0
 Reads wanted (Ok x) = wanted ≡ Ok x
@@ -24,7 +24,8 @@ Reads wanted (Err (No why)) = wanted ≡ Err why
 Reads wanted (Err NoMemory) = ⊤
 
 -- the entries that are meant, or the breach
-abbrev pub ReadsMeant : (Result (List Row) ConfigNo → Type 0) → Result (List Entry × ℕ) ConfigErr
+abbrev pub ReadsMeant : (Result (List ConfigEntry) ConfigNo → Type 0)
+    → Result (List Entry × ℕ) ConfigErr
     → Type 0
 ReadsMeant Meant (Ok entries) = Meant (Ok (rows_of entries.0))
 ReadsMeant Meant (Err (No why)) = Meant (Err why)
@@ -55,12 +56,13 @@ ReadsList wanted (Ok list) = wanted ≡ Ok list.0
 ReadsList wanted (Err (No why)) = wanted ≡ Err why
 ReadsList wanted (Err NoMemory) = ⊤
 
-abbrev pub ReadsEntry : Result Row ConfigNo → Result Entry ConfigErr → Type 0
-ReadsEntry wanted (Ok entry) = wanted ≡ Ok (row_of entry)
+abbrev pub ReadsEntry : Result ConfigEntry ConfigNo → Result Entry ConfigErr → Type 0
+ReadsEntry wanted (Ok entry) = wanted ≡ Ok (entry_lists entry)
 ReadsEntry wanted (Err (No why)) = wanted ≡ Err why
 ReadsEntry wanted (Err NoMemory) = ⊤
 
-abbrev pub ReadsEntries : Result (List Row) ConfigNo → Result (List Entry × ℕ) ConfigErr → Type 0
+abbrev pub ReadsEntries : Result (List ConfigEntry) ConfigNo → Result (List Entry × ℕ) ConfigErr
+    → Type 0
 ReadsEntries wanted (Ok entries) = wanted ≡ Ok (rows_of entries.0)
 ReadsEntries wanted (Err (No why)) = wanted ≡ Err why
 ReadsEntries wanted (Err NoMemory) = ⊤

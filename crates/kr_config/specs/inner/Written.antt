@@ -2,7 +2,7 @@
 use Rattle.std.specs.Prelude.{ℕ, ◌<◌, List, All, ⊤}
 use Rattle.kr_config.specs.declared.who.Who.{Who}
 use Rattle.kr_config.specs.declared.who.Who.TheVariants.{Identity, Aescbc, Aesgcm, Kms}
-use Rattle.kr_config.specs.Kept.{Row}
+use Rattle.kr_config.specs.Kept.{ConfigEntry}
 
 abbrev pub IsOfBytes : Who → Type 0
 IsOfBytes Identity = ⊤
@@ -10,5 +10,5 @@ IsOfBytes (Aescbc name secret) = All (λ byte. byte < 256) secret
 IsOfBytes (Aesgcm name secret) = All (λ byte. byte < 256) secret
 IsOfBytes (Kms name) = ⊤
 
-abbrev pub AreOfBytes : List Row → Type 0
+abbrev pub AreOfBytes : List ConfigEntry → Type 0
 AreOfBytes rows = All (λ row. All IsOfBytes row.providers) rows

@@ -3,17 +3,17 @@ use Rattle.std.specs.Prelude.{◌≡◌, ℕ, ◌<◌, Bool, true, false, List, 
 use denote.Ref.{Bor}
 use Rattle.kr_base.specs.Limits.{annotations_limit}
 use Rattle.kr_base.specs.Pairs.{Pairs, with_pair}
-use Rattle.kr_envelope.specs.declared.item.Item.{Item}
-use Rattle.kr_envelope.specs.declared.item.Item.TheVariants as lent
+use Rattle.kr_envelope.specs.declared.item.WireItem.{WireItem}
+use Rattle.kr_envelope.specs.declared.item.WireItem.TheVariants as lent
 use Rattle.kr_envelope.specs.declared.item.ItemNo.{ItemNo}
 use Rattle.kr_envelope.specs.declared.item.ItemNo.TheVariants as no
 use Rattle.kr_envelope.specs.declared.partial.PartialObject.{PartialObject}
-use Rattle.kr_envelope.specs.Wire.{Starts, Spells, Field, IsField}
+use Rattle.kr_envelope.specs.Wire.{BeginsSpelled, Spells, WireField, IsField}
 use Rattle.kr_envelope.specs.Messages as message
-use Rattle.kr_envelope.specs.Messages.{Means, IsItem, IsText, IsMessage, Raw, raw_of, last_bytes}
+use Rattle.kr_envelope.specs.Messages.{MeansItem, IsItem, IsText, IsMessage, Raw, raw_of, last_bytes}
 
 -- what a lent item holds
-abbrev pub item_of : Item → message.Item
+abbrev pub item_of : WireItem → message.WireItem
 item_of (lent.Encrypted content) = message.encrypted content.now
 item_of (lent.KeyId text) = message.key_id text.now
 item_of (lent.Source content) = message.source content.now
@@ -22,19 +22,20 @@ item_of (lent.Kind n) = message.kind n
 item_of lent.Other = message.other
 
 -- what a field says, or why it says nothing
-abbrev pub Says : Field → Result Item ItemNo → Type 0
-Says field (Ok item) = Means field (item_of item) × IsText (item_of item)
-Says field (Err no.Wire) = (item : message.Item) → Means field item → ⊥
-Says field (Err no.NotUtf8) = (item : message.Item) × Means field item × (IsText item → ⊥)
+abbrev pub Says : WireField → Result WireItem ItemNo → Type 0
+Says field (Ok item) = MeansItem field (item_of item) × IsText (item_of item)
+Says field (Err no.Wire) = (item : message.WireItem) → MeansItem field item → ⊥
+Says field (Err no.NotUtf8) = (item : message.WireItem) × MeansItem field item × (IsText item → ⊥)
 
 -- the item at the front and the rest, or why there is none
-abbrev pub TakesItem : List ℕ → Result (Item × Bor (List ℕ)) ItemNo → Type 0
+abbrev pub TakesItem : List ℕ → Result (WireItem × Bor (List ℕ)) ItemNo → Type 0
 TakesItem text (Ok taken) =
-    Starts IsItem text (item_of taken.0) taken.1.now × IsText (item_of taken.0)
+    BeginsSpelled IsItem text (item_of taken.0) taken.1.now × IsText (item_of taken.0)
 TakesItem text (Err no.Wire) =
-    (item : message.Item) (tail : List ℕ) → Starts IsItem text item tail → ⊥
+    (item : message.WireItem) (tail : List ℕ) → BeginsSpelled IsItem text item tail → ⊥
 TakesItem text (Err no.NotUtf8) =
-    (item : message.Item) × (tail : List ℕ) × Starts IsItem text item tail × (IsText item → ⊥)
+    (item : message.WireItem) × (tail : List ℕ) × BeginsSpelled IsItem text item tail
+    × (IsText item → ⊥)
 
 -- a later value, where there is one
 abbrev pub later : {T : Type 0} → T → Option T → T
@@ -46,7 +47,7 @@ abbrev pub with_annotation : Raw → List ℕ → List ℕ → Raw
 with_annotation raw key value = record raw { annotations = with_pair raw.annotations key value }
 
 -- the object with one more item
-abbrev pub with_item : Raw → message.Item → Raw
+abbrev pub with_item : Raw → message.WireItem → Raw
 with_item raw (message.encrypted content) = record raw { encrypted = content }
 with_item raw (message.key_id content) = record raw { key_id = content }
 with_item raw (message.source content) = record raw { source = content }
@@ -70,7 +71,7 @@ pub record Sees (partial : PartialObject) (raw : Raw) : Type 0 where
 -- the fields of an entry so far
 pub record SeesEntry (text rest key value : List ℕ) : Type 0 where
   pub front : List ℕ
-  pub fields : List Field
+  pub fields : List WireField
   pub parts : text ≡ front ++ rest
   pub spelled : Spells IsField front fields
   pub key_is : key ≡ last_bytes 1 fields
@@ -79,7 +80,7 @@ pub record SeesEntry (text rest key value : List ℕ) : Type 0 where
 -- the object of the items so far
 pub record Walks (text rest : List ℕ) (partial : PartialObject) : Type 0 where
   pub front : List ℕ
-  pub items : List message.Item
+  pub items : List message.WireItem
   pub parts : text ≡ front ++ rest
   pub message : IsMessage front items
   pub sees : Sees partial (raw_of items)

@@ -1,6 +1,6 @@
 -- What parts of a call do.
 use Rattle.std.specs.Prelude.{◌≡◌, ◌≢◌, ◌⊎◌, ℕ, Bool, true, false, List, Option, None, Some, Result, Ok, Err}
-use Rattle.kr_config.specs.Kept.{Row as settings_row}
+use Rattle.kr_config.specs.Kept.{ConfigEntry as settings_row}
 use Rattle.kr_kms.specs.Calls.{Link}
 use Rattle.kr_kms.specs.Exchanges.{Exchange}
 use Rattle.kr_kms.specs.Truth.{Truth}
@@ -45,12 +45,12 @@ pub record HoldsAdopted (published : Option Publication) (own : List Entry) : Ty
   pub held : holding own ≡ Some (number, p)
 
 -- what a row of this revision holds
-abbrev pub value_of : (revision : ℕ) → Result Opened UnsealNo → Result Read CallNo
-value_of revision (Ok opened) =
+abbrev pub row_value : (revision : ℕ) → Result Opened UnsealNo → Result Read CallNo
+row_value revision (Ok opened) =
     Ok (Value revision opened.plain opened.stale)
-value_of revision (Err (unsealing.Refused why)) = Err (refusal.Refused why)
-value_of revision (Err (unsealing.PluginFailed name)) = Err (refusal.PluginFailed name)
-value_of revision (Err unsealing.NoMemory) = Err refusal.NoMemory
+row_value revision (Err (unsealing.Refused why)) = Err (refusal.Refused why)
+row_value revision (Err (unsealing.PluginFailed name)) = Err (refusal.PluginFailed name)
+row_value revision (Err unsealing.NoMemory) = Err refusal.NoMemory
 
 -- why nothing is sealed
 abbrev pub seal_refusal : SealNo → CallNo

@@ -3,7 +3,7 @@ use Rattle.std.specs.Prelude.{ℕ, if◌then◌else◌, nat_lt, List, map, Optio
 use Rattle.std.specs.List.{flat_map}
 use Rattle.kr_config.specs.declared.class.Class.{Class}
 use Rattle.kr_config.specs.declared.who.Who.{Who}
-use Rattle.kr_config.specs.Kept.{Row}
+use Rattle.kr_config.specs.Kept.{ConfigEntry}
 use Rattle.kr_judge.specs.declared.judging.Writer.{Writer}
 use Rattle.kr_judge.specs.declared.judging.Writer.TheVariants.{Other, New}
 use Rattle.kr_judge.specs.Boards.{GenerationState}
@@ -13,21 +13,21 @@ use Rattle.kr_judge.specs.Verdicts.{others, unread_classes, lost_writers, unread
 abbrev pub Loss : Type 0
 Loss = ℕ × Class × Who
 
-abbrev pub losses_at : Writer → List Class → (own new : List Row) → List (Class × Who)
+abbrev pub losses_at : Writer → List Class → (own new : List ConfigEntry) → List (Class × Who)
 losses_at Other classes own new = unread_classes classes own new
 losses_at New classes own new = unread_classes classes new own
 
 -- at these classes alone
-abbrev pub losses_by : Writer → List Class → List Row → ℕ × GenerationState → List Loss
+abbrev pub losses_by : Writer → List Class → List ConfigEntry → ℕ × GenerationState → List Loss
 losses_by writer classes rows other =
     map (λ lost. (other.0, lost.0, lost.1)) (losses_at writer classes other.1.rows rows)
 
-abbrev pub losses_on : Writer → List Class → ℕ → List Row → List GenerationState → List Loss
+abbrev pub losses_on : Writer → List Class → ℕ → List ConfigEntry → List GenerationState → List Loss
 losses_on writer classes replica rows generations =
     flat_map (losses_by writer classes rows) (others replica generations)
 
 -- at all
-abbrev pub losses : Writer → ℕ → List Row → List GenerationState → List Loss
+abbrev pub losses : Writer → ℕ → List ConfigEntry → List GenerationState → List Loss
 losses Other replica rows generations = lost_writers replica rows generations
 losses New replica rows generations = unread_writers replica rows generations
 

@@ -2,7 +2,7 @@
 use Rattle.std.specs.Prelude.{◌≡◌, ◌≢◌, ℕ, ◌+◌, ◌<◌, ◌≤◌, ◌⊎◌, List, [], ◌∷◌, ◌++◌, All, length, take, slice_index, Option, Some, None, Result, Ok, Err}
 use Rattle.std.specs.Io.KnownBytes.{Appends, Consumes, IsAtEnd}
 use Rattle.kr_keywrap.specs.Answer.{Plugin, answer}
-use Rattle.kr_keywrap.specs.Serving.{HasNoBreak, IsWhole, StopsThere, answers, last_line, line_limit, text_of}
+use Rattle.kr_keywrap.specs.Serving.{HasNoBreak, IsWholeLine, StopsThere, answers, last_line, line_limit, served_text}
 use Rattle.kr_keywrap.specs.declared.serving.Next.{Next}
 use Rattle.kr_keywrap.specs.declared.serving.Next.TheVariants.{Answered, Ended}
 use Rattle.kr_keywrap.specs.declared.serving.Served.{Served}
@@ -91,7 +91,7 @@ pub record Fails (plugin : Plugin) (left held_old held : Option (List ℕ)) (all
   pub unbroken : HasNoBreak next
   pub short : length next ≤ line_limit
   pub wrote : (SourceRises × (behind ≡ []) × Appends held_old held [])
-      ⊎ (SinkRises × IsWhole behind left
+      ⊎ (SinkRises × IsWholeLine behind left
       × ((n : ℕ) × Appends held_old held (take n (answer plugin next))))
 
 pub record Starves (held_old held : Option (List ℕ)) (all : List ℕ) : Type 0 where
@@ -135,7 +135,7 @@ pub record ServesOne (plugin : Plugin) (left_old left held_old held : Option (Li
 pub record Goes (plugin : Plugin) (left_old left held_old held : Option (List ℕ))
     (pending : List ℕ) (count : ℕ) : Type 0 where
   pub lines : List (List ℕ)
-  pub took : Consumes left_old left (text_of lines ++ pending)
+  pub took : Consumes left_old left (served_text lines ++ pending)
   pub breaks : All HasNoBreak lines
   pub short : All (λ line. length line ≤ line_limit) lines
   pub size : length lines ≡ count

@@ -4,7 +4,7 @@ use Rattle.std.specs.Prelude.{◌≡◌, ◌≢◌, ℕ, ◌+◌, List, [], ◌�
 use Rattle.kr_store.specs.declared.rows.LogRow.{LogRow}
 use Rattle.kr_store.specs.declared.rows.Row as stored_row
 use Rattle.kr_config.specs.declared.who.Who.{Who}
-use Rattle.kr_config.specs.Kept.{Row}
+use Rattle.kr_config.specs.Kept.{ConfigEntry}
 use Rattle.kr_judge.specs.declared.verdict.Verdict.{Verdict}
 use Rattle.kr_judge.specs.declared.verdict.Verdict.TheVariants.{Pass, DropsStored, DropsWriter, Unread}
 use Rattle.kr_judge.specs.Boards.{BoardState, set_need, without_current}
@@ -26,7 +26,7 @@ IsStrayOf path NoMemory = ⊤
 
 -- what a row needs stands on the board, and it is told whether the row has its provider's check; or
 -- the row has no provider
-abbrev pub Notes : (first : List Row) → stored_row.Row → BoardState → BoardState
+abbrev pub Notes : (first : List ConfigEntry) → stored_row.Row → BoardState → BoardState
     → Result Bool StartNo → Type 0
 Notes first row old new (Ok kept) =
     (who : Who) × (provider_of first row.resource row.stored ≡ Some who)
@@ -40,7 +40,7 @@ Notes first row old new (Err (OtherSecret path)) = ⊥
 Notes first row old new (Err (Unfit replica verdict)) = ⊥
 Notes first row old new (Err NoMemory) = ⊤
 
-abbrev pub NotesAll : (first : List Row) → List LogRow → BoardState → BoardState
+abbrev pub NotesAll : (first : List ConfigEntry) → List LogRow → BoardState → BoardState
     → Result (Unit {0}) StartNo → Type 0
 NotesAll first rows old new (Ok done) =
     HasNoStray first rows × HasNoOtherSecret first rows
@@ -52,9 +52,9 @@ NotesAll first rows old new (Err (Unfit replica verdict)) = ⊥
 NotesAll first rows old new (Err NoMemory) = ⊤
 
 -- the path of the row where the walk is; the empty one at its begin
-abbrev pub path_of : Option stored_row.Row → List ℕ
-path_of None = []
-path_of (Some row) = row.path
+abbrev pub walk_path : Option stored_row.Row → List ℕ
+walk_path None = []
+walk_path (Some row) = row.path
 
 -- the path of the first row with another secret: the one that was found, or else this one
 abbrev pub first_other : Option (List ℕ) → (kept : Bool) → (path : List ℕ) → Option (List ℕ)
@@ -74,7 +74,8 @@ is_refusal (DropsWriter generation class who) = true
 is_refusal (Unread generation class who) = true
 
 -- a replica's settings are judged on the board, and are its next generation
-abbrev pub Admits : ℕ → List Row → BoardState → BoardState → Result (Unit {0}) StartNo → Type 0
+abbrev pub Admits : ℕ → List ConfigEntry → BoardState → BoardState → Result (Unit {0}) StartNo
+    → Type 0
 Admits replica rows old new (Ok done) = (verdict_of old.needs old.generations replica rows ≡ Pass)
     × (new ≡ record old {
       generations = without_current replica old.generations
@@ -87,12 +88,13 @@ Admits replica rows old new (Err (Unfit other verdict)) = (other ≡ replica)
 Admits replica rows old new (Err NoMemory) = ⊤
 
 -- those of a replica that is in
-abbrev pub TakesUp : ℕ → Option (List Row) → BoardState → BoardState → Result (Unit {0}) StartNo
+abbrev pub TakesUp : ℕ → Option (List ConfigEntry) → BoardState → BoardState
+    → Result (Unit {0}) StartNo
     → Type 0
 TakesUp replica None old new result = (new ≡ old) × (result ≡ Ok tt)
 TakesUp replica (Some rows) old new result = Admits replica rows old new result
 
-abbrev pub TakesAllUp : List (Option (List Row)) → BoardState → BoardState
+abbrev pub TakesAllUp : List (Option (List ConfigEntry)) → BoardState → BoardState
     → Result (Unit {0}) StartNo → Type 0
 TakesAllUp replicas old new (Ok done) =
     AllFit replicas old.needs × (new ≡ record old { generations = opening_generations 0 replicas })
@@ -109,10 +111,10 @@ abbrev pub generation_at : ℕ → Option Publication → List Generation
 generation_at replica None = []
 generation_at replica (Some p) = record { replica = replica; published = p } ∷ []
 
-abbrev pub number_if_in : Option Publication → ℕ → Option ℕ
-number_if_in None number = None
-number_if_in (Some p) number = Some number
+abbrev pub joined_number : Option Publication → ℕ → Option ℕ
+joined_number None number = None
+joined_number (Some p) number = Some number
 
-abbrev pub number_after : Option Publication → ℕ → ℕ
-number_after None number = number
-number_after (Some p) number = number + 1
+abbrev pub next_joined_number : Option Publication → ℕ → ℕ
+next_joined_number None number = number
+next_joined_number (Some p) number = number + 1

@@ -1,6 +1,6 @@
 -- How seeds are made: one by one, and all.
 use Rattle.std.specs.Prelude.{◌≡◌, ℕ, List, [], Option, Result, Ok, Err}
-use Rattle.kr_config.specs.Kept.{Row, plugins_in}
+use Rattle.kr_config.specs.Kept.{ConfigEntry, plugins_in}
 use Rattle.kr_kms.specs.Calls.{Link}
 use Rattle.kr_kms.specs.Exchanges.{Exchange}
 use Rattle.kr_kms.specs.Seeds.{MakesSeed, MakesSeedBy}
@@ -33,7 +33,8 @@ module _ {L D : Type 0} (truth : Truth) (link : L → Link) (left : D → Option
       (answer : Result SeedRow SeedNo) × MakesOne name links dice answer new after
 
   -- as publishing answers, with the list of the seeds and its room
-  abbrev pub MakesAll : List Row → List L → D → Result (List SeedRow × ℕ) PublishNo → List L → D
+  abbrev pub MakesAll : List ConfigEntry → List L → D → Result (List SeedRow × ℕ) PublishNo → List L
+      → D
       → Type 0
   MakesAll rows links dice (Ok made) new after = Publishes truth link left count rows links dice
       (Ok (record { rows = rows; seeds = made.0 })) new after
@@ -47,7 +48,8 @@ module _ {D : Type 0} (left : D → Option (List ℕ)) (count : D → ℕ) where
       × MakesSeedBy left count name dice answer after exchanges × IsToldAt name answer result
 
   -- with all plugins that the entries name
-  abbrev pub MakesAllBy : List Row → D → Result (List SeedRow × ℕ) PublishNo → D → List Exchange
+  abbrev pub MakesAllBy : List ConfigEntry → D → Result (List SeedRow × ℕ) PublishNo → D
+      → List Exchange
       → Type 0
   MakesAllBy rows dice (Ok made) after exchanges =
       MakesSeedsBy left count (plugins_in rows) [] dice (Ok made.0) after exchanges

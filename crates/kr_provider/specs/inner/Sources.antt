@@ -4,7 +4,7 @@ use Rattle.kr_config.specs.declared.who.Who.{Who}
 use Rattle.kr_envelope.specs.declared.object.EncryptedObject.{EncryptedObject}
 use Rattle.kr_envelope.specs.declared.object.ObjectNo.{ObjectNo}
 use Rattle.kr_envelope.specs.declared.object.ObjectNo.TheVariants as object
-use Rattle.kr_envelope.specs.Limits.{Reads}
+use Rattle.kr_envelope.specs.Limits.{ReadsMessage}
 use Rattle.kr_kms.specs.Cache.{CacheState, FetchesBy}
 use Rattle.kr_kms.specs.Calls.{Link}
 use Rattle.kr_kms.specs.Exchanges.{Exchange}
@@ -35,9 +35,9 @@ IsRefusalOf why NoMemory = ⊤
 
 -- the object that the bytes spell, or why there is none
 abbrev pub IsObjectIn : List ℕ → Result EncryptedObject UnsealNo → Type 0
-IsObjectIn body (Ok found) = Reads body (Ok found)
+IsObjectIn body (Ok found) = ReadsMessage body (Ok found)
 IsObjectIn body (Err (Refused refusal)) =
-    (why : ObjectNo) × Reads body (Err why) × IsRefusalOf why (Refused refusal)
+    (why : ObjectNo) × ReadsMessage body (Err why) × IsRefusalOf why (Refused refusal)
 IsObjectIn body (Err (PluginFailed name)) = ⊥
 IsObjectIn body (Err NoMemory) = ⊤
 
@@ -128,8 +128,8 @@ GivesByFetch name found path (Ok source) result =
     Gives (source_reading found.kind source path found.encrypted) result
 GivesByFetch name found path (Err why) result = LacksSource name why result
 
--- by the published seed, where that is the object's; else by its source, which was fetched, or there
--- was no memory to ask for it
+-- by the published seed, where that is the object's; else by its source, which was fetched, or
+-- there was no memory to ask for it
 pub data UnsealsObjectBy (row : SeedRow) (name : List ℕ) (found : EncryptedObject) (path : List ℕ)
     (cache : CacheState) (result : Result (List ℕ) UnsealNo) (after : CacheState)
     : List Exchange → Type 0 where

@@ -19,7 +19,7 @@ use Rattle.kr_rollout.specs.Callers.{holding}
 use Rattle.kr_history.specs.Calls.{AddsNothing}
 use Rattle.kr_rewrite.specs.DriveExchanges.{ReadsRow, before, behind}
 use Rattle.kr_rewrite.specs.Drives.{DrivesOver, IsCutOver, StayLinks}
-use Rattle.kr_rewrite.specs.Rewrites.{CopiesNothing, Reseals, RewritesOver, RowReads, StepsOver, UnsealsRow}
+use Rattle.kr_rewrite.specs.Rewrites.{CopiesNothing, Reseals, RewritesOver, ReadsFoundRow, StepsOver, UnsealsRow}
 use Rattle.kr_rewrite.specs.declared.outcome.Report.{Report}
 use Rattle.kr_rewrite.specs.declared.outcome.Step.{Step}
 use Rattle.kr_rewrite.specs.declared.outcome.Step.TheVariants as step
@@ -92,7 +92,7 @@ CountsStep old (step.Left path) result new = (result ≡ true)
     × (new ≡ record old { left = next_number old.left; last = path })
 
 -- steps up to the end, or to the one that was cut short
-module _ {S D : Type 0} (Reads : RowReads S) (Meanwhile : S → S → Type 0)
+module _ {S D : Type 0} (Reads : ReadsFoundRow S) (Meanwhile : S → S → Type 0)
     (left : D → Option (List ℕ)) (count : D → ℕ) (replica : ℕ) where
   abbrev pub GoesOnOver : (above : List ℕ) → Caller → S → D → Result Report (Report × CallNo)
       → Caller → S → D → Type 0

@@ -13,8 +13,8 @@ use Rattle.kr_script.specs.declared.statement.Statement.{Statement}
 use Rattle.kr_script.specs.declared.statement.Statement.TheVariants as statement
 use Rattle.kr_script.specs.declared.statement.Keyword.{Keyword}
 use Rattle.kr_script.specs.declared.statement.Keyword.TheVariants as keyword
-use Rattle.kr_script.specs.declared.line_error.LineError.{LineError}
-use Rattle.kr_script.specs.declared.line_error.LineError.TheVariants as line_error
+use Rattle.kr_script.specs.declared.line_error.ScriptLineError.{ScriptLineError}
+use Rattle.kr_script.specs.declared.line_error.ScriptLineError.TheVariants as line_error
 use Rattle.kr_script.specs.declared.draft.Draft.{Draft as Held}
 use Rattle.kr_script.specs.Fleets.{Fleet, Worker, worker_of}
 use Rattle.kr_script.specs.Rows.{Row}
@@ -102,8 +102,8 @@ place_from number [] name = None
 place_from number (replica ∷ replicas) name =
     if bytes_eq replica.0 name then Some number else place_from (number + 1) replicas name
 
-abbrev pub place_of : List (List ℕ × List ℕ) → List ℕ → Option ℕ
-place_of replicas name = place_from 0 replicas name
+abbrev pub replica_number : List (List ℕ × List ℕ) → List ℕ → Option ℕ
+replica_number replicas name = place_from 0 replicas name
 
 abbrev pub knows_replica : List (List ℕ × List ℕ) → List ℕ → Bool
 knows_replica replicas name = list_any (λ replica. bytes_eq replica.0 name) replicas
@@ -126,7 +126,7 @@ may_be_worker draft name = is_name name && (not (knows_worker draft.workers name
 
 abbrev pub worker_in : Draft → List ℕ × List ℕ → Option Statement
 worker_in draft words = if may_be_worker draft words.0
-    then option_map (statement.Worker words.0) (place_of draft.replicas words.1) else None
+    then option_map (statement.Worker words.0) (replica_number draft.replicas words.1) else None
 
 abbrev pub put_in : List ℕ × List ℕ × List ℕ → Option ScriptLine
 put_in words = if is_resource words.0 && is_path words.1
@@ -140,14 +140,14 @@ delete_in path = if is_path path then Some (Delete path) else None
 
 abbrev pub reload_in : List (List ℕ × List ℕ) → List ℕ × List ℕ → Option ScriptLine
 reload_in replicas words =
-    option_map (λ number. Reload number words.1) (place_of replicas words.0)
+    option_map (λ number. Reload number words.1) (replica_number replicas words.0)
 
 abbrev pub join_in : List (List ℕ × List ℕ) → List ℕ × List ℕ → Option ScriptLine
 join_in replicas words =
-    option_map (λ number. Join number words.1) (place_of replicas words.0)
+    option_map (λ number. Join number words.1) (replica_number replicas words.0)
 
 abbrev pub leave_in : List (List ℕ × List ℕ) → List ℕ → Option ScriptLine
-leave_in replicas name = option_map Leave (place_of replicas name)
+leave_in replicas name = option_map Leave (replica_number replicas name)
 
 -- a line of a worker
 abbrev pub line_in : List (List ℕ × List ℕ) → Keyword → Row → Option ScriptLine
@@ -227,7 +227,7 @@ with_statement draft (statement.Line line) =
     record draft { last = option_map (with_line line) draft.last }
 
 -- the limit that one more statement passes
-abbrev pub passes : Draft → Statement → Option LineError
+abbrev pub passes : Draft → Statement → Option ScriptLineError
 passes draft statement.Head = None
 passes draft (statement.Replica name file) =
     if nat_lt (length draft.replicas) replica_limit then None else Some line_error.Replicas
@@ -235,13 +235,13 @@ passes draft (statement.Worker name replica) =
     if nat_lt (length (workers_in draft)) worker_limit then None else Some line_error.Workers
 passes draft (statement.Line line) = if is_long line then Some line_error.TooLarge else None
 
-abbrev pub draft_within : Draft → Statement → Option LineError → Result Draft LineError
+abbrev pub draft_within : Draft → Statement → Option ScriptLineError → Result Draft ScriptLineError
 draft_within draft said None = Ok (with_statement draft said)
 draft_within draft said (Some why) = Err why
 
-abbrev pub step_by : Draft → Option Statement → Result Draft LineError
+abbrev pub step_by : Draft → Option Statement → Result Draft ScriptLineError
 step_by draft None = Err line_error.Form
 step_by draft (Some said) = draft_within draft said (passes draft said)
 
-abbrev pub step : Draft → Row → Result Draft LineError
+abbrev pub step : Draft → Row → Result Draft ScriptLineError
 step draft row = step_by draft (statement_of draft row)

@@ -6,8 +6,8 @@ use Rattle.kr_script.specs.declared.script.Script.{Script}
 use Rattle.kr_script.specs.declared.script.ScriptNo.{ScriptNo}
 use Rattle.kr_script.specs.declared.script.ScriptNo.TheVariants.{Breach, Replicas, Workers, TooLarge}
 use Rattle.kr_script.specs.declared.script.ScriptNo.TheVariants.{NoMemory}
-use Rattle.kr_script.specs.declared.line_error.LineError.{LineError}
-use Rattle.kr_script.specs.declared.line_error.LineError.TheVariants as line_error
+use Rattle.kr_script.specs.declared.line_error.ScriptLineError.{ScriptLineError}
+use Rattle.kr_script.specs.declared.line_error.ScriptLineError.TheVariants as line_error
 use Rattle.kr_script.specs.Fleets.{Fleet, fleet_of}
 use Rattle.kr_script.specs.Rows.{Row, words_of, is_full, is_spoken}
 use Rattle.kr_script.specs.inner.Drafts.{Draft, step, fleet_in, workers_in}
@@ -20,20 +20,20 @@ abbrev pub words_before : List ℕ → Row → Row
 words_before word row = if is_full word then word ∷ row else row
 
 -- a refusal of the line with this number
-abbrev pub at_line : ℕ → LineError → ScriptNo
+abbrev pub at_line : ℕ → ScriptLineError → ScriptNo
 at_line number line_error.Form = Breach number
 at_line number line_error.Replicas = Replicas
 at_line number line_error.Workers = Workers
 at_line number line_error.TooLarge = TooLarge
 at_line number line_error.NoMemory = NoMemory
 
-abbrev pub row_step : Draft → Row → Result Draft LineError
+abbrev pub row_step : Draft → Row → Result Draft ScriptLineError
 row_step draft row = if is_spoken row then step draft row else Ok draft
 
-abbrev pub line_step : Draft → List ℕ → Result Draft LineError
+abbrev pub line_step : Draft → List ℕ → Result Draft ScriptLineError
 line_step draft line = if is_utf8 line then row_step draft (words_of line) else Err line_error.Form
 
-abbrev pub goes_on : ℕ → Result Draft LineError → (Draft → Result Fleet ScriptNo)
+abbrev pub goes_on : ℕ → Result Draft ScriptLineError → (Draft → Result Fleet ScriptNo)
     → Result Fleet ScriptNo
 goes_on number (Ok draft) rest = rest draft
 goes_on number (Err why) rest = Err (at_line number why)
@@ -59,7 +59,7 @@ Gives wanted (Err TooLarge) = wanted ≡ Err TooLarge
 Gives wanted (Err NoMemory) = ⊤
 
 -- a value by its parts, or a refusal of the line
-abbrev pub Finds : {T : Type 0} → Option T → Result T LineError → Type 0
+abbrev pub Finds : {T : Type 0} → Option T → Result T ScriptLineError → Type 0
 Finds wanted (Ok value) = wanted ≡ Some value
 Finds wanted (Err line_error.Form) = wanted ≡ None
 Finds wanted (Err line_error.Replicas) = ⊥
@@ -68,7 +68,8 @@ Finds wanted (Err line_error.TooLarge) = ⊥
 Finds wanted (Err line_error.NoMemory) = ⊤
 
 -- the draft moves on, or the line is refused
-abbrev pub Moves : {T : Type 0} → Result Draft LineError → Draft → Result T LineError → Type 0
+abbrev pub Moves : {T : Type 0} → Result Draft ScriptLineError → Draft → Result T ScriptLineError
+    → Type 0
 Moves wanted new (Ok done) = wanted ≡ Ok new
 Moves wanted new (Err line_error.Form) = wanted ≡ Err line_error.Form
 Moves wanted new (Err line_error.Replicas) = wanted ≡ Err line_error.Replicas
@@ -83,6 +84,6 @@ pub record IsClosed (old new : Draft) : Type 0 where
   pub workers : new.workers ≡ workers_in old
   pub last : new.last ≡ None
 
-abbrev pub Closes : {T : Type 0} → Draft → Draft → Result T LineError → Type 0
+abbrev pub Closes : {T : Type 0} → Draft → Draft → Result T ScriptLineError → Type 0
 Closes old new (Ok done) = IsClosed old new
 Closes old new (Err why) = why ≡ line_error.NoMemory

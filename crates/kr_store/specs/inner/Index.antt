@@ -1,28 +1,29 @@
 -- The index over the rows of a store.
 use Rattle.std.specs.Prelude.{◌≡◌, ℕ, Bool, true, false, List, Option, None, Some, is_some}
 use Rattle.std.specs.Str.{bytes_eq}
-use Rattle.std.specs.Map.{update}
+use Rattle.std.specs.Map.{update, lookup}
 use Rattle.std.specs.Ordering.{nat_cmp}
 use Rattle.std.specs.declared.cmp.Ordering.TheVariants.{Less}
 use Rattle.std.specs.Cmp.Lexicographic.{slice_cmp}
-use Rattle.std.specs.BTreeMap.{get_by_text}
+use Rattle.std.specs.BTreeMap.{is_at}
+use Rattle.kr_paths.specs.Paths as paths
 use Rattle.kr_store.specs.declared.rows.Change.{Change}
 use Rattle.kr_store.specs.declared.rows.Change.TheVariants.{Put, Delete}
 use Rattle.kr_store.specs.declared.rows.LogRow.{LogRow}
 use Rattle.kr_store.specs.Rows.{latest}
-use Rattle.kr_store.specs.File.{kind_of}
+use Rattle.kr_store.specs.File.{byte_kind}
 use Rattle.kr_store.specs.declared.index.Index.{Index}
-use Rattle.kr_store.specs.declared.kept_row.Kind.{Kind}
-use Rattle.kr_store.specs.declared.kept_row.Kind.TheVariants as kind
+use Rattle.kr_store.specs.declared.kept_row.RowKind.{RowKind}
+use Rattle.kr_store.specs.declared.kept_row.RowKind.TheVariants as kind
 use Rattle.kr_store.specs.declared.kept_row.KeptRow.{KeptRow}
 use Rattle.kr_store.specs.declared.kept_row.KeptRow.TheVariants as kept
 
 -- the revision of the path's live row, and that of its last delete
 abbrev pub live_at : Index → List ℕ → Option ℕ
-live_at index path = get_by_text index.live path
+live_at index path = lookup (is_at (paths.path_cmp path)) index.live
 
 abbrev pub gone_at : Index → List ℕ → Option ℕ
-gone_at index path = get_by_text index.gone path
+gone_at index path = lookup (is_at (paths.path_cmp path)) index.gone
 
 abbrev pub StandsAt : ℕ → Change → Option ℕ → Option ℕ → Type 0
 StandsAt k (Put resource stored check) standing deleted = standing ≡ Some k
@@ -49,14 +50,14 @@ SetsGone old new path to =
     × ((q : List ℕ) → gone_at new q ≡ update bytes_eq (gone_at old) path to q)
 
 -- a row was added
-abbrev pub AddsAs : Index → Index → ℕ → List ℕ → Kind → Type 0
+abbrev pub AddsAs : Index → Index → ℕ → List ℕ → RowKind → Type 0
 AddsAs old new k path kind.Put = SetsLive old new path (Some k)
 AddsAs old new k path kind.Delete =
     ((q : List ℕ) → live_at new q ≡ update bytes_eq (live_at old) path None q)
     × ((q : List ℕ) → gone_at new q ≡ update bytes_eq (gone_at old) path (Some k) q)
 
 abbrev pub Adds : Index → Index → ℕ → LogRow → Type 0
-Adds old new k row = AddsAs old new k row.path (kind_of row.change)
+Adds old new k row = AddsAs old new k row.path (byte_kind row.change)
 
 -- at most the last delete of this path is another
 abbrev pub SameBut : Index → Index → List ℕ → Type 0
@@ -71,7 +72,7 @@ Same old new =
 
 -- the index has the same rows; the last delete of a live path counts for nothing, so a delete may
 -- have changed it
-abbrev pub StaysAs : Index → Index → List ℕ → Kind → Type 0
+abbrev pub StaysAs : Index → Index → List ℕ → RowKind → Type 0
 StaysAs old new path kind.Put = Same old new
 StaysAs old new path kind.Delete = SameBut old new path
 

@@ -8,7 +8,7 @@ use Rattle.kr_base.specs.Faults.{Rose}
 use Rattle.kr_base.specs.Told.{Agrees}
 use Rattle.kr_store.specs.declared.format.Check.{Check}
 use Rattle.kr_store.specs.declared.format.Format.{Format}
-use Rattle.kr_store.specs.declared.kept_row.Kind.{Kind}
+use Rattle.kr_store.specs.declared.kept_row.RowKind.{RowKind}
 use Rattle.kr_store.specs.declared.kept_row.KeptRow.{KeptRow}
 use Rattle.kr_store.specs.declared.load.Contents.{Contents}
 use Rattle.kr_store.specs.declared.index.Index.{Index}
@@ -16,9 +16,9 @@ use Rattle.kr_store.specs.declared.answers.StoreNo.{StoreNo}
 use Rattle.kr_store.specs.declared.answers.StoreNo.TheVariants as no
 use Rattle.kr_store.specs.declared.answers.Cause.{Cause}
 use Rattle.kr_store.specs.declared.answers.Cause.TheVariants.{Torn, BadRow, Order}
-use Rattle.kr_store.specs.declared.answers.Stop.{Stop}
-use Rattle.kr_store.specs.declared.answers.Stop.TheVariants.{Breach, Failed, NoMemory}
-use Rattle.kr_store.specs.File.{store_name, magic, IsFile, text_bytes, value_bytes, check_bytes, row_bytes, byte_of}
+use Rattle.kr_store.specs.declared.answers.LoadStop.{LoadStop}
+use Rattle.kr_store.specs.declared.answers.LoadStop.TheVariants.{Breach, Failed, NoMemory}
+use Rattle.kr_store.specs.File.{store_name, magic, IsFile, text_bytes, value_bytes, check_bytes, row_bytes, kind_byte}
 use Rattle.kr_store.specs.Breaches.{Read, part, IsBreach}
 use Rattle.kr_store.specs.inner.Index.{IsIndexOf}
 use Rattle.kr_store.specs.inner.KeptRows.{log_row_of, log_rows_of, AreKeptRows}
@@ -67,21 +67,21 @@ pub record Takes (old new : Ahead) (front : List ℕ) : Type 0 where
   pub place : new.place ≡ old.place + length front
 
 -- at least one byte was taken, at most as many as fit; none only where the tape tells nothing
-abbrev pub Begins : Ahead → Ahead → List ℕ → Result ℕ Stop → Type 0
+abbrev pub Begins : Ahead → Ahead → List ℕ → Result ℕ LoadStop → Type 0
 Begins old new into (Ok n) = (0 < n) × (n ≤ length into) × Takes old new (take n into)
 Begins old new into (Err (Breach cause)) = (old.left ≡ None) × (cause ≡ Torn)
 Begins old new into (Err Failed) = ⊤
 Begins old new into (Err NoMemory) = ⊥
 
 -- the buffer holds the next bytes, or fewer are left
-abbrev pub Fills : {A : Type 0} → Ahead → Ahead → List ℕ → Result A Stop → Type 0
+abbrev pub Fills : {A : Type 0} → Ahead → Ahead → List ℕ → Result A LoadStop → Type 0
 Fills old new into (Ok x) = Takes old new into
 Fills old new into (Err (Breach cause)) = Breaks old (part (length into)) cause
 Fills old new into (Err Failed) = ⊤
 Fills old new into (Err NoMemory) = ⊥
 
 -- fewer bytes are left than were asked, or the tape tells nothing
-abbrev pub IsShort : {A : Type 0} → Ahead → ℕ → Result A Stop → Type 0
+abbrev pub IsShort : {A : Type 0} → Ahead → ℕ → Result A LoadStop → Type 0
 IsShort old n (Ok x) = ⊤
 IsShort old n (Err (Breach cause)) = (old.end < old.place + n) ⊎ (old.left ≡ None)
 IsShort old n (Err Failed) = ⊤
@@ -133,7 +133,7 @@ LoadsRows old (Err no.NoMemory) = ⊤
 
 -- something was read, whose bytes are these, or it can't be read
 abbrev pub Gives :
-    {A B : Type 0} → Ahead → Ahead → (A → List ℕ) → (List ℕ → Read B) → Result A Stop → Type 0
+    {A B : Type 0} → Ahead → Ahead → (A → List ℕ) → (List ℕ → Read B) → Result A LoadStop → Type 0
 Gives old new written reads (Ok x) = Takes old new (written x)
 Gives old new written reads (Err (Breach cause)) = Breaks old reads cause
 Gives old new written reads (Err Failed) = ⊤
@@ -141,7 +141,7 @@ Gives old new written reads (Err NoMemory) = ⊤
 
 -- a part was read, whose bytes are these, or it can't be read: and the tape stays as it is
 pub record Reads {A B : Type 0} (old new : Ahead) (written : A → List ℕ)
-    (reads : List ℕ → Read B) (result : Result A Stop) : Type 0 where
+    (reads : List ℕ → Read B) (result : Result A LoadStop) : Type 0 where
   pub advances : Advances Failed old new result
   pub gives : Gives old new written reads result
 
@@ -152,8 +152,8 @@ items_of bytes = bytes.items
 abbrev pub sized_bytes : Vec ℕ Global → List ℕ
 sized_bytes bytes = text_bytes bytes.items
 
-abbrev pub head_bytes : ℕ → Kind × List ℕ → List ℕ
-head_bytes k head = byte_of head.0 ∷ (to_be_bytes w64 k ++ text_bytes head.1)
+abbrev pub head_bytes : ℕ → RowKind × List ℕ → List ℕ
+head_bytes k head = kind_byte head.0 ∷ (to_be_bytes w64 k ++ text_bytes head.1)
 
 abbrev pub put_bytes : List ℕ × Option Check × List ℕ → List ℕ
 put_bytes put = text_bytes put.0 ++ (check_bytes put.1 ++ value_bytes put.2)
@@ -162,9 +162,9 @@ abbrev pub kept_bytes : ℕ → KeptRow → List ℕ
 kept_bytes k row = row_bytes k (log_row_of row)
 
 -- why a row that begins at this place can't be loaded
-abbrev pub no_at : Stop → ℕ → StoreNo
-no_at (Breach Torn) at = no.Torn at
-no_at (Breach BadRow) at = no.BadRow at
-no_at (Breach Order) at = no.Order at
-no_at Failed at = no.Failed
-no_at NoMemory at = no.NoMemory
+abbrev pub load_refusal : LoadStop → ℕ → StoreNo
+load_refusal (Breach Torn) at = no.Torn at
+load_refusal (Breach BadRow) at = no.BadRow at
+load_refusal (Breach Order) at = no.Order at
+load_refusal Failed at = no.Failed
+load_refusal NoMemory at = no.NoMemory

@@ -3,13 +3,13 @@ use Rattle.std.specs.Prelude.{◌≡◌, ℕ, ◌≤◌, Bool, if◌then◌else�
 use Rattle.kr_base.specs.Faults.{Rose}
 use Rattle.kr_base.specs.Numbering.{next_number}
 use Rattle.kr_store.specs.declared.format.Format.{Format}
-use Rattle.kr_store.specs.declared.kept_row.Kind.{Kind}
+use Rattle.kr_store.specs.declared.kept_row.RowKind.{RowKind}
 use Rattle.kr_store.specs.File.{magic}
 use Rattle.kr_store.specs.inner.Index.{AddsAs, StaysAs}
 use Rattle.kr_store.specs.inner.Log.{Tail, Extends, Tears}
 use Rattle.kr_store.specs.declared.index.Index.{Index}
-use Rattle.kr_store.specs.declared.write.WriteNo.{WriteNo}
-use Rattle.kr_store.specs.declared.write.WriteNo.TheVariants.{Failed, NoMemory}
+use Rattle.kr_store.specs.declared.write.RowWriteNo.{RowWriteNo}
+use Rattle.kr_store.specs.declared.write.RowWriteNo.TheVariants.{Failed, NoMemory}
 
 -- what is written before a row: the magic, where the file is empty
 abbrev pub lead : Format → Bool → List ℕ
@@ -18,10 +18,10 @@ lead format empty = if empty then magic format else []
 -- the row's bytes were appended without a fault and the index has it; or the tape failed, once, or
 -- nothing was touched, and the index stays
 abbrev pub Writes :
-    {A : Type 0} → Tail → Tail → Index → Index → ℕ → List ℕ → Kind → List ℕ → Result A WriteNo
+    {A : Type 0} → Tail → Tail → Index → Index → ℕ → List ℕ → RowKind → List ℕ → Result A RowWriteNo
     → Type 0
 Writes old new before after k path kind bytes (Ok x) =
-    Extends {E = WriteNo} old new bytes (Ok x) × AddsAs before after k path kind
+    Extends {E = RowWriteNo} old new bytes (Ok x) × AddsAs before after k path kind
     × (old.count ≤ new.count) × (new.count ≡ old.count)
 Writes old new before after k path kind bytes (Err Failed) =
     Tears old new × StaysAs before after path kind

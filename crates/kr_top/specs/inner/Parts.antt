@@ -15,20 +15,25 @@ use Rattle.kr_cmd_gen.specs.GeneratedLoads.{RanLoad}
 use Rattle.kr_cmd_gen.specs.LoadHeadlines.{LoadHeadline}
 use Rattle.kr_cmd_gen.specs.LoadReadings.{LoadReadings}
 use Rattle.kr_cmd_watch.specs.Watchings.{RanWatch}
+use Rattle.kr_top.specs.Asked.{RanHearing}
 
 -- a command that no one waits in, or words that mean none
-pub record RunsAlone (words : List (List ℕ)) (old new : Around) (output errors : Receipt)
+pub record RunsAlone {L : Type 0} (step : L → Exchange → L → Type 0) (lent took : ℕ → L → Type 0)
+    (words : List (List ℕ)) (old new : Around) (output errors : Receipt)
     (status : ℕ) : Type 0 where
   pub ran : Ran words old new output errors status
+  pub asked : RanHearing lent took step words old new output errors status
   pub readings : Readings words old new output errors status
   pub tapes : AreLeft words old new output status
 
 -- words that ask for neither a fleet nor a load
 pub record RunsUnloaded (T : Type 0) {L D : Type 0} (truth : Truth) (link : L → Link)
-    (step : L → Exchange → L → Type 0)
+    (step : L → Exchange → L → Type 0) (lent took : ℕ → L → Type 0)
     (left : D → Option (List ℕ)) (count : D → ℕ) (words : List (List ℕ)) (old new : Around)
     (output errors : Receipt) (status : ℕ) : Type 0 where
   pub ran : AskNoWatch words → Ran words old new output errors status
+  pub asked : AskNoWatch words
+      → RanHearing lent took step words old new output errors status
   pub readings : AskNoWatch words → Readings words old new output errors status
   pub tapes : AskNoWatch words → AreLeft words old new output status
   pub watch : (asked : WatchWords) → AsksWatch words asked
@@ -36,10 +41,12 @@ pub record RunsUnloaded (T : Type 0) {L D : Type 0} (truth : Truth) (link : L �
 
 -- words that ask for no fleet
 pub record RunsOther (T : Type 0) {L D : Type 0} (truth : Truth) (link : L → Link)
-    (step : L → Exchange → L → Type 0)
+    (step : L → Exchange → L → Type 0) (lent took : ℕ → L → Type 0)
     (left : D → Option (List ℕ)) (count : D → ℕ) (words : List (List ℕ)) (old new : Around)
     (output errors : Receipt) (status : ℕ) : Type 0 where
   pub ran : AskNoLoad words × AskNoWatch words → Ran words old new output errors status
+  pub asked : AskNoLoad words × AskNoWatch words
+      → RanHearing lent took step words old new output errors status
   pub readings : AskNoLoad words × AskNoWatch words
       → Readings words old new output errors status
   pub tapes : AskNoLoad words × AskNoWatch words → AreLeft words old new output status

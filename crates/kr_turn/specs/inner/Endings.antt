@@ -6,7 +6,7 @@ use Rattle.atomic_table.specs.Table.{Me}
 use Rattle.kr_turn.specs.declared.seat.Place.{Place}
 use Rattle.kr_turn.specs.declared.view.Stage.TheVariants.{Idle}
 use Rattle.kr_turn.specs.declared.view.Terms.{Terms}
-use Rattle.kr_turn.specs.declared.view.Part.{Part}
+use Rattle.kr_turn.specs.declared.view.ViewPart.{ViewPart}
 use Rattle.kr_turn.specs.declared.view.View.{View}
 use Rattle.kr_base.specs.Lines.{of_seat, Stands}
 
@@ -14,7 +14,7 @@ use Rattle.kr_base.specs.Lines.{of_seat, Stands}
 abbrev pub Covers : {L G : Type 0} → Terms G → View L G → Type 0
 Covers {L} terms v = (number : ℕ) → number < length terms.budgets
     → (v.number ≡ number)
-    ⊎ ((i : ℕ) × (part : Part L) × (get_elem? v.ended i ≡ some part) × (part.number ≡ number))
+    ⊎ ((i : ℕ) × (part : ViewPart L) × (get_elem? v.ended i ≡ some part) × (part.number ≡ number))
 
 -- the state at the end, in whose lines the seat stands and those that ended in it, and no other
 pub record IsEnd {S L G : Type 0} (lines : S → List L) (basis : S → G) (room : S → ℕ)
@@ -22,7 +22,7 @@ pub record IsEnd {S L G : Type 0} (lines : S → List L) (basis : S → G) (room
   pub basis_is : basis state ≡ terms.basis
   pub room_is : room state ≡ terms.room
   pub itself : Stands seat_of (lines state) v.number v.seen v.mine
-  pub ended : (i : ℕ) (part : Part L) → get_elem? v.ended i ≡ some part
+  pub ended : (i : ℕ) (part : ViewPart L) → get_elem? v.ended i ≡ some part
       → Stands seat_of (lines state) part.number part.seen part.mine
   pub no_other : (number : ℕ) → length terms.budgets ≤ number
       → of_seat seat_of number (lines state) ≡ []
@@ -35,7 +35,7 @@ Ending {S} lines basis room seat_of terms v slots = (state : S)
     × IsEnd lines basis room seat_of terms v state
 
 -- what a seat knew at its end
-abbrev pub part_in : {S L G : Type 0} → Place S L G → Part L
+abbrev pub part_in : {S L G : Type 0} → Place S L G → ViewPart L
 part_in seat = record {
   number = seat.token.me.0.number;
   seen = seat.token.me.0.seen;

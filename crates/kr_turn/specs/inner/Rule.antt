@@ -11,13 +11,13 @@ use Rattle.kr_turn.specs.declared.view.Stage.{Stage}
 use Rattle.kr_turn.specs.declared.view.Stage.TheVariants.{Blank, Filling, Idle, Waiting, Holding}
 use Rattle.kr_turn.specs.declared.view.Stage.TheVariants.{Gone}
 use Rattle.kr_turn.specs.declared.view.Terms.{Terms}
-use Rattle.kr_turn.specs.declared.view.Part.{Part}
+use Rattle.kr_turn.specs.declared.view.ViewPart.{ViewPart}
 use Rattle.kr_turn.specs.declared.view.View.{View}
 use Rattle.kr_base.specs.Lines.{of_seat}
 
 -- a seat that is neither waiting nor served
 abbrev pub idle_view : {L G : Type 0} → Option (Terms G) → ℕ → List L → List L → ℕ
-    → List (Part L) → Option ℕ → View L G
+    → List (ViewPart L) → Option ℕ → View L G
 idle_view terms number seen mine left ended made = record {
   stage = Idle;
   terms = terms;
@@ -85,7 +85,7 @@ module _ {L G : Type 0} (seat_of : L → ℕ) (terms : Terms G) (log : List L) (
   pub record IsSeat (index : ℕ) (v : View L G) : Type 0 where
     pub terms_are : v.terms ≡ Some terms
     pub itself : SpeaksFor index v.number v.seen v.mine
-    pub ended : (i : ℕ) (part : Part L) → get_elem? v.ended i ≡ some part
+    pub ended : (i : ℕ) (part : ViewPart L) → get_elem? v.ended i ≡ some part
         → SpeaksFor index part.number part.seen part.mine
     pub makes : (k : ℕ) → v.made ≡ Some k → (index ≡ 0) × (k ≡ made)
 

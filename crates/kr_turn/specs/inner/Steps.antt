@@ -8,11 +8,11 @@ use Rattle.kr_turn.specs.declared.view.Stage.{Stage}
 use Rattle.kr_turn.specs.declared.view.Stage.TheVariants.{Blank, Filling, Idle, Waiting, Holding}
 use Rattle.kr_turn.specs.declared.view.Stage.TheVariants.{Gone}
 use Rattle.kr_turn.specs.declared.view.Terms.{Terms}
-use Rattle.kr_turn.specs.declared.view.Part.{Part}
+use Rattle.kr_turn.specs.declared.view.ViewPart.{ViewPart}
 use Rattle.kr_turn.specs.declared.view.View.{View}
 use Rattle.kr_base.specs.Lines.{of_seat}
 use Rattle.kr_turn.specs.inner.Rule.{idle_view}
-use Rattle.kr_turn.specs.Keys.{budget_of}
+use Rattle.kr_turn.specs.Keys.{seat_budget}
 
 -- a seat's view, and the slot where it is in hand
 abbrev pub SeatState : Type 0 → Type 0 → Type 0 → Type 0
@@ -31,7 +31,8 @@ module _ {L : Type 0} where
 module _ {L G : Type 0} where
   -- the first seat, as the maker of this one
   abbrev pub maker : Option (Terms G) → ℕ → View L G
-  maker terms number = idle_view terms number [] [] (budget_of terms number) [] (Some (number + 1))
+  maker terms number = idle_view terms number [] [] (seat_budget terms number) []
+      (Some (number + 1))
 
   abbrev pub filling_view : View L G → View L G
   filling_view v = record v { stage = Filling }
@@ -67,7 +68,7 @@ module _ {L G : Type 0} where
   abbrev pub new_of : View L G → View L G
   new_of v = record v { made = None }
 
-  abbrev pub part_of : View L G → Part L
+  abbrev pub part_of : View L G → ViewPart L
   part_of v = record { number = v.number; seen = v.seen; mine = v.mine }
 
   -- the seat v with the seat w ended in it

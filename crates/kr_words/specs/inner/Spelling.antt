@@ -5,7 +5,7 @@ use Rattle.kr_words.specs.declared.spelling.SpellingNo.{SpellingNo}
 use Rattle.kr_words.specs.declared.spelling.SpellingNo.TheVariants.{Usage, NoMemory}
 use Rattle.kr_words.specs.Options.{value_of}
 use Rattle.kr_words.specs.Numerals.{IsDecimal}
-use Rattle.kr_words.specs.Grammar.{Begins, Spells, replica_limit, replicas_of}
+use Rattle.kr_words.specs.Grammar.{BeginsWithOption, SpellsOptions, replica_limit, replicas_of}
 
 -- a name holds no `=`
 abbrev pub IsPlain : List ℕ → Type 0
@@ -18,13 +18,13 @@ ArePlain options = AllByRecursion (λ option. IsPlain option.0) options
 abbrev pub BeginNoOption : List (List ℕ) → Type 0
 BeginNoOption words =
     (option : List ℕ × List ℕ) (rest : List (List ℕ))
-    → IsPlain option.0 → Begins words option rest → ⊥
+    → IsPlain option.0 → BeginsWithOption words option rest → ⊥
 
 -- the words are read as the options of plain names that they spell, or they spell none
 abbrev pub ReadsOptions : List (List ℕ) → Result (List (List ℕ × List ℕ) × ℕ) SpellingNo → Type 0
-ReadsOptions words (Ok options) = ArePlain options.0 × Spells words options.0
+ReadsOptions words (Ok options) = ArePlain options.0 × SpellsOptions words options.0
 ReadsOptions words (Err Usage) =
-    (options : List (List ℕ × List ℕ)) → ArePlain options → Spells words options → ⊥
+    (options : List (List ℕ × List ℕ)) → ArePlain options → SpellsOptions words options → ⊥
 ReadsOptions words (Err NoMemory) = ⊤
 
 -- there is a value at the name, and no number up to the limit is written so

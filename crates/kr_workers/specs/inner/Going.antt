@@ -1,20 +1,23 @@
 -- A worker in the midst of its lines.
 use Rattle.std.specs.Prelude.{◌≡◌, ◌≤◌, ◌+◌, ℕ, List, take, drop, get_or, None, Option}
+use Rattle.kr_base.specs.Walks.{Walk}
 use Rattle.kr_kms.specs.Calls.{Link}
 use Rattle.kr_kms.specs.Exchanges.{Exchange}
 use Rattle.kr_kms.specs.Truth.{Truth}
 use Rattle.kr_provider.specs.AskedLinks.{AskedOnly}
-use Rattle.kr_provider.specs.BenchKeys.{LeavesKeys}
+use Rattle.kr_provider.specs.BenchKeys.{adoption_of}
 use Rattle.kr_provider.specs.BenchState.{BenchState}
 use Rattle.kr_provider.specs.KeyPages.{size_of}
 use Rattle.kr_provider.specs.Names.{names_of}
 use Rattle.kr_history.specs.Acting.{Caller}
 use Rattle.kr_rollout.specs.Callers.{holding, reloads_in}
 use Rattle.kr_history.specs.Calls.{KeepsToldHonesty}
+use Rattle.kr_history.specs.KeyMoments.{Happens}
 use Rattle.kr_script.specs.declared.script.ScriptLine.{ScriptLine}
 use Rattle.kr_script.specs.declared.told.Told.{Told}
 use Rattle.kr_workers.specs.declared.files.SettingsFile.{SettingsFile}
 use Rattle.kr_workers.specs.Budgets.{reloads_of}
+use Rattle.kr_workers.specs.LineMoments.{run_moments}
 use Rattle.kr_workers.specs.Runs.{DoesAll, LineDone, lines_in, replies_in}
 use Rattle.kr_workers.specs.inner.Serving.{place_of}
 
@@ -38,4 +41,4 @@ pub record IsGoing {L D : Type 0} (truth : Truth) (link : L → Link)
   pub asked_only : AskedOnly link (names_of link bench.links) bench.links now.links
   pub later : count bench.dice ≤ count now.dice
   pub pages : size_of now.pages ≡ size_of bench.pages
-  pub keys : LeavesKeys bench now
+  pub keys : Walk Happens (adoption_of bench) (run_moments run) (adoption_of now)

@@ -1,11 +1,12 @@
 -- A worker's whole run: what is asked of its lines, how it ends and what it keeps.
-use Rattle.std.specs.Prelude.{◌≡◌, ◌<◌, ◌≤◌, ◌+◌, ℕ, List, ◌∷◌, ◌++◌, length, get_or, All, None, Option, Result, Ok, Err}
+use Rattle.std.specs.Prelude.{◌≡◌, ◌<◌, ◌≤◌, ◌+◌, ℕ, List, ◌∷◌, ◌++◌, length, get_or, All, None, Option, Result, Ok, Err, ⊤}
+use Rattle.kr_base.specs.Walks.{Walk}
 use Rattle.kr_base.specs.declared.errors.Spent.{Spent}
 use Rattle.kr_kms.specs.Calls.{Link}
 use Rattle.kr_kms.specs.Exchanges.{Exchange}
 use Rattle.kr_kms.specs.Truth.{Truth}
 use Rattle.kr_provider.specs.AskedLinks.{AskedOnly}
-use Rattle.kr_provider.specs.BenchKeys.{LeavesKeys}
+use Rattle.kr_provider.specs.BenchKeys.{adoption_of}
 use Rattle.kr_provider.specs.BenchState.{BenchState}
 use Rattle.kr_provider.specs.KeyPages.{size_of}
 use Rattle.kr_provider.specs.Names.{names_of}
@@ -13,11 +14,13 @@ use Rattle.kr_rollout.specs.declared.opening.Entry.{Entry}
 use Rattle.kr_history.specs.Acting.{Caller}
 use Rattle.kr_rollout.specs.Callers.{holding, reloads_in}
 use Rattle.kr_history.specs.Calls.{AreServed, KeepsToldHonesty}
-use Rattle.kr_history.specs.Parts.{Adds, IsWithin}
+use Rattle.kr_history.specs.KeyMoments.{Happens}
+use Rattle.kr_history.specs.Parts.{Adds, IsPartWithin}
 use Rattle.kr_script.specs.declared.script.ScriptLine.{ScriptLine}
 use Rattle.kr_script.specs.declared.told.Told.{Told}
 use Rattle.kr_workers.specs.declared.files.SettingsFile.{SettingsFile}
-use Rattle.kr_workers.specs.Budgets.{brought_by, entries_of, puts_of, reloads_of}
+use Rattle.kr_workers.specs.Budgets.{brought_count, line_entries, puts_of, reloads_of}
+use Rattle.kr_workers.specs.LineMoments.{run_moments}
 use Rattle.kr_workers.specs.Runs.{DoesAll, LineDone, lines_in, replies_in}
 use Rattle.kr_workers.specs.ScriptLines.{Does, MayDo, Workplace}
 use Rattle.kr_workers.specs.inner.Serving.{EndsFor, place_of}
@@ -46,7 +49,8 @@ module _ {L D : Type 0} (truth : Truth) (link : L → Link)
     pub does : Does truth link left count files replica line old (Err (record {})) new
     pub part : List Entry
     pub adds : Adds old.caller part new.caller
-    pub within : IsWithin (entries_of (length part) line) (brought_by line) (puts_of line) part
+    pub within : IsPartWithin (line_entries (length part) line) (brought_count line) (puts_of line)
+        part
     pub spent : EndsFor line old.caller (Err (record {}))
 
   -- all lines were done, or one was cut short
@@ -54,6 +58,13 @@ module _ {L D : Type 0} (truth : Truth) (link : L → Link)
       → Workplace L D → Type 0
   EndsRun lines run old (Ok done) new = (lines_in run ≡ lines) × (new ≡ old)
   EndsRun lines run old (Err spent) new = IsCutShort lines run old new
+
+  -- where all lines were done, this happened to the keys
+  abbrev pub EndsKeys : Result (Unit {0}) Spent → BenchState L D → List LineDone → BenchState L D
+      → Type 0
+  EndsKeys (Ok done) bench run after =
+      Walk Happens (adoption_of bench) (run_moments run) (adoption_of after)
+  EndsKeys (Err spent) bench run after = ⊤
 
   -- ---- what the lines keep
 
@@ -72,4 +83,4 @@ module _ {L D : Type 0} (truth : Truth) (link : L → Link)
     pub asked_only : AskedOnly link (names_of link bench.links) bench.links after.links
     pub later : count bench.dice ≤ count after.dice
     pub pages : size_of after.pages ≡ size_of bench.pages
-    pub keys : LeavesKeys bench after
+    pub keys : EndsKeys ended bench run after

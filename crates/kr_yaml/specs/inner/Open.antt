@@ -17,20 +17,20 @@ pub data Frame : Type 0 where
 abbrev pub State : Type 0
 State = List Frame × Option Data
 
-abbrev pub column_of : Token → ℕ
-column_of (dash c) = c
-column_of (pair c k v) = c
-column_of (leaf c d) = c
+abbrev pub token_column : Token → ℕ
+token_column (dash c) = c
+token_column (pair c k v) = c
+token_column (leaf c d) = c
 
-abbrev pub is_dash_at : ℕ → Token → Bool
-is_dash_at b (dash c) = c == b
-is_dash_at b (pair c k v) = false
-is_dash_at b (leaf c d) = false
+abbrev pub is_dash_in_column : ℕ → Token → Bool
+is_dash_in_column b (dash c) = c == b
+is_dash_in_column b (pair c k v) = false
+is_dash_in_column b (leaf c d) = false
 
 -- the token belongs to the last item or member
-abbrev pub is_inside : Token → Frame → Bool
-is_inside t (items c ds) = nat_lt c (column_of t)
-is_inside t (members c ms k) = nat_lt c (column_of t) || is_dash_at c t
+abbrev pub belongs_to_node : Token → Frame → Bool
+belongs_to_node t (items c ds) = nat_lt c (token_column t)
+belongs_to_node t (members c ms k) = nat_lt c (token_column t) || is_dash_in_column c t
 
 abbrev pub close : Frame → Data → Data
 close (items c ds) d = list (items_of (ds ++ d ∷ []))
@@ -65,7 +65,8 @@ under f (Some s) = Some (f ∷ s.0, s.1)
 
 abbrev pub put : Token → List Frame → Option Data → Option State
 put t [] o = begin t o
-put t (f ∷ fs) o = if is_inside t f then under f (put t fs o) else next t f (closed_value fs o)
+put t (f ∷ fs) o = if belongs_to_node t f then under f (put t fs o) else next t f
+    (closed_value fs o)
 
 -- the token's key stands in the mapping already
 abbrev pub is_repeated : Token → Frame → Bool
@@ -76,12 +77,12 @@ is_repeated (pair c k v) (members b ms l) = list_any (λ x. bytes_eq x k) (keys 
 
 abbrev pub doubles : Token → List Frame → Bool
 doubles t [] = false
-doubles t (f ∷ fs) = if is_inside t f then doubles t fs else is_repeated t f
+doubles t (f ∷ fs) = if belongs_to_node t f then doubles t fs else is_repeated t f
 
 -- how many of the open nodes the token is inside of
 abbrev pub place : Token → List Frame → ℕ
 place t [] = 0
-place t (f ∷ fs) = if is_inside t f then suc (place t fs) else 0
+place t (f ∷ fs) = if belongs_to_node t f then suc (place t fs) else 0
 
 -- putting tokens one after the other
 abbrev pub run : List Token → State → Option State

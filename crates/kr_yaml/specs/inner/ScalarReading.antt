@@ -8,8 +8,8 @@ use Rattle.std.specs.List.{list_all}
 use Rattle.kr_yaml.specs.Bytes.{behind, is_blank}
 use Rattle.kr_yaml.specs.Data.{Data, null, word}
 use Rattle.kr_yaml.specs.Written.{escape, is_indicator, is_merge_text}
-use Rattle.kr_yaml.specs.inner.Stops.{trim, has, stops, length_until}
-use Rattle.kr_yaml.specs.declared.bytes.Stop.TheVariants.{Colon, Comment, KeyEnd, FlowSign}
+use Rattle.kr_yaml.specs.inner.Stops.{trim, has, stops, length_before_stop}
+use Rattle.kr_yaml.specs.declared.bytes.ScanStop.TheVariants.{Colon, Comment, KeyEnd, FlowSign}
 use Rattle.kr_yaml.specs.declared.scalar.Scalar.{Scalar}
 use Rattle.kr_yaml.specs.declared.scalar.Context.{Context}
 use Rattle.kr_yaml.specs.declared.scalar.Context.TheVariants.{Line, Flow}
@@ -62,22 +62,22 @@ plain_scalar text rest =
 
 -- A plain scalar on a line goes to a comment, to the `:` of a key or to the end; one in a flow
 -- list goes to a byte of flow values, and holds no comment.
-unfoldable pub plain_at : Context → List ℕ → Option (Scalar × List ℕ)
-plain_at Line bs =
-    let n = length_until (stops KeyEnd) bs in
+unfoldable pub leading_plain : Context → List ℕ → Option (Scalar × List ℕ)
+leading_plain Line bs =
+    let n = length_before_stop (stops KeyEnd) bs in
     plain_scalar (plain_text (take n bs) (drop n bs)) (drop n bs)
-plain_at Flow bs =
-    let n = length_until (stops FlowSign) bs in
+leading_plain Flow bs =
+    let n = length_before_stop (stops FlowSign) bs in
     if has Comment (take n bs) then None else plain_scalar (trim (take n bs)) (drop n bs)
 
 abbrev pub quoted_scalar : Option (List ℕ × List ℕ) → Option (Scalar × List ℕ)
 quoted_scalar None = None
 quoted_scalar (Some x) = Some (record { text = x.0; plain = false }, x.1)
 
-unfoldable pub scalar_at : Context → List ℕ → Option (Scalar × List ℕ)
-scalar_at context bs =
+unfoldable pub leading_scalar : Context → List ℕ → Option (Scalar × List ℕ)
+leading_scalar context bs =
     option_map_or (λ rest. quoted_scalar (single rest)) (behind 39 bs)
-    (option_map_or (λ rest. quoted_scalar (double rest)) (behind 34 bs) (plain_at context bs))
+    (option_map_or (λ rest. quoted_scalar (double rest)) (behind 34 bs) (leading_plain context bs))
 
 -- `null` and `~` are nothing where they are plain
 abbrev pub is_null : Scalar → Bool

@@ -3,9 +3,9 @@ use Rattle.std.specs.Prelude.{ℕ, suc, ◌==◌, ◌&&◌, ◌||◌, Bool, true
 use Rattle.std.specs.Prelude.{reverse, length, nat_lt, Option, None, Some, if◌then◌else◌}
 use Rattle.kr_yaml.specs.Bytes.{skip, over}
 use Rattle.kr_yaml.specs.Written.{is_flow_sign}
-use Rattle.kr_yaml.specs.declared.bytes.Stop.{Stop}
-use Rattle.kr_yaml.specs.declared.bytes.Stop.TheVariants.{Colon, Comment, KeyEnd, FlowSign}
-use Rattle.kr_yaml.specs.declared.bytes.Stop.TheVariants.{SingleQuote, DoubleQuote}
+use Rattle.kr_yaml.specs.declared.bytes.ScanStop.{ScanStop}
+use Rattle.kr_yaml.specs.declared.bytes.ScanStop.TheVariants.{Colon, Comment, KeyEnd, FlowSign}
+use Rattle.kr_yaml.specs.declared.bytes.ScanStop.TheVariants.{SingleQuote, DoubleQuote}
 
 -- the bytes without the spaces that they end with
 abbrev pub trim : List ℕ → List ℕ
@@ -49,7 +49,7 @@ abbrev pub is_double : List ℕ → Bool
 is_double [] = false
 is_double (b ∷ bs) = b == 34 || b == 92
 
-abbrev pub stops : Stop → List ℕ → Bool
+abbrev pub stops : ScanStop → List ℕ → Bool
 stops Colon bs = is_colon bs
 stops Comment bs = is_comment bs
 stops KeyEnd bs = is_colon bs || is_comment bs
@@ -58,16 +58,16 @@ stops SingleQuote bs = is_single bs
 stops DoubleQuote bs = is_double bs
 
 -- how many bytes stand before the first place where this stands, or before the end
-abbrev pub length_until : (List ℕ → Bool) → List ℕ → ℕ
-length_until t [] = 0
-length_until t (b ∷ bs) = if t (b ∷ bs) then 0 else suc (length_until t bs)
+abbrev pub length_before_stop : (List ℕ → Bool) → List ℕ → ℕ
+length_before_stop t [] = 0
+length_before_stop t (b ∷ bs) = if t (b ∷ bs) then 0 else suc (length_before_stop t bs)
 
 -- it stands somewhere
-abbrev pub has : Stop → List ℕ → Bool
-has stop bs = nat_lt (length_until (stops stop) bs) (length bs)
+abbrev pub has : ScanStop → List ℕ → Bool
+has stop bs = nat_lt (length_before_stop (stops stop) bs) (length bs)
 
 -- nothing stands there, or this
-abbrev pub at_stop : Stop → List ℕ → Bool
+abbrev pub at_stop : ScanStop → List ℕ → Bool
 at_stop stop [] = true
 at_stop stop (b ∷ bs) = stops stop (b ∷ bs)
 

@@ -9,7 +9,7 @@ use Rattle.kr_yaml.specs.Characters.{is_allowed}
 use Rattle.kr_yaml.specs.Bytes.{behind_three, is_blank, is_empty}
 use Rattle.kr_yaml.specs.Lines.{Token, with_line}
 use Rattle.kr_yaml.specs.inner.Stops.{closes}
-use Rattle.kr_yaml.specs.inner.LineReading.{tokens_of}
+use Rattle.kr_yaml.specs.inner.LineReading.{tokenize_line}
 
 -- three of this byte, and nothing else but a comment
 abbrev pub marks : ℕ → List ℕ → Bool
@@ -21,12 +21,12 @@ begins_blank [] = false
 begins_blank (b ∷ bs) = is_blank b
 
 -- behind a mark a space or a tab, and more than a comment
-abbrev pub goes_on : List ℕ → Bool
-goes_on rest = begins_blank rest && not (closes rest)
+abbrev pub continues_text : List ℕ → Bool
+continues_text rest = begins_blank rest && not (closes rest)
 
 -- three of this byte, a space or a tab, and more than a comment
 abbrev pub marks_more : ℕ → List ℕ → Bool
-marks_more c line = option_map_or goes_on (behind_three c line) false
+marks_more c line = option_map_or continues_text (behind_three c line) false
 
 -- `---` or `...` with more behind it, which YAML reads as a document's end or begin
 abbrev pub is_marker : List ℕ → Bool
@@ -39,7 +39,7 @@ is_foreign line = not (list_all is_allowed (chars line)) || is_marker line
 -- A `---` before all else has no tokens; behind that, neither `---` nor `...` may stand.
 abbrev pub tokens_by_marks : Bool → List ℕ → Option (List Token)
 tokens_by_marks first line = if marks 45 line then (if first then Some [] else None)
-    else if marks 46 line && not first then None else tokens_of line
+    else if marks 46 line && not first then None else tokenize_line line
 
 -- the tokens of a line, where only empty lines and comments stand before it or not
 abbrev pub line_tokens : Bool → List ℕ → Option (List Token)

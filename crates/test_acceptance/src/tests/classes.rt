@@ -9,18 +9,18 @@ const THREE: &str =
     r#"{"apiVersion":"apiserver.config.k8s.io/v1","kind":"EncryptionConfiguration","resources":[{"resources":["secrets"],"providers":[{"identity":{}}]},{"resources":["*."],"providers":[{"aesgcm":{"keys":[{"name":"k","secret":"c2VjcmV0IGlzIHNlY3VyZQ=="}]}}]},{"resources":["*.*"],"providers":[{"aescbc":{"keys":[{"name":"k","secret":"dGhpcyBpcyBwYXNzd29yZA=="}]}}]}]}"#;
 
 /// The settings of the three entries.
-fn settings_of(alloc: Global) -> Option<Settings> {
+fn three_entry_settings(alloc: Global) -> Option<Settings> {
     let read = read(alloc, THREE.as_bytes()).ok()?;
     let Settings {
         entries,
         fallback: _fallback,
         index: _index,
     } = read;
-    Settings::of(alloc, entries).ok()
+    Settings::from_entries(alloc, entries).ok()
 }
 
-fn table_of(alloc: Global) -> Option<ClassTable> {
-    let settings = settings_of(alloc)?;
+fn settings_table(alloc: Global) -> Option<ClassTable> {
+    let settings = three_entry_settings(alloc)?;
     let mut table = ClassTable::new(alloc);
     let added = table.add(&settings);
     drop(settings);
@@ -58,12 +58,12 @@ fn are_copied(alloc: Global, classes: &[Class]) -> bool {
 
 #[test]
 fn a_table_has_each_class_once(rt: HostRuntime) -> Result<(), Fail> {
-    let table = table_of(rt.alloc()).ok_or("no table")?;
+    let table = settings_table(rt.alloc()).ok_or("no table")?;
     let is = is_table(&table) && are_copied(rt.alloc(), table.classes());
     let places = [
-        table.class_of("secrets"),
-        table.class_of("configmaps"),
-        table.class_of("deployments.apps"),
+        table.class_place("secrets"),
+        table.class_place("configmaps"),
+        table.class_place("deployments.apps"),
     ];
     drop(table);
     assert!(rt; is);

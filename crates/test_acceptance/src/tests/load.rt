@@ -1,8 +1,8 @@
 //! The generated load, of which a put fails: whose it is depends on the order of the workers.
-use super::{both, one_in, owned, streams_of};
+use super::{both, called, list_of_one};
 use kr_base::{Bytes, List, MemTape, NoMemory, Text};
 use kr_kms::TablePlugin;
-use kr_top::{MemWorld, run};
+use kr_top::MemWorld;
 use std::alloc::Global;
 use std::sync::Wait;
 use std::test::Fail;
@@ -20,34 +20,11 @@ const DIGESTS: [&str; 4] = [
 
 /// A world with an empty tape `s`, whose first put fails.
 fn world(alloc: Global) -> Result<MemWorld<TablePlugin>, NoMemory> {
-    let fails = one_in(alloc, 1u64)?;
+    let fails = list_of_one(alloc, 1u64)?;
     let tape = MemTape::new(Bytes::new(alloc), 65536, List::new(alloc), fails);
-    let tapes = one_in(alloc, both(Text::copy(alloc, "s"), tape)?)?;
+    let tapes = list_of_one(alloc, both(Text::copy(alloc, "s"), tape)?)?;
     let none = List::new(alloc);
     Ok(MemWorld::new(alloc, none, tapes, List::new(alloc), List::new(alloc), 0))
-}
-
-/// The status and the output of a call on the world.
-fn called<R: Threads + Wait + Sync>(
-    rt: &R,
-    alloc: Global,
-    words: &str,
-    world: &mut MemWorld<TablePlugin>,
-) -> Result<(u8, Bytes), NoMemory> {
-    let (words, mut streams) = both(owned(alloc, words), streams_of(alloc, b""))?;
-    let status = run(
-        rt,
-        alloc,
-        words.as_slice(),
-        world,
-        &mut streams.input,
-        &mut streams.output,
-        &mut streams.errors,
-    );
-    let output = Bytes::copy(alloc, streams.output.bytes());
-    drop(words);
-    drop(streams);
-    Ok((status, output?))
 }
 
 /// Whether the summary is one of those where a worker's first put fails.
@@ -55,7 +32,7 @@ fn is_summary(output: &[u8]) -> bool {
     DIGESTS.iter().any(|digest| output.strip_prefix(BEGIN.as_bytes()) == Some(digest.as_bytes()))
 }
 
-fn lines_in(output: &[u8]) -> usize {
+fn output_line_count(output: &[u8]) -> usize {
     output.iter().filter(|byte| **byte == b'\n').count()
 }
 
@@ -69,7 +46,7 @@ fn loses_one<R: Threads + Wait + Sync>(
     let lost = status == 4 && is_summary(summary.as_slice());
     drop(summary);
     let (status, rows) = called(rt, alloc, "list|--store|s", world)?;
-    let listed = status == 0 && lines_in(rows.as_slice()) == 7;
+    let listed = status == 0 && output_line_count(rows.as_slice()) == 7;
     drop(rows);
     Ok(lost && listed)
 }

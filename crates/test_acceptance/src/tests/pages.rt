@@ -34,7 +34,7 @@ const BY_KEY2: &[u8] = b"k8s:enc:aescbc:v1:key2:";
 type Worker = Bench<TablePlugin, MemDice>;
 
 /// A bench that adopted nothing yet, whose random source gives `IV` so many times.
-fn bench_of(alloc: Global, pages: u32, times: usize) -> Option<Worker>
+fn new_bench(alloc: Global, pages: u32, times: usize) -> Option<Worker>
     requires { times ≤ 4096 }
 {
     let bytes = Bytes::from_vec(IV.repeat(alloc, times).ok()?);
@@ -166,7 +166,7 @@ fn refuses(alloc: Global, bench: &mut Worker) -> Option<bool> {
 
 #[test]
 fn more_keys_than_pages(rt: HostRuntime) -> Result<(), Fail> {
-    let mut bench = bench_of(rt.alloc(), 1, 4).ok_or("no bench")?;
+    let mut bench = new_bench(rt.alloc(), 1, 4).ok_or("no bench")?;
     let refuses = refuses(rt.alloc(), &mut bench);
     close(bench);
     assert_eq!(rt; refuses, Some(true));
@@ -174,7 +174,7 @@ fn more_keys_than_pages(rt: HostRuntime) -> Result<(), Fail> {
 }
 
 /// Whether the bench seals by the key of this prefix, and reads it back.
-fn seals_by(alloc: Global, bench: &mut Worker, prefix: &[u8]) -> bool
+fn seals_with_prefix(alloc: Global, bench: &mut Worker, prefix: &[u8]) -> bool
     requires { IsSome bench.old.published }
     ensures { IsSome bench.new.published }
 {
@@ -189,14 +189,19 @@ fn seals_by(alloc: Global, bench: &mut Worker, prefix: &[u8]) -> bool
 }
 
 /// Whether the bench adopts it, and then seals by the key of this prefix.
-fn takes_up(alloc: Global, bench: &mut Worker, published: &Shared<Published>, prefix: &[u8]) -> bool
+fn adopts_published(
+    alloc: Global,
+    bench: &mut Worker,
+    published: &Shared<Published>,
+    prefix: &[u8],
+) -> bool
     requires { names_plugin published.now.rows ≡ false }
     ensures { IsTrue result → IsSome bench.new.published }
 {
     if !adopts(bench, published) {
         return false;
     }
-    seals_by(alloc, bench, prefix)
+    seals_with_prefix(alloc, bench, prefix)
 }
 
 /// Whether the bench has too few pages for its keys.
@@ -222,11 +227,13 @@ fn takes_turns(
     ensures { IsTrue result → IsSome bench.new.published }
 {
     for _ in 0..999 {
-        if !takes_up(alloc, bench, both, BY_KEY1) || !takes_up(alloc, bench, last, BY_KEY2) {
+        if !adopts_published(alloc, bench, both, BY_KEY1)
+            || !adopts_published(alloc, bench, last, BY_KEY2)
+        {
             return false;
         }
     }
-    takes_up(alloc, bench, both, BY_KEY1) && takes_up(alloc, bench, last, BY_KEY2)
+    adopts_published(alloc, bench, both, BY_KEY1) && adopts_published(alloc, bench, last, BY_KEY2)
 }
 
 /// Whether a bench of two pages takes turns so, refuses three keys then, and still seals by the
@@ -245,7 +252,7 @@ fn is_full_then(
     if !takes_turns(alloc, bench, both, last) {
         return false;
     }
-    is_too_many(bench, three) && seals_by(alloc, bench, BY_KEY2)
+    is_too_many(bench, three) && seals_with_prefix(alloc, bench, BY_KEY2)
 }
 
 fn is_full_at_three(alloc: Global, bench: &mut Worker) -> Option<bool> {
@@ -258,7 +265,7 @@ fn is_full_at_three(alloc: Global, bench: &mut Worker) -> Option<bool> {
 // Each of the 2,000 adoptions is followed by a sealing, and so is the refusal.
 #[test]
 fn two_thousand_adoptions_and_a_refusal(rt: HostRuntime) -> Result<(), Fail> {
-    let mut bench = bench_of(rt.alloc(), 2, 2001).ok_or("no bench")?;
+    let mut bench = new_bench(rt.alloc(), 2, 2001).ok_or("no bench")?;
     let is = is_full_at_three(rt.alloc(), &mut bench);
     close(bench);
     assert_eq!(rt; is, Some(true));
@@ -280,7 +287,7 @@ fn too_many(alloc: Global, bench: &mut Worker, data: &[u8]) -> Option<u64> {
 #[test]
 fn data_above_the_limit_is_too_large(rt: HostRuntime) -> Result<(), Fail> {
     let data = vec![in rt.alloc(); 7u8; 2_097_153]?;
-    let mut bench = bench_of(rt.alloc(), 1, 2).ok_or("no bench")?;
+    let mut bench = new_bench(rt.alloc(), 1, 2).ok_or("no bench")?;
     let above = too_many(rt.alloc(), &mut bench, data.as_slice());
     let at = too_many(rt.alloc(), &mut bench, &data.as_slice()[1..]);
     close(bench);

@@ -1,5 +1,5 @@
 //! What commands on one value leave.
-use super::{BEGIN, Call, DECRYPT, ENCRYPT, Left, both, left_by};
+use super::{BEGIN, Call, DECRYPT, ENCRYPT, Left, both, run_call};
 use kr_base::{Bytes, NoMemory};
 use std::alloc::Global;
 use std::test::Fail;
@@ -62,7 +62,7 @@ struct Wanted<'a> {
     status: u8,
 }
 
-fn on<'a>(input: &'a str, drawn: &'a str) -> Given<'a> {
+fn given_input<'a>(input: &'a str, drawn: &'a str) -> Given<'a> {
     Given { input, drawn }
 }
 
@@ -90,7 +90,7 @@ fn is_wanted(
 }
 
 /// A configuration with these two providers for secrets.
-fn config_of(alloc: Global, first: &str, second: &str) -> Result<String, NoMemory> {
+fn two_provider_config(alloc: Global, first: &str, second: &str) -> Result<String, NoMemory> {
     match format!(in alloc;
         "{}[\"secrets\"],\"providers\":[{},{}]}}]}}",
         BEGIN, first, second
@@ -110,7 +110,7 @@ fn converts(
     wanted: Wanted<'_>,
 ) -> Result<bool, NoMemory> {
     let given = both(bytes(alloc, given.input), bytes(alloc, given.drawn));
-    let (config, given) = both(config_of(alloc, first, second), given)?;
+    let (config, given) = both(two_provider_config(alloc, first, second), given)?;
     let (input, drawn) = given;
     let call = Call {
         words,
@@ -118,7 +118,7 @@ fn converts(
         input: input.as_slice(),
         dice: drawn.as_slice(),
     };
-    let left = left_by(alloc, &call);
+    let left = run_call(alloc, &call);
     drop(config);
     drop(input);
     drop(drawn);
@@ -134,7 +134,7 @@ fn encrypts_by_each_provider(rt: HostRuntime) -> Result<(), Fail> {
             ENCRYPT,
             K16,
             BARE,
-            on("hello", "|68744e5f2b5e6d7c8392a1b0c7d6e5f4"),
+            given_input("hello", "|68744e5f2b5e6d7c8392a1b0c7d6e5f4"),
             leaving(HELLO, "", 0)
         )?
     );
@@ -144,7 +144,7 @@ fn encrypts_by_each_provider(rt: HostRuntime) -> Result<(), Fail> {
             ENCRYPT_AT_NONE,
             Z16,
             BARE,
-            on(ZEROS, "|000000000000000000000000"),
+            given_input(ZEROS, "|000000000000000000000000"),
             leaving(SEALED_ZEROS, "", 0)
         )?
     );
@@ -154,7 +154,7 @@ fn encrypts_by_each_provider(rt: HostRuntime) -> Result<(), Fail> {
             ENCRYPT,
             BARE,
             K16,
-            on("k8s:enc:x", ""),
+            given_input("k8s:enc:x", ""),
             leaving("", "kmsrest: refused 13 LooksEncrypted\n", 1)
         )?
     );
@@ -170,7 +170,7 @@ fn decrypts_by_each_provider(rt: HostRuntime) -> Result<(), Fail> {
             DECRYPT,
             K16,
             BARE,
-            on(HELLO, ""),
+            given_input(HELLO, ""),
             leaving("hello", "fresh\n", 0)
         )?
     );
@@ -180,7 +180,7 @@ fn decrypts_by_each_provider(rt: HostRuntime) -> Result<(), Fail> {
             DECRYPT,
             BARE,
             K16,
-            on(HELLO, ""),
+            given_input(HELLO, ""),
             leaving("hello", "stale\n", 0)
         )?
     );

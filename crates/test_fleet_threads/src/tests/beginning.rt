@@ -3,7 +3,7 @@ ghost use Rattle.std.specs.Prelude.{◌≡◌, ◌∷◌, [], IfSome};
 ghost use Rattle.test_fleet_threads.specs.Ready.{IsNamed, IsNewCore, one_name};
 
 use crate::tests::published::published;
-use crate::tests::single::{one_in, text};
+use crate::tests::single::{list_of_one, text};
 use kr_base::{Bytes, List, MemTape, Shared, Tape, Text};
 use kr_provider::Published;
 use kr_rollout::Core;
@@ -41,7 +41,7 @@ fn started<T: Tape + Drop>(alloc: Global, store: Store<T>) -> Option<Core<T>>
     ensures { IfSome result IsNewCore }
 {
     match names_and_replicas(alloc) {
-        Some((names, replicas)) => started_with(alloc, store, names, replicas, &[0, 0]),
+        Some((names, replicas)) => started_core(alloc, store, names, replicas, &[0, 0]),
         None => {
             let _tape = store.close();
             None
@@ -50,7 +50,7 @@ fn started<T: Tape + Drop>(alloc: Global, store: Store<T>) -> Option<Core<T>>
 }
 
 #[tactic(auto, using(crate::proofs::Beginning::first_in, crate::proofs::Beginning::one_long, crate::proofs::Beginning::among))]
-fn started_with<T: Tape + Drop>(
+fn started_core<T: Tape + Drop>(
     alloc: Global,
     store: Store<T>,
     names: List<Text>,
@@ -77,7 +77,7 @@ fn started_with<T: Tape + Drop>(
 fn names_and_replicas(alloc: Global) -> Option<(List<Text>, List<Option<Shared<Published>>>)>
     ensures { IfSome result (λ both. (both.0.0 ≡ one_name) × IsNamed both.1.0) }
 {
-    let names = one_in(alloc, text(alloc, "p")?)?;
-    let replicas = one_in(alloc, Some(published(alloc)?))?;
+    let names = list_of_one(alloc, text(alloc, "p")?)?;
+    let replicas = list_of_one(alloc, Some(published(alloc)?))?;
     Some((names, replicas))
 }

@@ -21,13 +21,13 @@ pub fn both_left(alloc: Global, core: Core<MemTape>) -> bool
     requires { IsNewCore 2 core }
 {
     let mut core = core;
-    let done = both_leave_in(alloc, &mut core);
+    let done = both_leave_in_order(alloc, &mut core);
     drop(core.close());
     done
 }
 
 /// Makes these events, and says whether the journal is theirs.
-fn both_leave_in(alloc: Global, core: &mut Core<MemTape>) -> bool
+fn both_leave_in_order(alloc: Global, core: &mut Core<MemTape>) -> bool
     requires { IsNewCore 2 core.old }
 {
     match leaves(alloc) {

@@ -27,11 +27,15 @@ pub fn published(alloc: Global) -> Option<Shared<Published>>
     let link = plugin(alloc)?;
     shared(
         alloc,
-        published_by(alloc, link, MemDice::new(random, List::new(alloc)))?,
+        publish_linked(alloc, link, MemDice::new(random, List::new(alloc)))?,
     )
 }
 
-fn published_by<L: Kms + Drop, D: Dice + Drop>(alloc: Global, link: L, dice: D) -> Option<Published>
+fn publish_linked<L: Kms + Drop, D: Dice + Drop>(
+    alloc: Global,
+    link: L,
+    dice: D,
+) -> Option<Published>
     ensures { IfSome result (λ p. NamesAmong one_name p.rows) }
 {
     let mut dice = dice;

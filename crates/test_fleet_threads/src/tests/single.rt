@@ -12,14 +12,14 @@ pub fn text(alloc: Global, text: &str) -> Option<Text>
 }
 
 /// A list of the item alone.
-pub fn one_in<T: Drop>(alloc: Global, item: T) -> Option<List<T>>
+pub fn list_of_one<T: Drop>(alloc: Global, item: T) -> Option<List<T>>
     ensures { IfSome result (λ list. list.0 ≡ item ∷ []) }
 {
-    with(List::new(alloc), item)
+    append_item(List::new(alloc), item)
 }
 
 /// The list with one more item at the end.
-pub fn with<T: Drop>(list: List<T>, item: T) -> Option<List<T>>
+pub fn append_item<T: Drop>(list: List<T>, item: T) -> Option<List<T>>
     ensures { IfSome result (λ longer. longer.0 ≡ list.0 ++ item ∷ []) }
 {
     let mut list = list;
@@ -40,7 +40,7 @@ pub fn shared<T: Drop>(alloc: Global, value: T) -> Option<Shared<T>>
 }
 
 /// Both values, if both are there.
-pub fn both_of<T: Drop>(first: Option<T>, second: Option<T>) -> Option<(T, T)> {
+pub fn both_values<T: Drop>(first: Option<T>, second: Option<T>) -> Option<(T, T)> {
     let first = first?;
     Some((first, second?))
 }

@@ -1,5 +1,5 @@
-//! Links that wait for each other in the midst of their calls.
-ghost use Rattle.kr_kms.specs.Exchanges.{KeepsLink};
+//! A link that waits in the midst of its unwraps.
+ghost use Rattle.kr_kms.specs.Exchanges.{KeepsLink, TellsAnswer};
 
 use kr_base::{Annotations, Bytes};
 use kr_kms::{Kms, KmsNo, Status, Wrapped};
@@ -7,28 +7,26 @@ use std::alloc::Global;
 use std::sync::atomic::{AtomicBool, Ordering};
 use std::thread::yield_now;
 
-/// How many turns a link waits for another one.
+/// How many turns a link waits for its flag.
 const TURNS: u32 = 100_000_000;
 
-/// A link that sets its flag in each unwrap, and asks only once the other one's is set. Where that
-/// doesn't come it has no memory.
+/// A link that asks for an unwrap only once the flag is set. Where that doesn't come it has no
+/// memory.
 #[derive(Drop)]
 pub struct Waiting<'a, L: Kms + Drop> {
     inner: L,
-    own: &'a AtomicBool,
-    other: &'a AtomicBool,
+    flag: &'a AtomicBool,
 }
 
 impl<'a, L: Kms + Drop> Waiting<'a, L> {
-    pub fn new(inner: L, own: &'a AtomicBool, other: &'a AtomicBool) -> Waiting<'a, L> {
-        Waiting { inner, own, other }
+    pub fn new(inner: L, flag: &'a AtomicBool) -> Waiting<'a, L> {
+        Waiting { inner, flag }
     }
 
-    /// Sets its flag, and says whether the other one's is set in time.
-    fn meets(&self) -> bool {
-        self.own.store(true, Ordering::SeqCst);
+    /// Whether the flag is set in time.
+    fn is_let(&self) -> bool {
         for _ in 0..TURNS {
-            if self.other.load(Ordering::SeqCst) {
+            if self.flag.load(Ordering::SeqCst) {
                 return true;
             }
             yield_now();
@@ -43,9 +41,12 @@ impl<'a, L: Kms + Drop> Kms for Waiting<'a, L> {
     ghost link = { λ waiting. L.link waiting.inner };
 
     // No more is said of its exchanges than of any link's.
-    ghost step = { λ old exchange new. KeepsLink (L.link old.inner) exchange (L.link new.inner) };
+    ghost step = { λ old exchange new. KeepsLink (L.link old.inner) exchange (L.link new.inner)
+        × TellsAnswer L.truth (L.link old.inner).status exchange };
 
-    ghost keeps = { λ old exchange new h. h };
+    ghost keeps = { λ old exchange new h. h.0 };
+
+    ghost tells = { λ old exchange new h. h.1 };
 
     fn name(&self) -> &str {
         self.inner.name()
@@ -70,7 +71,7 @@ impl<'a, L: Kms + Drop> Kms for Waiting<'a, L> {
         annotations: &Annotations,
         source: &[u8],
     ) -> Result<Bytes, KmsNo> {
-        if !self.meets() {
+        if !self.is_let() {
             return Err(KmsNo::NoMemory);
         }
         self.inner.unwrap_source(alloc, key_id, annotations, source)

@@ -1,7 +1,7 @@
 //! The prefix of a stored value, and encrypted objects read and written.
 use crate::tests::making::gives;
 use kr_base::name_ok;
-use kr_envelope::{EncryptedObject, Kind, prefix_of};
+use kr_envelope::{EncryptedObject, Kind, provider_prefix};
 use std::alloc::Global;
 
 /// Whether the prefix of a plugin's values is that.
@@ -9,7 +9,7 @@ fn is_prefix(alloc: Global, name: &str, wanted: &[u8]) -> bool {
     if !name_ok(name) {
         return false;
     }
-    gives(prefix_of(alloc, Kind::Kms, name), wanted)
+    gives(provider_prefix(alloc, Kind::Kms, name), wanted)
 }
 
 #[test]
@@ -26,7 +26,7 @@ const WHOLE: &[u8] =
 const STRAY: &[u8] = b"\x28\x01\x12\x01x\x1a\x01\xcc\x30\x07\x0a\x02\xaa\xbb\x12\x02k1";
 
 /// Whether a message is an object that is written as that.
-fn is_written_as(alloc: Global, bytes: &[u8], wanted: &[u8]) -> bool {
+fn rewrites_to_bytes(alloc: Global, bytes: &[u8], wanted: &[u8]) -> bool {
     match EncryptedObject::read(alloc, bytes) {
         Ok(object) => {
             let written = object.write(alloc);
@@ -42,7 +42,7 @@ fn is_written_as(alloc: Global, bytes: &[u8], wanted: &[u8]) -> bool {
 
 #[test]
 fn writes_the_one_form(rt: HostRuntime) {
-    assert!(rt; is_written_as(rt.alloc(), WHOLE, WHOLE));
+    assert!(rt; rewrites_to_bytes(rt.alloc(), WHOLE, WHOLE));
     let wanted = b"\x0a\x02\xaa\xbb\x12\x02k1\x1a\x01\xcc\x28\x01";
-    assert!(rt; is_written_as(rt.alloc(), STRAY, wanted));
+    assert!(rt; rewrites_to_bytes(rt.alloc(), STRAY, wanted));
 }

@@ -1,7 +1,9 @@
 //! Plugins: the masks of the one in memory, and its failing calls; seeds, and those that are kept.
-use crate::tests::making::{annotate, both, gives, plugin, plugin_with};
+use crate::tests::making::{annotate, both, gives, make_plugin, plugin};
 use kr_base::{Annotations, Bytes, Dice, List, MemDice};
-use kr_kms::{Field, Kms, KmsNo, SeedCache, SeedNo, SeedRow, TablePlugin, key_id_of, make_seed};
+use kr_kms::{
+    Field, Kms, KmsNo, SeedCache, SeedNo, SeedRow, TablePlugin, healthy_key_id, make_seed,
+};
 use std::alloc::Global;
 
 /// The annotation with a salt.
@@ -16,7 +18,7 @@ fn salted(alloc: Global, salt: &[u8]) -> Option<Annotations> {
 }
 
 /// Whether a source of a key is unwrapped as that.
-fn opens_as(
+fn unwraps_to_plain(
     alloc: Global,
     link: &mut TablePlugin,
     key_id: &str,
@@ -30,8 +32,8 @@ fn opens_as(
 fn unwraps(alloc: Global, link: &mut TablePlugin) -> bool {
     match salted(alloc, &[1]) {
         Some(salt) => {
-            let is = opens_as(alloc, link, "k1", &salt, b"\x00\x00")
-                && opens_as(alloc, link, "k2", &salt, b"\x03\x03");
+            let is = unwraps_to_plain(alloc, link, "k1", &salt, b"\x00\x00")
+                && unwraps_to_plain(alloc, link, "k2", &salt, b"\x03\x03");
             drop(salt);
             is
         }
@@ -98,7 +100,7 @@ fn wraps_and_unwraps_by_its_masks(rt: HostRuntime) {
 
 /// Whether this part shows a plugin unhealthy, and says that.
 fn is_breach(alloc: Global, link: &mut TablePlugin, part: Field, wanted: &str) -> bool {
-    match key_id_of(alloc, link) {
+    match healthy_key_id(alloc, link) {
         Ok(key_id) => {
             drop(key_id);
             false
@@ -117,7 +119,7 @@ fn is_breach(alloc: Global, link: &mut TablePlugin, part: Field, wanted: &str) -
 
 /// Whether it is so of the plugin `p` with this status.
 fn is_unhealthy(alloc: Global, status: (&str, &str), part: Field, wanted: &str) -> bool {
-    match plugin_with(alloc, status.0, status.1, "", &[]) {
+    match make_plugin(alloc, status.0, status.1, "", &[]) {
         Some(mut link) => {
             let is = is_breach(alloc, &mut link, part, wanted);
             drop(link);
@@ -167,7 +169,7 @@ fn is_made(alloc: Global, dice: &mut MemDice) -> bool {
 }
 
 /// A source of these bytes.
-fn dice_of(alloc: Global, bytes: &[u8]) -> Option<MemDice> {
+fn make_dice(alloc: Global, bytes: &[u8]) -> Option<MemDice> {
     match Bytes::copy(alloc, bytes) {
         Ok(bytes) => Some(MemDice::new(bytes, List::new(alloc))),
         Err(_) => None,
@@ -176,7 +178,7 @@ fn dice_of(alloc: Global, bytes: &[u8]) -> Option<MemDice> {
 
 // 9d is 00 xor the mask under `k1`, as above. Behind 32 bytes of 40 there is no seed more.
 fn makes(alloc: Global) -> bool {
-    match dice_of(alloc, &[0; 40]) {
+    match make_dice(alloc, &[0; 40]) {
         Some(mut dice) => {
             let is = is_made(alloc, &mut dice)
                 && made(alloc, &mut dice).is_none()
@@ -200,7 +202,7 @@ fn makes_none(alloc: Global, fails: &[u64], dice: &mut MemDice, why: Cause, left
         Some(mut link) => {
             let found = make_seed(alloc, &mut link, dice).err();
             drop(link);
-            cause_of(found) == why && dice.bytes().len() == left
+            failure_cause(found) == why && dice.bytes().len() == left
         }
         None => false,
     }
@@ -214,7 +216,7 @@ enum Cause {
     Other,
 }
 
-fn cause_of(why: Option<SeedNo>) -> Cause {
+fn failure_cause(why: Option<SeedNo>) -> Cause {
     match why {
         Some(SeedNo::Failed) => Cause::Link,
         Some(SeedNo::DiceFailed) => Cause::Dice,
@@ -227,7 +229,7 @@ fn cause_of(why: Option<SeedNo>) -> Cause {
 
 // The status, the wrap behind the draw, and the draw.
 fn makes_none_behind_faults(alloc: Global) -> bool {
-    match dice_of(alloc, &[0; 32]) {
+    match make_dice(alloc, &[0; 32]) {
         Some(mut dice) => {
             let is = makes_none(alloc, &[1], &mut dice, Cause::Link, 32)
                 && makes_none(alloc, &[2], &mut dice, Cause::Link, 0)
@@ -245,7 +247,7 @@ fn makes_no_seed_behind_a_fault(rt: HostRuntime) {
 }
 
 /// The byte of which these are 32.
-fn byte_of(seed: &[u8]) -> Option<u8> {
+fn repeated_byte(seed: &[u8]) -> Option<u8> {
     let first = *seed.first()?;
     if is_all(seed, first) {
         Some(first)
@@ -268,7 +270,7 @@ fn fetched(
     drop(annotations);
     match fetched {
         Ok(seed) => {
-            let first = byte_of(seed.as_slice());
+            let first = repeated_byte(seed.as_slice());
             drop(seed);
             first
         }

@@ -176,10 +176,10 @@ fn refuses_annotations(rt: HostRuntime) {
 }
 
 /// What a line is read as, in a word: the call of a request, or why it is none.
-fn call_of(alloc: Global, line: &[u8]) -> &'static str {
+fn call_word(alloc: Global, line: &[u8]) -> &'static str {
     match read_request(alloc, line) {
         Ok(request) => {
-            let call = name_of(&request);
+            let call = request_name(&request);
             drop(request);
             call
         }
@@ -189,7 +189,7 @@ fn call_of(alloc: Global, line: &[u8]) -> &'static str {
     }
 }
 
-fn name_of(request: &Request) -> &'static str {
+fn request_name(request: &Request) -> &'static str {
     match request {
         Request::Status => "status",
         Request::Encrypt { .. } => "encrypt",
@@ -200,18 +200,18 @@ fn name_of(request: &Request) -> &'static str {
 // A uid with a leading zero, and a call that there isn't.
 fn are_no_requests(alloc: Global) -> bool {
     let line = b"{\"call\":\"encrypt\",\"plaintext\":\"aGk=\",\"uid\":\"03\"}";
-    call_of(alloc, line) == "shape"
-        && call_of(alloc, b"{\"call\":\"rotate\"}") == "shape"
-        && call_of(alloc, b"[]") == "shape"
-        && call_of(alloc, b"{") == "no JSON"
+    call_word(alloc, line) == "shape"
+        && call_word(alloc, b"{\"call\":\"rotate\"}") == "shape"
+        && call_word(alloc, b"[]") == "shape"
+        && call_word(alloc, b"{") == "no JSON"
 }
 
 #[test]
 fn reads_requests(rt: HostRuntime) {
     let alloc = rt.alloc();
-    assert!(rt; call_of(alloc, b"{\"call\":\"status\",\"more\":1}\n") == "status");
+    assert!(rt; call_word(alloc, b"{\"call\":\"status\",\"more\":1}\n") == "status");
     let line = b"{\"call\":\"encrypt\",\"plaintext\":\"aGk=\",\"uid\":\"3\"}";
-    assert!(rt; call_of(alloc, line) == "encrypt");
+    assert!(rt; call_word(alloc, line) == "encrypt");
     assert!(rt; are_no_requests(alloc));
 }
 

@@ -45,7 +45,7 @@ pub fn annotate(alloc: Global, all: &mut Annotations, key: &str, value: &[u8]) -
 }
 
 /// The plugin `p` with the salt 01 and this status, whose calls of these numbers fail.
-pub fn plugin_with(
+pub fn make_plugin(
     alloc: Global,
     version: &str,
     healthz: &str,
@@ -68,5 +68,5 @@ pub fn plugin_with(
 
 /// The same, healthy.
 pub fn plugin(alloc: Global, key_id: &str, fails: &[u64]) -> Option<TablePlugin> {
-    plugin_with(alloc, "v2", "ok", key_id, fails)
+    make_plugin(alloc, "v2", "ok", key_id, fails)
 }

@@ -42,7 +42,7 @@ fn loaded(alloc: Global, bytes: &[u8], write_fails: &[u64]) -> Option<Store<MemT
 }
 
 /// How many rows loading finds, or why it finds none.
-fn rows_of(alloc: Global, bytes: &[u8], limit: u16) -> Result<u64, StoreNo> {
+fn loaded_rows(alloc: Global, bytes: &[u8], limit: u16) -> Result<u64, StoreNo> {
     let Some(tape) = tape(alloc, bytes, &[]) else {
         return Err(StoreNo::NoMemory);
     };
@@ -121,8 +121,8 @@ fn is_row(row: &Row, path: &str, revision: u64, stored: &[u8]) -> bool {
 }
 
 /// The revision of the live row with the least path above, or 0.
-fn after(store: &Store<MemTape>, path: &str) -> u64 {
-    match store.next_after(path) {
+fn successor_revision(store: &Store<MemTape>, path: &str) -> u64 {
+    match store.successor(path) {
         Ok(Some(row)) => {
             let revision = row.get().revision;
             drop(row);
@@ -170,9 +170,9 @@ fn finds(alloc: Global, store: &mut Store<MemTape>) -> bool {
     puts(alloc, store, "/a", b"2");
     puts(alloc, store, "/c", b"3");
     deletes(store, "/b") == Ok(Some(4))
-        && after(store, "") == 2
-        && after(store, "/a") == 3
-        && after(store, "/c") == 0
+        && successor_revision(store, "") == 2
+        && successor_revision(store, "/a") == 3
+        && successor_revision(store, "/c") == 0
         && store.live_count() == 2
 }
 
@@ -189,7 +189,7 @@ fn check(store: &Store<MemTape>, path: &str) -> Option<Check> {
 }
 
 /// Whether another row takes the place of a file's only row, with this check.
-fn replaces_with(alloc: Global, store: &mut Store<MemTape>, wanted: Option<Check>) -> bool {
+fn replaces_row(alloc: Global, store: &mut Store<MemTape>, wanted: Option<Check>) -> bool {
     has(store, "/s", 1, b"hi")
         && replaces(alloc, store, "/s", 2) == Err(PutNo::Changed { revision: 1 })
         && replaces(alloc, store, "/s", 1) == Ok(2)
@@ -200,7 +200,7 @@ fn replaces_with(alloc: Global, store: &mut Store<MemTape>, wanted: Option<Check
 /// How the row with this revision is lent: a put by the length of its value, a delete by 1,000, and
 /// none by 2,000.
 fn lent(store: &Store<MemTape>, revision: u64) -> usize {
-    match store.row_at(revision) {
+    match store.row_by_revision(revision) {
         Some(RowRef::Put(row)) => row.stored.as_slice().len(),
         Some(RowRef::Delete(_)) => 1_000,
         None => 2_000,
@@ -271,7 +271,7 @@ fn answer(alloc: Global, store: &mut Store<MemTape>, ask: Ask) -> bool {
     match ask {
         Ask::Finds => finds(alloc, store),
         Ask::Each => takes_each(alloc, store),
-        Ask::Replaces(check) => replaces_with(alloc, store, check),
+        Ask::Replaces(check) => replaces_row(alloc, store, check),
         Ask::Lends => lends(store),
         Ask::Grows {
             format,
@@ -314,7 +314,7 @@ fn is_torn_right(alloc: Global, row: &[u8], length: usize) -> bool {
     let Some(cut) = row.get(..length) else {
         return false;
     };
-    match rows_of(alloc, cut, 44) {
+    match loaded_rows(alloc, cut, 44) {
         Ok(rows) => rows == 0 && (length == 0 || length == 8),
         Err(StoreNo::Torn { at: 0 }) => length > 0 && length < 8,
         Err(StoreNo::Torn { at: 8 }) => length > 8,
@@ -341,8 +341,8 @@ fn refuses_every_cut_of_a_row(rt: HostRuntime) {
     one_listing();
     let alloc = rt.alloc();
     assert!(rt; all_torn_right(alloc, ONE_ROW) && all_torn_right(alloc, OLD_ROW));
-    assert_eq!(rt; rows_of(alloc, ONE_ROW, 44), Ok(1));
-    assert_eq!(rt; rows_of(alloc, ONE_ROW, 43), Err(StoreNo::TooLong));
+    assert_eq!(rt; loaded_rows(alloc, ONE_ROW, 44), Ok(1));
+    assert_eq!(rt; loaded_rows(alloc, ONE_ROW, 43), Err(StoreNo::TooLong));
 }
 
 /// Whether a file has this format, and is so long then.
@@ -381,7 +381,7 @@ fn refusal(alloc: Global, at: usize, byte: u8) -> Option<StoreNo> {
     match Vec::from_slice(alloc, ONE_ROW) {
         Ok(mut changed) => {
             set(changed.as_mut_slice(), at, byte);
-            let found = rows_of(alloc, changed.as_slice(), 44).err();
+            let found = loaded_rows(alloc, changed.as_slice(), 44).err();
             drop(changed);
             found
         }
@@ -471,7 +471,7 @@ fn refusals(alloc: Global, store: &mut Store<MemTape>) -> Option<u64> {
 }
 
 /// Whether there is a store, of this revision.
-fn is_at(store: Option<Store<MemTape>>, revision: u64) -> bool {
+fn has_revision(store: Option<Store<MemTape>>, revision: u64) -> bool {
     match store {
         Some(store) => {
             let is = store.revision() == revision;
@@ -488,7 +488,7 @@ fn loses(alloc: Global, fails: &[u64], refused: u64) -> bool {
     match loaded(alloc, b"", fails) {
         Some(mut store) => {
             let is = refusals(alloc, &mut store) == Some(refused) && store.faults() == refused;
-            is_at(again(alloc, store), 6u64.wrapping_sub(refused)) && is
+            has_revision(again(alloc, store), 6u64.wrapping_sub(refused)) && is
         }
         None => false,
     }

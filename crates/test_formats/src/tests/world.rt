@@ -53,7 +53,7 @@ fn writes<W: World>(world: &mut W, alloc: Global, name: &str, bytes: &[u8]) -> b
 
 /// Whether the tape that is there has these bytes.
 fn has(world: &MemWorld<TablePlugin>, name: &str, bytes: &[u8]) -> bool {
-    match world.tape_of(name) {
+    match world.named_tape(name) {
         Some(tape) => tape.bytes() == bytes && tape.faults() == 0,
         None => false,
     }
@@ -61,7 +61,7 @@ fn has(world: &MemWorld<TablePlugin>, name: &str, bytes: &[u8]) -> bool {
 
 /// Whether a tape that wasn't there is made, and keeps what is put, once it is back and out again.
 fn keeps_a_tape(world: &mut MemWorld<TablePlugin>, alloc: Global) -> bool {
-    world.tape_of("/s").is_none()
+    world.named_tape("/s").is_none()
         && writes(world, alloc, "/s", b"ab")
         && has(world, "/s", b"ab")
         && writes(world, alloc, "/s", b"c")
@@ -102,9 +102,9 @@ fn keeps_a_link(world: &mut MemWorld<TablePlugin>, alloc: Global) -> bool {
         && world.faults() == 0
         && !asks(world, alloc, 4)
         && world.faults() == 1
-        && world.link_of(3, "p").is_some()
-        && world.link_of(4, "p").is_none()
-        && world.link_of(3, "q").is_none()
+        && world.seat_link(3, "p").is_some()
+        && world.seat_link(4, "p").is_none()
+        && world.seat_link(3, "q").is_none()
 }
 
 /// Whether a world keeps a tape, or a link.

@@ -9,7 +9,7 @@ use rand_core::SeedableRng;
 use std::alloc::Global;
 use std::hash::{DefaultHasher, Hash, Hasher};
 
-fn hash_of<T: Hash>(value: &T) -> u64 {
+fn hash_value<T: Hash>(value: &T) -> u64 {
     let mut hasher = DefaultHasher::new();
     value.hash(&mut hasher);
     hasher.finish()
@@ -38,7 +38,7 @@ fn both<A: Drop, B: Drop>(first: Option<A>, second: Option<B>) -> Option<(A, B)>
 
 /// Whether two values are the same in all ways, and below a third one and above the least.
 fn are_same<T: Hash + Ord>(ab: &T, taken: &T, high: &T, least: &T) -> bool {
-    ab == taken && hash_of(ab) == hash_of(taken) && ab < high && ab != high && least < ab
+    ab == taken && hash_value(ab) == hash_value(taken) && ab < high && ab != high && least < ab
 }
 
 /// Whether bytes that were copied and bytes that are taken are the same.
@@ -142,7 +142,7 @@ fn insert(alloc: Global, annotations: &mut Annotations, key: &str, value: &[u8])
 fn is_copied(alloc: Global, annotations: &mut Annotations) -> bool {
     match annotations.copy(alloc) {
         Ok(before) => {
-            let same = before == *annotations && hash_of(&before) == hash_of(annotations);
+            let same = before == *annotations && hash_value(&before) == hash_value(annotations);
             let is = same && insert(alloc, annotations, "m", b"3") && before != *annotations;
             drop(before);
             is

@@ -13,13 +13,13 @@ fn are_taken_and_given_back(pool: &mut Pages) -> bool {
         pool.give(first);
         return false;
     };
-    let taken = pool.free() == 0 && pool.out() == 2;
+    let taken = pool.free() == 0 && pool.taken_count() == 2;
 
     pool.words_mut(&first)[59] = 7;
     let written = pool.words(&first)[59] == 7 && *pool.words(&second) == [0; 60];
 
     pool.give(first);
-    let given = pool.free() == 1 && pool.out() == 1;
+    let given = pool.free() == 1 && pool.taken_count() == 1;
     let Ok(third) = pool.take() else {
         pool.give(second);
         return false;
@@ -27,7 +27,7 @@ fn are_taken_and_given_back(pool: &mut Pages) -> bool {
     let zeroed = *pool.words(&third) == [0; 60];
     pool.give(second);
     pool.give(third);
-    taken && written && given && zeroed && pool.out() == 0
+    taken && written && given && zeroed && pool.taken_count() == 0
 }
 
 #[test]
@@ -54,7 +54,7 @@ fn refuses_the_third(pool: &mut Pages) -> bool {
         pool.give(third);
         return false;
     }
-    let out = pool.free() == 0 && pool.out() == 2;
+    let out = pool.free() == 0 && pool.taken_count() == 2;
     pool.give(first);
     pool.give(second);
     out

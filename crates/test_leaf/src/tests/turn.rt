@@ -70,7 +70,7 @@ impl<T> Turned for Handed<T> {
 }
 
 /// Hands over the numbers from 0 on, and sets the flag where a turn is refused.
-fn hand_over<T, R: Wait>(
+fn pass_numbers<T, R: Wait>(
     rt: &R,
     turn: &Turn<Handed<T>>,
     seat: &mut Seat<Handed<T>>,
@@ -110,12 +110,12 @@ fn hand_over_each<T: Send, R: Threads + Wait + Sync>(
             requires { IsSeatOf turn.now seat.old }
             ensures { IsSeatOf turn.entry.now seat.exit.now
                 × (number_of seat.exit.now ≡ number_of seat.entry.now) }
-        { hand_over(rt, turn, seat, count, spent) },
+        { pass_numbers(rt, turn, seat, count, spent) },
     );
 }
 
 /// What one lock keeps after so many numbers of each seat.
-fn handed_over<T: Send + Drop, R: Threads + Wait + Sync>(
+fn handed_numbers<T: Send + Drop, R: Threads + Wait + Sync>(
     rt: &R,
     alloc: Global,
     beside: T,
@@ -159,7 +159,7 @@ fn in_order<T>(state: &Handed<T>, seat: u32) -> Option<u64> {
 #[test]
 fn eight_seats_keep_their_order_and_budgets(rt: HostRuntime) -> Result<(), Fail> {
     let spent = AtomicBool::new(false);
-    let state = handed_over(&rt, rt.alloc(), 7u8, 8000, &[1000; 8], 1001, &spent)?;
+    let state = handed_numbers(&rt, rt.alloc(), 7u8, 8000, &[1000; 8], 1001, &spent)?;
     assert_eq!(rt; state.beside, 7);
     assert_eq!(rt; state.numbers.len(), 8000);
     for seat in 0..8 {
@@ -173,10 +173,10 @@ fn eight_seats_keep_their_order_and_budgets(rt: HostRuntime) -> Result<(), Fail>
 #[test]
 fn a_second_turn_of_one_is_spent(rt: HostRuntime) -> Result<(), Fail> {
     let spent = AtomicBool::new(false);
-    let state = handed_over(&rt, rt.alloc(), 7u8, 1, &[1], 1, &spent)?;
+    let state = handed_numbers(&rt, rt.alloc(), 7u8, 1, &[1], 1, &spent)?;
     assert_eq!(rt; in_order(&state, 0), Some(1));
     assert!(rt; !spent.load(Ordering::SeqCst));
-    let state = handed_over(&rt, rt.alloc(), 7u8, 1, &[1], 2, &spent)?;
+    let state = handed_numbers(&rt, rt.alloc(), 7u8, 1, &[1], 2, &spent)?;
     assert_eq!(rt; in_order(&state, 0), Some(1));
     assert_eq!(rt; state.numbers.len(), 1);
     assert!(rt; spent.load(Ordering::SeqCst));

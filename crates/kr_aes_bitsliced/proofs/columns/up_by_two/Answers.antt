@@ -6,5 +6,5 @@ use Rattle.kr_aes_bitsliced.proofs.columns.up_by_two.Goals as goal
 pub returns : goal.returns
 returns c = λ b row column hb hr hc.
     moved_bytes two_below c.args.planes _
-    (each_of_eight _ c.two_up.ensures c.two_up-2.ensures c.two_up-3.ensures c.two_up-4.ensures
-    c.two_up-5.ensures c.two_up-6.ensures c.two_up-7.ensures c.two_up-8.ensures) b row column hr hc
+    (each_of_eight _ c.rotate_two_rows.ensures c.rotate_two_rows-2.ensures c.rotate_two_rows-3.ensures c.rotate_two_rows-4.ensures
+    c.rotate_two_rows-5.ensures c.rotate_two_rows-6.ensures c.rotate_two_rows-7.ensures c.rotate_two_rows-8.ensures) b row column hr hc

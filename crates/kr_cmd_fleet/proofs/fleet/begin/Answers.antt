@@ -1,12 +1,15 @@
 -- `begin`: what the replicas publish, and the workers.
-use Rattle.std.proofs.Common.{◌≡◌, [], Ok, Err, inl, length, sym, subst, ◌∙◌, arith}
+use Rattle.std.proofs.Common.{◌≡◌, [], Ok, Err, ap, inl, length, sym, subst, ◌∙◌, arith}
 use Rattle.std.specs.Prelude.{IfOk}
 use Rattle.kr_cmd_fleet.specs.Fleets.{launching, publishing, starting, starting_with}
 use Rattle.kr_cmd_fleet.specs.FirstItems.{watching}
 use Rattle.kr_cmd_fleet.specs.inner.Plans.{named, plan_of}
 use Rattle.kr_cmd_fleet.specs.inner.FleetOutcomes.{ArePublished, published_in}
 use Rattle.kr_cmd_steps.specs.inner.Lent.{with_lent_tape}
-use Rattle.kr_cmd_fleet.specs.inner.Outfits.{with_outfits}
+use Rattle.kr_cmd_steps.specs.Around.{with_exchanges}
+use Rattle.kr_cmd_steps.specs.Steps.{hearing}
+use Rattle.kr_cmd_fleet.specs.inner.Outfits.{links_of, with_outfits}
+use Rattle.kr_cmd_fleet.specs.inner.Workings.{AsksOutfits, TakesOutfits}
 use Rattle.kr_cmd_steps.specs.inner.ProgramNames.{names_in}
 use Rattle.kr_cmd_steps.specs.inner.Phases.{Does}
 use Rattle.kr_cmd_steps.specs.inner.Tapes.{stored_of}
@@ -14,7 +17,8 @@ use Rattle.kr_opening.specs.Replicas.{IsFirstIn}
 use Rattle.kr_cmd_fleet.specs.declared.watch_start.WatchStart.{WatchStart}
 use Rattle.kr_cmd_fleet.specs.inner.Readings.{HasFirst, KnowsItems, read_in}
 use Rattle.kr_cmd_fleet.proofs.FirstReads.{has_first}
-use Rattle.kr_cmd_fleet.proofs.FleetRuns.{runs_with}
+use Rattle.kr_cmd_fleet.proofs.FleetRuns.{runs_so}
+use Rattle.kr_cmd_fleet.proofs.StartExchanges.{takes_asks}
 use Rattle.kr_cmd_fleet.proofs.Plans.{plan_first, plan_replicas, plan_workers}
 use Rattle.kr_cmd_fleet.proofs.Publishings.{published_first}
 use Rattle.kr_cmd_steps.proofs.Goes.{goes_on, stops}
@@ -22,7 +26,7 @@ use Rattle.kr_cmd_fleet.proofs.Outfits.{later_many, later_named, later_trans}
 use Rattle.kr_cmd_fleet.proofs.fleet.begin.Goals as goal
 
 pub returns-in-Err-clause-made : goal.returns-in-Err-clause-made
-returns-in-Err-clause-made g c name a t =
+returns-in-Err-clause-made g c =
     let plan = c.args.plan.now in
     let link = g.L.Kms.link in
     let left = g.D.Dice.left in
@@ -30,14 +34,21 @@ returns-in-Err-clause-made g c name a t =
     let store = c.args.store in
     let olds = c.args.outfits.0 in
     let outs = c.publish_first-published.result.1.0 in
-    let over = with_lent_tape name store.told store.count a in
-    let does = subst (λ r. Does (publishing (named plan.files.0) [] plan.script.replicas.0)
-    (with_outfits link left count 0 olds over) (with_outfits link left count 0 outs over)
-    (published_in r)) c.in-Err.is (c.publish_first-published.ensures.does over t) in
-    inl (stops (publishing (named plan.files.0) [] plan.script.replicas.0)
-    (starting_with c.args.watched (plan_of plan) (stored_of store)
-    c.args.budgets.now.entries.items) c.in-Err.stop
-    does)
+    let start = c.publish_first-published.ensures.does in
+    let es = start.0 in record {
+      exchanges = es;
+      news = links_of outs;
+      asks = start.1;
+      done = λ name a t.
+          let over = with_lent_tape name store.told store.count a in
+          let does = subst (λ r. Does (publishing (named plan.files.0) [] plan.script.replicas.0)
+          (with_outfits link left count 0 olds over)
+          (with_outfits link left count 0 outs (with_exchanges es over)) (published_in r))
+          c.in-Err.is (start.2 over t.0) in
+          inl (stops (publishing (named plan.files.0) [] plan.script.replicas.0)
+          (starting_with c.args.watched (plan_of plan) (stored_of store)
+          c.args.budgets.now.entries.items) c.in-Err.stop does);
+    }
 
 pub read_first-read-requires : goal.read_first-read-requires
 read_first-read-requires g c =
@@ -65,7 +76,7 @@ read_first-read-requires g c =
     }
 
 pub returns-in-Err-read-clause-made : goal.returns-in-Err-read-clause-made
-returns-in-Err-read-clause-made g c name a t =
+returns-in-Err-read-clause-made g c =
     let plan = c.args.plan.now in
     let link = g.L.Kms.link in
     let left = g.D.Dice.left in
@@ -75,21 +86,30 @@ returns-in-Err-read-clause-made g c name a t =
     let olds = c.args.outfits.0 in
     let mids = c.publish_first-published.result.1.0 in
     let outs = c.read_first-read.result.1.0 in
-    let over = with_lent_tape name store.told store.count a in
-    let does = subst (λ r. Does (publishing (named plan.files.0) [] plan.script.replicas.0)
-    (with_outfits link left count 0 olds over) (with_outfits link left count 0 mids over)
-    (published_in r)) c.in-Ok.is (c.publish_first-published.ensures.does over t) in
-    let reads = subst (λ rs. Does (watching c.args.watched store.rows rs)
-    (with_outfits link left count 0 mids over) (with_outfits link left count 0 outs over)
-    (Err c.in-Err-read.stop)) c.as_slice.ensures
-    (subst (λ r. Does (watching c.args.watched store.rows c.as_slice.result.now)
-    (with_outfits link left count 0 mids over) (with_outfits link left count 0 outs over)
-    (read_in r)) c.in-Err-read.is (c.read_first-read.ensures.does over t)) in
-    inl (goes_on (publishing (named plan.files.0) [] plan.script.replicas.0)
-    (starting_with c.args.watched (plan_of plan) (stored_of store) budgets) c.in-Ok.replicas.0
-    does (stops (watching c.args.watched store.rows c.in-Ok.replicas.0)
-    (starting (plan_of plan) (stored_of store) budgets c.in-Ok.replicas.0)
-    c.in-Err-read.stop reads))
+    let start = c.publish_first-published.ensures.does in
+    let es = start.0 in record {
+      exchanges = es;
+      news = links_of mids;
+      asks = start.1;
+      done = λ name a t.
+          let over = with_lent_tape name store.told store.count a in
+          let behind = with_exchanges es over in
+          let does = subst (λ r. Does (publishing (named plan.files.0) [] plan.script.replicas.0)
+          (with_outfits link left count 0 olds over) (with_outfits link left count 0 mids behind)
+          (published_in r)) c.in-Ok.is (start.2 over t.0) in
+          let reads = subst (λ rs. Does (watching c.args.watched store.rows rs)
+          (with_outfits link left count 0 mids behind) (with_outfits link left count 0 outs behind)
+          (Err c.in-Err-read.stop)) c.as_slice.ensures
+          (subst (λ r. Does (watching c.args.watched store.rows c.as_slice.result.now)
+          (with_outfits link left count 0 mids behind) (with_outfits link left count 0 outs behind)
+          (read_in r)) c.in-Err-read.is
+          (c.read_first-read.ensures.does behind (t.0, λ on. ap (hearing es) (t.1 on)))) in
+          inl (goes_on (publishing (named plan.files.0) [] plan.script.replicas.0)
+          (starting_with c.args.watched (plan_of plan) (stored_of store) budgets) c.in-Ok.replicas.0
+          does (stops (watching c.args.watched store.rows c.in-Ok.replicas.0)
+          (starting (plan_of plan) (stored_of store) budgets c.in-Ok.replicas.0)
+          c.in-Err-read.stop reads));
+    }
 
 pub returns-in-Err-read-clause-later : goal.returns-in-Err-read-clause-later
 returns-in-Err-read-clause-later g c = later_trans g.L.Kms.link g.D.Dice.left
@@ -97,8 +117,8 @@ returns-in-Err-read-clause-later g c = later_trans g.L.Kms.link g.D.Dice.left
     c.read_first-read.result.1.0 c.publish_first-published.ensures.later
     c.read_first-read.ensures.later
 
-pub work_with-requires-clause-seats : goal.work_with-requires-clause-seats
-work_with-requires-clause-seats g c = λ κs lives.
+pub run_core_and_workers-requires-clause-seats : goal.run_core_and_workers-requires-clause-seats
+run_core_and_workers-requires-clause-seats g c = λ κs lives.
     later_many g.L.Kms.link g.D.Dice.left g.D.Dice.count c.args.outfits.0
     c.read_first-read.result.1.0
     (later_trans g.L.Kms.link g.D.Dice.left g.D.Dice.count c.args.outfits.0
@@ -106,27 +126,29 @@ work_with-requires-clause-seats g c = λ κs lives.
     c.publish_first-published.ensures.later c.read_first-read.ensures.later)
     ∙ c.requires.seats
 
-pub work_with-requires-clause-named : goal.work_with-requires-clause-named
-work_with-requires-clause-named g c = λ κs lives.
+pub run_core_and_workers-requires-clause-named : goal.run_core_and_workers-requires-clause-named
+run_core_and_workers-requires-clause-named g c = λ κs lives.
     later_named g.L.Kms.link g.D.Dice.left g.D.Dice.count (names_in c.args.plan.now.programs)
     c.args.outfits.0 c.read_first-read.result.1.0
     (later_trans g.L.Kms.link g.D.Dice.left g.D.Dice.count c.args.outfits.0
     c.publish_first-published.result.1.0 c.read_first-read.result.1.0
     c.publish_first-published.ensures.later c.read_first-read.ensures.later) c.requires.named
 
-pub work_with-requires-clause-published : goal.work_with-requires-clause-published
-work_with-requires-clause-published g c = λ κs lives.
+pub run_core_and_workers-requires-clause-published :
+    goal.run_core_and_workers-requires-clause-published
+run_core_and_workers-requires-clause-published g c = λ κs lives.
     let plan = c.args.plan.now in
     subst (λ r. IfOk r (λ made. ArePublished g.L.Kms.truth (named plan.files.0)
     plan.script.replicas.0 made.0)) c.in-Ok.is c.publish_first-published.ensures.replicas
 
-pub work_with-requires-clause-revision : goal.work_with-requires-clause-revision
-work_with-requires-clause-revision g c = λ κs lives.
+pub run_core_and_workers-requires-clause-revision :
+    goal.run_core_and_workers-requires-clause-revision
+run_core_and_workers-requires-clause-revision g c = λ κs lives.
     subst (λ r. IfOk r (λ (s : WatchStart). s.revision ≡ length c.args.store.rows))
     c.in-Ok-read.is c.read_first-read.ensures.revision
 
 pub returns-clause-made : goal.returns-clause-made
-returns-clause-made g c name a t =
+returns-clause-made g c =
     let plan = c.args.plan.now in
     let link = g.L.Kms.link in
     let left = g.D.Dice.left in
@@ -136,46 +158,62 @@ returns-clause-made g c name a t =
     let olds = c.args.outfits.0 in
     let mids = c.publish_first-published.result.1.0 in
     let outs = c.read_first-read.result.1.0 in
+    let back = c.run_core_and_workers.result.2.0 in
+    let kept = c.run_core_and_workers.result.1 in
     let items = c.in-Ok-read.start.items.0 in
     let made = c.in-Ok.replicas.0 in
-    let over = with_lent_tape name store.told store.count a in
-    let does = subst (λ r. Does (publishing (named plan.files.0) [] plan.script.replicas.0)
-    (with_outfits link left count 0 olds over) (with_outfits link left count 0 mids over)
-    (published_in r)) c.in-Ok.is (c.publish_first-published.ensures.does over t) in
-    let reads = subst (λ rs. Does (watching c.args.watched store.rows rs)
-    (with_outfits link left count 0 mids over) (with_outfits link left count 0 outs over)
-    (Ok items)) c.as_slice.ensures
-    (subst (λ r. Does (watching c.args.watched store.rows c.as_slice.result.now)
-    (with_outfits link left count 0 mids over) (with_outfits link left count 0 outs over)
-    (read_in r)) c.in-Ok-read.is (c.read_first-read.ensures.does over t)) in
     let known = subst (λ rs. KnowsItems c.args.watched g.L.Kms.truth store.rows rs items)
     c.as_slice.ensures
     (subst (λ r. IfOk r (λ (s : WatchStart). KnowsItems c.args.watched g.L.Kms.truth store.rows
     c.as_slice.result.now s.items.0)) c.in-Ok-read.is c.read_first-read.ensures.known) in
-    runs_with g.row.T.Denot g.L.Kms.truth link g.L.Kms.step left count c.args.watched name
-    (plan_of plan)
-    (launching c.args.watched (plan_of plan) (stored_of store) budgets) outs
-    (with_outfits link left count 0 olds over)
-    (with_outfits link left count 0 c.work_with.result.2.0
-    (with_lent_tape name c.work_with.result.1.told c.work_with.result.1.count a))
-    c.work_with.result.0
-    (c.work_with.ensures.made name a olds c.args.watched t (record {
-      are_named = c.requires.named;
-      seats = c.requires.seats;
-      later = later_trans link left count olds mids outs c.publish_first-published.ensures.later
-          c.read_first-read.ensures.later;
-      onward = λ kept result d.
-          goes_on (publishing (named plan.files.0) [] plan.script.replicas.0)
-          (starting_with c.args.watched (plan_of plan) (stored_of store) budgets) made does
-          (goes_on (watching c.args.watched store.rows made)
-          (starting (plan_of plan) (stored_of store) budgets made) items reads d);
-      known = known;
-    }))
+    let start = c.publish_first-published.ensures.does in
+    let es = start.0 in record {
+      exchanges = es;
+      news = links_of mids;
+      asks = start.1;
+      done = λ name a t.
+          let over = with_lent_tape name store.told store.count a in
+          let behind = with_exchanges es over in
+          let first = with_outfits link left count 0 olds over in
+          let told = hearing es a.heard in
+          let does = subst (λ r. Does (publishing (named plan.files.0) [] plan.script.replicas.0)
+          first (with_outfits link left count 0 mids behind) (published_in r)) c.in-Ok.is
+          (start.2 over t.0) in
+          let reads = subst (λ rs. Does (watching c.args.watched store.rows rs)
+          (with_outfits link left count 0 mids behind) (with_outfits link left count 0 outs behind)
+          (Ok items)) c.as_slice.ensures
+          (subst (λ r. Does (watching c.args.watched store.rows c.as_slice.result.now)
+          (with_outfits link left count 0 mids behind) (with_outfits link left count 0 outs behind)
+          (read_in r)) c.in-Ok-read.is
+          (c.read_first-read.ensures.does behind (t.0, λ on. ap (hearing es) (t.1 on)))) in
+          runs_so g.row.T.Denot g.L.Kms.truth link g.L.Kms.step left count
+          (TakesOutfits told outs back)
+          (AsksOutfits told g.L.Kms.step c.args.watched es olds back)
+          (takes_asks told g.L.Kms.step c.args.watched es olds mids outs back start.1
+          c.read_first-read.ensures.unread) c.args.watched
+          (launching c.args.watched (plan_of plan) (stored_of store) budgets) name (plan_of plan)
+          first (with_outfits link left count 0 back
+          (with_lent_tape name kept.told kept.count (with_exchanges es a)))
+          c.run_core_and_workers.result.0
+          (c.run_core_and_workers.ensures.made name first (with_exchanges es a) olds c.args.watched
+          (record {
+            are_named = c.requires.named;
+            seats = c.requires.seats;
+            later = later_trans link left count olds mids outs
+                c.publish_first-published.ensures.later c.read_first-read.ensures.later;
+            onward = λ kept result d.
+                goes_on (publishing (named plan.files.0) [] plan.script.replicas.0)
+                (starting_with c.args.watched (plan_of plan) (stored_of store) budgets) made does
+                (goes_on (watching c.args.watched store.rows made)
+                (starting (plan_of plan) (stored_of store) budgets made) items reads d);
+            known = known;
+          }));
+    }
 
 pub returns-clause-later : goal.returns-clause-later
 returns-clause-later g c = later_trans g.L.Kms.link g.D.Dice.left g.D.Dice.count
-    c.args.outfits.0 c.read_first-read.result.1.0 c.work_with.result.2.0
+    c.args.outfits.0 c.read_first-read.result.1.0 c.run_core_and_workers.result.2.0
     (later_trans g.L.Kms.link g.D.Dice.left g.D.Dice.count c.args.outfits.0
     c.publish_first-published.result.1.0 c.read_first-read.result.1.0
     c.publish_first-published.ensures.later c.read_first-read.ensures.later)
-    c.work_with.ensures.later
+    c.run_core_and_workers.ensures.later

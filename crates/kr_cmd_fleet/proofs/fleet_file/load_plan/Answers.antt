@@ -2,7 +2,7 @@
 use Rattle.std.proofs.Common.{◌≡◌, List, ℕ, [], Err, Ok, subst}
 use Rattle.kr_provider.specs.PluginOrder.{plugin_order}
 use Rattle.kr_script.specs.Fleets.{Fleet, fleet_of}
-use Rattle.kr_cmd_fleet.specs.FleetFiles.{FleetPlan, NamedRows, all_rows, files_in, fleet_in, all_files, programs_in}
+use Rattle.kr_cmd_fleet.specs.FleetFiles.{FleetPlan, NamedRows, all_rows, files_in, fleet_in, all_files, file_programs}
 use Rattle.kr_cmd_steps.specs.Steps.{Steps, and_then, give}
 use Rattle.kr_cmd_steps.specs.declared.programs.Program.{Program}
 use Rattle.kr_cmd_steps.specs.Around.{with_world}
@@ -21,7 +21,7 @@ with_programs fleet files programs =
 abbrev with_files : (options : List (List ℕ × List ℕ)) → Fleet → List NamedRows
     → Steps FleetPlan
 with_files options fleet files =
-    and_then (programs_in options files) (with_programs fleet files)
+    and_then (file_programs options files) (with_programs fleet files)
 
 abbrev with_fleet : (options : List (List ℕ × List ℕ)) → Fleet → Steps FleetPlan
 with_fleet options fleet =
@@ -43,12 +43,12 @@ returns-in-Err-load_files-clause-does g c a =
     (g.W.World.told c.load_fleet.new.world) (g.W.World.told c.load_files.new.world) (Err stop)
     c.new-files.ensures c.in-Err-load_files.ensures) a))
 
-pub returns-in-Err-programs_in-clause-does : goal.returns-in-Err-programs_in-clause-does
-returns-in-Err-programs_in-clause-does g c a =
+pub returns-in-Err-file_programs-clause-does : goal.returns-in-Err-file_programs-clause-does
+returns-in-Err-file_programs-clause-does g c a =
     let fleet = fleet_of c.in-Ok.script in
     let options = c.args.options.now in
     let files = named c.load_files.new.files.0 in
-    let stop = c.in-Err-programs_in.stop in
+    let stop = c.in-Err-file_programs.stop in
     let now = with_world (g.W.World.told c.load_files.new.world) a in
     goes_on (fleet_in c.args.name.now) (with_fleet options) fleet (c.in-Ok.ensures.does a)
     (goes_on (files_in [] (all_files fleet)) (with_files options fleet) files
@@ -56,16 +56,16 @@ returns-in-Err-programs_in-clause-does g c a =
     (through_from c.new-files.result.0 files (all_files fleet)
     (g.W.World.told c.load_fleet.new.world) (g.W.World.told c.load_files.new.world) (Ok tt)
     c.new-files.ensures c.in-Ok-load_files.ensures) a)
-    (stops (programs_in options files) (with_programs fleet files) stop
-    (subst (λ fs. Does (programs_in options (named fs)) now now (Err stop)) c.as_slice.ensures
-    (c.in-Err-programs_in.ensures.does now))))
+    (stops (file_programs options files) (with_programs fleet files) stop
+    (subst (λ fs. Does (file_programs options (named fs)) now now (Err stop)) c.as_slice.ensures
+    (c.in-Err-file_programs.ensures.does now))))
 
 pub returns-clause-does : goal.returns-clause-does
 returns-clause-does g c a =
     let fleet = fleet_of c.in-Ok.script in
     let options = c.args.options.now in
     let files = named c.load_files.new.files.0 in
-    let programs = c.in-Ok-programs_in.programs in
+    let programs = c.in-Ok-file_programs.programs in
     let now = with_world (g.W.World.told c.load_files.new.world) a in
     goes_on (fleet_in c.args.name.now) (with_fleet options) fleet (c.in-Ok.ensures.does a)
     (goes_on (files_in [] (all_files fleet)) (with_files options fleet) files
@@ -73,16 +73,16 @@ returns-clause-does g c a =
     (through_from c.new-files.result.0 files (all_files fleet)
     (g.W.World.told c.load_fleet.new.world) (g.W.World.told c.load_files.new.world) (Ok tt)
     c.new-files.ensures c.in-Ok-load_files.ensures) a)
-    (goes_on (programs_in options files) (with_programs fleet files) programs
-    (subst (λ fs. Does (programs_in options (named fs)) now now (Ok programs)) c.as_slice.ensures
-    (c.in-Ok-programs_in.ensures.does now))
+    (goes_on (file_programs options files) (with_programs fleet files) programs
+    (subst (λ fs. Does (file_programs options (named fs)) now now (Ok programs)) c.as_slice.ensures
+    (c.in-Ok-file_programs.ensures.does now))
     (given (record { fleet = fleet; files = files; programs = programs }) now)))
 
 pub returns-clause-whole : goal.returns-clause-whole
 returns-clause-whole g c =
     let fleet = fleet_of c.in-Ok.script in
     let files = named c.load_files.new.files.0 in
-    let programs = c.in-Ok-programs_in.programs in
+    let programs = c.in-Ok-file_programs.programs in
     record {
       rules = c.in-Ok.ensures.rules.0;
       whole = c.in-Ok.ensures.rules.1;
@@ -92,5 +92,5 @@ returns-clause-whole g c =
           (g.W.World.told c.load_fleet.new.world) (g.W.World.told c.load_files.new.world) (Ok tt)
           c.new-files.ensures c.in-Ok-load_files.ensures);
       programs = subst (λ fs. names_in programs ≡ plugin_order (all_rows (named fs)))
-          c.as_slice.ensures c.in-Ok-programs_in.ensures.names;
+          c.as_slice.ensures c.in-Ok-file_programs.ensures.names;
     }

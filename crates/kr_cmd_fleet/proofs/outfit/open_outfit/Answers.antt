@@ -51,14 +51,17 @@ returns-in-Err-open_links-clause-does g c = refuses_links g.W.Link.Kms.link
     (g.W.World.told c.args.world.now) (g.W.World.told c.open_dice.new.world)
     (g.W.World.told c.open_links.new.world) (g.W.World.told c.close_outfit.new.world)
     (record { links = c.open_links.new.links; dice = c.in-Ok.dice }) c.in-Ok.ensures.lent
-    c.in-Err-open_links.stop c.in-Err-open_links.ensures.does c.close_outfit.ensures
+    c.in-Err-open_links.stop c.in-Err-open_links.ensures.does c.close_outfit.ensures.back
 
 pub returns-in-Err-open_links-clause-tapes : goal.returns-in-Err-open_links-clause-tapes
-returns-in-Err-open_links-clause-tapes g c = c.close_outfit.ensures.tapes
+returns-in-Err-open_links-clause-tapes g c = c.close_outfit.ensures.back.tapes
     ∙ c.in-Err-open_links.ensures.tapes ∙ c.in-Ok.ensures.lent.tapes
 
 pub returns-in-Err-open_links-clause-others : goal.returns-in-Err-open_links-clause-others
 returns-in-Err-open_links-clause-others g c = others_trans (others_lent c.in-Ok.ensures.lent)
     (others_trans c.in-Err-open_links.ensures.others (others_back g.W.Link.Kms.link
     g.W.Rand.Dice.left g.W.Rand.Dice.count
-    (record { links = c.open_links.new.links; dice = c.in-Ok.dice }) c.close_outfit.ensures))
+    (record { links = c.open_links.new.links; dice = c.in-Ok.dice }) c.close_outfit.ensures.back))
+
+pub returns-in-Ok-open_links-clause-lent : goal.returns-in-Ok-open_links-clause-lent
+returns-in-Ok-open_links-clause-lent g c = c.in-Ok-open_links.ensures.lent

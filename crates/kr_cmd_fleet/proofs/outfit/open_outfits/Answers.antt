@@ -1,5 +1,8 @@
 -- `open_outfits`: each turn borrows one more.
-use Rattle.std.proofs.Common.{◌∙◌, arith}
+use Rattle.std.proofs.Common.{◌∙◌, arith, subst, sym}
+use Rattle.kr_cmd_fleet.specs.StartExchanges.{AreOfSeats}
+use Rattle.kr_cmd_fleet.specs.inner.Outfits.{links_of}
+use Rattle.kr_cmd_fleet.proofs.StartExchanges.{outfits_push}
 use Rattle.kr_cmd_fleet.proofs.Outfitting.{all_outfits, no_outfit, one_outfit, outfit_refused, still_all_out}
 use Rattle.kr_cmd_fleet.proofs.outfit.open_outfits.Goals as goal
 
@@ -9,6 +12,8 @@ loop-seat-init g c = (
       c.args.programs.now c.args.seats (g.W.World.told c.args.world.now)
       c.reserve.new.self.0 (c.in-Ok.ensures.items ∙ c.requires.none),
   omega (arith, c.in-Ok.ensures.ok),
+  subst (λ os. AreOfSeats g.W.World.lent 0 (links_of os))
+      (sym (c.in-Ok.ensures.items ∙ c.requires.none)) tt,
 )
 
 pub returns-in-Err-open_outfit-clause-does : goal.returns-in-Err-open_outfit-clause-does
@@ -42,6 +47,9 @@ loop-seat-preserved g c = (
       c.in-Ok-open_outfit.ensures.out c.in-Ok-open_outfit.ensures.others
       c.in-Ok-open_outfit.ensures.tapes,
   omega (arith, c.loop-seat.invariant.1, c.push_in_room.ensures.room),
+  outfits_push g.W.World.lent c.loop-seat.outfits.0 c.push_in_room.new.self.0
+      c.in-Ok-open_outfit.outfit c.loop-seat.seat c.push_in_room.ensures.items
+      c.loop-seat.invariant.0.many c.loop-seat.invariant.2 c.in-Ok-open_outfit.ensures.lent,
 )
 
 pub returns-clause-does : goal.returns-clause-does
@@ -54,3 +62,13 @@ returns-clause-does g c = all_outfits g.W.Link.Kms.link g.W.Rand.Dice.left g.W.R
 pub returns-clause-out : goal.returns-clause-out
 returns-clause-out g c = λ seat lt. c.loop-seat.invariant.0.out seat
     (omega (arith, lt, c.loop-seat.invariant.0.many))
+
+pub returns-in-Err-clause-lent : goal.returns-in-Err-clause-lent
+returns-in-Err-clause-lent g c = subst (λ os. AreOfSeats g.W.World.lent 0 (links_of os))
+    (sym (c.in-Err.ensures.items ∙ c.requires.none)) tt
+
+pub returns-in-Err-open_outfit-clause-lent : goal.returns-in-Err-open_outfit-clause-lent
+returns-in-Err-open_outfit-clause-lent g c = c.loop-seat.invariant.2
+
+pub returns-clause-lent : goal.returns-clause-lent
+returns-clause-lent g c = c.loop-seat.invariant.2

@@ -10,22 +10,22 @@ returns-in-Err-clause-did g c a truth =
     c.args.words.now
     (with_world (g.W.World.told c.args.world.now) a) _ (refl, refl)
 
-pub load_by-requires-clause-plan : goal.load_by-requires-clause-plan
-load_by-requires-clause-plan g c = λ κs lives. c.in-Ok.ensures.known
+pub run_load_over_store-requires-clause-plan : goal.run_load_over_store-requires-clause-plan
+run_load_over_store-requires-clause-plan g c = λ κs lives. c.in-Ok.ensures.known
 
-pub returns-in-Err-load_by-clause-did : goal.returns-in-Err-load_by-clause-did
-returns-in-Err-load_by-clause-did g c a truth =
+pub returns-in-Err-run_load_over_store-clause-did : goal.returns-in-Err-run_load_over_store-clause-did
+returns-in-Err-run_load_over_store-clause-did g c a truth =
     load_stopped g.row.W-Tap.Denot g.W.Link.Kms.truth g.W.Link.Kms.link g.W.Link.Kms.step
     c.args.words.now _
     c.in-Ok.ensures.plan (with_world (g.W.World.told c.args.world.now) a)
-    (with_world (g.W.World.told c.load_by.new.world) a) c.in-Err-load_by.stop _
-    c.in-Err-load_by.ensures.others (c.in-Err-load_by.ensures.runs a truth) (refl, refl)
+    (with_world (g.W.World.told c.run_load_over_store.new.world) a) c.in-Err-run_load_over_store.stop _
+    c.in-Err-run_load_over_store.ensures.others (c.in-Err-run_load_over_store.ensures.runs a truth) (refl, refl)
 
 pub returns-clause-did : goal.returns-clause-did
 returns-clause-did g c a truth =
     load_ran g.row.W-Tap.Denot g.W.Link.Kms.truth g.W.Link.Kms.link g.W.Link.Kms.step
     c.args.words.now _
     c.in-Ok.ensures.plan (with_world (g.W.World.told c.args.world.now) a)
-    (with_world (g.W.World.told c.load_by.new.world) a) c.in-Ok-load_by.record _ _
-    c.in-Ok-load_by.ensures.others (c.in-Ok-load_by.ensures.runs a truth)
+    (with_world (g.W.World.told c.run_load_over_store.new.world) a) c.in-Ok-run_load_over_store.record _ _
+    c.in-Ok-run_load_over_store.ensures.others (c.in-Ok-run_load_over_store.ensures.runs a truth)
     c.write_load.ensures.written

@@ -8,12 +8,12 @@ returns-in-Err-Usage c = means_nothing _ c.in-Err-Usage.field-0-is c.in-Err-Usag
 
 pub returns-in-Some : goal.returns-in-Some
 returns-in-Some c = (
-  asks _ c.in-Ok.ensures.0 c.in-Ok-command_of.ensures.command c.in-Ok.ensures.1 c.in-Ok.ensures.2
+  asks _ c.in-Ok.ensures.0 c.in-Ok-verb_command.ensures.command c.in-Ok.ensures.1 c.in-Ok.ensures.2
       c.in-Ok.ensures.3 c.in-Some.is,
-  subst KeepsRules c.in-Some.is c.in-Ok-command_of.ensures.path,
+  subst KeepsRules c.in-Some.is c.in-Ok-verb_command.ensures.path,
 )
 
 pub returns-in-None : goal.returns-in-None
 returns-in-None c =
-    asks_nothing _ c.in-Ok.ensures.0 c.in-Ok-command_of.ensures.command
+    asks_nothing _ c.in-Ok.ensures.0 c.in-Ok-verb_command.ensures.command
     (c.in-Ok.ensures.2, c.in-Ok.ensures.3) c.in-None.is

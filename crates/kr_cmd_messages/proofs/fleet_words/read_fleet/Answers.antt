@@ -18,6 +18,6 @@ pub returns-in-Err-Page : goal.returns-in-Err-Page
 returns-in-Err-Page c = page_asks_none c.in-Err-Page.field-0 c.in-Err-Page.field-0-is
     c.in-Err-Page.ensures
 
-pub returns-in-Ok-fleet_of : goal.returns-in-Ok-fleet_of
-returns-in-Ok-fleet_of c = asked_so c.in-Ok.words c.in-Ok.ensures c.in-Ok-fleet_of.asked
-    c.in-Ok-fleet_of.ensures
+pub returns-in-Ok-fleet_request : goal.returns-in-Ok-fleet_request
+returns-in-Ok-fleet_request c = asked_so c.in-Ok.words c.in-Ok.ensures c.in-Ok-fleet_request.asked
+    c.in-Ok-fleet_request.ensures

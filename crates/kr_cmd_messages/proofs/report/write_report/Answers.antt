@@ -1,7 +1,7 @@
 -- `write_report`: nine pieces, which are four lines.
 use Rattle.std.proofs.Common.{◌≡◌, ℕ, List, [], ◌++◌, sym, ◌∙◌, ap, append_assoc, codes, decimal}
 use Rattle.kr_cmd_messages.specs.Reports.{report_text}
-use Rattle.kr_cmd_messages.specs.declared.report.Counts.{Counts}
+use Rattle.kr_cmd_messages.specs.declared.report.RewriteCounts.{RewriteCounts}
 use Rattle.kr_cmd_messages.proofs.Pieces.{says_by}
 use Rattle.kr_cmd_messages.proofs.report.write_report.Goals as goal
 
@@ -33,7 +33,7 @@ lines_are rewritten fresh changed left =
     ∙ sym (append_assoc rewritten (codes "\n") behind) in
     ap (λ l. codes "rewritten " ++ l) first
 
-report_is : (counts : Counts) (a b c d : List ℕ) → a ≡ decimal counts.rewritten
+report_is : (counts : RewriteCounts) (a b c d : List ℕ) → a ≡ decimal counts.rewritten
     → b ≡ decimal counts.fresh → c ≡ decimal counts.changed → d ≡ decimal counts.left
     → spelled a b c d ≡ report_text counts
 report_is counts a b c d a_is b_is c_is d_is =

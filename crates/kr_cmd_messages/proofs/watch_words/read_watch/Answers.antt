@@ -18,6 +18,6 @@ pub returns-in-Err-Page : goal.returns-in-Err-Page
 returns-in-Err-Page c = page_watch_none c.in-Err-Page.field-0 c.in-Err-Page.field-0-is
     c.in-Err-Page.ensures
 
-pub returns-in-Ok-watch_of : goal.returns-in-Ok-watch_of
-returns-in-Ok-watch_of c = watch_asked_so c.in-Ok.words c.in-Ok.ensures c.in-Ok-watch_of.asked
-    c.in-Ok-watch_of.ensures
+pub returns-in-Ok-watch_request : goal.returns-in-Ok-watch_request
+returns-in-Ok-watch_request c = watch_asked_so c.in-Ok.words c.in-Ok.ensures c.in-Ok-watch_request.asked
+    c.in-Ok-watch_request.ensures

@@ -2,6 +2,8 @@
 use Rattle.std.proofs.Common.{◌≡◌, ◌<◌, ◌≤◌, ◌^◌, List, [], length, None, Ok, Err, refl, sym, ◌∙◌, ap, subst, inl, arith}
 use Rattle.std.proofs.lemmas.List.Elements.{All-contains_itself}
 use Rattle.kr_base.specs.Lines.{of_seat}
+use Rattle.kr_base.specs.Walks.{Walk}
+use Rattle.kr_provider.specs.AskedLinks.{Among, AskedOnly}
 use Rattle.kr_provider.specs.Names.{names_of}
 use Rattle.kr_provider.proofs.AskedLists.{names_stay}
 use Rattle.kr_history.specs.Acting.{Caller, IsCaller, only_caller}
@@ -9,10 +11,10 @@ use Rattle.kr_rollout.specs.Callers.{holding}
 use Rattle.kr_history.specs.Calls.{AreServed}
 use Rattle.kr_rollout.specs.Entries.{seat_of}
 use Rattle.kr_rollout.specs.declared.opening.Entry.{Entry}
-use Rattle.kr_cmd_steps.specs.Commands.{nothing_done}
-use Rattle.kr_cmd_rewrite.specs.inner.Rewriting.{IsReported, counts_of, opened_store}
-use Rattle.kr_cmd_rewrite.proofs.CutShorts.{may_stop}
-use Rattle.kr_cmd_rewrite.proofs.DroveAll.{begins, cut_with, drove_all, drove_some, has_room, opens_all, over_core}
+use Rattle.kr_cmd_rewrite.specs.inner.Rewriting.{IsReported, report_counts}
+use Rattle.kr_cmd_rewrite.proofs.DriveFaults.{fault_named, fault_of}
+use Rattle.kr_cmd_rewrite.proofs.DroveAll.{cut_with, over_core}
+use Rattle.kr_cmd_rewrite.proofs.DroveHeard.{heard_all, heard_core, heard_some, may_end}
 use Rattle.kr_cmd_rewrite.proofs.rewriting.drive_all.Goals as goal
 
 none_stays : (own : List Entry → List Entry) (entries : List Entry) → entries ≡ []
@@ -49,60 +51,73 @@ drive-driven-requires-clause-links g c =
 -- why the drive may be cut short
 pub drive_stop-stop-requires : goal.drive_stop-stop-requires
 drive_stop-stop-requires g c =
-    let link = g.L.Kms.link in
-    let truth = g.L.Kms.truth in
+    let k = g.L.Kms in
+    let laws = g.met.L.Kms in
     let left = g.D.Dice.left in
     let count = g.D.Dice.count in
     let core = c.args.core in
-    let olds = c.args.bench.links in
-    let dice = c.args.bench.dice in
-    let news = c.close-links.result.0 in
-    let after = c.close-links.result.1 in
-    let alone = c.requires.alone in
-    let known = subst IsCaller c.new-solo.ensures c.known.ensures in
-    let live = alone.room.0 in
-    let is = alone.room.1 in
-    let distinct = c.requires.distinct in
-    let opens = opens_all truth link core alone known olds distinct live alone.p is alone.replicas
-    c.requires.opens in
-    let driven = over_core truth link left count c.new-solo.result (only_caller core)
-    c.drive-driven.new.acts olds c.drive-driven.new.bench.links news dice
-    c.drive-driven.new.bench.dice after c.new-solo.ensures c.close-links.ensures.0
-    c.close-links.ensures.1 c.drive-driven.result (Err (c.in-Err.report, c.in-Err.why)) c.in-Err.is
-    c.drive-driven.ensures.drives in
-    may_stop truth link left count core.opening alone.p alone.reloads alone.within opens live
-    (nothing_done (opened_store core)) (only_caller core) c.drive-driven.new.acts olds news dice after
-    c.in-Err.report c.in-Err.why
-    (begins truth link core alone known olds distinct live alone.p is alone.replicas)
-    (has_room truth link core alone known olds distinct live alone.p is alone.replicas) driven
-
-pub returns-in-Ok-clause-ended : goal.returns-in-Ok-clause-ended
-returns-in-Ok-clause-ended g c name a live told p truth_is is replicas =
-    let link = g.L.Kms.link in
-    let truth = g.L.Kms.truth in
-    let left = g.D.Dice.left in
-    let count = g.D.Dice.count in
-    let core = c.args.core in
-    let olds = c.args.bench.links in
+    let first = c.args.bench.links in
     let dice = c.args.bench.dice in
     let new = c.drive-driven.new.acts in
-    let news = c.close-links.result.0 in
+    let bench = c.drive-driven.new.bench in
+    let last = c.close-links.result.0 in
+    let after = c.close-links.result.1 in
+    let known = subst IsCaller c.new-solo.ensures c.known.ensures in
+    let talk = c.drive-driven.ensures.exchanged in
+    let ended = Err (c.in-Err.report, c.in-Err.why) in
+    may_end k.truth k.link k.step laws.keeps laws.tells first bench.links c.requires.distinct
+    c.drive-driven.ensures.asked talk.steps talk.walk left count core c.requires.alone known new
+    c.args.bench.cache bench.cache c.requires.cold dice after c.in-Err.report c.in-Err.why
+    (names_of k.link last)
+    (λ plugin is. fault_named k.link plugin first last
+    (fault_of k.truth k.link left count [] (only_caller core) new first last dice after
+    c.in-Err.report c.in-Err.why
+    (over_core k.truth k.link left count c.new-solo.result (only_caller core) new first bench.links
+    last dice bench.dice after c.drive-driven.result ended c.new-solo.ensures
+    c.close-links.ensures.0 c.close-links.ensures.1 c.in-Err.is c.drive-driven.ensures.drives)
+    plugin is))
+    (heard_core left count c.new-solo.result (only_caller core) new c.args.bench.cache bench.cache
+    dice bench.dice after c.drive-driven.result ended talk.steps c.new-solo.ensures
+    c.close-links.ensures.1 c.in-Err.is talk.are)
+
+pub returns-in-Ok-clause-ended : goal.returns-in-Ok-clause-ended
+returns-in-Ok-clause-ended g c =
+    let k = g.L.Kms in
+    let laws = g.met.L.Kms in
+    let left = g.D.Dice.left in
+    let count = g.D.Dice.count in
+    let core = c.args.core in
+    let first = c.args.bench.links in
+    let dice = c.args.bench.dice in
+    let new = c.drive-driven.new.acts in
+    let bench = c.drive-driven.new.bench in
+    let last = c.close-links.result.0 in
     let after = c.close-links.result.1 in
     let store = c.close-store.result.0 in
     let known = subst IsCaller c.new-solo.ensures c.known.ensures in
     let bounded = subst (λ n. n < 2 ^ 64) c.faults-faults.ensures (omega arith) in
     let drawn = subst (λ d. count dice ≤ count d) (sym c.close-links.ensures.1)
     c.drive-driven.ensures.later in
-    let driven = over_core truth link left count c.new-solo.result (only_caller core) new olds
-    c.drive-driven.new.bench.links news dice c.drive-driven.new.bench.dice after
-    c.new-solo.ensures c.close-links.ensures.0 c.close-links.ensures.1 c.drive-driven.result
-    (Ok c.in-Ok.report) c.in-Ok.is c.drive-driven.ensures.drives in
-    drove_all truth link left count core c.into_core.result c.requires.alone known new
-    c.known-2.ensures c.into_core.ensures olds news dice after c.requires.distinct
-    c.requires.opens store c.close-store.ensures.rows c.close-store.ensures.count
-    c.close-store.ensures.format c.close-store.ensures.torn c.known-3.ensures bounded drawn name a
-    live told p truth_is is replicas c.in-Ok.report c.reported.result driven
-    (subst (λ n. IsReported n c.reported.result) c.counts_of.ensures c.reported.ensures)
+    let talk = c.drive-driven.ensures.exchanged in
+    let walk = subst (λ l. Walk (Among k.step) first talk.steps l) (sym c.close-links.ensures.0)
+    talk.walk in
+    let asked = subst (λ l. AskedOnly k.link (names_of k.link first) first l)
+    (sym c.close-links.ensures.0) c.drive-driven.ensures.asked in record {
+      steps = talk.steps;
+      walk = walk;
+      are = λ name a live told p truth_is is replicas.
+          heard_all k.truth k.link k.step laws.keeps laws.tells first last c.requires.distinct
+          asked talk.steps walk left count core c.requires.alone known new c.args.bench.cache
+          bench.cache c.requires.cold dice after c.into_core.result c.known-2.ensures
+          c.into_core.ensures store c.close-store.ensures.rows c.close-store.ensures.count
+          c.close-store.ensures.format c.close-store.ensures.torn c.known-3.ensures bounded drawn
+          name a live told p truth_is is replicas c.in-Ok.report c.reported.result
+          (heard_core left count c.new-solo.result (only_caller core) new c.args.bench.cache
+          bench.cache dice bench.dice after c.drive-driven.result (Ok c.in-Ok.report) talk.steps
+          c.new-solo.ensures c.close-links.ensures.1 c.in-Ok.is talk.are)
+          (subst (λ n. IsReported n c.reported.result) c.report_counts.ensures
+          c.reported.ensures);
+    }
 
 pub returns-in-Ok-clause-names : goal.returns-in-Ok-clause-names
 returns-in-Ok-clause-names g c =
@@ -113,16 +128,17 @@ returns-in-Ok-clause-names g c =
     c.drive-driven.ensures.asked
 
 pub returns-clause-ended : goal.returns-clause-ended
-returns-clause-ended g c name a live told p truth_is is replicas =
-    let link = g.L.Kms.link in
-    let truth = g.L.Kms.truth in
+returns-clause-ended g c =
+    let k = g.L.Kms in
+    let laws = g.met.L.Kms in
     let left = g.D.Dice.left in
     let count = g.D.Dice.count in
     let core = c.args.core in
-    let olds = c.args.bench.links in
+    let first = c.args.bench.links in
     let dice = c.args.bench.dice in
     let new = c.drive-driven.new.acts in
-    let news = c.close-links.result.0 in
+    let bench = c.drive-driven.new.bench in
+    let last = c.close-links.result.0 in
     let after = c.close-links.result.1 in
     let store = c.close-store.result.0 in
     let known = subst IsCaller c.new-solo.ensures c.known.ensures in
@@ -132,18 +148,33 @@ returns-clause-ended g c name a live told p truth_is is replicas =
     let report = c.in-Err.report in
     let why = c.in-Err.why in
     let stop = c.drive_stop-stop.result in
-    let driven = over_core truth link left count c.new-solo.result (only_caller core) new olds
-    c.drive-driven.new.bench.links news dice c.drive-driven.new.bench.dice after
-    c.new-solo.ensures c.close-links.ensures.0 c.close-links.ensures.1 c.drive-driven.result
-    (Err (report, why)) c.in-Err.is c.drive-driven.ensures.drives in
-    drove_some truth link left count core c.into_core.result c.requires.alone known new
-    c.known-2.ensures c.into_core.ensures olds news dice after c.requires.distinct
-    c.requires.opens store c.close-store.ensures.rows c.close-store.ensures.count
-    c.close-store.ensures.format c.close-store.ensures.torn c.known-3.ensures bounded drawn name a
-    live told p truth_is is replicas report c.cut_short.result why stop driven
-    c.drive_stop-stop.ensures
-    (cut_with c.cut_short.result stop c.counts_of-in-Err.result (counts_of report)
-    c.cut_short.ensures c.counts_of-in-Err.ensures)
+    let talk = c.drive-driven.ensures.exchanged in
+    let walk = subst (λ l. Walk (Among k.step) first talk.steps l) (sym c.close-links.ensures.0)
+    talk.walk in
+    let asked = subst (λ l. AskedOnly k.link (names_of k.link first) first l)
+    (sym c.close-links.ensures.0) c.drive-driven.ensures.asked in record {
+      steps = talk.steps;
+      walk = walk;
+      are = λ name a live told p truth_is is replicas.
+          heard_some k.truth k.link k.step laws.keeps laws.tells first last c.requires.distinct
+          asked talk.steps walk left count core c.requires.alone known new c.args.bench.cache
+          bench.cache c.requires.cold dice after c.into_core.result c.known-2.ensures
+          c.into_core.ensures store c.close-store.ensures.rows c.close-store.ensures.count
+          c.close-store.ensures.format c.close-store.ensures.torn c.known-3.ensures bounded drawn
+          name a live told p truth_is is replicas report c.cut_short.result why stop
+          (heard_core left count c.new-solo.result (only_caller core) new c.args.bench.cache
+          bench.cache dice bench.dice after c.drive-driven.result (Err (report, why)) talk.steps
+          c.new-solo.ensures c.close-links.ensures.1 c.in-Err.is talk.are)
+          c.drive_stop-stop.ensures
+          (fault_of k.truth k.link left count [] (only_caller core) new first last dice after
+          report why
+          (over_core k.truth k.link left count c.new-solo.result (only_caller core) new first
+          bench.links last dice bench.dice after c.drive-driven.result (Err (report, why))
+          c.new-solo.ensures c.close-links.ensures.0 c.close-links.ensures.1 c.in-Err.is
+          c.drive-driven.ensures.drives))
+          (cut_with c.cut_short.result stop c.report_counts-in-Err.result (report_counts report)
+          c.cut_short.ensures c.report_counts-in-Err.ensures);
+    }
 
 pub returns-clause-names : goal.returns-clause-names
 returns-clause-names g c =

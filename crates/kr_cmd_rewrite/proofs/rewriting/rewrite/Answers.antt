@@ -1,10 +1,14 @@
 -- `rewrite`: each phase goes on from the one before, and the store's tape comes back.
-use Rattle.std.proofs.Common.{◌≡◌, ◌<◌, ℕ, List, Result, Ok, Err, sym, subst}
+use Rattle.std.proofs.Common.{◌≡◌, ◌<◌, ℕ, List, [], Result, Ok, Err, sym, subst}
 use Rattle.kr_kms.specs.declared.world.Access.TheVariants.{ToWrite}
-use Rattle.kr_config.specs.Kept.{Row, rows_of}
+use Rattle.kr_config.specs.Kept.{ConfigEntry, rows_of}
 use Rattle.kr_provider.specs.PluginOrder.{plugin_order}
-use Rattle.kr_cmd_steps.specs.Around.{Around, with_world}
-use Rattle.kr_cmd_steps.specs.Commands.{configuration, linking_programs, rewriting_on, settled_for, steps}
+use Rattle.kr_cmd_steps.specs.Around.{Around, with_exchanges, with_world}
+use Rattle.kr_cmd_steps.proofs.HeardLinks.{heard_nothing, heard_so}
+use Rattle.kr_cmd_steps.proofs.Hearing.{none_heard}
+use Rattle.kr_cmd_steps.specs.Phases.{configuration, linking_programs, settled_for}
+use Rattle.kr_cmd_steps.specs.RewriteSteps.{rewriting_on}
+use Rattle.kr_cmd_steps.specs.Commands.{steps}
 use Rattle.kr_cmd_steps.specs.Steps.{Steps, and_then}
 use Rattle.kr_cmd_messages.specs.declared.command.Command.TheVariants.{Rewrite}
 use Rattle.kr_cmd_messages.specs.declared.command.Rewriting.{Rewriting}
@@ -24,17 +28,17 @@ use Rattle.kr_cmd_rewrite.proofs.Said.{saying_tape, stopped_all}
 use Rattle.kr_cmd_steps.proofs.Tapes.{not_lent, is_out}
 use Rattle.kr_cmd_rewrite.proofs.rewriting.rewrite.Goals as goal
 
-abbrev on_tape : List Row → List Program → (name : List ℕ) → Steps Outcome
+abbrev on_tape : List ConfigEntry → List Program → (name : List ℕ) → Steps Outcome
 on_tape rows programs name = settled_for Store name ToWrite (rewriting_on name rows programs)
 
-abbrev passed : Rewriting → List Row → List Program → Steps Outcome
+abbrev passed : Rewriting → List ConfigEntry → List Program → Steps Outcome
 passed words rows programs = on_tape rows programs words.store
 
-abbrev loaded : Rewriting → List Row → Steps Outcome
+abbrev loaded : Rewriting → List ConfigEntry → Steps Outcome
 loaded words rows = and_then (linking_programs words.options rows) (passed words rows)
 
 -- from the tape on
-whole_by : (words : Rewriting) (rows : List Row) (programs : List Program)
+whole_by : (words : Rewriting) (rows : List ConfigEntry) (programs : List Program)
     {old configured linked : Around} {name : List ℕ}
     → Does (configuration words.config) old configured (Ok rows)
     → Does (linking_programs words.options rows) configured linked (Ok programs)
@@ -47,106 +51,119 @@ whole_by words rows programs reads links is end made d =
     (by_bytes (on_tape rows programs) is d))
 
 pub returns-in-Err : goal.returns-in-Err
-returns-in-Err g c a t silent = let words = c.args.words.now in
+returns-in-Err g c =
+    heard_nothing g.W.World.lent g.W.World.took g.W.Link.Kms.step 0 [] _ (λ a t silent.
+    let words = c.args.words.now in
     stopped_all c.in-Err.stop c.stopped.result c.stopped.ensures silent
+    (none_heard (with_world (g.W.World.told c.configure.new.world) a)
     (stops (configuration words.config) (loaded words) c.in-Err.stop
-    (by_bytes configuration c.as_str.ensures (c.in-Err.ensures a)))
+    (by_bytes configuration c.as_str.ensures (c.in-Err.ensures a)))))
 
-pub returns-in-Err-programs_of : goal.returns-in-Err-programs_of
-returns-in-Err-programs_of g c a t silent =
+pub returns-in-Err-settings_programs : goal.returns-in-Err-settings_programs
+returns-in-Err-settings_programs g c =
+    heard_nothing g.W.World.lent g.W.World.took g.W.Link.Kms.step 0 [] _ (λ a t silent.
     let words = c.args.words.now in
     let rows = rows_of c.in-Ok.settings.entries.0 in
-    stopped_all c.in-Err-programs_of.stop c.stopped-in-Err-programs_of.result
-    c.stopped-in-Err-programs_of.ensures silent
+    stopped_all c.in-Err-settings_programs.stop c.stopped-in-Err-settings_programs.result
+    c.stopped-in-Err-settings_programs.ensures silent
+    (none_heard (with_world (g.W.World.told c.configure.new.world) a)
     (goes_on (configuration words.config) (loaded words) rows
     (by_bytes configuration c.as_str.ensures (c.in-Ok.ensures a))
-    (stops (linking_programs words.options rows) (passed words rows) c.in-Err-programs_of.stop
-    (c.in-Err-programs_of.ensures.does (with_world (g.W.World.told c.configure.new.world) a))))
+    (stops (linking_programs words.options rows) (passed words rows) c.in-Err-settings_programs.stop
+    (c.in-Err-settings_programs.ensures.does (with_world (g.W.World.told c.configure.new.world) a))))))
 
 pub returns-in-Err-open_tape : goal.returns-in-Err-open_tape
-returns-in-Err-open_tape g c a t silent =
+returns-in-Err-open_tape g c =
+    heard_nothing g.W.World.lent g.W.World.took g.W.Link.Kms.step 0 [] _ (λ a t silent.
     let words = c.args.words.now in
     let rows = rows_of c.in-Ok.settings.entries.0 in
-    let programs = c.in-Ok-programs_of.programs in
+    let programs = c.in-Ok-settings_programs.programs in
     stopped_all c.in-Err-open_tape.stop c.stopped-in-Err-open_tape.result
     c.stopped-in-Err-open_tape.ensures silent
+    (none_heard (with_world (g.W.World.told c.open_tape.new.world) a)
     (goes_on (configuration words.config) (loaded words) rows
     (by_bytes configuration c.as_str.ensures (c.in-Ok.ensures a))
     (goes_on (linking_programs words.options rows) (passed words rows) programs
-    (c.in-Ok-programs_of.ensures.does (with_world (g.W.World.told c.configure.new.world) a))
+    (c.in-Ok-settings_programs.ensures.does (with_world (g.W.World.told c.configure.new.world) a))
     (by_bytes (on_tape rows programs) c.as_str-name.ensures
     (not_lent c.in-Err-open_tape.ensures.files c.in-Err-open_tape.ensures.objects a
     c.as_str-name.result.now ToWrite c.in-Err-open_tape.stop c.in-Err-open_tape.ensures.why
-    c.in-Err-open_tape.ensures.asked))))
+    c.in-Err-open_tape.ensures.asked))))))
 
-pub rewrite_on-ended-requires-clause-programs : goal.rewrite_on-ended-requires-clause-programs
-rewrite_on-ended-requires-clause-programs g c κs within = subst (λ p. names_in p
+pub rewrite_on_tape-ended-requires-clause-programs : goal.rewrite_on_tape-ended-requires-clause-programs
+rewrite_on_tape-ended-requires-clause-programs g c κs within = subst (λ p. names_in p
     ≡ plugin_order (rows_of c.in-Ok.settings.entries.0)) (sym c.as_slice.ensures)
-    c.in-Ok-programs_of.ensures.names
+    c.in-Ok-settings_programs.ensures.names
 
 pub settle_tape-requires-clause-out : goal.settle_tape-requires-clause-out
 settle_tape-requires-clause-out g c = λ κs lives. subst (λ t. 0 < t.out c.as_str-name.result.now)
-    (sym c.rewrite_on-ended.ensures.tapes)
+    (sym c.rewrite_on_tape-ended.ensures.tapes)
     (is_out c.as_str-name.result.now c.in-Ok-open_tape.ensures.lent)
 
 pub returns-in-Ok-settle_tape : goal.returns-in-Ok-settle_tape
-returns-in-Ok-settle_tape g c a t silent =
+returns-in-Ok-settle_tape g c =
+    heard_so g.W.World.lent g.W.World.took g.W.Link.Kms.step 0 [] [] _ _
+    c.rewrite_on_tape-ended.ensures.ended (λ es does a t silent.
+    let then = with_exchanges es a in
     let words = c.args.words.now in
     let rows = rows_of c.in-Ok.settings.entries.0 in
-    let programs = c.in-Ok-programs_of.programs in
+    let programs = c.in-Ok-settings_programs.programs in
     let name = c.as_str-name.result.now in
-    let ended = c.rewrite_on-ended.result.0 in
-    let back = c.rewrite_on-ended.result.1 in
+    let ended = c.rewrite_on_tape-ended.result.0 in
+    let back = c.rewrite_on_tape-ended.result.1 in
     let now = with_world (g.W.World.told c.configure.new.world) a in
     let out = with_lent_tape name (g.W.Tap.Tape.told c.in-Ok-open_tape.tape)
     (g.W.Tap.Tape.count c.in-Ok-open_tape.tape)
     (with_world (g.W.World.told c.open_tape.new.world) a) in
-    let mid = g.W.World.told c.rewrite_on-ended.new.world in
+    let mid = g.W.World.told c.rewrite_on_tape-ended.new.world in
     let told = g.W.Tap.Tape.told back in
     let count = g.W.Tap.Tape.count back in
     let new = g.W.World.told c.settle_tape.new.world in
     let works = subst (λ b. Does (rewriting_on name rows programs) out b ended.made)
-    (saying_tape ended.said name told count mid a)
+    (saying_tape ended.said name told count mid then)
     (subst (λ p. Does (rewriting_on name rows p) out (saying ended.said (with_lent_tape name
-    told count (with_world mid a))) ended.made)
-    c.as_slice.ensures (c.rewrite_on-ended.ensures.ended name a t)) in
+    told count (with_world mid then))) ended.made)
+    c.as_slice.ensures (does name a t)) in
     closed_ok (Rewrite words) name c.as_str-name.ensures ToWrite (rewriting_on name rows programs)
-    a silent
+    a then silent
     (whole_by words rows programs (by_bytes configuration c.as_str.ensures (c.in-Ok.ensures a))
-    (c.in-Ok-programs_of.ensures.does now) c.as_str-name.ensures)
+    (c.in-Ok-settings_programs.ensures.does now) c.as_str-name.ensures)
     c.in-Ok-open_tape.ensures.lent mid new told count ended.said ended.made
     c.in-Ok-settle_tape.ended
     (subst (λ m. ReturnsSettled name Store mid new told count m (Ok c.in-Ok-settle_tape.ended))
-    c.to_settle.ensures c.in-Ok-settle_tape.ensures) works
+    c.to_settle.ensures c.in-Ok-settle_tape.ensures) works)
 
 pub returns : goal.returns
-returns g c a t silent =
+returns g c =
+    heard_so g.W.World.lent g.W.World.took g.W.Link.Kms.step 0 [] [] _ _
+    c.rewrite_on_tape-ended.ensures.ended (λ es does a t silent.
+    let then = with_exchanges es a in
     let words = c.args.words.now in
     let rows = rows_of c.in-Ok.settings.entries.0 in
-    let programs = c.in-Ok-programs_of.programs in
+    let programs = c.in-Ok-settings_programs.programs in
     let name = c.as_str-name.result.now in
-    let ended = c.rewrite_on-ended.result.0 in
-    let back = c.rewrite_on-ended.result.1 in
+    let ended = c.rewrite_on_tape-ended.result.0 in
+    let back = c.rewrite_on_tape-ended.result.1 in
     let now = with_world (g.W.World.told c.configure.new.world) a in
     let out = with_lent_tape name (g.W.Tap.Tape.told c.in-Ok-open_tape.tape)
     (g.W.Tap.Tape.count c.in-Ok-open_tape.tape)
     (with_world (g.W.World.told c.open_tape.new.world) a) in
-    let mid = g.W.World.told c.rewrite_on-ended.new.world in
+    let mid = g.W.World.told c.rewrite_on_tape-ended.new.world in
     let told = g.W.Tap.Tape.told back in
     let count = g.W.Tap.Tape.count back in
     let new = g.W.World.told c.settle_tape.new.world in
     let works = subst (λ b. Does (rewriting_on name rows programs) out b ended.made)
-    (saying_tape ended.said name told count mid a)
+    (saying_tape ended.said name told count mid then)
     (subst (λ p. Does (rewriting_on name rows p) out (saying ended.said (with_lent_tape name
-    told count (with_world mid a))) ended.made)
-    c.as_slice.ensures (c.rewrite_on-ended.ensures.ended name a t)) in
+    told count (with_world mid then))) ended.made)
+    c.as_slice.ensures (does name a t)) in
     let all = closed_err (Rewrite words) name c.as_str-name.ensures ToWrite
-    (rewriting_on name rows programs) a silent
+    (rewriting_on name rows programs) a then silent
     (whole_by words rows programs (by_bytes configuration c.as_str.ensures (c.in-Ok.ensures a))
-    (c.in-Ok-programs_of.ensures.does now) c.as_str-name.ensures)
+    (c.in-Ok-settings_programs.ensures.does now) c.as_str-name.ensures)
     c.in-Ok-open_tape.ensures.lent mid new told count ended.said ended.made
     c.in-Err-settle_tape.stop
     (subst (λ m. ReturnsSettled name Store mid new told count m (Err c.in-Err-settle_tape.stop))
     c.to_settle.ensures c.in-Err-settle_tape.ensures) works in
     subst (λ (e : Ended). DoesAll (Rewrite words) (with_world (g.W.World.told c.args.world.now) a)
-    (saying e.said (with_world new a)) e.made) (sym c.stopped-in-Err-settle_tape.ensures) all
+    (saying e.said (with_world new then)) e.made) (sym c.stopped-in-Err-settle_tape.ensures) all)

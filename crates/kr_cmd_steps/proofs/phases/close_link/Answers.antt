@@ -1,7 +1,7 @@
 use Rattle.kr_cmd_steps.proofs.phases.close_link.Goals as goal
 
-pub returns : goal.returns
-returns g c = record {
+pub returns-clause-back : goal.returns-clause-back
+returns-clause-back g c = record {
   home = c.back_link.ensures.back;
   status_is = c.back_link.ensures.status;
   file = c.back_link.ensures.file;

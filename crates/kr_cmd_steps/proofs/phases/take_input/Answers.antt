@@ -1,6 +1,6 @@
 use Rattle.std.proofs.Common.{◌≤◌, length, sym, subst}
 use Rattle.std.specs.Prelude.{IfOk}
-use Rattle.kr_cmd_steps.specs.Commands.{limit_of}
+use Rattle.kr_cmd_steps.specs.Phases.{input_limit}
 use Rattle.kr_cmd_messages.specs.declared.command.Direction.TheVariants.{Encrypt, Decrypt}
 use Rattle.kr_cmd_steps.proofs.Goes.{takes_in}
 use Rattle.kr_cmd_steps.proofs.phases.take_input.Goals as goal
@@ -15,10 +15,10 @@ returns-in-Decrypt-clause-does g c a =
     c.take-in-Decrypt.ensures.later
 
 pub returns-in-Encrypt-clause-fits : goal.returns-in-Encrypt-clause-fits
-returns-in-Encrypt-clause-fits g c = subst (λ d. IfOk c.take.result (λ b. length b ≤ limit_of d))
+returns-in-Encrypt-clause-fits g c = subst (λ d. IfOk c.take.result (λ b. length b ≤ input_limit d))
     (sym c.in-Encrypt.is) c.take.ensures.fits
 
 pub returns-in-Decrypt-clause-fits : goal.returns-in-Decrypt-clause-fits
 returns-in-Decrypt-clause-fits g c =
-    subst (λ d. IfOk c.take-in-Decrypt.result (λ b. length b ≤ limit_of d))
+    subst (λ d. IfOk c.take-in-Decrypt.result (λ b. length b ≤ input_limit d))
     (sym c.in-Decrypt.is) c.take-in-Decrypt.ensures.fits

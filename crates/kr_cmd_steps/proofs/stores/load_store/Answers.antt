@@ -1,5 +1,5 @@
 use Rattle.std.proofs.Common.{Err, sym, ◌∙◌, ap, subst}
-use Rattle.kr_cmd_steps.specs.Commands.{stored_on}
+use Rattle.kr_cmd_steps.specs.Phases.{stored_on}
 use Rattle.kr_cmd_steps.specs.inner.Lent.{with_lent_tape}
 use Rattle.kr_cmd_steps.specs.inner.Phases.{Does}
 use Rattle.kr_cmd_steps.specs.inner.Tapes.{load_stop}

@@ -1,6 +1,7 @@
 use Rattle.std.proofs.Common.{◌<◌, sym, subst}
 use Rattle.kr_kms.specs.declared.world.Access.TheVariants.{ToRead}
-use Rattle.kr_cmd_steps.specs.Commands.{tape_for, judging_on}
+use Rattle.kr_cmd_steps.specs.Phases.{tape_for}
+use Rattle.kr_cmd_steps.specs.StoreSteps.{judging_on}
 use Rattle.kr_cmd_steps.proofs.Goes.{by_bytes}
 use Rattle.kr_cmd_steps.proofs.Tapes.{not_lent, lends_tape, is_out}
 use Rattle.kr_cmd_store.proofs.judge.judge.Goals as goal
@@ -14,11 +15,11 @@ returns-in-Err g c a =
 
 pub close_tape-requires-clause-out : goal.close_tape-requires-clause-out
 close_tape-requires-clause-out g c = λ κs lives. subst (λ t. 0 < t.out c.as_str-name.result.now)
-    (sym c.judge_on-made.ensures.tapes) (is_out c.as_str-name.result.now c.in-Ok.ensures.lent)
+    (sym c.judge_on_tape-made.ensures.tapes) (is_out c.as_str-name.result.now c.in-Ok.ensures.lent)
 
 pub returns : goal.returns
 returns g c a =
     by_bytes (λ name. tape_for name ToRead (judging_on name c.args.words.now.options))
     c.as_str-name.ensures
     (lends_tape c.as_str-name.result.now ToRead a c.in-Ok.ensures.lent c.close_tape.ensures
-    (c.judge_on-made.ensures.made c.as_str-name.result.now a))
+    (c.judge_on_tape-made.ensures.made c.as_str-name.result.now a))

@@ -1,13 +1,15 @@
 -- `get`: each phase goes on from the one before.
-use Rattle.std.proofs.Common.{◌≡◌, ◌≤◌, List, length, inl, refl, sym, ◌∙◌, ap, subst, arith}
+use Rattle.std.proofs.Common.{◌≡◌, ◌≤◌, List, [], length, inl, refl, sym, ◌∙◌, ap, subst, arith}
 use Rattle.kr_base.specs.Limits.{path_limit, value_limit}
-use Rattle.kr_config.specs.Kept.{Row, rows_of}
+use Rattle.kr_config.specs.Kept.{ConfigEntry, rows_of}
 use Rattle.kr_kms.specs.Outside.{KeepsFiles, Outside}
 use Rattle.kr_kms.specs.declared.world.Access.TheVariants.{ToRead}
 use Rattle.kr_provider.specs.PluginOrder.{plugin_order}
 use Rattle.kr_store.specs.declared.rows.Row as stored
-use Rattle.kr_cmd_steps.specs.Around.{with_world}
-use Rattle.kr_cmd_steps.specs.Commands.{configuration, bench_steps, linking_programs, row_on, tape_for}
+use Rattle.kr_cmd_steps.specs.Around.{with_exchanges, with_world}
+use Rattle.kr_cmd_steps.specs.Phases.{configuration, linking_programs, tape_for}
+use Rattle.kr_cmd_steps.specs.ValueSteps.{bench_steps}
+use Rattle.kr_cmd_steps.specs.StoreSteps.{row_on}
 use Rattle.kr_cmd_steps.specs.Steps.{Steps, and_then}
 use Rattle.kr_cmd_messages.specs.declared.command.Direction.TheVariants.{Decrypt}
 use Rattle.kr_cmd_messages.specs.declared.command.Lookup.{Lookup}
@@ -16,47 +18,60 @@ use Rattle.kr_cmd_messages.specs.declared.refusal.Outcome.{Outcome}
 use Rattle.kr_cmd_messages.specs.declared.refusal.Stop.TheVariants.{NoMemory}
 use Rattle.kr_cmd_steps.proofs.Apart.{bench_by, unlent}
 use Rattle.kr_cmd_steps.proofs.Goes.{goes_on, not_opened, stops, by_bytes}
+use Rattle.kr_cmd_steps.proofs.HeardLinks.{heard_so, nothing_does}
 use Rattle.kr_cmd_steps.proofs.NamedPrograms.{names_in}
 use Rattle.kr_cmd_store.proofs.lookup.get.Goals as goal
 
-abbrev read_so : Lookup → List Row → List Program → stored.Row → Steps Outcome
+abbrev read_so : Lookup → List ConfigEntry → List Program → stored.Row → Steps Outcome
 read_so words rows programs row =
     bench_steps programs Decrypt row.resource words.path rows row.stored
 
-abbrev looked_up : Lookup → List Row → List Program → Steps Outcome
+abbrev looked_up : Lookup → List ConfigEntry → List Program → Steps Outcome
 looked_up words rows programs = and_then (tape_for words.store ToRead
     (row_on words.store words.path)) (read_so words rows programs)
 
-abbrev loaded : Lookup → List Row → Steps Outcome
+abbrev loaded : Lookup → List ConfigEntry → Steps Outcome
 loaded words rows = and_then (linking_programs words.options rows) (looked_up words rows)
 
 pub returns-in-Err : goal.returns-in-Err
-returns-in-Err g c a t = let words = c.args.words.now in
+returns-in-Err g c =
+    nothing_does g.W.World.lent g.W.World.took g.W.Link.Kms.step 0 []
+    (λ a. with_world (g.W.World.told c.args.world.now) a)
+    (λ a. with_world (g.W.World.told c.configure.new.world) a)
+    (λ a t. let words = c.args.words.now in
     stops (configuration words.config) (loaded words) c.in-Err.stop
-    (by_bytes configuration c.as_str.ensures (c.in-Err.ensures a))
+    (by_bytes configuration c.as_str.ensures (c.in-Err.ensures a)))
 
-pub returns-in-Err-programs_of : goal.returns-in-Err-programs_of
-returns-in-Err-programs_of g c a t =
+pub returns-in-Err-settings_programs : goal.returns-in-Err-settings_programs
+returns-in-Err-settings_programs g c =
+    nothing_does g.W.World.lent g.W.World.took g.W.Link.Kms.step 0 []
+    (λ a. with_world (g.W.World.told c.args.world.now) a)
+    (λ a. with_world (g.W.World.told c.configure.new.world) a)
+    (λ a t.
     let words = c.args.words.now in
     let rows = rows_of c.in-Ok.settings.entries.0 in
     let now = with_world (g.W.World.told c.configure.new.world) a in
     goes_on (configuration words.config) (loaded words) rows
     (by_bytes configuration c.as_str.ensures (c.in-Ok.ensures a))
     (stops (linking_programs words.options rows) (looked_up words rows)
-    c.in-Err-programs_of.stop (c.in-Err-programs_of.ensures.does now))
+    c.in-Err-settings_programs.stop (c.in-Err-settings_programs.ensures.does now)))
 
 pub returns-in-Err-find_row : goal.returns-in-Err-find_row
-returns-in-Err-find_row g c a t =
+returns-in-Err-find_row g c =
+    nothing_does g.W.World.lent g.W.World.took g.W.Link.Kms.step 0 []
+    (λ a. with_world (g.W.World.told c.args.world.now) a)
+    (λ a. with_world (g.W.World.told c.find_row.new.world) a)
+    (λ a t.
     let words = c.args.words.now in
     let rows = rows_of c.in-Ok.settings.entries.0 in
-    let programs = c.in-Ok-programs_of.programs in
+    let programs = c.in-Ok-settings_programs.programs in
     let now = with_world (g.W.World.told c.configure.new.world) a in
     goes_on (configuration words.config) (loaded words) rows
     (by_bytes configuration c.as_str.ensures (c.in-Ok.ensures a))
     (goes_on (linking_programs words.options rows) (looked_up words rows) programs
-    (c.in-Ok-programs_of.ensures.does now)
+    (c.in-Ok-settings_programs.ensures.does now)
     (stops (tape_for words.store ToRead (row_on words.store words.path))
-    (read_so words rows programs) c.in-Err-find_row.stop (c.in-Err-find_row.ensures.does a)))
+    (read_so words rows programs) c.in-Err-find_row.stop (c.in-Err-find_row.ensures.does a))))
 
 keeps_files : (told : Outside) → KeepsFiles told told
 keeps_files told = record {
@@ -71,24 +86,28 @@ keeps_files told = record {
 
 -- there was no memory for a copy of the value
 pub returns-in_default : goal.returns-in_default
-returns-in_default g c a t =
+returns-in_default g c =
+    nothing_does g.W.World.lent g.W.World.took g.W.Link.Kms.step 0 []
+    (λ a. with_world (g.W.World.told c.args.world.now) a)
+    (λ a. with_world (g.W.World.told c.find_row.new.world) a)
+    (λ a t.
     let words = c.args.words.now in
     let rows = rows_of c.in-Ok.settings.entries.0 in
-    let programs = c.in-Ok-programs_of.programs in
+    let programs = c.in-Ok-settings_programs.programs in
     let now = with_world (g.W.World.told c.configure.new.world) a in
     goes_on (configuration words.config) (loaded words) rows
     (by_bytes configuration c.as_str.ensures (c.in-Ok.ensures a))
     (goes_on (linking_programs words.options rows) (looked_up words rows) programs
-    (c.in-Ok-programs_of.ensures.does now)
+    (c.in-Ok-settings_programs.ensures.does now)
     (goes_on (tape_for words.store ToRead (row_on words.store words.path))
     (read_so words rows programs) c.in-Ok-find_row.row (c.in-Ok-find_row.ensures.does a)
     (not_opened (keeps_files (g.W.World.told c.find_row.new.world))
-    (record { dice = refl; tapes = refl; links = refl }) a 0 NoMemory tt (inl refl))))
+    (record { dice = refl; tapes = refl; links = refl }) a 0 NoMemory tt (inl refl)))))
 
 pub make-requires-clause-programs : goal.make-requires-clause-programs
 make-requires-clause-programs g c κs within = subst (λ p. names_in p
     ≡ plugin_order (rows_of c.in-Ok.settings.entries.0)) (sym c.as_slice-2.ensures)
-    c.in-Ok-programs_of.ensures.names
+    c.in-Ok-settings_programs.ensures.names
 
 pub make-requires-clause-path : goal.make-requires-clause-path
 make-requires-clause-path g c κs within =
@@ -102,21 +121,23 @@ make-requires-clause-fits g c κs within =
     c.in-Ok-find_row.ensures.fits
 
 pub returns : goal.returns
-returns g c a t =
+returns g c =
+    heard_so g.W.World.lent g.W.World.took g.W.Link.Kms.step 0 [] [] _ _ c.make.ensures.made
+    (λ es does a t.
     let words = c.args.words.now in
     let rows = rows_of c.in-Ok.settings.entries.0 in
-    let programs = c.in-Ok-programs_of.programs in
+    let programs = c.in-Ok-settings_programs.programs in
     let now = with_world (g.W.World.told c.configure.new.world) a in
     goes_on (configuration words.config) (loaded words) rows
     (by_bytes configuration c.as_str.ensures (c.in-Ok.ensures a))
     (goes_on (linking_programs words.options rows) (looked_up words rows) programs
-    (c.in-Ok-programs_of.ensures.does now)
+    (c.in-Ok-settings_programs.ensures.does now)
     (goes_on (tape_for words.store ToRead (row_on words.store words.path))
     (read_so words rows programs) c.in-Ok-find_row.row (c.in-Ok-find_row.ensures.does a)
-    (unlent a c.make.ensures.tapes
+    (unlent a (with_exchanges es a) c.make.ensures.tapes
     (bench_by Decrypt rows c.as_slice-2.ensures
     (c.as_str-2.ensures ∙ ap (λ (r : stored.Row). r.resource) c.get-found.ensures)
     c.as_str-3.ensures
     (c.in-Ok-copy.ensures ∙ c.as_slice.ensures
     ∙ ap (λ (r : stored.Row). r.stored) c.get-found.ensures)
-    (c.make.ensures.made (g.W.World.told c.find_row.new.world).tapes a t)))))
+    (does (g.W.World.told c.find_row.new.world).tapes a t))))))

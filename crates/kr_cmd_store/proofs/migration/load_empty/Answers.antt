@@ -1,6 +1,6 @@
 -- `load_empty`: a store that was read, and has no bytes.
 use Rattle.std.proofs.Common.{arith}
-use Rattle.kr_cmd_steps.specs.Commands.{target_read}
+use Rattle.kr_cmd_steps.specs.StoreSteps.{target_read}
 use Rattle.kr_cmd_steps.specs.inner.Lent.{with_lent_tape}
 use Rattle.kr_cmd_steps.proofs.Loading.{as_closed}
 use Rattle.kr_cmd_store.proofs.Migrating.{target_filled, target_given, target_new, target_stops}

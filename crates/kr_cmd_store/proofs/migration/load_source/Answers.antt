@@ -1,6 +1,6 @@
 -- `load_source`: a store that was read, and has no bytes of the second format.
 use Rattle.std.proofs.Common.{sym, ◌∙◌}
-use Rattle.kr_cmd_steps.specs.Commands.{source_on}
+use Rattle.kr_cmd_steps.specs.StoreSteps.{source_on}
 use Rattle.kr_cmd_steps.specs.inner.Lent.{with_lent_tape}
 use Rattle.kr_cmd_steps.proofs.Loading.{as_closed}
 use Rattle.kr_cmd_store.proofs.Migrating.{source_given, source_new, source_stops}

@@ -1,9 +1,10 @@
 -- `migrate`: each phase goes on from the one before, and the source's tape comes back.
 use Rattle.std.proofs.Common.{◌≡◌, ◌<◌, ℕ, List, false, sym, subst}
-use Rattle.kr_config.specs.Kept.{Row, rows_of}
+use Rattle.kr_config.specs.Kept.{ConfigEntry, rows_of}
 use Rattle.kr_kms.specs.Outside.{same_name}
 use Rattle.kr_kms.specs.declared.world.Access.TheVariants.{ToRead}
-use Rattle.kr_cmd_steps.specs.Commands.{configuration, migrating_into, source_on, tape_for}
+use Rattle.kr_cmd_steps.specs.Phases.{configuration, tape_for}
+use Rattle.kr_cmd_steps.specs.StoreSteps.{migrating_into, source_on}
 use Rattle.kr_cmd_steps.specs.Steps.{Steps, and_then}
 use Rattle.kr_cmd_messages.specs.declared.command.Migration.{Migration}
 use Rattle.kr_cmd_messages.specs.declared.refusal.Outcome.{Outcome}
@@ -11,10 +12,10 @@ use Rattle.kr_cmd_steps.proofs.Goes.{goes_on, stops, by_bytes}
 use Rattle.kr_cmd_steps.proofs.Tapes.{not_lent, lends_tape, is_out}
 use Rattle.kr_cmd_store.proofs.migration.migrate.Goals as goal
 
-abbrev on_tape : (to : List ℕ) → List Row → (name : List ℕ) → Steps Outcome
+abbrev on_tape : (to : List ℕ) → List ConfigEntry → (name : List ℕ) → Steps Outcome
 on_tape to rows name = tape_for name ToRead (and_then (source_on name) (migrating_into to rows))
 
-abbrev loaded : Migration → List Row → Steps Outcome
+abbrev loaded : Migration → List ConfigEntry → Steps Outcome
 loaded words rows = on_tape words.to rows words.store
 
 pub returns-in-Err : goal.returns-in-Err
@@ -35,7 +36,7 @@ returns-in-Err-open_tape g c a =
 
 pub close_tape-requires-clause-out : goal.close_tape-requires-clause-out
 close_tape-requires-clause-out g c = λ κs lives. let name = c.as_str-name.result.now in
-    subst (λ n. 0 < n) (sym (c.migrate_from-made.ensures.out name))
+    subst (λ n. 0 < n) (sym (c.migrate_tape-made.ensures.out name))
     (is_out name c.in-Ok-open_tape.ensures.lent)
 
 pub returns : goal.returns
@@ -47,5 +48,5 @@ returns g c a =
     (by_bytes configuration c.as_str.ensures (c.in-Ok.ensures a))
     (by_bytes (on_tape words.to rows) c.as_str-name.ensures
     (lends_tape name ToRead a c.in-Ok-open_tape.ensures.lent c.close_tape.ensures
-    (c.migrate_from-made.ensures.made name a
+    (c.migrate_tape-made.ensures.made name a
     (subst (λ n. same_name n words.to ≡ false) (sym c.as_str-name.ensures) c.requires.apart))))

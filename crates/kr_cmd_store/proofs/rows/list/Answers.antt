@@ -12,4 +12,4 @@ close_tape-requires-clause-out g c = λ κs lives. is_out c.args.name.now c.in-O
 
 pub returns : goal.returns
 returns g c a = lends_tape c.args.name.now ToRead a c.in-Ok.ensures.lent c.close_tape.ensures
-    (c.list_on-made.ensures c.args.name.now (with_world (g.W.World.told c.open_tape.new.world) a))
+    (c.list_on_tape-made.ensures c.args.name.now (with_world (g.W.World.told c.open_tape.new.world) a))

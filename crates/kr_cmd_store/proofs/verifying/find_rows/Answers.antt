@@ -13,5 +13,5 @@ close_tape-requires-clause-out g c = λ κs lives. is_out c.args.name.now c.in-O
 
 pub returns-clause-does : goal.returns-clause-does
 returns-clause-does g c a = lends_tape c.args.name.now ToRead a c.in-Ok.ensures.lent
-    c.close_tape.ensures (c.rows_on-rows.ensures.does c.args.name.now
+    c.close_tape.ensures (c.live_rows_on_tape-rows.ensures.does c.args.name.now
     (with_world (g.W.World.told c.open_tape.new.world) a))

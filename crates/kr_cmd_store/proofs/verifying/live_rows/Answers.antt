@@ -4,7 +4,7 @@ use Rattle.std.specs.Prelude.{IfSome}
 use Rattle.std.specs.List.{last_or}
 use Rattle.kr_store.specs.Rows.{IsRow}
 use Rattle.kr_store.specs.Stores.{IsNext}
-use Rattle.kr_cmd_steps.specs.inner.Tapes.{path_of}
+use Rattle.kr_cmd_steps.specs.inner.Tapes.{walk_path}
 use Rattle.kr_opening.proofs.Walking.{goes_on, left_after}
 use Rattle.kr_cmd_store.proofs.LiveRows.{AreKept, kept_all, kept_more, kept_none, last_behind}
 use Rattle.kr_cmd_store.proofs.verifying.live_rows.Goals as goal
@@ -19,8 +19,8 @@ returns-in-Ok-None-clause-listing g c =
     kept_all c.args.store.now.format rows c.loop-row.rows.0 c.known.ensures.1.0
     c.loop-row.invariant
     (subst (λ p. IsNext rows p None)
-    (c.path_behind.ensures ∙ ap (λ l. path_of (last_or None l)) c.as_slice.ensures)
-    (subst (λ o. IsNext rows c.path_behind.result.now o) c.in-Ok-None.field-0-is
+    (c.last_row_path.ensures ∙ ap (λ l. walk_path (last_or None l)) c.as_slice.ensures)
+    (subst (λ o. IsNext rows c.last_row_path.result.now o) c.in-Ok-None.field-0-is
     c.in-Ok-None.ensures.next))
 
 pub loop-row-preserved : goal.loop-row-preserved
@@ -30,8 +30,8 @@ loop-row-preserved g c =
     subst (AreKept rows) (sym c.in-Ok.ensures.ok)
     (kept_more format rows c.loop-row.rows.0 c.in-Ok-Some.row c.loop-row.invariant
     (subst (λ p. IsNext rows p (Some c.in-Ok-Some.row))
-    (c.path_behind.ensures ∙ ap (λ l. path_of (last_or None l)) c.as_slice.ensures)
-    (subst (λ o. IsNext rows c.path_behind.result.now o) c.in-Ok-Some.field-0-is
+    (c.last_row_path.ensures ∙ ap (λ l. walk_path (last_or None l)) c.as_slice.ensures)
+    (subst (λ o. IsNext rows c.last_row_path.result.now o) c.in-Ok-Some.field-0-is
     c.in-Ok-Some.ensures.next))
     (subst (λ o. IfSome o (IsRow format)) c.in-Ok-Some.field-0-is c.in-Ok-Some.ensures.rules))
 
@@ -39,12 +39,12 @@ pub loop-row-smaller : goal.loop-row-smaller
 loop-row-smaller g c =
     let rows = c.args.store.now.rows in
     let kept = c.loop-row.rows.0 in
-    let path = path_of (last_or None kept) in
+    let path = walk_path (last_or None kept) in
     subst (λ p. left_after p rows < left_after path rows)
-    (sym (ap (λ l. path_of (last_or None l)) c.in-Ok.ensures.ok
-    ∙ ap path_of (last_behind None kept c.in-Ok-Some.row)))
+    (sym (ap (λ l. walk_path (last_or None l)) c.in-Ok.ensures.ok
+    ∙ ap walk_path (last_behind None kept c.in-Ok-Some.row)))
     (goes_on rows path c.in-Ok-Some.row
     (subst (λ p. IsNext rows p (Some c.in-Ok-Some.row))
-    (c.path_behind.ensures ∙ ap (λ l. path_of (last_or None l)) c.as_slice.ensures)
-    (subst (λ o. IsNext rows c.path_behind.result.now o) c.in-Ok-Some.field-0-is
+    (c.last_row_path.ensures ∙ ap (λ l. walk_path (last_or None l)) c.as_slice.ensures)
+    (subst (λ o. IsNext rows c.last_row_path.result.now o) c.in-Ok-Some.field-0-is
     c.in-Ok-Some.ensures.next)))

@@ -1,79 +1,95 @@
 -- `verify`: each phase goes on from the one before.
-use Rattle.std.proofs.Common.{◌≡◌, List, sym, subst}
+use Rattle.std.proofs.Common.{◌≡◌, List, [], sym, subst}
 use Rattle.std.specs.Prelude.{All}
 use Rattle.kr_kms.specs.declared.world.Access.TheVariants.{ToRead}
-use Rattle.kr_config.specs.Kept.{Row, rows_of}
+use Rattle.kr_config.specs.Kept.{ConfigEntry, rows_of}
 use Rattle.kr_provider.specs.PluginOrder.{plugin_order}
 use Rattle.kr_cmd_steps.specs.Around.{with_world}
-use Rattle.kr_cmd_steps.specs.Commands.{configuration, linking_programs, live_on, tape_for, verifying_with}
+use Rattle.kr_cmd_steps.specs.Phases.{configuration, linking_programs, tape_for}
+use Rattle.kr_cmd_steps.specs.StoreSteps.{live_on, verifying_with}
 use Rattle.kr_cmd_steps.specs.Steps.{Steps, and_then}
 use Rattle.kr_cmd_steps.specs.declared.programs.Program.{Program}
 use Rattle.kr_cmd_messages.specs.declared.command.Verification.{Verification}
 use Rattle.kr_cmd_messages.specs.declared.refusal.Outcome.{Outcome}
 use Rattle.kr_cmd_steps.proofs.Goes.{by_bytes, goes_on, stops}
+use Rattle.kr_cmd_steps.proofs.HeardLinks.{heard_so, nothing_does}
 use Rattle.kr_cmd_steps.proofs.NamedPrograms.{names_in}
 use Rattle.kr_cmd_store.specs.inner.Verifying.{IsWithin}
 use Rattle.kr_cmd_store.proofs.ToldRows.{verified_by}
 use Rattle.kr_cmd_store.proofs.verifying.verify.Goals as goal
 
-abbrev listed : Verification → List Row → List Program → Steps Outcome
+abbrev listed : Verification → List ConfigEntry → List Program → Steps Outcome
 listed words rows programs = and_then (tape_for words.store ToRead (live_on words.store))
     (verifying_with programs rows)
 
-abbrev loaded : Verification → List Row → Steps Outcome
+abbrev loaded : Verification → List ConfigEntry → Steps Outcome
 loaded words rows = and_then (linking_programs words.options rows) (listed words rows)
 
 pub returns-in-Err : goal.returns-in-Err
-returns-in-Err g c a t = let words = c.args.words.now in
+returns-in-Err g c =
+    nothing_does g.W.World.lent g.W.World.took g.W.Link.Kms.step 0 []
+    (λ a. with_world (g.W.World.told c.args.world.now) a)
+    (λ a. with_world (g.W.World.told c.configure.new.world) a)
+    (λ a t. let words = c.args.words.now in
     stops (configuration words.config) (loaded words) c.in-Err.stop
-    (by_bytes configuration c.as_str.ensures (c.in-Err.ensures a))
+    (by_bytes configuration c.as_str.ensures (c.in-Err.ensures a)))
 
-pub returns-in-Err-programs_of : goal.returns-in-Err-programs_of
-returns-in-Err-programs_of g c a t =
+pub returns-in-Err-settings_programs : goal.returns-in-Err-settings_programs
+returns-in-Err-settings_programs g c =
+    nothing_does g.W.World.lent g.W.World.took g.W.Link.Kms.step 0 []
+    (λ a. with_world (g.W.World.told c.args.world.now) a)
+    (λ a. with_world (g.W.World.told c.configure.new.world) a)
+    (λ a t.
     let words = c.args.words.now in
     let rows = rows_of c.in-Ok.settings.entries.0 in
     let now = with_world (g.W.World.told c.configure.new.world) a in
     goes_on (configuration words.config) (loaded words) rows
     (by_bytes configuration c.as_str.ensures (c.in-Ok.ensures a))
     (stops (linking_programs words.options rows) (listed words rows)
-    c.in-Err-programs_of.stop (c.in-Err-programs_of.ensures.does now))
+    c.in-Err-settings_programs.stop (c.in-Err-settings_programs.ensures.does now)))
 
 pub returns-in-Err-find_rows : goal.returns-in-Err-find_rows
-returns-in-Err-find_rows g c a t =
+returns-in-Err-find_rows g c =
+    nothing_does g.W.World.lent g.W.World.took g.W.Link.Kms.step 0 []
+    (λ a. with_world (g.W.World.told c.args.world.now) a)
+    (λ a. with_world (g.W.World.told c.find_rows.new.world) a)
+    (λ a t.
     let words = c.args.words.now in
     let rows = rows_of c.in-Ok.settings.entries.0 in
-    let programs = c.in-Ok-programs_of.programs in
+    let programs = c.in-Ok-settings_programs.programs in
     let now = with_world (g.W.World.told c.configure.new.world) a in
     goes_on (configuration words.config) (loaded words) rows
     (by_bytes configuration c.as_str.ensures (c.in-Ok.ensures a))
     (goes_on (linking_programs words.options rows) (listed words rows) programs
-    (c.in-Ok-programs_of.ensures.does now)
+    (c.in-Ok-settings_programs.ensures.does now)
     (stops (tape_for words.store ToRead (live_on words.store)) (verifying_with programs rows)
     c.in-Err-find_rows.stop
     (by_bytes (λ name. tape_for name ToRead (live_on name)) c.as_str-2.ensures
-    (c.in-Err-find_rows.ensures.does a))))
+    (c.in-Err-find_rows.ensures.does a)))))
 
 pub read_by_links-requires-clause-programs : goal.read_by_links-requires-clause-programs
 read_by_links-requires-clause-programs g c κs within = subst (λ p. names_in p
     ≡ plugin_order (rows_of c.in-Ok.settings.entries.0)) (sym c.as_slice.ensures)
-    c.in-Ok-programs_of.ensures.names
+    c.in-Ok-settings_programs.ensures.names
 
 pub read_by_links-requires-clause-within : goal.read_by_links-requires-clause-within
 read_by_links-requires-clause-within g c κs within =
     subst (All IsWithin) (sym c.as_slice-2.ensures) c.in-Ok-find_rows.ensures.within
 
 pub returns : goal.returns
-returns g c a t =
+returns g c =
+    heard_so g.W.World.lent g.W.World.took g.W.Link.Kms.step 0 [] [] _ _ c.read_by_links.ensures
+    (λ es does a t.
     let words = c.args.words.now in
     let rows = rows_of c.in-Ok.settings.entries.0 in
-    let programs = c.in-Ok-programs_of.programs in
+    let programs = c.in-Ok-settings_programs.programs in
     let now = with_world (g.W.World.told c.configure.new.world) a in
     goes_on (configuration words.config) (loaded words) rows
     (by_bytes configuration c.as_str.ensures (c.in-Ok.ensures a))
     (goes_on (linking_programs words.options rows) (listed words rows) programs
-    (c.in-Ok-programs_of.ensures.does now)
+    (c.in-Ok-settings_programs.ensures.does now)
     (goes_on (tape_for words.store ToRead (live_on words.store)) (verifying_with programs rows)
     c.in-Ok-find_rows.rows.0
     (by_bytes (λ name. tape_for name ToRead (live_on name)) c.as_str-2.ensures
     (c.in-Ok-find_rows.ensures.does a))
-    (verified_by rows c.as_slice.ensures c.as_slice-2.ensures (c.read_by_links.ensures a t))))
+    (verified_by rows c.as_slice.ensures c.as_slice-2.ensures (does a t)))))

@@ -2,7 +2,7 @@ use Rattle.std.proofs.Common.{◌≡◌, Ok, sym, subst}
 use Rattle.kr_config.specs.Kept.{rows_of}
 use Rattle.kr_cmd_steps.specs.Around.{with_world}
 use Rattle.kr_cmd_steps.specs.Check.{listing}
-use Rattle.kr_cmd_steps.specs.Commands.{configuration, show}
+use Rattle.kr_cmd_steps.specs.Phases.{configuration, show}
 use Rattle.kr_cmd_steps.specs.inner.Phases.{Does}
 use Rattle.kr_cmd_steps.proofs.Goes.{goes_on, stops, shows}
 use Rattle.kr_cmd_values.proofs.check.check.Goals as goal

@@ -1,5 +1,5 @@
 use Rattle.std.proofs.Common.{sym, subst}
-use Rattle.kr_cmd_steps.specs.Commands.{input_of, show}
+use Rattle.kr_cmd_steps.specs.Phases.{input_of, show}
 use Rattle.kr_cmd_steps.specs.Inspect.{Inspects}
 use Rattle.kr_cmd_steps.specs.inner.Lent.{with_told_input}
 use Rattle.kr_cmd_steps.specs.inner.Phases.{Does, Yields}

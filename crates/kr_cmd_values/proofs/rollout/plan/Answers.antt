@@ -1,7 +1,7 @@
 use Rattle.std.proofs.Common.{sym, subst}
 use Rattle.kr_config.specs.Kept.{rows_of}
 use Rattle.kr_cmd_steps.specs.Around.{with_world}
-use Rattle.kr_cmd_steps.specs.Commands.{configuration, show}
+use Rattle.kr_cmd_steps.specs.Phases.{configuration, show}
 use Rattle.kr_cmd_steps.specs.PlanLines.{ShowsPlan}
 use Rattle.kr_cmd_steps.specs.Steps.{and_then}
 use Rattle.kr_cmd_steps.specs.inner.Phases.{Does}

@@ -1,55 +1,133 @@
 -- `watch`: the plan, what the workers left, what a watch shows of it, and what was written.
-use Rattle.std.proofs.Common.{None, refl, ap, ◌∙◌}
-use Rattle.kr_workers.specs.Endings.{ending_of}
+use Rattle.std.proofs.Common.{Err, None, Ok, refl, ap, true, ◌∙◌}
+use Rattle.kr_workers.specs.Endings.{gravest_ending}
 use Rattle.kr_cmd_steps.specs.Around.{around, with_world}
+use Rattle.kr_cmd_steps.specs.Steps.{hearing}
+use Rattle.kr_cmd_fleet.specs.Fleets.{over_store}
 use Rattle.kr_cmd_fleet.specs.inner.Plans.{plan_of}
+use Rattle.kr_cmd_fleet.specs.inner.Workings.{BeginsLent}
+use Rattle.kr_cmd_fleet.proofs.StartExchanges.{unheard_settles}
 use Rattle.kr_cmd_watch.proofs.WatchEnds.{are_of_one, watch_lacks, watch_stopped, watch_unplanned, watch_wrote}
 use Rattle.kr_cmd_watch.proofs.watching.watch.Goals as goal
 
 pub returns-in-Err-clause-did : goal.returns-in-Err-clause-did
 returns-in-Err-clause-did g c a truth =
-    watch_unplanned _ _ _ _ _ _ c.args.words.now _ _ c.as_str.result.now c.as_str.ensures
+    watch_unplanned g.row.W-Tap.Denot g.W.Link.Kms.truth g.W.Link.Kms.link g.W.Link.Kms.step
+    g.W.Rand.Dice.left g.W.Rand.Dice.count
+    c.args.words.now _ _ c.as_str.result.now c.as_str.ensures
     c.in-Err.stop _ (c.in-Err.ensures.does a) (refl, refl)
 
-pub fleet_by-requires-clause-plan : goal.fleet_by-requires-clause-plan
-fleet_by-requires-clause-plan g c = λ κs lives. c.in-Ok.ensures.whole
+pub run_fleet_over_store-requires-clause-plan : goal.run_fleet_over_store-requires-clause-plan
+run_fleet_over_store-requires-clause-plan g c = λ κs lives. c.in-Ok.ensures.whole
 
-pub returns-in-Err-fleet_by-clause-did : goal.returns-in-Err-fleet_by-clause-did
-returns-in-Err-fleet_by-clause-did g c a truth =
-    watch_stopped _ _ _ _ _ _ c.args.words.now (plan_of c.in-Ok.plan) _
-    (with_world (g.W.World.told c.load_plan.new.world) a) _ c.as_str.result.now c.as_str.ensures
-    (c.in-Ok.ensures.does a) c.as_str-2.result.now c.as_str-2.ensures c.in-Err-fleet_by.stop _
-    (c.in-Err-fleet_by.ensures a truth) (refl, refl)
+pub returns-in-Err-run_fleet_over_store-clause-did :
+    goal.returns-in-Err-run_fleet_over_store-clause-did
+returns-in-Err-run_fleet_over_store-clause-did g c a truth =
+    watch_stopped g.row.W-Tap.Denot g.W.Link.Kms.truth g.W.Link.Kms.link g.W.Link.Kms.step
+    g.W.Rand.Dice.left g.W.Rand.Dice.count
+    c.args.words.now (plan_of c.in-Ok.plan)
+    (with_world (g.W.World.told c.args.world.now) a)
+    (with_world (g.W.World.told c.load_plan.new.world) a)
+    (with_world (g.W.World.told c.run_fleet_over_store.new.world) a) c.as_str.result.now
+    c.as_str.ensures
+    (c.in-Ok.ensures.does a) c.as_str-2.result.now c.as_str-2.ensures
+    c.in-Err-run_fleet_over_store.stop _
+    (unheard_settles g.row.W-Tap.Denot g.W.Link.Kms.truth g.W.Link.Kms.link g.W.Link.Kms.step
+    g.W.Rand.Dice.left g.W.Rand.Dice.count true
+    (over_store true c.as_str-2.result.now (plan_of c.in-Ok.plan)) c.as_str-2.result.now
+    (plan_of c.in-Ok.plan) a (g.W.World.told c.load_plan.new.world)
+    (g.W.World.told c.run_fleet_over_store.new.world) (Err c.in-Err-run_fleet_over_store.stop)
+    g.W.World.lent g.W.World.took c.in-Err-run_fleet_over_store.ensures truth)
+    (refl, refl)
 
 pub follow-requires : goal.follow-requires
 follow-requires g c =
     let a = around g.W.Link.Kms.truth (g.W.World.told c.args.world.now) None 0 in
-    are_of_one _ _ _ _ _ _ c.args.words.now (plan_of c.in-Ok.plan) _
-    (with_world (g.W.World.told c.load_plan.new.world) a) _ c.as_str.result.now c.as_str.ensures
-    (c.in-Ok.ensures.does a) c.as_str-2.result.now c.as_str-2.ensures c.in-Ok-fleet_by.record
-    (c.in-Ok-fleet_by.ensures a refl) c.as_slice-2.result.now c.as_slice-2.ensures
+    are_of_one g.row.W-Tap.Denot g.W.Link.Kms.truth g.W.Link.Kms.link g.W.Link.Kms.step
+    g.W.Rand.Dice.left g.W.Rand.Dice.count
+    c.args.words.now (plan_of c.in-Ok.plan)
+    (with_world (g.W.World.told c.args.world.now) a)
+    (with_world (g.W.World.told c.load_plan.new.world) a)
+    (with_world (g.W.World.told c.run_fleet_over_store.new.world) a) c.as_str.result.now
+    c.as_str.ensures
+    (c.in-Ok.ensures.does a) c.as_str-2.result.now c.as_str-2.ensures
+    c.in-Ok-run_fleet_over_store.record
+    (BeginsLent (hearing c.in-Ok-run_fleet_over_store.ensures.exchanges a.heard)
+    g.W.Link.Kms.step true c.in-Ok-run_fleet_over_store.ensures.exchanges g.W.World.lent
+    g.W.World.took)
+    (unheard_settles g.row.W-Tap.Denot g.W.Link.Kms.truth g.W.Link.Kms.link g.W.Link.Kms.step
+    g.W.Rand.Dice.left g.W.Rand.Dice.count true
+    (over_store true c.as_str-2.result.now (plan_of c.in-Ok.plan)) c.as_str-2.result.now
+    (plan_of c.in-Ok.plan) a (g.W.World.told c.load_plan.new.world)
+    (g.W.World.told c.run_fleet_over_store.new.world) (Ok c.in-Ok-run_fleet_over_store.record)
+    g.W.World.lent g.W.World.took c.in-Ok-run_fleet_over_store.ensures (refl, refl))
+    c.as_slice-2.result.now c.as_slice-2.ensures
 
 pub returns-in-Err-follow-clause-did : goal.returns-in-Err-follow-clause-did
 returns-in-Err-follow-clause-did g c a truth =
-    watch_lacks _ _ _ _ _ _ c.args.words.now (plan_of c.in-Ok.plan) _
-    (with_world (g.W.World.told c.load_plan.new.world) a) _ c.as_str.result.now c.as_str.ensures
-    (c.in-Ok.ensures.does a) c.as_str-2.result.now c.as_str-2.ensures c.in-Ok-fleet_by.record
-    (c.in-Ok-fleet_by.ensures a truth) _ (refl, refl)
+    watch_lacks g.row.W-Tap.Denot g.W.Link.Kms.truth g.W.Link.Kms.link g.W.Link.Kms.step
+    g.W.Rand.Dice.left g.W.Rand.Dice.count
+    c.args.words.now (plan_of c.in-Ok.plan)
+    (with_world (g.W.World.told c.args.world.now) a)
+    (with_world (g.W.World.told c.load_plan.new.world) a)
+    (with_world (g.W.World.told c.run_fleet_over_store.new.world) a) c.as_str.result.now
+    c.as_str.ensures
+    (c.in-Ok.ensures.does a) c.as_str-2.result.now c.as_str-2.ensures
+    c.in-Ok-run_fleet_over_store.record
+    (BeginsLent (hearing c.in-Ok-run_fleet_over_store.ensures.exchanges a.heard)
+    g.W.Link.Kms.step true c.in-Ok-run_fleet_over_store.ensures.exchanges g.W.World.lent
+    g.W.World.took)
+    (unheard_settles g.row.W-Tap.Denot g.W.Link.Kms.truth g.W.Link.Kms.link g.W.Link.Kms.step
+    g.W.Rand.Dice.left g.W.Rand.Dice.count true
+    (over_store true c.as_str-2.result.now (plan_of c.in-Ok.plan)) c.as_str-2.result.now
+    (plan_of c.in-Ok.plan) a (g.W.World.told c.load_plan.new.world)
+    (g.W.World.told c.run_fleet_over_store.new.world) (Ok c.in-Ok-run_fleet_over_store.record)
+    g.W.World.lent g.W.World.took c.in-Ok-run_fleet_over_store.ensures truth) _ (refl, refl)
 
 pub returns-in-Err-show-clause-did : goal.returns-in-Err-show-clause-did
 returns-in-Err-show-clause-did g c a truth =
-    watch_lacks _ _ _ _ _ _ c.args.words.now (plan_of c.in-Ok.plan) _
-    (with_world (g.W.World.told c.load_plan.new.world) a) _ c.as_str.result.now c.as_str.ensures
-    (c.in-Ok.ensures.does a) c.as_str-2.result.now c.as_str-2.ensures c.in-Ok-fleet_by.record
-    (c.in-Ok-fleet_by.ensures a truth) _ (refl, refl)
+    watch_lacks g.row.W-Tap.Denot g.W.Link.Kms.truth g.W.Link.Kms.link g.W.Link.Kms.step
+    g.W.Rand.Dice.left g.W.Rand.Dice.count
+    c.args.words.now (plan_of c.in-Ok.plan)
+    (with_world (g.W.World.told c.args.world.now) a)
+    (with_world (g.W.World.told c.load_plan.new.world) a)
+    (with_world (g.W.World.told c.run_fleet_over_store.new.world) a) c.as_str.result.now
+    c.as_str.ensures
+    (c.in-Ok.ensures.does a) c.as_str-2.result.now c.as_str-2.ensures
+    c.in-Ok-run_fleet_over_store.record
+    (BeginsLent (hearing c.in-Ok-run_fleet_over_store.ensures.exchanges a.heard)
+    g.W.Link.Kms.step true c.in-Ok-run_fleet_over_store.ensures.exchanges g.W.World.lent
+    g.W.World.took)
+    (unheard_settles g.row.W-Tap.Denot g.W.Link.Kms.truth g.W.Link.Kms.link g.W.Link.Kms.step
+    g.W.Rand.Dice.left g.W.Rand.Dice.count true
+    (over_store true c.as_str-2.result.now (plan_of c.in-Ok.plan)) c.as_str-2.result.now
+    (plan_of c.in-Ok.plan) a (g.W.World.told c.load_plan.new.world)
+    (g.W.World.told c.run_fleet_over_store.new.world) (Ok c.in-Ok-run_fleet_over_store.record)
+    g.W.World.lent g.W.World.took c.in-Ok-run_fleet_over_store.ensures truth) _ (refl, refl)
 
 pub returns-clause-did : goal.returns-clause-did
 returns-clause-did g c a truth =
-    watch_wrote _ _ _ _ _ _ c.args.words.now (plan_of c.in-Ok.plan) _
-    (with_world (g.W.World.told c.load_plan.new.world) a) _ c.as_str.result.now c.as_str.ensures
-    (c.in-Ok.ensures.does a) c.as_str-2.result.now c.as_str-2.ensures c.in-Ok-fleet_by.record
-    (c.in-Ok-fleet_by.ensures a truth) c.as_slice-2.result.now c.as_slice-2.ensures
+    watch_wrote g.row.W-Tap.Denot g.W.Link.Kms.truth g.W.Link.Kms.link g.W.Link.Kms.step
+    g.W.Rand.Dice.left g.W.Rand.Dice.count
+    c.args.words.now (plan_of c.in-Ok.plan)
+    (with_world (g.W.World.told c.args.world.now) a)
+    (with_world (g.W.World.told c.load_plan.new.world) a)
+    (with_world (g.W.World.told c.run_fleet_over_store.new.world) a) c.as_str.result.now
+    c.as_str.ensures
+    (c.in-Ok.ensures.does a) c.as_str-2.result.now c.as_str-2.ensures
+    c.in-Ok-run_fleet_over_store.record
+    (BeginsLent (hearing c.in-Ok-run_fleet_over_store.ensures.exchanges a.heard)
+    g.W.Link.Kms.step true c.in-Ok-run_fleet_over_store.ensures.exchanges g.W.World.lent
+    g.W.World.took)
+    (unheard_settles g.row.W-Tap.Denot g.W.Link.Kms.truth g.W.Link.Kms.link g.W.Link.Kms.step
+    g.W.Rand.Dice.left g.W.Rand.Dice.count true
+    (over_store true c.as_str-2.result.now (plan_of c.in-Ok.plan)) c.as_str-2.result.now
+    (plan_of c.in-Ok.plan) a (g.W.World.told c.load_plan.new.world)
+    (g.W.World.told c.run_fleet_over_store.new.world) (Ok c.in-Ok-run_fleet_over_store.record)
+    g.W.World.lent g.W.World.took c.in-Ok-run_fleet_over_store.ensures truth)
+    c.as_slice-2.result.now c.as_slice-2.ensures
     c.in-Ok-follow.watch c.in-Ok-follow.ensures.keeps c.in-Ok-follow.ensures.follows
-    c.ending_of-ended.result (c.ending_of-ended.ensures ∙ ap ending_of c.as_slice.ensures)
+    c.gravest_ending-ended.result (c.gravest_ending-ended.ensures
+    ∙ ap gravest_ending c.as_slice.ensures)
     c.in-Ok-show.shown.text.items c.in-Ok-show.shown.ending c.in-Ok-show.ensures _ _
     c.write_shown.ensures.written

@@ -1,7 +1,7 @@
 -- What the tactic leaves open of `read`.
 use Rattle.std.proofs.Common.{Ok, Err, sym, ap, ◌∙◌, subst}
 use Rattle.kr_config.specs.Kept.{rows_of}
-use Rattle.kr_config.specs.Meanings.{no_text, Means}
+use Rattle.kr_config.specs.Meanings.{no_text, MeansConfig}
 use Rattle.kr_config.proofs.Meant.{entries_meant, no_text_meant, hand_on}
 use Rattle.kr_config.proofs.reading.read.Goals as goal
 
@@ -15,9 +15,9 @@ returns-in-Err-read_text c = hand_on c.args.bytes.now c.in-Err-read_text.why
     (Err c.in-Err-read_text.why) c.begins_json-is_json.ensures c.in-Ok.ensures.cases.0
     c.in-Ok.ensures.cases.1 c.in-Err-read_text.ensures)
 
-pub returns-in-Ok-of : goal.returns-in-Ok-of
-returns-in-Ok-of c = subst (λ entries. Means c.args.bytes.now (Ok (rows_of entries.0)))
-    (sym c.in-Ok-of.ensures)
+pub returns-in-Ok-from_entries : goal.returns-in-Ok-from_entries
+returns-in-Ok-from_entries c = subst (λ entries. MeansConfig c.args.bytes.now (Ok (rows_of entries.0)))
+    (sym c.in-Ok-from_entries.ensures)
     (entries_meant c.begins_json-is_json.result c.args.bytes.now c.in-Ok.text.now
     (Ok c.in-Ok-read_text.entries) c.begins_json-is_json.ensures c.in-Ok.ensures.cases.0
     c.in-Ok.ensures.cases.1 c.in-Ok-read_text.ensures)

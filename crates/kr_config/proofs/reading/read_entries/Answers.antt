@@ -10,8 +10,8 @@ loop-value-preserved c =
     let values = c.args.values.now in
     let entry = c.in_ok-entry.entry in
     let p = c.loop-value.patterns + length c.as_slice.result.now in
-    let k = c.loop-value.keys + c.keys_among-keys.result in
-    let m = c.loop-value.plugins + c.plugins_among-plugins.result in
+    let k = c.loop-value.keys + c.count_provider_keys-keys.result in
+    let m = c.loop-value.plugins + c.count_provider_plugins-plugins.result in
     subst (λ l. Reading values (c.loop-value.value-index + 1) c.saturating_add-number.result l p k
     m) (sym c.in-Ok.ensures.ok)
     (subst (λ n. Reading values (c.loop-value.value-index + 1) n
@@ -21,6 +21,6 @@ loop-value-preserved c =
     c.loop-value.invariant c.loop-value-test.true c.value-item.is c.in_ok-entry.ensures
     (ap (λ l. c.loop-value.patterns + length l) c.as_slice.ensures)
     (ap (λ n. c.loop-value.keys + n)
-    (c.keys_among-keys.ensures ∙ ap (count_by is_key) c.as_slice-in-loop-value.ensures))
+    (c.count_provider_keys-keys.ensures ∙ ap (count_by is_key) c.as_slice-in-loop-value.ensures))
     (ap (λ n. c.loop-value.plugins + n)
-    (c.plugins_among-plugins.ensures ∙ ap (count_by is_kms) c.as_slice-in-loop-value-2.ensures))))
+    (c.count_provider_plugins-plugins.ensures ∙ ap (count_by is_kms) c.as_slice-in-loop-value-2.ensures))))

@@ -1,7 +1,7 @@
 use Rattle.std.proofs.Common.{Ok, ap, sym, subst, ◌∙◌}
 use Rattle.serde_json.specs.View.{view}
 use Rattle.kr_config.specs.Kept.{rows_of}
-use Rattle.kr_config.specs.Meanings.{Means}
+use Rattle.kr_config.specs.Meanings.{MeansConfig}
 use Rattle.kr_config.specs.Texts.{settings_data}
 use Rattle.kr_config.specs.inner.Written.{AreOfBytes}
 use Rattle.kr_config.proofs.ReadBack.{text_is, text_means}
@@ -18,7 +18,7 @@ returns-clause-text c =
 pub returns-clause-meant : goal.returns-clause-meant
 returns-clause-meant c =
     let rows = rows_of c.args.settings.now.entries.0 in
-    subst (λ text. Means text (Ok rows)) (sym c.from_vec.ensures)
+    subst (λ text. MeansConfig text (Ok rows)) (sym c.from_vec.ensures)
     (text_means rows (view c.in_ok-value.value) c.in_ok-to_vec.field-0.items c.known.ensures
     (subst (λ es. AreOfBytes (rows_of es)) c.as_slice.ensures c.tell_secrets.ensures)
     (c.in_ok-value.ensures ∙ ap (λ es. settings_data (rows_of es)) c.as_slice-2.ensures)

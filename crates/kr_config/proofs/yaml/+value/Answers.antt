@@ -7,7 +7,7 @@ use Rattle.kr_config.specs.Yaml.{json_of}
 use Rattle.kr_config.proofs.Conversions.{items_same}
 use Rattle.kr_config.proofs.yaml.+value.Goals as goal
 
-pub values_of-returns : goal.values_of-returns
-values_of-returns t c = ap items_of
+pub tree_values-returns : goal.tree_values-returns
+tree_values-returns t c = ap items_of
     (c.loop-item.invariant ∙ ap (map (λ tree. json_of (shown.view tree)))
     (take_all _ c.args.items.now c.loop-item-test.false)) ∙ items_same c.args.items.now

@@ -7,12 +7,12 @@ use Rattle.kr_yaml.specs.Shown as shown
 use Rattle.kr_config.specs.Yaml.{json_of, json_members}
 use Rattle.kr_config.proofs.yaml.+value.Given as goal
 
-abbrev pub invariant-values_of-loop-item : goal.invariant-values_of-loop-item
-invariant-values_of-loop-item l =
+abbrev pub invariant-tree_values-loop-item : goal.invariant-tree_values-loop-item
+invariant-tree_values-loop-item l =
     map view l.values.items ≡ map (λ tree. json_of (shown.view tree)) (take l.item-index l.items)
 
-abbrev pub invariant-map_of-loop-member : goal.invariant-map_of-loop-member
-invariant-map_of-loop-member l =
+abbrev pub invariant-members_map-loop-member : goal.invariant-members_map-loop-member
+invariant-members_map-loop-member l =
     json_members (members_view l.map.entries)
     (members_of (shown.member_views (drop l.member-index l.members)))
     ≡ json_members no_members (members_of (shown.member_views l.members))

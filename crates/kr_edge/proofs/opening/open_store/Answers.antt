@@ -3,7 +3,7 @@ use Rattle.std.proofs.Common.{◌≡◌, ℕ, List, [], ◌∷◌, Bool, true, f
 use Rattle.std.specs.declared.fs.options.OpenOptions.{OpenOptions}
 use Rattle.kr_kms.specs.Outside.{makes}
 use Rattle.kr_kms.specs.declared.world.Access.{Access}
-use Rattle.kr_edge.specs.Stores.{ChoosesOptions, OpensStore, folder_calls, folder_of, only_reads}
+use Rattle.kr_edge.specs.Stores.{ChoosesOptions, OpensStore, folder_calls, parent_folder, only_reads}
 use Rattle.kr_edge.specs.SystemCalls.{noted, with_note}
 use Rattle.kr_edge.specs.declared.placed.DiskFile.{DiskFile}
 use Rattle.kr_edge.specs.declared.system.Found.{Found}
@@ -92,9 +92,9 @@ returns-then-not-sync_folder-clause-calls g c =
     let name = c.args.name in (
       Look name c.look.result ∷ Open name c.in-Ok.options 0o600 true
           ∷ Lock name (only_reads c.args.access) true ∷ LookAt name at ∷ [],
-      SyncFolder c.folder_of.result.now false,
+      SyncFolder c.parent_folder.result.now false,
       refl,
-      c.if-not-sync_folder.ensures.noted ∙ ap (with_note (SyncFolder c.folder_of.result.now false))
+      c.if-not-sync_folder.ensures.noted ∙ ap (with_note (SyncFolder c.parent_folder.result.now false))
           (locked name c.as_str.result.now c.in-Some.file.name c.args.access
           (g.S.System.calls c.args.system.now) c.as_str.ensures c.look.result at c.in-Ok.options
           (g.S.System.calls c.look.new.self) (g.S.System.calls c.open.new.self)
@@ -137,19 +137,19 @@ returns-else-makes-clause-calls g c =
       | else-makes-via-then-makes+else-not-sync_folder w ↦ (
         Look name c.look.result ∷ Open name c.in-Ok.options 0o600 true
             ∷ Lock name (only_reads c.args.access) true ∷ LookAt name at
-            ∷ SyncFolder (folder_of name) true ∷ [],
+            ∷ SyncFolder (parent_folder name) true ∷ [],
         (
           c.look.result,
           at,
           c.in-Ok.options,
-          SyncFolder (folder_of name) true ∷ [],
+          SyncFolder (parent_folder name) true ∷ [],
           c.in-Ok.ensures,
           (λ i. folder_calls name ((sym c.makes.ensures ∙ w.if-makes.true) i) (c.in-Empty.is i)),
           refl,
         ),
         ap g.S.System.calls w.system-is ∙ w.if-not-sync_folder.ensures.noted
-            ∙ (λ i. with_note (SyncFolder ((w.folder_of.ensures
-            ∙ ap folder_of (w.name.ensures ∙ c.in-Some.ensures.name)) i) true) (all i)),
+            ∙ (λ i. with_note (SyncFolder ((w.parent_folder.ensures
+            ∙ ap parent_folder (w.name.ensures ∙ c.in-Some.ensures.name)) i) true) (all i)),
       )
       | else-makes-via-else-makes w ↦ (
         Look name c.look.result ∷ Open name c.in-Ok.options 0o600 true

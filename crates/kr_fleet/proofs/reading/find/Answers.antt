@@ -54,9 +54,9 @@ returns-clause-finds g c =
     find_done g.L.Kms.truth g.L.Kms.link c.args.path (g.A.Acts.caller c.args.acts.now)
     (g.A.Acts.caller c.fetch.new.acts) c.args.bench.now.links c.unseal-opened.new.bench.links
     c.args.bench.now.published c.in-Ok.found c.in-Some.row c.get-lent.result.now
-    c.unseal-opened.result c.value_of.result c.known.ensures c.requires.held
+    c.unseal-opened.result c.row_value.result c.known.ensures c.requires.held
     c.in-Ok.ensures.fetches c.in-Some.is at
-    c.get-lent.ensures c.unseal-opened.ensures.opened c.value_of.ensures
+    c.get-lent.ensures c.unseal-opened.ensures.opened c.row_value.ensures
 
 pub returns-in-Err-clause-exchanged : goal.returns-in-Err-clause-exchanged
 returns-in-Err-clause-exchanged g c = some_all _ c.args.bench.now.published (λ p.
@@ -77,6 +77,6 @@ returns-clause-exchanged g c =
     found_talk (Among g.L.Kms.step) c.args.path (g.A.Acts.caller c.args.acts.now)
     (g.A.Acts.caller c.fetch.new.acts) c.args.bench.now.links c.unseal-opened.new.bench.links
     c.args.bench.now.cache c.unseal-opened.new.bench.cache c.args.bench.now.published c.in-Ok.found
-    c.in-Some.row c.get-lent.result.now c.unseal-opened.result c.value_of.result c.known.ensures
+    c.in-Some.row c.get-lent.result.now c.unseal-opened.result c.row_value.result c.known.ensures
     c.requires.held c.in-Ok.ensures.fetches c.in-Some.is at c.get-lent.ensures
-    c.unseal-opened.ensures.exchanged c.value_of.ensures
+    c.unseal-opened.ensures.exchanged c.row_value.ensures

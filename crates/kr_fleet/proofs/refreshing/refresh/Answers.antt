@@ -15,6 +15,7 @@ use Rattle.kr_history.proofs.Nexts.{opening_is, serves}
 use Rattle.kr_fleet.proofs.RenewTalks.{refresh_talk}
 use Rattle.kr_fleet.proofs.Spending.{adopted_room}
 use Rattle.kr_history.proofs.PartsAdd.{held_within, within_more}
+use Rattle.kr_provider.specs.BenchKeys.{adoption_of}
 use Rattle.kr_fleet.proofs.refreshing.refresh.Goals as goal
 
 pub returns-in-Err-clause-honest : goal.returns-in-Err-clause-honest
@@ -77,10 +78,7 @@ returns-clause-exchanged g c = refresh_talk (Among g.L.Kms.step) g.D.Dice.left g
     c.let_go.ensures.lets_go
 
 pub returns-in-Err-clause-keys : goal.returns-in-Err-clause-keys
-returns-in-Err-clause-keys g c = inl (refl, refl)
+returns-in-Err-clause-keys g c = refl
 
 pub returns-clause-keys : goal.returns-clause-keys
-returns-clause-keys g c = inl (
-  ap (λ b. b.published) c.renew-done.ensures.kept,
-  ap (λ b. b.pages) c.renew-done.ensures.kept,
-)
+returns-clause-keys g c = ap adoption_of c.renew-done.ensures.kept

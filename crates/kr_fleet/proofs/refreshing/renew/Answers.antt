@@ -2,7 +2,7 @@
 use Rattle.std.proofs.Common.{[], Err, Some, List, ap, refl, subst, sym, ◌∙◌}
 use Rattle.std.specs.Prelude.{Contains}
 use Rattle.kr_base.proofs.Walks.{talk_so}
-use Rattle.kr_config.specs.Kept.{Row, plugins_in, rows_of}
+use Rattle.kr_config.specs.Kept.{ConfigEntry, plugins_in, rows_of}
 use Rattle.kr_kms.specs.declared.seeds.SeedRow.{SeedRow}
 use Rattle.kr_rollout.specs.Openings.{NamesAmong}
 use Rattle.kr_provider.proofs.AskedLists.{names_stay}
@@ -21,32 +21,32 @@ use Rattle.kr_fleet.proofs.refreshing.renew.Goals as goal
 pub has_changed-requires : goal.has_changed-requires
 has_changed-requires g c = record {
   links = λ name there. c.requires.links name ((c.known.ensures.names name).0
-      (subst (λ (s : List SeedRow). Contains (plugin_names s) name) c.seeds_of.ensures
+      (subst (λ (s : List SeedRow). Contains (plugin_names s) name) c.published_seeds.ensures
       there));
 }
 
 pub returns-in-Err-clause-asked : goal.returns-in-Err-clause-asked
 returns-in-Err-clause-asked g c = compared_asks g.L.Kms.link c.args.published.now
-    c.seeds_of.result.now c.args.bench.now.links c.has_changed.new.bench.links c.seeds_of.ensures
+    c.published_seeds.result.now c.args.bench.now.links c.has_changed.new.bench.links c.published_seeds.ensures
     c.has_changed.ensures.asked
 
 pub returns-then-not-changed-clause-asked : goal.returns-then-not-changed-clause-asked
 returns-then-not-changed-clause-asked g c = compared_asks g.L.Kms.link c.args.published.now
-    c.seeds_of.result.now c.args.bench.now.links c.has_changed.new.bench.links c.seeds_of.ensures
+    c.published_seeds.result.now c.args.bench.now.links c.has_changed.new.bench.links c.published_seeds.ensures
     c.has_changed.ensures.asked
 
 pub returns-in_default-clause-asked : goal.returns-in_default-clause-asked
 returns-in_default-clause-asked g c = compared_asks g.L.Kms.link c.args.published.now
-    c.seeds_of.result.now c.args.bench.now.links c.has_changed.new.bench.links c.seeds_of.ensures
+    c.published_seeds.result.now c.args.bench.now.links c.has_changed.new.bench.links c.published_seeds.ensures
     c.has_changed.ensures.asked
 
 pub publish-requires : goal.publish-requires
 publish-requires g c = record {
   links = λ name there. subst (λ names. Contains names name)
-      (sym (names_stay g.L.Kms.link (plugin_names c.seeds_of.result.now)
+      (sym (names_stay g.L.Kms.link (plugin_names c.published_seeds.result.now)
       c.args.bench.now.links c.has_changed.new.bench.links c.in-Ok.ensures.asked))
-      (c.requires.links name (subst (λ (rows : List Row). Contains (plugins_in rows) name)
-      c.in-Ok-settings_of.ensures there));
+      (c.requires.links name (subst (λ (rows : List ConfigEntry). Contains (plugins_in rows) name)
+      c.in-Ok-share_published_settings.ensures there));
 }
 
 pub returns-in-Err-publish-clause-refreshes : goal.returns-in-Err-publish-clause-refreshes
@@ -54,17 +54,17 @@ returns-in-Err-publish-clause-refreshes g c = unpublished g.L.Kms.truth g.L.Kms.
     g.D.Dice.left g.D.Dice.count c.args.replica c.args.generation c.args.published.now
     (g.A.Acts.caller c.args.acts.now) (g.A.Acts.caller c.args.acts.now) c.args.bench.now.links
     c.has_changed.new.bench.links c.publish.new.bench.links c.args.bench.now.dice
-    c.has_changed.new.bench.dice c.publish.new.bench.dice c.seeds_of.result.now
-    (rows_of c.in-Ok-settings_of.settings.entries.0) c.seeds_of.ensures
-    c.in-Ok-settings_of.ensures (ap (λ b. b.dice) c.in-Ok.ensures.kept) c.in-Ok.ensures.asked
+    c.has_changed.new.bench.dice c.publish.new.bench.dice c.published_seeds.result.now
+    (rows_of c.in-Ok-share_published_settings.settings.entries.0) c.published_seeds.ensures
+    c.in-Ok-share_published_settings.ensures (ap (λ b. b.dice) c.in-Ok.ensures.kept) c.in-Ok.ensures.asked
     c.in-Ok.changed c.if-not-changed.false c.in-Ok.ensures.compares c.in-Err-publish.why refl
     c.in-Err-publish.ensures.published
 
 pub returns-in-Err-publish-clause-asked : goal.returns-in-Err-publish-clause-asked
 returns-in-Err-publish-clause-asked g c = renewed_asks g.L.Kms.link c.args.published.now
-    c.seeds_of.result.now (rows_of c.in-Ok-settings_of.settings.entries.0) c.args.bench.now.links
-    c.has_changed.new.bench.links c.publish.new.bench.links c.known.ensures c.seeds_of.ensures
-    c.in-Ok-settings_of.ensures c.in-Ok.ensures.asked c.publish.ensures.asked
+    c.published_seeds.result.now (rows_of c.in-Ok-share_published_settings.settings.entries.0) c.args.bench.now.links
+    c.has_changed.new.bench.links c.publish.new.bench.links c.known.ensures c.published_seeds.ensures
+    c.in-Ok-share_published_settings.ensures c.in-Ok.ensures.asked c.publish.ensures.asked
 
 pub act-requires : goal.act-requires
 act-requires g c = record {
@@ -72,7 +72,7 @@ act-requires g c = record {
   allowed = (
     c.requires.replica,
     subst (NamesAmong (g.A.Acts.caller c.args.acts.now).opening.names)
-        (sym (c.in-Ok-publish.ensures.published.0 ∙ c.in-Ok-settings_of.ensures))
+        (sym (c.in-Ok-publish.ensures.published.0 ∙ c.in-Ok-share_published_settings.ensures))
         c.requires.names,
     c.requires.room,
   );
@@ -83,9 +83,9 @@ returns-in-Ok-act-clause-refreshes g c = published g.L.Kms.truth g.L.Kms.link
     g.D.Dice.left g.D.Dice.count c.args.replica c.args.generation c.args.published.now
     (g.A.Acts.caller c.args.acts.now) (g.A.Acts.caller c.act.new.self) c.args.bench.now.links
     c.has_changed.new.bench.links c.publish.new.bench.links c.args.bench.now.dice
-    c.has_changed.new.bench.dice c.publish.new.bench.dice c.seeds_of.result.now
-    (rows_of c.in-Ok-settings_of.settings.entries.0) c.seeds_of.ensures
-    c.in-Ok-settings_of.ensures (ap (λ b. b.dice) c.in-Ok.ensures.kept) c.in-Ok.ensures.asked
+    c.has_changed.new.bench.dice c.publish.new.bench.dice c.published_seeds.result.now
+    (rows_of c.in-Ok-share_published_settings.settings.entries.0) c.published_seeds.ensures
+    c.in-Ok-share_published_settings.ensures (ap (λ b. b.dice) c.in-Ok.ensures.kept) c.in-Ok.ensures.asked
     c.in-Ok.changed c.if-not-changed.false c.in-Ok.ensures.compares c.in-Ok-publish.published
     c.in-Ok-act.answer c.reloaded.result c.known-2.ensures c.requires.held
     c.in-Ok-publish.ensures.published c.in-Ok-act.ensures.acted c.reloaded.ensures
@@ -95,21 +95,21 @@ returns-in-Ok-act-clause-honest g c = λ told. keeps_reload g.L.Kms.truth.opens
     (g.A.Acts.caller c.args.acts.now) (g.A.Acts.caller c.act.new.self) c.args.replica
     c.in-Ok-publish.published _ c.in-Ok-act.answer
     (seeds_tell g.L.Kms.truth g.L.Kms.link g.D.Dice.left g.D.Dice.count
-    (rows_of c.in-Ok-settings_of.settings.entries.0) c.in-Ok-publish.published
+    (rows_of c.in-Ok-share_published_settings.settings.entries.0) c.in-Ok-publish.published
     c.has_changed.new.bench.links c.publish.new.bench.links c.has_changed.new.bench.dice
     c.publish.new.bench.dice c.in-Ok-publish.ensures.published told) c.in-Ok-act.ensures.acted
 
 pub returns-in-Ok-act-clause-asked : goal.returns-in-Ok-act-clause-asked
 returns-in-Ok-act-clause-asked g c = renewed_asks g.L.Kms.link c.args.published.now
-    c.seeds_of.result.now (rows_of c.in-Ok-settings_of.settings.entries.0) c.args.bench.now.links
-    c.has_changed.new.bench.links c.publish.new.bench.links c.known.ensures c.seeds_of.ensures
-    c.in-Ok-settings_of.ensures c.in-Ok.ensures.asked c.publish.ensures.asked
+    c.published_seeds.result.now (rows_of c.in-Ok-share_published_settings.settings.entries.0) c.args.bench.now.links
+    c.has_changed.new.bench.links c.publish.new.bench.links c.known.ensures c.published_seeds.ensures
+    c.in-Ok-share_published_settings.ensures c.in-Ok.ensures.asked c.publish.ensures.asked
 
 pub returns-in-Err-act-clause-asked : goal.returns-in-Err-act-clause-asked
 returns-in-Err-act-clause-asked g c = renewed_asks g.L.Kms.link c.args.published.now
-    c.seeds_of.result.now (rows_of c.in-Ok-settings_of.settings.entries.0) c.args.bench.now.links
-    c.has_changed.new.bench.links c.publish.new.bench.links c.known.ensures c.seeds_of.ensures
-    c.in-Ok-settings_of.ensures c.in-Ok.ensures.asked c.publish.ensures.asked
+    c.published_seeds.result.now (rows_of c.in-Ok-share_published_settings.settings.entries.0) c.args.bench.now.links
+    c.has_changed.new.bench.links c.publish.new.bench.links c.known.ensures c.published_seeds.ensures
+    c.in-Ok-share_published_settings.ensures c.in-Ok.ensures.asked c.publish.ensures.asked
 
 pub returns-in-Ok-act-clause-holds : goal.returns-in-Ok-act-clause-holds
 returns-in-Ok-act-clause-holds g c = reload_holds (g.A.Acts.caller c.args.acts.now)
@@ -141,7 +141,7 @@ returns-in-Err-act-clause-adds g c = same_within 1 1 []
 pub returns-in-Err-clause-exchanged : goal.returns-in-Err-clause-exchanged
 returns-in-Err-clause-exchanged g c = untold_talk (Among g.L.Kms.step)
     g.D.Dice.left g.D.Dice.count
-    c.args.replica c.args.generation c.args.published.now c.seeds_of.result.now c.seeds_of.ensures
+    c.args.replica c.args.generation c.args.published.now c.published_seeds.result.now c.published_seeds.ensures
     (g.A.Acts.caller c.args.acts.now) c.args.bench.now.links c.has_changed.new.bench.links
     c.args.bench.now.dice c.has_changed.new.bench.dice (ap (λ b. b.dice) c.has_changed.ensures.kept)
     c.in-Err.why c.in-Err.ensures.exchanged
@@ -149,7 +149,7 @@ returns-in-Err-clause-exchanged g c = untold_talk (Among g.L.Kms.step)
 pub returns-then-not-changed-clause-exchanged : goal.returns-then-not-changed-clause-exchanged
 returns-then-not-changed-clause-exchanged g c = unchanged_talk (Among g.L.Kms.step)
     g.D.Dice.left g.D.Dice.count
-    c.args.replica c.args.generation c.args.published.now c.seeds_of.result.now c.seeds_of.ensures
+    c.args.replica c.args.generation c.args.published.now c.published_seeds.result.now c.published_seeds.ensures
     (g.A.Acts.caller c.args.acts.now) c.args.bench.now.links c.has_changed.new.bench.links
     c.args.bench.now.dice c.has_changed.new.bench.dice (ap (λ b. b.dice) c.has_changed.ensures.kept)
     c.in-Ok.changed c.if-not-changed.true c.in-Ok.ensures.exchanged
@@ -157,7 +157,7 @@ returns-then-not-changed-clause-exchanged g c = unchanged_talk (Among g.L.Kms.st
 pub returns-in_default-clause-exchanged : goal.returns-in_default-clause-exchanged
 returns-in_default-clause-exchanged g c = unowned_talk (Among g.L.Kms.step)
     g.D.Dice.left g.D.Dice.count
-    c.args.replica c.args.generation c.args.published.now c.seeds_of.result.now c.seeds_of.ensures
+    c.args.replica c.args.generation c.args.published.now c.published_seeds.result.now c.published_seeds.ensures
     (g.A.Acts.caller c.args.acts.now) c.args.bench.now.links c.has_changed.new.bench.links
     c.args.bench.now.dice c.has_changed.new.bench.dice (ap (λ b. b.dice) c.has_changed.ensures.kept)
     c.in-Ok.changed c.if-not-changed.false c.in-Ok.ensures.exchanged
@@ -165,16 +165,16 @@ returns-in_default-clause-exchanged g c = unowned_talk (Among g.L.Kms.step)
 pub returns-in-Err-publish-clause-exchanged : goal.returns-in-Err-publish-clause-exchanged
 returns-in-Err-publish-clause-exchanged g c = renewed_talk (Among g.L.Kms.step)
     g.D.Dice.left g.D.Dice.count
-    c.args.replica c.args.generation c.args.published.now c.seeds_of.result.now c.seeds_of.ensures
+    c.args.replica c.args.generation c.args.published.now c.published_seeds.result.now c.published_seeds.ensures
     (g.A.Acts.caller c.args.acts.now) c.args.bench.now.links c.has_changed.new.bench.links
     c.args.bench.now.dice c.has_changed.new.bench.dice (ap (λ b. b.dice) c.has_changed.ensures.kept)
     c.in-Ok.changed c.if-not-changed.false c.in-Ok.ensures.exchanged
-    (rows_of c.in-Ok-settings_of.settings.entries.0) c.in-Ok-settings_of.ensures
+    (rows_of c.in-Ok-share_published_settings.settings.entries.0) c.in-Ok-share_published_settings.ensures
     (g.A.Acts.caller c.args.acts.now) c.publish.new.bench.links c.publish.new.bench.dice
     (Err c.in-Err-publish.why) (talk_so (Among g.L.Kms.step) _ _ _ _
     c.in-Err-publish.ensures.exchanged (λ es shared. not_shared
     (λ made. PublishesBy g.D.Dice.left g.D.Dice.count
-    (rows_of c.in-Ok-settings_of.settings.entries.0) c.has_changed.new.bench.dice made
+    (rows_of c.in-Ok-share_published_settings.settings.entries.0) c.has_changed.new.bench.dice made
     c.publish.new.bench.dice es)
     (g.A.Acts.caller c.args.acts.now) (g.A.Acts.caller c.args.acts.now)
     (reload_of c.args.replica (Some c.args.generation)) c.args.replica c.in-Err-publish.why refl
@@ -183,35 +183,35 @@ returns-in-Err-publish-clause-exchanged g c = renewed_talk (Among g.L.Kms.step)
 pub returns-in-Ok-act-clause-exchanged : goal.returns-in-Ok-act-clause-exchanged
 returns-in-Ok-act-clause-exchanged g c = renewed_talk (Among g.L.Kms.step)
     g.D.Dice.left g.D.Dice.count
-    c.args.replica c.args.generation c.args.published.now c.seeds_of.result.now c.seeds_of.ensures
+    c.args.replica c.args.generation c.args.published.now c.published_seeds.result.now c.published_seeds.ensures
     (g.A.Acts.caller c.args.acts.now) c.args.bench.now.links c.has_changed.new.bench.links
     c.args.bench.now.dice c.has_changed.new.bench.dice (ap (λ b. b.dice) c.has_changed.ensures.kept)
     c.in-Ok.changed c.if-not-changed.false c.in-Ok.ensures.exchanged
-    (rows_of c.in-Ok-settings_of.settings.entries.0) c.in-Ok-settings_of.ensures
+    (rows_of c.in-Ok-share_published_settings.settings.entries.0) c.in-Ok-share_published_settings.ensures
     (g.A.Acts.caller c.act.new.self) c.publish.new.bench.links c.publish.new.bench.dice
     c.reloaded.result (talk_so (Among g.L.Kms.step) _ _ _ _
     c.in-Ok-publish.ensures.exchanged (λ es shared. renew_answered
     (λ made. PublishesBy g.D.Dice.left g.D.Dice.count
-    (rows_of c.in-Ok-settings_of.settings.entries.0) c.has_changed.new.bench.dice made
+    (rows_of c.in-Ok-share_published_settings.settings.entries.0) c.has_changed.new.bench.dice made
     c.publish.new.bench.dice es)
     c.args.replica c.args.generation c.args.published.now (g.A.Acts.caller c.args.acts.now)
     (g.A.Acts.caller c.act.new.self) c.in-Ok-publish.published c.in-Ok-act.answer
-    c.reloaded.result c.known-2.ensures c.requires.held (shared.0 ∙ c.in-Ok-settings_of.ensures)
+    c.reloaded.result c.known-2.ensures c.requires.held (shared.0 ∙ c.in-Ok-share_published_settings.ensures)
     shared c.in-Ok-act.ensures.acted c.reloaded.ensures))
 
 pub returns-in-Err-act-clause-exchanged : goal.returns-in-Err-act-clause-exchanged
 returns-in-Err-act-clause-exchanged g c = renewed_talk (Among g.L.Kms.step)
     g.D.Dice.left g.D.Dice.count
-    c.args.replica c.args.generation c.args.published.now c.seeds_of.result.now c.seeds_of.ensures
+    c.args.replica c.args.generation c.args.published.now c.published_seeds.result.now c.published_seeds.ensures
     (g.A.Acts.caller c.args.acts.now) c.args.bench.now.links c.has_changed.new.bench.links
     c.args.bench.now.dice c.has_changed.new.bench.dice (ap (λ b. b.dice) c.has_changed.ensures.kept)
     c.in-Ok.changed c.if-not-changed.false c.in-Ok.ensures.exchanged
-    (rows_of c.in-Ok-settings_of.settings.entries.0) c.in-Ok-settings_of.ensures
+    (rows_of c.in-Ok-share_published_settings.settings.entries.0) c.in-Ok-share_published_settings.ensures
     (g.A.Acts.caller c.act.new.self) c.publish.new.bench.links c.publish.new.bench.dice
     (Err refusal.Spent) (talk_so (Among g.L.Kms.step) _ _ _ _
     c.in-Ok-publish.ensures.exchanged (λ es shared. in_vain
     (λ made. PublishesBy g.D.Dice.left g.D.Dice.count
-    (rows_of c.in-Ok-settings_of.settings.entries.0) c.has_changed.new.bench.dice made
+    (rows_of c.in-Ok-share_published_settings.settings.entries.0) c.has_changed.new.bench.dice made
     c.publish.new.bench.dice es)
     (g.A.Acts.caller c.args.acts.now) (g.A.Acts.caller c.act.new.self)
     (reload_of c.args.replica (Some c.args.generation)) c.args.replica c.in-Ok-publish.published

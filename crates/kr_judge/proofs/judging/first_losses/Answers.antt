@@ -14,9 +14,9 @@ loop-class-init c = (
 pub loop-class-preserved : goal.loop-class-preserved
 loop-class-preserved c = (
   nearest_more Other c.args.replica (rows_of c.args.settings.now.entries.0) c.args.generations.now.generations (option_map lent_class c.loop-class.after) (lent_class c.in-Some.class) _ _ _ c.loop-class.invariant.0
-      c.in-Some.ensures c.loss_at-other.ensures c.nearer_of-dropped.ensures,
+      c.in-Some.ensures c.earliest_loss-other.ensures c.nearer_loss-dropped.ensures,
   nearest_more New c.args.replica (rows_of c.args.settings.now.entries.0) c.args.generations.now.generations (option_map lent_class c.loop-class.after) (lent_class c.in-Some.class) _ _ _ c.loop-class.invariant.1
-      c.in-Some.ensures c.loss_at-new.ensures c.nearer_of-unread.ensures,
+      c.in-Some.ensures c.earliest_loss-new.ensures c.nearer_loss-unread.ensures,
 )
 
 pub returns-clause-dropped : goal.returns-clause-dropped

@@ -26,8 +26,8 @@ returns-then-unwrap_blocks-clause-unwrapped c =
     let decipher : List ℕ → List ℕ = inverse_cipher c.args.words.now c.args.rounds in
     let body : List ℕ = c.args.body.now in
     let size : IsWrappable (length body - 8) = subst IsWrappable c.requires.size (c.if-not-is_wrappable.ensures.0 refl) in
-    let before = before_is decipher body c.copy_from_slice.new.self c.unwrap_blocks.new.blocks c.unwrap_blocks.result c.number_of.result
-    c.number_of.ensures c.copy_from_slice.ensures.after (c.unwrap_blocks.ensures c.args.words.now c.invert.ensures) in
+    let before = before_is decipher body c.copy_from_slice.new.self c.unwrap_blocks.new.blocks c.unwrap_blocks.result c.half_number.result
+    c.half_number.ensures c.copy_from_slice.ensures.after (c.unwrap_blocks.ensures c.args.words.now c.invert.ensures) in
     unwrap-ok decipher body (wrappable_true (length body - 8) size) (ap (λ (q : Registers). q.a) (sym before) ∙ c.if-unwrap_blocks.true)
     ∙ ap (λ (q : Registers). Ok q.r) (sym before)
 
@@ -47,8 +47,8 @@ returns-then-unwrap_blocks-clause-check c = (
   λ h. absurd (cc),
   λ p. absurd (p.1 (
       let decipher : List ℕ → List ℕ = inverse_cipher c.args.words.now c.args.rounds in
-      let before = before_is decipher c.args.body.now c.copy_from_slice.new.self c.unwrap_blocks.new.blocks c.unwrap_blocks.result c.number_of.result
-      c.number_of.ensures c.copy_from_slice.ensures.after (c.unwrap_blocks.ensures c.args.words.now c.invert.ensures) in
+      let before = before_is decipher c.args.body.now c.copy_from_slice.new.self c.unwrap_blocks.new.blocks c.unwrap_blocks.result c.half_number.result
+      c.half_number.ensures c.copy_from_slice.ensures.after (c.unwrap_blocks.ensures c.args.words.now c.invert.ensures) in
       ap (λ (q : Registers). q.a) (sym before) ∙ c.if-unwrap_blocks.true)),
 )
 
@@ -58,8 +58,8 @@ returns-else-unwrap_blocks-clause-check c = (
     subst IsWrappable c.requires.size (c.if-not-is_wrappable.ensures.0 refl),
     λ e.
         let decipher : List ℕ → List ℕ = inverse_cipher c.args.words.now c.args.rounds in
-        let before = before_is decipher c.args.body.now c.copy_from_slice.new.self c.unwrap_blocks.new.blocks c.unwrap_blocks.result c.number_of.result
-        c.number_of.ensures c.copy_from_slice.ensures.after (c.unwrap_blocks.ensures c.args.words.now c.invert.ensures) in
+        let before = before_is decipher c.args.body.now c.copy_from_slice.new.self c.unwrap_blocks.new.blocks c.unwrap_blocks.result c.half_number.result
+        c.half_number.ensures c.copy_from_slice.ensures.after (c.unwrap_blocks.ensures c.args.words.now c.invert.ensures) in
         c.if-unwrap_blocks.false (ap (λ (q : Registers). q.a) before ∙ e),
   ),
   λ p. refl,

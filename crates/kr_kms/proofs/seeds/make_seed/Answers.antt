@@ -10,59 +10,59 @@ use Rattle.kr_kms.proofs.seeds.make_seed.Goals as goal
 
 pub returns-in_err-seed-clause-made : goal.returns-in_err-seed-clause-made
 returns-in_err-seed-clause-made g c =
-    let told = c.in_ok-key_id_of.ensures.told in
+    let told = c.in_ok-healthy_key_id.ensures.told in
     let stop = not_drawn g.D.Dice.left g.D.Dice.count g.L.Kms.truth
-    (g.L.Kms.link c.args.link.now) (g.L.Kms.link c.key_id_of.new.link) c.args.dice.now
+    (g.L.Kms.link c.args.link.now) (g.L.Kms.link c.healthy_key_id.new.link) c.args.dice.now
     c.draw_seed.new.dice c.in_err-seed.field-0.0 (told.0, told.1, told.2)
     c.in_err-seed.ensures.drawn in search (rules, stop)
 
 pub returns-in-Err-Failed-clause-made : goal.returns-in-Err-Failed-clause-made
 returns-in-Err-Failed-clause-made g c =
-    let told = c.in_ok-key_id_of.ensures.told in
+    let told = c.in_ok-healthy_key_id.ensures.told in
     let drawn = c.in_ok-seed.ensures.drawn in (
-      Rose-later (g.L.Kms.link c.args.link.now).count (g.L.Kms.link c.key_id_of.new.link).count
-          (g.L.Kms.link c.wrap_seed.new.link).count c.in_ok-key_id_of.ensures.same.later
+      Rose-later (g.L.Kms.link c.args.link.now).count (g.L.Kms.link c.healthy_key_id.new.link).count
+          (g.L.Kms.link c.wrap_seed.new.link).count c.in_ok-healthy_key_id.ensures.same.later
           (c.in-Err-Failed.ensures.asks.failed (ap Err c.in-Err-Failed.field-0-is)),
       inr ((told.0, told.1, told.2), (c.in_ok-seed.seed, drawn.0, drawn.1)),
     )
 
-pub returns-in_err-key_id_of-clause-asked : goal.returns-in_err-key_id_of-clause-asked
-returns-in_err-key_id_of-clause-asked g c =
+pub returns-in_err-healthy_key_id-clause-asked : goal.returns-in_err-healthy_key_id-clause-asked
+returns-in_err-healthy_key_id-clause-asked g c =
     let stop = talk_not_told g.D.Dice.left g.D.Dice.count (g.L.Kms.link c.args.link.now).name
-    c.args.dice.now g.L.Kms.step c.args.link.now c.in_err-key_id_of.field-0.0
-    c.key_id_of.new.link c.in_err-key_id_of.ensures.asked in search (rules, stop)
+    c.args.dice.now g.L.Kms.step c.args.link.now c.in_err-healthy_key_id.field-0.0
+    c.healthy_key_id.new.link c.in_err-healthy_key_id.ensures.asked in search (rules, stop)
 
 pub returns-in_err-seed-clause-asked : goal.returns-in_err-seed-clause-asked
 returns-in_err-seed-clause-asked g c =
     let stop = talk_not_drawn g.D.Dice.left g.D.Dice.count (g.L.Kms.link c.args.link.now).name
     c.args.dice.now g.L.Kms.step c.args.link.now _ c.in_err-seed.field-0.0
-    c.draw_seed.new.dice c.key_id_of.new.link c.in_err-seed.ensures.drawn
-    c.in_ok-key_id_of.ensures.asked in search (rules, stop)
+    c.draw_seed.new.dice c.healthy_key_id.new.link c.in_err-seed.ensures.drawn
+    c.in_ok-healthy_key_id.ensures.asked in search (rules, stop)
 
 pub returns-in-Ok-clause-asked : goal.returns-in-Ok-clause-asked
 returns-in-Ok-clause-asked g c =
     talk_wrapped g.D.Dice.left g.D.Dice.count (g.L.Kms.link c.args.link.now).name
     c.args.dice.now g.L.Kms.step c.args.link.now _ c.in_ok-seed.seed
-    (g.L.Kms.link c.key_id_of.new.link).name c.draw_seed.new.dice c.key_id_of.new.link
+    (g.L.Kms.link c.healthy_key_id.new.link).name c.draw_seed.new.dice c.healthy_key_id.new.link
     c.wrap_seed.new.link (Ok c.in-Ok.row) c.in_ok-seed.ensures.drawn
-    c.in_ok-key_id_of.ensures.same.name c.in_ok-key_id_of.ensures.asked c.in-Ok.ensures.asked
+    c.in_ok-healthy_key_id.ensures.same.name c.in_ok-healthy_key_id.ensures.asked c.in-Ok.ensures.asked
 
 pub returns-in-Err-Failed-clause-asked : goal.returns-in-Err-Failed-clause-asked
 returns-in-Err-Failed-clause-asked g c =
-    let wraps : Talk g.L.Kms.step c.key_id_of.new.link c.wrap_seed.new.link (WrapsSeedBy
-    (g.L.Kms.link c.key_id_of.new.link).name c.in_ok-seed.seed (Err link.Failed)) = search rules in
+    let wraps : Talk g.L.Kms.step c.healthy_key_id.new.link c.wrap_seed.new.link (WrapsSeedBy
+    (g.L.Kms.link c.healthy_key_id.new.link).name c.in_ok-seed.seed (Err link.Failed)) = search rules in
     talk_wrapped g.D.Dice.left g.D.Dice.count (g.L.Kms.link c.args.link.now).name
     c.args.dice.now g.L.Kms.step c.args.link.now _ c.in_ok-seed.seed
-    (g.L.Kms.link c.key_id_of.new.link).name c.draw_seed.new.dice c.key_id_of.new.link
+    (g.L.Kms.link c.healthy_key_id.new.link).name c.draw_seed.new.dice c.healthy_key_id.new.link
     c.wrap_seed.new.link (Err link.Failed) c.in_ok-seed.ensures.drawn
-    c.in_ok-key_id_of.ensures.same.name c.in_ok-key_id_of.ensures.asked wraps
+    c.in_ok-healthy_key_id.ensures.same.name c.in_ok-healthy_key_id.ensures.asked wraps
 
 pub returns-in-Err-NoMemory-clause-asked : goal.returns-in-Err-NoMemory-clause-asked
 returns-in-Err-NoMemory-clause-asked g c =
-    let wraps : Talk g.L.Kms.step c.key_id_of.new.link c.wrap_seed.new.link (WrapsSeedBy
-    (g.L.Kms.link c.key_id_of.new.link).name c.in_ok-seed.seed (Err link.NoMemory)) = search rules in
+    let wraps : Talk g.L.Kms.step c.healthy_key_id.new.link c.wrap_seed.new.link (WrapsSeedBy
+    (g.L.Kms.link c.healthy_key_id.new.link).name c.in_ok-seed.seed (Err link.NoMemory)) = search rules in
     talk_wrapped g.D.Dice.left g.D.Dice.count (g.L.Kms.link c.args.link.now).name
     c.args.dice.now g.L.Kms.step c.args.link.now _ c.in_ok-seed.seed
-    (g.L.Kms.link c.key_id_of.new.link).name c.draw_seed.new.dice c.key_id_of.new.link
+    (g.L.Kms.link c.healthy_key_id.new.link).name c.draw_seed.new.dice c.healthy_key_id.new.link
     c.wrap_seed.new.link (Err link.NoMemory) c.in_ok-seed.ensures.drawn
-    c.in_ok-key_id_of.ensures.same.name c.in_ok-key_id_of.ensures.asked wraps
+    c.in_ok-healthy_key_id.ensures.same.name c.in_ok-healthy_key_id.ensures.asked wraps

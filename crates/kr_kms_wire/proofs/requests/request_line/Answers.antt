@@ -8,16 +8,16 @@ use Rattle.kr_kms_wire.proofs.Lines.{no_float, request_depth}
 use Rattle.kr_kms_wire.proofs.ReadBack.{request_reads_if}
 use Rattle.kr_kms_wire.proofs.requests.request_line.Goals as goal
 
-pub line_of-requires-clause-floats : goal.line_of-requires-clause-floats
-line_of-requires-clause-floats c =
+pub members_line-requires-clause-floats : goal.members_line-requires-clause-floats
+members_line-requires-clause-floats c =
     ap (λ m. has_float (object m)) c.in_ok-members.ensures ∙ no_float c.args.request.now
 
-pub line_of-requires-clause-nests : goal.line_of-requires-clause-nests
-line_of-requires-clause-nests c =
+pub members_line-requires-clause-nests : goal.members_line-requires-clause-nests
+members_line-requires-clause-nests c =
     subst (λ m. depth (object m) ≤ max_depth) (sym c.in_ok-members.ensures)
     (request_depth c.args.request.now)
 
 pub returns-clause-read : goal.returns-clause-read
-returns-clause-read c = request_reads_if c.line_of.result c.args.request.now
+returns-clause-read c = request_reads_if c.members_line.result c.args.request.now
     (members_view c.in_ok-members.members.entries) c.in_ok-members.ensures c.tell_bytes.ensures
-    c.line_of.ensures.read
+    c.members_line.ensures.read

@@ -12,11 +12,11 @@ pub returns-then-not-is_same-clause-opened : goal.returns-then-not-is_same-claus
 returns-then-not-is_same-clause-opened c =
     let body : List ℕ = c.args.body.now in
     gcm_bad_tag (cipher c.args.words.now c.args.rounds) c.args.nonce.now c.args.aad.now body (length body - 16) (omega arith) refl
-    (λ same. both_ways c.is_same.result c.if-not-is_same.true (c.is_same.ensures.1 (take_rest body (length body - 16) ∙ same ∙ sym c.tag_of-tag.ensures)))
+    (λ same. both_ways c.is_same.result c.if-not-is_same.true (c.is_same.ensures.1 (take_rest body (length body - 16) ∙ same ∙ sym c.compute_tag-tag.ensures)))
 
 pub returns-clause-opened : goal.returns-clause-opened
 returns-clause-opened c =
     let body : List ℕ = c.args.body.now in
     let size : ℕ = length body - 16 in
-    let same = sym (take_rest body size) ∙ c.is_same.ensures.0 c.if-not-is_same.false ∙ c.tag_of-tag.ensures in
+    let same = sym (take_rest body size) ∙ c.is_same.ensures.0 c.if-not-is_same.false ∙ c.compute_tag-tag.ensures in
     gcm_some (cipher c.args.words.now c.args.rounds) c.args.nonce.now c.args.aad.now body size (omega arith) refl same

@@ -18,7 +18,7 @@ returns c =
     let is : sealed ≡ gctr encipher c.args.nonce.now (take n old) = sym (take_all (length (take n old)) sealed (omega (arith, size, whole))) ∙ c.gctr.ensures in
     let front : take n (sealed ++ rest) ≡ sealed = take_at sealed rest n size in
     let most : length rest ≤ length (sealed ++ rest) - n = omega (arith, length-append sealed rest) in
-    let tag = c.copy_from_slice.ensures.after ∙ c.tag_of-tag.ensures in
+    let tag = c.copy_from_slice.ensures.after ∙ c.compute_tag-tag.ensures in
     put_end sealed rest c.copy_from_slice.new.self n (length (sealed ++ rest) - n) size most
     ∙ ap (λ (t : List ℕ). sealed ++ t) (tag ∙ ap (gcm_tag encipher c.args.nonce.now c.args.aad.now) front)
     ∙ ap (λ (s : List ℕ). s ++ gcm_tag encipher c.args.nonce.now c.args.aad.now s) is

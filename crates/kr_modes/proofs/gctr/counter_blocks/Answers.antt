@@ -9,7 +9,7 @@ pub loop-i-preserved : goal.loop-i-preserved
 loop-i-preserved c =
     let l = c.loop-i in
     let size : length c.args.nonce.now ≡ 12 = omega arith in
-    one_more_counted c.args.nonce.now _ c.args.n l.i l.blocks size (omega arith) c.count_to.ensures l.invariant
+    one_more_counted c.args.nonce.now _ c.args.n l.i l.blocks size (omega arith) c.set_block_count.ensures l.invariant
 
 pub returns : goal.returns
 returns c =

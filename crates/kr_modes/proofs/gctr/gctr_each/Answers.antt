@@ -22,7 +22,7 @@ loop-index-preserved c =
     let k : 16 * l.index + 16 - 16 * l.index ≡ 16 = omega arith in
     let fits : c.args.from + 16 * l.index + 16 ≤ length l.buffer = omega (arith, l.invariant.same_length) in
     let long : length next ≡ 16 = c.add.array_long in
-    let begun = c.begun_for-begun.ensures in
+    let begun = c.begin_nth_block-begun.ensures in
     let stream : c.encrypt_block-block.result ≡ encipher (counter_block nonce (l.index + 1)) =
     c.encrypt_block-block.ensures
     ∙ (λ i. cipher (begun i).words c.args.rounds ((begun i).front ++ (l.index + 1 + 1) % 256 ∷ []))

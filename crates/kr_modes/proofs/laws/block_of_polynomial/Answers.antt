@@ -1,5 +1,5 @@
-use Rattle.kr_modes.proofs.BlockBits.{block_of-polynomial}
+use Rattle.kr_modes.proofs.BlockBits.{polynomial_block-polynomial}
 use Rattle.kr_modes.proofs.laws.block_of_polynomial.Goals as goal
 
 pub returns : goal.returns
-returns c = block_of-polynomial
+returns c = polynomial_block-polynomial

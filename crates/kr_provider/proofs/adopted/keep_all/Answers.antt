@@ -10,13 +10,13 @@ use Rattle.kr_provider.proofs.Keys.{room_for, row_at, rows_end, rows_more, secre
 use Rattle.kr_provider.proofs.Stacks.{holds}
 use Rattle.kr_provider.proofs.adopted.keep_all.Goals as goal
 
-pub keep_among-requires-clause-rules : goal.keep_among-requires-clause-rules
-keep_among-requires-clause-rules c = ap (list_all is_provider) c.as_slice.ensures
+pub keep_key_pages-requires-clause-rules : goal.keep_key_pages-requires-clause-rules
+keep_key_pages-requires-clause-rules c = ap (list_all is_provider) c.as_slice.ensures
     ∙ row_at c.args.entries.now c.loop-entry.entry-index c.entry-item.result c.requires.rules
     c.loop-entry-test.true c.entry-item.is
 
-pub keep_among-requires-clause-room : goal.keep_among-requires-clause-room
-keep_among-requires-clause-room c =
+pub keep_key_pages-requires-clause-room : goal.keep_key_pages-requires-clause-room
+keep_key_pages-requires-clause-room c =
     let inv = c.loop-entry.invariant in
     let rows = rows_of c.args.entries.now in
     let e = ap (λ l. words_out c.loop-entry.pages ++ map padded_schedule (secrets_in l))

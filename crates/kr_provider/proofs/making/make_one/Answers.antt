@@ -6,8 +6,8 @@ use Rattle.kr_provider.proofs.making.make_one.Goals as goal
 
 pub returns-in-Err-clause-made : goal.returns-in-Err-clause-made
 returns-in-Err-clause-made g c = answers_at g.L.Kms.truth g.L.Kms.link g.D.Dice.left g.D.Dice.count
-    c.args.name.now c.args.links.now c.args.dice.now c.in-Err.why c.refusal_at.result
-    c.make_seed.new.self c.make_seed.new.dice c.refusal_at.ensures c.in-Err.ensures.made
+    c.args.name.now c.args.links.now c.args.dice.now c.in-Err.why c.plugin_refusal.result
+    c.make_seed.new.self c.make_seed.new.dice c.plugin_refusal.ensures c.in-Err.ensures.made
 
 pub returns-in-Ok-clause-exchanged : goal.returns-in-Ok-clause-exchanged
 returns-in-Ok-clause-exchanged g c = talk_so _ _ _ _ _ c.in-Ok.ensures.exchanged (λ es makes.
@@ -15,4 +15,4 @@ returns-in-Ok-clause-exchanged g c = talk_so _ _ _ _ _ c.in-Ok.ensures.exchanged
 
 pub returns-in-Err-clause-exchanged : goal.returns-in-Err-clause-exchanged
 returns-in-Err-clause-exchanged g c = talk_so _ _ _ _ _ c.in-Err.ensures.exchanged (λ es makes.
-    (Err c.in-Err.why, makes, c.refusal_at.ensures))
+    (Err c.in-Err.why, makes, c.plugin_refusal.ensures))

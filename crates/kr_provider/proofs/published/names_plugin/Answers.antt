@@ -2,7 +2,7 @@
 use Rattle.std.proofs.Common.{sym, ◌∙◌, ap}
 use Rattle.std.specs.List.{list_any}
 use Rattle.kr_config.specs.declared.settings.Entry.{Entry}
-use Rattle.kr_config.specs.Kept.{Row, row_of}
+use Rattle.kr_config.specs.Kept.{ConfigEntry, entry_lists}
 use Rattle.kr_config.specs.Providers.{is_kms}
 use Rattle.kr_provider.proofs.Lists.{list_any-map}
 use Rattle.kr_provider.proofs.published.names_plugin.Goals as goal
@@ -10,5 +10,5 @@ use Rattle.kr_provider.proofs.published.names_plugin.Goals as goal
 pub returns : goal.returns
 returns c = c.any_names.ensures ∙ ap (list_any
     (λ (entry : Entry). list_any is_kms entry.providers.0)) c.as_slice.ensures
-    ∙ sym (list_any-map row_of (λ (row : Row). list_any is_kms row.providers)
+    ∙ sym (list_any-map entry_lists (λ (row : ConfigEntry). list_any is_kms row.providers)
     c.args.settings.now.entries.0)

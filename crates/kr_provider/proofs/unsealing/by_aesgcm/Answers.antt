@@ -12,7 +12,7 @@ returns-then-bytes-from-lt-NONCE c =
       length-drop c.args.from c.args.value,
       ap length c.as_slice-bytes.ensures,
       c.if-bytes-from-lt-NONCE.true,
-    )) ∙ c.refusal_of.ensures
+    )) ∙ c.mode_refusal.ensures
 
 pub returns : goal.returns
 returns c =

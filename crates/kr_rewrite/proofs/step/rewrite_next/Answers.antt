@@ -1,5 +1,5 @@
 -- `rewrite_next`: its stages, one behind another.
-use Rattle.std.proofs.Common.{◌⊎◌, ◌≡◌, ◌≤◌, ℕ, Err, List, [], ap, arith, inl, inr, refl, subst, sym, ◌∙◌}
+use Rattle.std.proofs.Common.{◌⊎◌, ◌≡◌, ◌≤◌, ℕ, Err, List, [], ap, arith, inl, refl, subst, sym, ◌∙◌}
 use Rattle.kr_base.specs.Rules.{IsPath}
 use Rattle.kr_base.proofs.Walks.{talk_none}
 use Rattle.kr_base.specs.Walks.{Talk}
@@ -15,6 +15,9 @@ use Rattle.kr_rewrite.proofs.RowTalks.{step_talked}
 use Rattle.kr_rewrite.proofs.Rewriting.{let_go_to, step_held}
 use Rattle.kr_rewrite.specs.DriveExchanges.{IsStepBy}
 use Rattle.kr_rewrite.specs.Rewrites.{IsStep, UnsealsRow}
+use Rattle.kr_provider.specs.BenchKeys.{adoption_of}
+use Rattle.kr_history.proofs.KeyMoments.{held_turn, in_turn_early, in_turn_same}
+use Rattle.kr_rewrite.proofs.Quiet.{steps_quietly}
 use Rattle.kr_rewrite.proofs.step.rewrite_next.Goals as goal
 
 pub returns-in_default-clause-steps : goal.returns-in_default-clause-steps
@@ -41,8 +44,8 @@ pub returns-in-Err-clause-asked : goal.returns-in-Err-clause-asked
 returns-in-Err-clause-asked g c = asked_none g.L.Kms.link
     (names_of g.L.Kms.link c.args.bench.now.links) c.args.bench.now.links
 
-pub take_up-requires-clause-links : goal.take_up-requires-clause-links
-take_up-requires-clause-links g c = serves (g.A.Acts.caller c.args.acts.now).opening.names
+pub adopt_configuration-requires-clause-links : goal.adopt_configuration-requires-clause-links
+adopt_configuration-requires-clause-links g c = serves (g.A.Acts.caller c.args.acts.now).opening.names
     (names_of g.L.Kms.link c.args.bench.now.links) c.in-Ok-adopt.held.1.rows c.requires.links
     c.in-Ok-adopt.ensures.known.0.1
 
@@ -54,50 +57,50 @@ pub step-done-requires-clause-held : goal.step-done-requires-clause-held
 step-done-requires-clause-held g c = record {
   number = c.in-Ok-adopt.held.0;
   p = c.in-Ok-adopt.held.1;
-  adopted = ap (λ b. b.published) c.take_up.ensures.taken;
+  adopted = ap (λ b. b.published) c.adopt_configuration.ensures.taken;
   held = c.in-Ok-adopt.ensures.known.1;
 }
 
-pub let_go-requires : goal.let_go-requires
-let_go-requires g c =
+pub hand_back-requires : goal.hand_back-requires
+hand_back-requires g c =
     record { holds = is_there _ _ (c.step-done.ensures.holds ∙ c.in-Ok-adopt.ensures.known.1) }
 
 pub returns-clause-steps : goal.returns-clause-steps
 returns-clause-steps g c =
     let old = g.A.Acts.caller c.args.acts.now in
-    let new = g.A.Acts.caller c.let_go.new.acts in
+    let new = g.A.Acts.caller c.hand_back.new.acts in
     let b = c.args.bench.now in
-    let t = c.take_up.new.bench in
+    let t = c.adopt_configuration.new.bench in
     let n = c.step-done.new.bench in
-    let m = c.lay_down.new.bench in
+    let m = c.hand_back.new.bench in
     subst (λ l. IsStep g.L.Kms.truth g.L.Kms.link g.D.Dice.left g.D.Dice.count c.args.replica
-    c.args.after.now old b.links b.dice c.let_go.result new l m.dice)
-    (sym (ap (λ x. x.links) c.lay_down.ensures.kept))
+    c.args.after.now old b.links b.dice c.hand_back.result new l m.dice)
+    (sym (ap (λ x. x.links) c.hand_back.ensures.kept))
     (subst (λ d. IsStep g.L.Kms.truth g.L.Kms.link g.D.Dice.left g.D.Dice.count c.args.replica
-    c.args.after.now old b.links b.dice c.let_go.result new n.links d)
-    (sym (ap (λ x. x.dice) c.lay_down.ensures.kept))
+    c.args.after.now old b.links b.dice c.hand_back.result new n.links d)
+    (sym (ap (λ x. x.dice) c.hand_back.ensures.kept))
     (step_held (UnsealsRow g.L.Kms.truth g.L.Kms.link) g.D.Dice.left g.D.Dice.count
     c.args.after.now c.in-Ok.copy c.args.replica old (g.A.Acts.caller c.adopt.new.acts)
     (g.A.Acts.caller c.step-done.new.acts) new b.links t.links n.links b.dice t.dice n.dice
-    c.in-Ok-adopt.held t.published c.step-done.result c.let_go.result c.in-Ok.ensures
-    (ap (λ x. x.links) c.take_up.ensures.taken) (ap (λ x. x.dice) c.take_up.ensures.taken)
-    (ap (λ x. x.published) c.take_up.ensures.taken) c.in-Ok-adopt.ensures.adopts
-    c.step-done.ensures.steps c.let_go.ensures.lets_go))
+    c.in-Ok-adopt.held t.published c.step-done.result c.hand_back.result c.in-Ok.ensures
+    (ap (λ x. x.links) c.adopt_configuration.ensures.taken) (ap (λ x. x.dice) c.adopt_configuration.ensures.taken)
+    (ap (λ x. x.published) c.adopt_configuration.ensures.taken) c.in-Ok-adopt.ensures.adopts
+    c.step-done.ensures.steps c.hand_back.ensures.lets_go))
 
 pub returns-clause-path : goal.returns-clause-path
 returns-clause-path g c = let_go_to (g.A.Acts.caller c.step-done.new.acts)
-    (g.A.Acts.caller c.let_go.new.acts) c.step-done.result c.let_go.result
-    c.let_go.ensures.lets_go c.step-done.ensures.path
+    (g.A.Acts.caller c.hand_back.new.acts) c.step-done.result c.hand_back.result
+    c.hand_back.ensures.lets_go c.step-done.ensures.path
 
 pub returns-clause-adds : goal.returns-clause-adds
 returns-clause-adds g c = within_behind 3 1 0 0 [] (g.A.Acts.caller c.args.acts.now)
-    (g.A.Acts.caller c.step-done.new.acts) (g.A.Acts.caller c.let_go.new.acts)
+    (g.A.Acts.caller c.step-done.new.acts) (g.A.Acts.caller c.hand_back.new.acts)
     (within_behind 1 2 0 0 [] (g.A.Acts.caller c.args.acts.now)
     (g.A.Acts.caller c.adopt.new.acts) (g.A.Acts.caller c.step-done.new.acts)
-    c.in-Ok-adopt.ensures.adds c.step-done.ensures.adds) c.let_go.ensures.adds
+    c.in-Ok-adopt.ensures.adds c.step-done.ensures.adds) c.hand_back.ensures.adds
 
 pub returns-clause-honest : goal.returns-clause-honest
-returns-clause-honest g c = λ told keeps. c.let_go.ensures.honest g.L.Kms.truth.opens
+returns-clause-honest g c = λ told keeps. c.hand_back.ensures.honest g.L.Kms.truth.opens
     (c.step-done.ensures.honest told (c.in-Ok-adopt.ensures.honest g.L.Kms.truth.opens keeps))
 
 pub returns-clause-asked : goal.returns-clause-asked
@@ -105,40 +108,26 @@ returns-clause-asked g c =
     let n = c.step-done.new.bench in
     let b = c.args.bench.now in
     subst (λ l. AskedOnly g.L.Kms.link (names_of g.L.Kms.link b.links) b.links l)
-    (sym (ap (λ x. x.links) c.lay_down.ensures.kept))
+    (sym (ap (λ x. x.links) c.hand_back.ensures.kept))
     (subst (λ l. AskedOnly g.L.Kms.link (names_of g.L.Kms.link l) l n.links)
-    (ap (λ x. x.links) c.take_up.ensures.taken) c.step-done.ensures.asked)
+    (ap (λ x. x.links) c.adopt_configuration.ensures.taken) c.step-done.ensures.asked)
 
 pub returns-clause-later : goal.returns-clause-later
 returns-clause-later g c =
     let n = c.step-done.new.bench in
     let b = c.args.bench.now in
     subst (λ d. g.D.Dice.count b.dice ≤ g.D.Dice.count d)
-    (sym (ap (λ x. x.dice) c.lay_down.ensures.kept))
+    (sym (ap (λ x. x.dice) c.hand_back.ensures.kept))
     (subst (λ d. g.D.Dice.count d ≤ g.D.Dice.count n.dice)
-    (ap (λ x. x.dice) c.take_up.ensures.taken) c.step-done.ensures.later)
+    (ap (λ x. x.dice) c.adopt_configuration.ensures.taken) c.step-done.ensures.later)
 
 pub returns-clause-pages : goal.returns-clause-pages
-returns-clause-pages g c = c.lay_down.ensures.cleared.size
-    ∙ ap (λ b. size_of b.pages) c.step-done.ensures.kept ∙ c.take_up.ensures.pages
-
-pub returns-in_default-clause-keys : goal.returns-in_default-clause-keys
-returns-in_default-clause-keys g c = inl (refl, refl)
-
-pub returns-in-Err-clause-keys : goal.returns-in-Err-clause-keys
-returns-in-Err-clause-keys g c = inl (refl, refl)
-
-pub returns-clause-keys : goal.returns-clause-keys
-returns-clause-keys g c = inr (record {
-  none = c.lay_down.ensures.cleared.none;
-  keys = c.lay_down.ensures.cleared.keys;
-  size = c.lay_down.ensures.cleared.size
-      ∙ ap (λ b. size_of b.pages) c.step-done.ensures.kept ∙ c.take_up.ensures.pages;
-})
+returns-clause-pages g c = c.hand_back.ensures.cleared.size
+    ∙ ap (λ b. size_of b.pages) c.step-done.ensures.kept ∙ c.adopt_configuration.ensures.pages
 
 pub returns-clause-place : goal.returns-clause-place
 returns-clause-place g c =
-    c.let_go.ensures.place ∙ c.step-done.ensures.place ∙ c.in-Ok-adopt.ensures.place
+    c.hand_back.ensures.place ∙ c.step-done.ensures.place ∙ c.in-Ok-adopt.ensures.place
 
 pub returns-in_default-clause-exchanged : goal.returns-in_default-clause-exchanged
 returns-in_default-clause-exchanged g c =
@@ -160,24 +149,74 @@ returns-in-Err-clause-exchanged g c =
 pub returns-clause-exchanged : goal.returns-clause-exchanged
 returns-clause-exchanged g c =
     let old = g.A.Acts.caller c.args.acts.now in
-    let new = g.A.Acts.caller c.let_go.new.acts in
+    let new = g.A.Acts.caller c.hand_back.new.acts in
     let b = c.args.bench.now in
-    let t = c.take_up.new.bench in
+    let t = c.adopt_configuration.new.bench in
     let n = c.step-done.new.bench in
-    let m = c.lay_down.new.bench in
+    let m = c.hand_back.new.bench in
     subst (λ l. Talk (Among g.L.Kms.step) b.links l (IsStepBy g.D.Dice.left g.D.Dice.count
-    c.args.replica c.args.after.now old b.cache b.dice c.let_go.result new m.cache m.dice))
-    (sym (ap (λ x. x.links) c.lay_down.ensures.kept))
+    c.args.replica c.args.after.now old b.cache b.dice c.hand_back.result new m.cache m.dice))
+    (sym (ap (λ x. x.links) c.hand_back.ensures.kept))
     (subst (λ k. Talk (Among g.L.Kms.step) b.links n.links (IsStepBy g.D.Dice.left g.D.Dice.count
-    c.args.replica c.args.after.now old b.cache b.dice c.let_go.result new k m.dice))
-    (sym (ap (λ x. x.cache) c.lay_down.ensures.kept))
+    c.args.replica c.args.after.now old b.cache b.dice c.hand_back.result new k m.dice))
+    (sym (ap (λ x. x.cache) c.hand_back.ensures.kept))
     (subst (λ d. Talk (Among g.L.Kms.step) b.links n.links (IsStepBy g.D.Dice.left g.D.Dice.count
-    c.args.replica c.args.after.now old b.cache b.dice c.let_go.result new n.cache d))
-    (sym (ap (λ x. x.dice) c.lay_down.ensures.kept))
+    c.args.replica c.args.after.now old b.cache b.dice c.hand_back.result new n.cache d))
+    (sym (ap (λ x. x.dice) c.hand_back.ensures.kept))
     (step_talked (Among g.L.Kms.step) g.D.Dice.left g.D.Dice.count c.args.replica c.args.after.now
     c.in-Ok.copy old (g.A.Acts.caller c.adopt.new.acts) (g.A.Acts.caller c.step-done.new.acts) new
     b.links t.links n.links b.cache t.cache n.cache b.dice t.dice n.dice c.in-Ok-adopt.held
-    t.published c.step-done.result c.let_go.result c.in-Ok.ensures
-    (ap (λ x. x.links) c.take_up.ensures.taken) (ap (λ x. x.cache) c.take_up.ensures.taken)
-    (ap (λ x. x.dice) c.take_up.ensures.taken) (ap (λ x. x.published) c.take_up.ensures.taken)
-    c.in-Ok-adopt.ensures.adopts c.step-done.ensures.exchanged c.let_go.ensures.lets_go)))
+    t.published c.step-done.result c.hand_back.result c.in-Ok.ensures
+    (ap (λ x. x.links) c.adopt_configuration.ensures.taken) (ap (λ x. x.cache) c.adopt_configuration.ensures.taken)
+    (ap (λ x. x.dice) c.adopt_configuration.ensures.taken) (ap (λ x. x.published) c.adopt_configuration.ensures.taken)
+    c.in-Ok-adopt.ensures.adopts c.step-done.ensures.exchanged c.hand_back.ensures.lets_go)))
+
+pub returns-in_default-clause-keys : goal.returns-in_default-clause-keys
+returns-in_default-clause-keys g c = (in_turn_same (g.A.Acts.caller c.args.acts.now)
+    (adoption_of c.args.bench.now) c.requires.idle).leaves
+
+pub returns-in_default-clause-moments : goal.returns-in_default-clause-moments
+returns-in_default-clause-moments g c = (in_turn_same (g.A.Acts.caller c.args.acts.now)
+    (adoption_of c.args.bench.now) c.requires.idle).happens
+
+pub returns-in-Err-clause-keys : goal.returns-in-Err-clause-keys
+returns-in-Err-clause-keys g c = (in_turn_early c.args.replica (g.A.Acts.caller c.args.acts.now)
+    (g.A.Acts.caller c.adopt.new.acts) c.in-Err.why (adoption_of c.args.bench.now)
+    c.requires.idle c.in-Err.ensures.adopts).leaves
+
+pub returns-in-Err-clause-moments : goal.returns-in-Err-clause-moments
+returns-in-Err-clause-moments g c = (in_turn_early c.args.replica (g.A.Acts.caller c.args.acts.now)
+    (g.A.Acts.caller c.adopt.new.acts) c.in-Err.why (adoption_of c.args.bench.now)
+    c.requires.idle c.in-Err.ensures.adopts).happens
+
+pub returns-clause-keys : goal.returns-clause-keys
+returns-clause-keys g c = (held_turn c.args.replica c.in-Ok-adopt.held
+    (g.A.Acts.caller c.args.acts.now) (g.A.Acts.caller c.adopt.new.acts)
+    (g.A.Acts.caller c.step-done.new.acts) (g.A.Acts.caller c.hand_back.new.acts)
+    c.step-done.result c.hand_back.result c.args.bench.now c.adopt_configuration.new.bench
+    c.step-done.new.bench c.hand_back.new.bench c.in-Ok-adopt.ensures.adopts
+    c.in-Ok-adopt.ensures.known.1 c.adopt_configuration.ensures.taken c.adopt_configuration.ensures.keys
+    c.adopt_configuration.ensures.pages (steps_quietly (UnsealsRow g.L.Kms.truth g.L.Kms.link)
+    g.D.Dice.left g.D.Dice.count c.in-Ok.copy c.adopt_configuration.new.bench.published
+    c.in-Ok-adopt.held.1 (g.A.Acts.caller c.adopt.new.acts)
+    (g.A.Acts.caller c.step-done.new.acts) c.adopt_configuration.new.bench.links c.step-done.new.bench.links
+    c.adopt_configuration.new.bench.dice c.step-done.new.bench.dice c.step-done.result
+    (ap (λ b. b.published) c.adopt_configuration.ensures.taken) c.step-done.ensures.steps)
+    (ap adoption_of c.step-done.ensures.kept) c.hand_back.ensures.cleared
+    c.hand_back.ensures.lets_go).leaves
+
+pub returns-clause-moments : goal.returns-clause-moments
+returns-clause-moments g c = (held_turn c.args.replica c.in-Ok-adopt.held
+    (g.A.Acts.caller c.args.acts.now) (g.A.Acts.caller c.adopt.new.acts)
+    (g.A.Acts.caller c.step-done.new.acts) (g.A.Acts.caller c.hand_back.new.acts)
+    c.step-done.result c.hand_back.result c.args.bench.now c.adopt_configuration.new.bench
+    c.step-done.new.bench c.hand_back.new.bench c.in-Ok-adopt.ensures.adopts
+    c.in-Ok-adopt.ensures.known.1 c.adopt_configuration.ensures.taken c.adopt_configuration.ensures.keys
+    c.adopt_configuration.ensures.pages (steps_quietly (UnsealsRow g.L.Kms.truth g.L.Kms.link)
+    g.D.Dice.left g.D.Dice.count c.in-Ok.copy c.adopt_configuration.new.bench.published
+    c.in-Ok-adopt.held.1 (g.A.Acts.caller c.adopt.new.acts)
+    (g.A.Acts.caller c.step-done.new.acts) c.adopt_configuration.new.bench.links c.step-done.new.bench.links
+    c.adopt_configuration.new.bench.dice c.step-done.new.bench.dice c.step-done.result
+    (ap (λ b. b.published) c.adopt_configuration.ensures.taken) c.step-done.ensures.steps)
+    (ap adoption_of c.step-done.ensures.kept) c.hand_back.ensures.cleared
+    c.hand_back.ensures.lets_go).happens

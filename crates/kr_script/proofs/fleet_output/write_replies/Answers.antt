@@ -6,15 +6,15 @@ pub returns-in-Err : goal.returns-in-Err
 returns-in-Err g c = workers_fail c.args.replies.now c.args.workers.now c.loop-place.place
     (g.K.Sink.held c.write_worker.new.sink) c.index-workers-place.result
     (g.K.Sink.count c.write_worker.new.sink) c.in-Err.why c.as_str.result.now
-    c.replies_at-told.result.now c.loop-place-test.true c.index-workers-place.is
-    c.loop-place.invariant c.as_str.ensures c.replies_at-told.ensures c.in-Err.ensures
+    c.worker_replies-told.result.now c.loop-place-test.true c.index-workers-place.is
+    c.loop-place.invariant c.as_str.ensures c.worker_replies-told.ensures c.in-Err.ensures
 
 pub loop-place-preserved : goal.loop-place-preserved
 loop-place-preserved g c = workers_more c.args.replies.now c.args.workers.now c.loop-place.place
     (g.K.Sink.held c.write_worker.new.sink) c.index-workers-place.result
     (g.K.Sink.count c.write_worker.new.sink) c.in-Ok.field-0 c.as_str.result.now
-    c.replies_at-told.result.now c.loop-place-test.true c.index-workers-place.is
-    c.loop-place.invariant c.as_str.ensures c.replies_at-told.ensures c.in-Ok.ensures
+    c.worker_replies-told.result.now c.loop-place-test.true c.index-workers-place.is
+    c.loop-place.invariant c.as_str.ensures c.worker_replies-told.ensures c.in-Ok.ensures
 
 pub returns : goal.returns
 returns g c = workers_end c.args.replies.now c.args.workers.now c.loop-place.place _

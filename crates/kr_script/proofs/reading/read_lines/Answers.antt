@@ -16,7 +16,7 @@ returns-in-Err c =
 pub returns-in-Err-take_line : goal.returns-in-Err-take_line
 returns-in-Err-take_line c =
     let whole = answer 1 start (lines c.args.bytes.now) in
-    subst (λ why. Gives whole (Err why)) (sym c.at.ensures)
+    subst (λ why. Gives whole (Err why)) (sym c.refusal_on_line.ensures)
     (reading_stops whole c.loop-line.number (draft_of c.loop-line.draft)
     (draft_of c.take_line.new.self) (lines c.loop-line.rest.now) c.in-Some.line.now
     c.in-Ok.line.now (lines c.in-Some.more.now) c.in-Err-take_line.why (Unit {0})

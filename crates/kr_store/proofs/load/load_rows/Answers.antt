@@ -22,7 +22,7 @@ pub returns-in-Err-clause-loads : goal.returns-in-Err-clause-loads
 returns-in-Err-clause-loads g c =
     let l = c.loop-alloc in
     let k = length c.as_slice.result.now + 1 in
-    subst (λ (no : StoreNo). LoadsRows c.args.reader.now (Err no)) (sym c.no_at.ensures)
+    subst (λ (no : StoreNo). LoadsRows c.args.reader.now (Err no)) (sym c.load_refusal.ensures)
     (row_stops c.args.reader.now l.reader c.row.new.self c.in_ok-format.format l.rows.0 l.index k
     (kept_bytes k) c.in-Err.stop c.place-at.result l.invariant
     (ap (λ (l : List KeptRow). length l + 1) c.as_slice.ensures)

@@ -14,17 +14,17 @@ run_watch-status-requires-clause-means g c = λ κs lives.
 pub returns-in-Ok-Some : goal.returns-in-Ok-Some
 returns-in-Ok-Some g c =
     watch_promised g.row.W-Tap.Denot g.W.Link.Kms.truth g.W.Link.Kms.link g.W.Link.Kms.step
-    g.W.Rand.Dice.left
+    g.W.World.lent g.W.World.took g.W.Rand.Dice.left
     g.W.Rand.Dice.count (texts c.args.words.now) _ _ _ _ _ c.in-Ok-Some.asked
     (subst (λ o. IsWatchAsked (texts c.args.words.now) (Ok o)) c.in-Ok-Some.field-0-is
     c.in-Ok-Some.ensures)
     (c.run_watch-status.ensures (around g.W.Link.Kms.truth (g.W.World.told c.args.world.now)
-    (g.I.Source.left c.args.input.now) (g.I.Source.count c.args.input.now)) refl)
+    (g.I.Source.left c.args.input.now) (g.I.Source.count c.args.input.now)) (refl, refl))
 
 pub returns-in-Ok-None : goal.returns-in-Ok-None
 returns-in-Ok-None g c =
     unwatched g.row.W-Tap.Denot g.W.Link.Kms.truth g.W.Link.Kms.link g.W.Link.Kms.step
-    g.W.Rand.Dice.left
+    g.W.World.lent g.W.World.took g.W.Rand.Dice.left
     g.W.Rand.Dice.count (texts c.args.words.now) _ _ _ _ _
     (subst (λ o. IsWatchAsked (texts c.args.words.now) (Ok o)) c.in-Ok-None.field-0-is
     c.in-Ok-None.ensures)
@@ -34,4 +34,5 @@ pub returns-in-Err : goal.returns-in-Err
 returns-in-Err g c =
     watch_not_read (texts c.args.words.now) _ _ _ _ c.in-Err.stop (refl, refl)
     c.tell_end.ensures.told c.tell_end.ensures.later g.row.W-Tap.Denot g.W.Link.Kms.truth
-    g.W.Link.Kms.link g.W.Link.Kms.step g.W.Rand.Dice.left g.W.Rand.Dice.count c.in-Err.ensures
+    g.W.Link.Kms.link g.W.Link.Kms.step g.W.World.lent g.W.World.took g.W.Rand.Dice.left
+    g.W.Rand.Dice.count c.in-Err.ensures

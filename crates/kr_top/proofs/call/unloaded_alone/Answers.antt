@@ -3,11 +3,12 @@ use Rattle.std.proofs.Common.{Ok, refl, inl, inr, subst}
 use Rattle.kr_words.specs.Grammar.{texts}
 use Rattle.kr_cmd_messages.specs.inner.WatchAnswers.{IsWatchAsked}
 use Rattle.kr_cmd_watch.proofs.WatchRuns.{no_watch_or_memory, watch_at_once}
+use Rattle.kr_cmd_steps.specs.Around.{around}
 use Rattle.kr_top.proofs.Promises.{alone_unread}
 use Rattle.kr_top.proofs.call.unloaded_alone.Goals as goal
 
-pub returns-in-Ok-Some : goal.returns-in-Ok-Some
-returns-in-Ok-Some g c = (
+pub returns-in-Ok-Some-clause-ran : goal.returns-in-Ok-Some-clause-ran
+returns-in-Ok-Some-clause-ran g c = (
   inr (inr (
     c.in-Ok-Some.asked,
     subst (λ o. IsWatchAsked (texts c.args.words.now) (Ok o)) c.in-Ok-Some.field-0-is
@@ -17,8 +18,11 @@ returns-in-Ok-Some g c = (
   (refl, refl),
 )
 
-pub returns-in-Ok-None : goal.returns-in-Ok-None
-returns-in-Ok-None g c = (
+pub returns-in-Ok-Some-clause-asked : goal.returns-in-Ok-Some-clause-asked
+returns-in-Ok-Some-clause-asked g c = tt
+
+pub returns-in-Ok-None-clause-ran : goal.returns-in-Ok-None-clause-ran
+returns-in-Ok-None-clause-ran g c = (
   c.alone.ensures.ran,
   c.alone.ensures.readings,
   c.alone.ensures.tapes,
@@ -30,10 +34,13 @@ returns-in-Ok-None g c = (
   ),
 )
 
-pub returns-in-Err : goal.returns-in-Err
-returns-in-Err g c =
+pub returns-in-Ok-None-clause-asked : goal.returns-in-Ok-None-clause-asked
+returns-in-Ok-None-clause-asked g c = c.alone.ensures.asked
+
+pub returns-in-Err-clause-ran : goal.returns-in-Err-clause-ran
+returns-in-Err-clause-ran g c =
     let alone = alone_unread (texts c.args.words.now) _ _ _ _ c.in-Err.stop (refl, refl)
-    c.tell_end.ensures.told c.tell_end.ensures.later
+    c.tell_end.ensures.told c.tell_end.ensures.later g.W.Link.Kms.step g.W.World.lent g.W.World.took
     (watch_at_once _ c.in-Err.stop c.in-Err.ensures) in (
       alone.ran,
       alone.readings,
@@ -41,3 +48,12 @@ returns-in-Err g c =
       no_watch_or_memory _ c.requires.fleet c.requires.load c.in-Err.stop c.in-Err.ensures _ _
           c.tell_end.ensures.told,
     )
+
+pub returns-in-Err-clause-asked : goal.returns-in-Err-clause-asked
+returns-in-Err-clause-asked g c =
+    let alone = alone_unread (texts c.args.words.now) (around g.W.Link.Kms.truth
+    (g.W.World.told c.args.world.now) (g.I.Source.left c.args.input.now)
+    (g.I.Source.count c.args.input.now)) _ _ _ c.in-Err.stop (refl, refl)
+    c.tell_end.ensures.told c.tell_end.ensures.later g.W.Link.Kms.step g.W.World.lent
+    g.W.World.took (watch_at_once _ c.in-Err.stop c.in-Err.ensures) in
+    alone.asked

@@ -11,8 +11,8 @@ pub exchange-requires : goal.exchange-requires
 exchange-requires g c = let served = c.wait.ensures.served in
     (search rules, (Some served.state, has_in_hand _ _ _ (ap (λ m. m.1) served.now)))
 
-pub pass_on-requires-clause-turned : goal.pass_on-requires-clause-turned
-pass_on-requires-clause-turned g c κs within =
+pub release_turn-requires-clause-turned : goal.release_turn-requires-clause-turned
+release_turn-requires-clause-turned g c κs within =
     let T = g.S.Turned in
     let v : View g.row.S-Line.Denot g.row.S-Ground.Denot = c.args.token.now.me.0 in
     let served = subst (λ (m : SeatState g.row.S.Denot g.row.S-Line.Denot g.row.S-Ground.Denot).
@@ -39,8 +39,8 @@ returns-clause-rests g c =
     ∙ (ap (λ m. m.0) c.wait.ensures.served.now
     ∙ ap (λ m. Rattle.kr_turn.specs.inner.Steps.holding_view m.0
     (g.S.Turned.lines c.wait.ensures.served.state)) c.draw-ticket.ensures.drew)) in
-    let passed = c.pass_on.ensures.passed in
-    rests_by c.pass_on.new.token c.args.number (c.args.token.now.me.0.left - 1)
+    let passed = c.release_turn.ensures.passed in
+    rests_by c.release_turn.new.token c.args.number (c.args.token.now.me.0.left - 1)
     (ap (λ m. m.0.stage) passed)
     (ap (λ m. m.0.number) passed
     ∙ (ap (λ w. w.number) view_is ∙ ap (λ t. t.me.0.number) c.requires.rests))
@@ -68,6 +68,6 @@ returns-clause-acted g c =
     c.wait.new.token.me c.exchange-taken.new.seat.me c.unwrap-state.result
     c.turn-answer.new.self line.0 c.args.number served
     (ap (λ t. t.me.0.number) c.requires.rests) same view_is carries line.1 line.2 c.args.event
-    c.turn-answer.result c.pass_on.new.token.me.0 (ap (λ m. m.0) c.pass_on.ensures.passed)
+    c.turn-answer.result c.release_turn.new.token.me.0 (ap (λ m. m.0) c.release_turn.ensures.passed)
     line.3
     c.turn-answer.ensures.law_before c.turn-answer.ensures.law_after

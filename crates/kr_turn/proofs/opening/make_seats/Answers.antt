@@ -4,7 +4,7 @@ use Rattle.std.proofs.Common.{subst, Some}
 use Rattle.atomic_table.specs.Table.{Splits}
 use Rattle.kr_turn.specs.declared.view.View.{View}
 use Rattle.kr_turn.specs.inner.Rule.{KeepsRule}
-use Rattle.kr_turn.specs.Keys.{terms_of, home_of, budget_of}
+use Rattle.kr_turn.specs.Keys.{terms_of, home_of, seat_budget}
 use Rattle.kr_turn.specs.Seats.{AreFresh}
 use Rattle.kr_turn.specs.inner.Steps.{SeatState, next_of, new_of}
 use Rattle.kr_turn.proofs.Acts.{rests_by}
@@ -32,7 +32,7 @@ split_seat-next-requires g c =
           Splits (KeepsRule T.lines T.basis T.room T.seat_of terms) c.loop-number.token.id v
           (next_of v) (new_of v)) (sym (ap (λ m. m.0) c.loop-number.invariant.1))
           (splits T.lines T.basis T.room T.seat_of terms c.loop-number.token.id number
-          (budget_of (Some terms) number) (number + 1)
+          (seat_budget (Some terms) number) (number + 1)
           (omega (arith, c.loop-number-test.true, long))),
     )
 
@@ -52,7 +52,7 @@ sit-requires-clause-counted g c =
     ∙ ap (λ m. let n : SeatState g.row.S.Denot g.row.S-Line.Denot g.row.S-Ground.Denot =
     (new_of m.0, []) in n) c.loop-number.invariant.1 in
     let none : length c.split_seat-next.result.me.0.mine ≡ 0 = ap (λ m. length m.0.mine) is in
-    let budget = ap (λ m. budget_of m.0.terms c.loop-number.number) is
+    let budget = ap (λ m. seat_budget m.0.terms c.loop-number.number) is
     ∙ ap (λ l. slice_index l c.loop-number.number) c.requires.budgets.0 in
     omega (arith, none, budget)
 
@@ -92,7 +92,7 @@ pub sit-requires-2-clause-counted : goal.sit-requires-2-clause-counted
 sit-requires-2-clause-counted g c =
     let is = c.loop-number.invariant.1 in
     let none : length c.loop-number.token.me.0.mine ≡ 0 = ap (λ m. length m.0.mine) is in
-    let budget = ap (λ m. budget_of m.0.terms (length c.args.budgets.now - 1)) is
+    let budget = ap (λ m. seat_budget m.0.terms (length c.args.budgets.now - 1)) is
     ∙ ap (λ l. slice_index l (length c.args.budgets.now - 1)) c.requires.budgets.0 in
     omega (arith, none, budget)
 

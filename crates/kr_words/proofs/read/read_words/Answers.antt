@@ -2,7 +2,7 @@
 use Rattle.std.proofs.Common.{◌≡◌, ◌∷◌, ap, sym, subst}
 use Rattle.kr_words.specs.Grammar.{texts, HasFewReplicas}
 use Rattle.kr_words.specs.declared.name.OptionName.TheVariants.{Limit, Size}
-use Rattle.kr_words.specs.Names.{word_of, text_of}
+use Rattle.kr_words.specs.Names.{word_of, option_text}
 use Rattle.kr_words.specs.Arguments.{IsWithin}
 use Rattle.kr_words.specs.Rules.{IsCommand}
 use Rattle.kr_words.specs.inner.Spelling.{HasNoSmall, HasNoFewReplicas}
@@ -17,10 +17,10 @@ returns-in-Err-Usage c =
 
 pub returns-then-not-is_command : goal.returns-then-not-is_command
 returns-then-not-is_command c =
-    let verb = c.in-Some-verb_of.verb in
+    let verb = c.in-Some-parse_verb.verb in
     let f = ap texts c.in-Some.ensures.cases.0 in
     let a = c.as_str.ensures.value in
-    let v = c.in-Some-verb_of.ensures in
+    let v = c.in-Some-parse_verb.ensures in
     let front : texts c.args.words.now ≡ word_of verb ∷ texts c.in-Some.rest.now = cc in
     misruled (texts c.args.words.now) verb (texts c.in-Some.rest.now) c.in-Ok.options.0 front
     c.in-Ok.ensures.0 c.in-Ok.ensures.1
@@ -29,11 +29,11 @@ returns-then-not-is_command c =
 
 pub returns-then-not-has_few_replicas : goal.returns-then-not-has_few_replicas
 returns-then-not-has_few_replicas c =
-    let verb = c.in-Some-verb_of.verb in
+    let verb = c.in-Some-parse_verb.verb in
     let options = c.in-Ok.options.0 in
     let f = ap texts c.in-Some.ensures.cases.0 in
     let a = c.as_str.ensures.value in
-    let v = c.in-Some-verb_of.ensures in
+    let v = c.in-Some-parse_verb.ensures in
     let front : texts c.args.words.now ≡ word_of verb ∷ texts c.in-Some.rest.now = cc in
     let is : IsCommand verb options =
     subst (IsCommand verb) c.as_slice.ensures
@@ -50,13 +50,13 @@ returns-then-not-has_few_replicas c =
       many is (subst HasNoFewReplicas c.as_slice-2.ensures c.if-not-has_few_replicas.ensures),
     )
 
-pub returns-then-not-is_within : goal.returns-then-not-is_within
-returns-then-not-is_within c =
-    let verb = c.in-Some-verb_of.verb in
+pub returns-then-not-fits_limit : goal.returns-then-not-fits_limit
+returns-then-not-fits_limit c =
+    let verb = c.in-Some-parse_verb.verb in
     let options = c.in-Ok.options.0 in
     let f = ap texts c.in-Some.ensures.cases.0 in
     let a = c.as_str.ensures.value in
-    let v = c.in-Some-verb_of.ensures in
+    let v = c.in-Some-parse_verb.ensures in
     let front : texts c.args.words.now ≡ word_of verb ∷ texts c.in-Some.rest.now = cc in
     let is : IsCommand verb options =
     subst (IsCommand verb) c.as_slice.ensures
@@ -71,17 +71,17 @@ returns-then-not-is_within c =
         command = is;
       },
       subst HasFewReplicas c.as_slice-2.ensures c.if-not-has_few_replicas.ensures,
-      above is (subst (λ o. HasNoSmall o (text_of Size) 10000) c.as_slice-3.ensures
-          c.if-not-is_within.ensures),
+      above is (subst (λ o. HasNoSmall o (option_text Size) 10000) c.as_slice-3.ensures
+          c.if-not-fits_limit.ensures),
     )
 
-pub returns-then-not-is_within-2 : goal.returns-then-not-is_within-2
-returns-then-not-is_within-2 c =
-    let verb = c.in-Some-verb_of.verb in
+pub returns-then-not-fits_limit-2 : goal.returns-then-not-fits_limit-2
+returns-then-not-fits_limit-2 c =
+    let verb = c.in-Some-parse_verb.verb in
     let options = c.in-Ok.options.0 in
     let f = ap texts c.in-Some.ensures.cases.0 in
     let a = c.as_str.ensures.value in
-    let v = c.in-Some-verb_of.ensures in
+    let v = c.in-Some-parse_verb.ensures in
     let front : texts c.args.words.now ≡ word_of verb ∷ texts c.in-Some.rest.now = cc in
     let is : IsCommand verb options =
     subst (IsCommand verb) c.as_slice.ensures
@@ -96,8 +96,8 @@ returns-then-not-is_within-2 c =
         command = is;
       },
       subst HasFewReplicas c.as_slice-2.ensures c.if-not-has_few_replicas.ensures,
-      subst (λ o. IsWithin o (text_of Size) 10000) c.as_slice-3.ensures
-          c.if-not-is_within.ensures,
-      above_page is (subst (λ o. HasNoSmall o (text_of Limit) 10000) c.as_slice-4.ensures
-          c.if-not-is_within-2.ensures),
+      subst (λ o. IsWithin o (option_text Size) 10000) c.as_slice-3.ensures
+          c.if-not-fits_limit.ensures,
+      above_page is (subst (λ o. HasNoSmall o (option_text Limit) 10000) c.as_slice-4.ensures
+          c.if-not-fits_limit-2.ensures),
     )

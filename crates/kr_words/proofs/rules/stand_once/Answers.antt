@@ -4,8 +4,8 @@ use Rattle.std.proofs.lemmas.Bool.{false≢true}
 use Rattle.std.proofs.lemmas.List.{take_all, get_or_default}
 use Rattle.kr_words.specs.declared.name.OptionName.{OptionName}
 use Rattle.kr_words.specs.declared.name.OptionName.TheVariants.{Config}
-use Rattle.kr_words.specs.Names.{text_of, IsRepeatable}
-use Rattle.kr_words.specs.Options.{count_of}
+use Rattle.kr_words.specs.Names.{option_text, IsRepeatable}
+use Rattle.kr_words.specs.Options.{count_options}
 use Rattle.kr_words.proofs.Loops.{all_more}
 use Rattle.kr_words.proofs.Commands.{all_names, each_name}
 use Rattle.kr_words.proofs.rules.stand_once.Goals as goal
@@ -21,7 +21,7 @@ returns-then-not-may_stand c = (
 pub loop-name-preserved : goal.loop-name-preserved
 loop-name-preserved c =
     let P = λ (name : OptionName). IsRepeatable name
-    ⊎ (count_of c.args.options.now (text_of name) ≤ 1) in
+    ⊎ (count_options c.args.options.now (option_text name) ≤ 1) in
     all_more P all_names c.loop-name.name-index (get_or all_names c.loop-name.name-index Config)
     c.loop-name-test.true
     (get_or_default all_names c.loop-name.name-index Config
@@ -31,7 +31,7 @@ loop-name-preserved c =
 pub returns : goal.returns
 returns c =
     let P = λ (name : OptionName). IsRepeatable name
-    ⊎ (count_of c.args.options.now (text_of name) ≤ 1) in (
+    ⊎ (count_options c.args.options.now (option_text name) ≤ 1) in (
       λ t. each_name P (subst (All P)
           (take_all c.loop-name.name-index all_names c.loop-name-test.false) c.loop-name.invariant),
       λ _. refl,

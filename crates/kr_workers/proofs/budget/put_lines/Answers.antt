@@ -9,7 +9,7 @@ loop-part-preserved c =
     puts_more c.args.parts.now c.part-item.result c.loop-part.part-index c.loop-part-test.true
     c.part-item.is c.loop-part.puts c.saturating_add-puts.result c.loop-part.invariant
     (c.saturating_add-puts.ensures
-    ∙ ap (λ n. min (c.loop-part.puts + n) (2 ^ 64 - 1)) (c.puts_among.ensures
+    ∙ ap (λ n. min (c.loop-part.puts + n) (2 ^ 64 - 1)) (c.count_puts.ensures
     ∙ ap (count_by is_put) c.as_slice.ensures))
 
 pub returns : goal.returns

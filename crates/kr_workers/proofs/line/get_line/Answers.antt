@@ -37,4 +37,4 @@ returns-clause-serves g c = subst
     c.read-done.ensures.reads c.read-done.ensures.adds c.read-done.ensures.honest
     c.read-done.ensures.idle c.read-done.ensures.asked c.read-done.ensures.dice
     c.read-done.ensures.pages c.read-done.ensures.exchanged
-    c.read-done.ensures.keys)
+    c.read-done.ensures.moments)

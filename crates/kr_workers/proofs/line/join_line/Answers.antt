@@ -1,14 +1,14 @@
 -- A `join`: one more owner of the settings of its file.
 use Rattle.std.proofs.Common.{List, Option, ap, sym, ◌∙◌, arith}
 use Rattle.std.specs.Prelude.{is_some}
-use Rattle.kr_config.specs.Kept.{Row, rows_of}
+use Rattle.kr_config.specs.Kept.{ConfigEntry, rows_of}
 use Rattle.kr_workers.specs.Files.{rows_at}
 use Rattle.kr_workers.specs.Replies.{told_of_join}
 use Rattle.kr_workers.proofs.OneLine.{read_rows, serves_join, unread_join}
 use Rattle.kr_workers.proofs.line.join_line.Goals as goal
 
-pub share_of-requires : goal.share_of-requires
-share_of-requires g c = ap (λ (r : Option (List Row)). is_some r)
+pub share_file_settings-requires : goal.share_file_settings-requires
+share_file_settings-requires g c = ap (λ (r : Option (List ConfigEntry)). is_some r)
     (ap (rows_at c.args.files.now) c.as_str.ensures ∙ c.requires.ready.may.2)
 
 pub join-done-requires-clause-replica : goal.join-done-requires-clause-replica

@@ -47,4 +47,4 @@ returns-clause-serves g c = put_as_lent g.L.Kms.truth g.L.Kms.link g.L.Kms.step 
     c.write-done.ensures.writes c.write-done.ensures.adds c.write-done.ensures.honest
     c.write-done.ensures.idle c.write-done.ensures.links c.write-done.ensures.later
     c.write-done.ensures.pages c.write-done.ensures.cache
-    c.write-done.ensures.keys)
+    c.write-done.ensures.moments)

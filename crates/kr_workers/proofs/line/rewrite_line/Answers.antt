@@ -16,4 +16,4 @@ returns-clause-serves g c = serves_rewrite g.L.Kms.truth g.L.Kms.link g.L.Kms.st
     ∙ ap (λ n. told_of_drive n c.drive-done.result) c.seat-number.ensures)
     c.drive-done.ensures.drives c.drive-done.ensures.honest c.drive-done.ensures.idle
     c.drive-done.ensures.asked c.drive-done.ensures.later c.drive-done.ensures.pages c.drive-done.ensures.exchanged
-    c.drive-done.ensures.keys
+    c.drive-done.ensures.moments

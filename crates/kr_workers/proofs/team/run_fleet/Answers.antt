@@ -6,7 +6,7 @@ use Rattle.kr_rollout.specs.Histories.{IsLegal}
 use Rattle.kr_script.specs.declared.script.Part.{Part}
 use Rattle.kr_turn.specs.Seats.{AreFresh}
 use Rattle.kr_turn.specs.declared.view.Terms.{Terms}
-use Rattle.kr_workers.specs.Budgets.{budgets_of, put_lines, reloads_of}
+use Rattle.kr_workers.specs.Budgets.{script_budgets, put_lines, reloads_of}
 use Rattle.kr_workers.specs.Histories.{IsOneHistory}
 use Rattle.kr_workers.specs.inner.SeatedWorkers.{IsReadyWorker}
 use Rattle.kr_workers.proofs.Assembling.{all_ready, as_many, back_all, budgets_many, done_seated, have_worked, none_seated_now, none_yet, one_history, seated_long, seats_long, some_seated}
@@ -120,7 +120,7 @@ returns-clause-one g c =
     let legal = subst (λ (o : Opening). IsLegal o history) (c.close.ensures.kept.0 ∙ basis)
     c.close.ensures.legal in
     let live = c.requires.budgets.1 in
-    let are = c.requires.budgets.2 ∙ ap (λ n. budgets_of (n + put_lines c.args.parts.now)
+    let are = c.requires.budgets.2 ∙ ap (λ n. script_budgets (n + put_lines c.args.parts.now)
     c.args.parts.now) live.2 in
     subst (λ ws. IsOneHistory g.L.Kms.truth g.L.Kms.link g.L.Kms.step g.D.Dice.left g.D.Dice.count
     c.args.files.now history c.args.core.opening c.args.parts.now c.args.budgets.now

@@ -4,6 +4,6 @@ use Rattle.kr_yaml.proofs.scalar.single.Goals as goal
 
 pub returns-in_default : goal.returns-in_default
 returns-in_default c = single_refused c.args.text.now (string_bytes c.pieces.word) c.pieces.rest.now
-    c.cut_before.result.0.now c.cut_before.result.1.now
-    c.pieces.invariant.1 c.cut_before.ensures.front c.cut_before.ensures.rest
-    c.cut_before.ensures.there c.in_default.ensures
+    c.split_at_stop.result.0.now c.split_at_stop.result.1.now
+    c.pieces.invariant.1 c.split_at_stop.ensures.front c.split_at_stop.ensures.rest
+    c.split_at_stop.ensures.there c.in_default.ensures

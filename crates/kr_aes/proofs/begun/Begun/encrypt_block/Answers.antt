@@ -13,5 +13,5 @@ pub returns : goal.returns
 unfolding cipher
 returns c =
     let at : c.loop-round.round ≡ round_count c.args.rounds = omega (arith, more_rounds c.args.rounds, c.count-count.ensures) in
-    c.block_of.ensures ∙ c.last_forward_round-ciphered.ensures
+    c.columns_to_block.ensures ∙ c.last_forward_round-ciphered.ensures
     ∙ rw (c.loop-round.invariant, c.count-count.ensures, at, c.words-words.ensures) refl

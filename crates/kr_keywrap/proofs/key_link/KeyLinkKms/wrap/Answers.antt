@@ -1,5 +1,5 @@
 -- An answer is that of a link: what was wrapped opens by its truth.
-use Rattle.std.proofs.Common.{◌<◌, refl}
+use Rattle.std.proofs.Common.{◌<◌, refl, rules}
 use Rattle.std.proofs.lemmas.List.Elements.{All-from_get_or}
 use Rattle.kr_keywrap.specs.KeyWrap.{IsKeyData}
 use Rattle.kr_keywrap.proofs.Truths.{asks_ok, opens_wrapped}
@@ -17,3 +17,10 @@ returns-clause-wraps g c =
         c.in-Ok.ensures.limits,
       ),
     )
+
+pub returns-clause-asked : goal.returns-clause-asked
+returns-clause-asked g c = record {
+  own = refl;
+  answers = search rules;
+  tells = (returns-clause-wraps g c).1;
+}

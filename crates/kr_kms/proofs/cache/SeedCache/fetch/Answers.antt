@@ -15,10 +15,10 @@ returns-in-Some-clause-fetched g c =
     asked_key name c.args.key_id.now c.args.annotations.now c.args.source.now in
     let same : c.in-Ok.key ≡ named (link old).name = ◌∙◌ {b = named c.name.result.now}
     c.in-Ok.ensures (ap named c.name.ensures) in
-    let copied = c.copy_of.ensures in
+    let copied = c.copy_kept_seed.ensures in
     subst (λ key. Fetches g.L.Kms.truth link old c.args.self.now key c.in-Some.kept old
-    c.copy_of.new.self) same
-    (gives_kept g.L.Kms.truth link old c.args.self.now c.copy_of.new.self c.in-Ok.key
+    c.copy_kept_seed.new.self) same
+    (gives_kept g.L.Kms.truth link old c.args.self.now c.copy_kept_seed.new.self c.in-Ok.key
     c.in-Some.kept c.in-Some.ensures.found copied.rows copied.size copied.fits)
 
 pub returns-in-Err-clause-fetched : goal.returns-in-Err-clause-fetched
@@ -31,10 +31,10 @@ returns-in-Err-clause-fetched g c =
     let same : c.in-Ok.key ≡ named (link old).name = ◌∙◌ {b = named c.name.result.now}
     c.in-Ok.ensures (ap named c.name.ensures) in
     let none : seed_at rows (named (link old).name) ≡ None =
-    subst (λ key. seed_at rows key ≡ None) same c.in_default-copy_of.ensures.found in
-    let copied = c.copy_of.ensures in
+    subst (λ key. seed_at rows key ≡ None) same c.in_default-copy_kept_seed.ensures.found in
+    let copied = c.copy_kept_seed.ensures in
     let stop = gives_answer g.L.Kms.truth link old c.unwrap_source.new.self c.args.self.now
-    c.copy_of.new.self c.args.key_id.now c.args.annotations.now c.args.source.now
+    c.copy_kept_seed.new.self c.args.key_id.now c.args.annotations.now c.args.source.now
     (Err c.in-Err.why) none c.in-Err.ensures.unwraps
     (λ other seed there. inl (copied.rows other seed there)) copied.size copied.fits in search (rules, stop)
 
@@ -49,15 +49,15 @@ returns-in-Ok-unwrap_source-clause-fetched g c =
     let same : c.in-Ok.key ≡ named (link old).name = ◌∙◌ {b = named c.name.result.now}
     c.in-Ok.ensures (ap named c.name.ensures) in
     let none : seed_at rows (named (link old).name) ≡ None =
-    subst (λ key. seed_at rows key ≡ None) same c.in_default-copy_of.ensures.found in
+    subst (λ key. seed_at rows key ≡ None) same c.in_default-copy_kept_seed.ensures.found in
     let kept = c.keep.ensures in
-    let copied = c.copy_of.ensures in
+    let copied = c.copy_kept_seed.ensures in
     gives_answer g.L.Kms.truth link old c.unwrap_source.new.self c.args.self.now c.keep.new.self
     c.args.key_id.now c.args.annotations.now c.args.source.now (Ok seed) none
     c.in-Ok-unwrap_source.ensures.unwraps
-    (rows_with rows c.copy_of.new.self.rows c.keep.new.self.rows (named (link old).name) seed
+    (rows_with rows c.copy_kept_seed.new.self.rows c.keep.new.self.rows (named (link old).name) seed
     copied.rows
-    (subst (λ key. AreAmongWith c.copy_of.new.self.rows key seed c.keep.new.self.rows) same
+    (subst (λ key. AreAmongWith c.copy_kept_seed.new.self.rows key seed c.keep.new.self.rows) same
     kept.rows))
     (kept.size ∙ copied.size) kept.fits
 
@@ -74,7 +74,7 @@ returns-in-Some-clause-asked g c =
     let same : c.in-Ok.key ≡ named (link old).name = ◌∙◌ {b = named c.name.result.now}
     c.in-Ok.ensures (ap named c.name.ensures) in
     let found = c.in-Some.ensures.found in
-    talk_none _ _ _ (subst (λ key. FetchesBy key cache c.in-Some.kept c.copy_of.new.self []) same
+    talk_none _ _ _ (subst (λ key. FetchesBy key cache c.in-Some.kept c.copy_kept_seed.new.self []) same
     (kept found.0 found.1 found.2 c.in-Some.ensures.used))
 
 pub returns-in-Err-clause-asked : goal.returns-in-Err-clause-asked
@@ -86,8 +86,8 @@ returns-in-Err-clause-asked g c =
     let same : c.in-Ok.key ≡ named (link c.args.link.now).name = ◌∙◌
     {b = named c.name.result.now} c.in-Ok.ensures (ap named c.name.ensures) in
     let none : seed_at rows (named (link c.args.link.now).name) ≡ None =
-    subst (λ key. seed_at rows key ≡ None) same c.in_default-copy_of.ensures.found in
-    talk_one _ _ _ _ _ (search rules) (unwrapped none c.in_default-copy_of.ensures.used)
+    subst (λ key. seed_at rows key ≡ None) same c.in_default-copy_kept_seed.ensures.found in
+    talk_one _ _ _ _ _ (search rules) (unwrapped none c.in_default-copy_kept_seed.ensures.used)
 
 pub returns-in-Ok-unwrap_source-clause-asked : goal.returns-in-Ok-unwrap_source-clause-asked
 returns-in-Ok-unwrap_source-clause-asked g c =
@@ -99,10 +99,10 @@ returns-in-Ok-unwrap_source-clause-asked g c =
     let same : c.in-Ok.key ≡ named (link c.args.link.now).name = ◌∙◌
     {b = named c.name.result.now} c.in-Ok.ensures (ap named c.name.ensures) in
     let none : seed_at cache.rows (named (link c.args.link.now).name) ≡ None =
-    subst (λ key. seed_at cache.rows key ≡ None) same c.in_default-copy_of.ensures.found in
+    subst (λ key. seed_at cache.rows key ≡ None) same c.in_default-copy_kept_seed.ensures.found in
     let put : IsPut cache (named (link c.args.link.now).name) seed c.keep.new.self =
     subst (λ key. IsPut cache key seed c.keep.new.self) same
     (subst (λ before. IsPut before c.in-Ok.key seed c.keep.new.self)
-    c.in_default-copy_of.ensures.used c.keep.ensures.put) in
+    c.in_default-copy_kept_seed.ensures.used c.keep.ensures.put) in
     talk_one _ _ _ _ _ (search rules) (unwrapped none
     (is_kept cache (named (link c.args.link.now).name) seed c.keep.new.self none put))

@@ -12,8 +12,8 @@ unreachable-requires g c =
     let key : ℕ × List ℕ = (c.args.seat, (g.L.Kms.link c.args.link).name) in
     let none : position (λ o. same_link o key) out ≡ None =
     sym (c.in_default.ensures.first
-    ∙ ap (λ n. position (λ o. same_link o (c.args.seat, n)) c.out.result.now) c.name.ensures
-    ∙ ap (λ l. position (λ o. same_link o key) l) c.out.ensures) in
+    ∙ ap (λ n. position (λ o. same_link o (c.args.seat, n)) c.taken_keys.result.now) c.name.ensures
+    ∙ ap (λ l. position (λ o. same_link o key) l) c.taken_keys.ensures) in
     let gone = none_counted (λ o. same_link o key) out (no_place (λ o. same_link o key) out none) in
     omega (arith, gone, c.requires)
 
@@ -23,8 +23,8 @@ returns-clause-back g c =
     let key : ℕ × List ℕ = (c.args.seat, (link c.args.link).name) in
     let place : position (λ o. same_link o key) c.args.self.now.links.out ≡ Some c.in-Some.at =
     sym (c.in-Some.ensures.first
-    ∙ ap (λ n. position (λ o. same_link o (c.args.seat, n)) c.out.result.now) c.name.ensures
-    ∙ ap (λ l. position (λ o. same_link o key) l) c.out.ensures) in
+    ∙ ap (λ n. position (λ o. same_link o (c.args.seat, n)) c.taken_keys.result.now) c.name.ensures
+    ∙ ap (λ l. position (λ o. same_link o key) l) c.taken_keys.ensures) in
     returned same_link (link_key link) (option_and_then (λ entry. (link entry.1).status))
     (λ entry. (link entry.1).count) links_decide c.args.self.now.links c.put_back.new.self
     c.in-Some.at key (c.args.seat, c.args.link) refl place c.put_back.ensures

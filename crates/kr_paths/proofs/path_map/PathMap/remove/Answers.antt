@@ -15,13 +15,13 @@ returns-then-not-spot-clause-removed c = sym (ap (remove_entry (is_at (path_cmp 
     ∙ spot_kept c.args.path.now c.self.inside.parts.items c.find-spot.result (subst (λ l. IsSpot c.args.path.now l c.find-spot.result) c.as_slice.ensures.value c.find-spot.ensures) (not_so c.find-spot.result.there c.if-not-spot.true)
     ∙ c.self.view_is)
 
-pub take_at-number-requires-clause-spot : goal.take_at-number-requires-clause-spot
-take_at-number-requires-clause-spot c = subst (λ l. IsSpot c.args.path.now l c.find-spot.result) c.as_slice.ensures.value c.find-spot.ensures
+pub remove_path-number-requires-clause-spot : goal.remove_path-number-requires-clause-spot
+remove_path-number-requires-clause-spot c = subst (λ l. IsSpot c.args.path.now l c.find-spot.result) c.as_slice.ensures.value c.find-spot.ensures
 
 pub invariant_of-self : goal.invariant_of-self
 invariant_of-self c =
-    let left : length (joined c.take_at-number.new.parts.items) ≡ length (remove_entry (is_at (path_cmp c.args.path.now)) (joined c.self.inside.parts.items)) = ap length c.take_at-number.ensures.removed in
+    let left : length (joined c.remove_path-number.new.parts.items) ≡ length (remove_entry (is_at (path_cmp c.args.path.now)) (joined c.self.inside.parts.items)) = ap length c.remove_path-number.ensures.removed in
     let one : length (remove_entry (is_at (path_cmp c.args.path.now)) (joined c.self.inside.parts.items)) + 1 ≡ length (joined c.self.inside.parts.items) =
     gone_length c.args.path.now c.self.inside.parts.items c.find-spot.result (subst (λ l. IsSpot c.args.path.now l c.find-spot.result) c.as_slice.ensures.value c.find-spot.ensures) (so c.find-spot.result.there c.if-not-spot.false) in
     let all : c.self.inside.count ≡ length (joined c.self.inside.parts.items) = c.self.invariant.1 in
-    (c.take_at-number.ensures.parts, omega (arith, left, one, all))
+    (c.remove_path-number.ensures.parts, omega (arith, left, one, all))

@@ -12,19 +12,19 @@ use Rattle.kr_provider.proofs.bench.Bench.unseal_in_place.Goals as goal
 pub invariant_of-self : goal.invariant_of-self
 invariant_of-self g c = (
   unsealed_stay g.L.Kms.link g.L.Kms.truth c.args.resource.now c.args.path.now c.args.value
-      c.self.inside.links c.unseal_for.new.links c.self.inside.adoption.published
-      c.unseal_for.result c.unseal_for.ensures.opened c.self.invariant.0,
-  c.unseal_for.ensures.kept,
+      c.self.inside.links c.unseal_for_resource.new.links c.self.inside.adoption.published
+      c.unseal_for_resource.result c.unseal_for_resource.ensures.opened c.self.invariant.0,
+  c.unseal_for_resource.ensures.kept,
 )
 
 pub returns-clause-cached : goal.returns-clause-cached
 returns-clause-cached g c = subst (λ b. IfSome b.published (λ p. HeedsCache b.cache.rows
     p.seeds (list_at p c.args.resource.now) c.args.path.now c.args.value b.links
-    c.unseal_for.result c.unseal_for.new.links))
-    c.self.view_is c.unseal_for.ensures.cached
+    c.unseal_for_resource.result c.unseal_for_resource.new.links))
+    c.self.view_is c.unseal_for_resource.ensures.cached
 
 pub returns-clause-exchanged : goal.returns-clause-exchanged
 returns-clause-exchanged g c = subst (λ b. IfSome b.published (λ p. Talk (Among g.L.Kms.step)
-    b.links c.unseal_for.new.links (ReadsBy p.seeds (list_at p c.args.resource.now)
-    c.args.path.now c.args.value b.cache c.unseal_for.result c.unseal_for.new.cache)))
-    c.self.view_is c.unseal_for.ensures.exchanged
+    b.links c.unseal_for_resource.new.links (ReadsBy p.seeds (list_at p c.args.resource.now)
+    c.args.path.now c.args.value b.cache c.unseal_for_resource.result c.unseal_for_resource.new.cache)))
+    c.self.view_is c.unseal_for_resource.ensures.exchanged

@@ -13,8 +13,8 @@ use Rattle.kr_provider.specs.AskedLinks.{Among}
 use Rattle.kr_provider.proofs.LinkTalks.{talk_among}
 use Rattle.kr_provider.proofs.links.Links.fetch.Goals as goal
 
-pub place_of-at-requires : goal.place_of-at-requires
-place_of-at-requires g c = subst (λ l. Contains (names_of g.L.Kms.link l) c.args.name.now)
+pub plugin_link_place-at-requires : goal.plugin_link_place-at-requires
+plugin_link_place-at-requires g c = subst (λ l. Contains (names_of g.L.Kms.link l) c.args.name.now)
     (sym c.self.view_is ∙ sym c.as_slice.ensures.value) c.requires
 
 pub invariant_of-self : goal.invariant_of-self
@@ -23,12 +23,12 @@ invariant_of-self g c =
     let same : g.row.L.Denot → g.row.L.Denot → Type 0 = λ old new.
     IsSameLink (g.L.Kms.link old) (g.L.Kms.link new) in
     let place = ap (position test) (sym c.as_slice.ensures.value)
-    ∙ c.place_of-at.ensures.place in
+    ∙ c.plugin_link_place-at.ensures.place in
     let items = c.self.inside.items.items in
-    let news = slice_set items c.place_of-at.result c.fetch.new.link in
+    let news = slice_set items c.plugin_link_place-at.result c.fetch.new.link in
     distinct_stay g.L.Kms.link (c.args.name.now ∷ []) items news
     (asked_alone g.L.Kms.link c.args.name.now same items news
-    (asks_at g.L.Kms.link c.args.name.now same items news c.place_of-at.result c.index_mut.result.now
+    (asks_at g.L.Kms.link c.args.name.now same items news c.plugin_link_place-at.result c.index_mut.result.now
     c.fetch.new.link place c.index_mut.ensures.value refl
     c.fetch.ensures.fetched.asks.same c.fetch.ensures.fetched.asks.same)) c.self.invariant
 
@@ -37,15 +37,15 @@ returns-clause-fetched g c =
     let test : g.row.L.Denot → Bool = λ l. bytes_eq (g.L.Kms.link l).name c.args.name.now in
     let asks : g.row.L.Denot → g.row.L.Denot → Type 0 = λ old new. Fetches g.L.Kms.truth g.L.Kms.link old c.args.cache.now (asked_key c.args.name.now c.args.object.now.key_id c.args.object.now.annotations c.args.object.now.source) c.fetch.result new c.fetch.new.self in
     let place = ap (position test) (sym c.as_slice.ensures.value)
-    ∙ c.place_of-at.ensures.place in
+    ∙ c.plugin_link_place-at.ensures.place in
     let items = c.self.inside.items.items in
-    let news = slice_set items c.place_of-at.result c.fetch.new.link in
+    let news = slice_set items c.plugin_link_place-at.result c.fetch.new.link in
     subst (λ l. AsksOne g.L.Kms.link c.args.name.now asks l news) c.self.view_is
-    (asks_at g.L.Kms.link c.args.name.now asks items news c.place_of-at.result c.index_mut.result.now
+    (asks_at g.L.Kms.link c.args.name.now asks items news c.plugin_link_place-at.result c.index_mut.result.now
     c.fetch.new.link place c.index_mut.ensures.value refl
     c.fetch.ensures.fetched.asks.same (subst (λ k. Fetches g.L.Kms.truth g.L.Kms.link c.index_mut.result.now c.args.cache.now k
     c.fetch.result c.fetch.new.link c.fetch.new.self) (λ i. asked_key
-    (place_named g.L.Kms.link c.args.name.now items c.place_of-at.result c.index_mut.result.now place
+    (place_named g.L.Kms.link c.args.name.now items c.plugin_link_place-at.result c.index_mut.result.now place
     c.index_mut.ensures.value i) (c.as_str.ensures i)
     c.args.object.now.annotations (c.as_slice-2.ensures i)) c.fetch.ensures.fetched))
 
@@ -55,13 +55,13 @@ returns-clause-exchanged g c =
     let test : g.row.L.Denot → Bool = λ l. bytes_eq (g.L.Kms.link l).name c.args.name.now in
     let Are = FetchesBy (asked_key c.args.name.now c.args.object.now.key_id c.args.object.now.annotations c.args.object.now.source) c.args.cache.now c.fetch.result c.fetch.new.self in
     let talks : g.row.L.Denot → g.row.L.Denot → Type 0 = λ old new. Talk step old new Are in
-    let place = ap (position test) (sym c.as_slice.ensures.value) ∙ c.place_of-at.ensures.place in
+    let place = ap (position test) (sym c.as_slice.ensures.value) ∙ c.plugin_link_place-at.ensures.place in
     let items = c.self.inside.items.items in
-    let news = slice_set items c.place_of-at.result c.fetch.new.link in
+    let news = slice_set items c.plugin_link_place-at.result c.fetch.new.link in
     subst (λ l. Talk (Among step) l news Are) c.self.view_is
     (talk_among step g.L.Kms.link c.args.name.now Are items news
-    (asks_at g.L.Kms.link c.args.name.now talks items news c.place_of-at.result c.index_mut.result.now
+    (asks_at g.L.Kms.link c.args.name.now talks items news c.plugin_link_place-at.result c.index_mut.result.now
     c.fetch.new.link place c.index_mut.ensures.value refl c.fetch.ensures.fetched.asks.same
     (subst (λ k. Talk step c.index_mut.result.now c.fetch.new.link (FetchesBy k c.args.cache.now c.fetch.result c.fetch.new.self))
-    (λ i. asked_key (place_named g.L.Kms.link c.args.name.now items c.place_of-at.result c.index_mut.result.now place
+    (λ i. asked_key (place_named g.L.Kms.link c.args.name.now items c.plugin_link_place-at.result c.index_mut.result.now place
     c.index_mut.ensures.value i) (c.as_str.ensures i) c.args.object.now.annotations (c.as_slice-2.ensures i)) c.fetch.ensures.asked)))

@@ -13,8 +13,8 @@ use Rattle.kr_provider.proofs.AskedLists.{asked_alone, asks_at, distinct_stay, p
 use Rattle.kr_provider.proofs.LinkTalks.{talk_among}
 use Rattle.kr_provider.proofs.links.Links.key_id.Goals as goal
 
-pub place_of-at-requires : goal.place_of-at-requires
-place_of-at-requires g c = subst (λ l. Contains (names_of g.L.Kms.link l) c.args.name.now)
+pub plugin_link_place-at-requires : goal.plugin_link_place-at-requires
+plugin_link_place-at-requires g c = subst (λ l. Contains (names_of g.L.Kms.link l) c.args.name.now)
     (sym c.self.view_is ∙ sym c.as_slice.ensures.value) c.requires
 
 pub invariant_of-self : goal.invariant_of-self
@@ -23,41 +23,41 @@ invariant_of-self g c =
     let same : g.row.L.Denot → g.row.L.Denot → Type 0 = λ old new.
     IsSameLink (g.L.Kms.link old) (g.L.Kms.link new) in
     let place = ap (position test) (sym c.as_slice.ensures.value)
-    ∙ c.place_of-at.ensures.place in
+    ∙ c.plugin_link_place-at.ensures.place in
     let items = c.self.inside.items.items in
-    let news = slice_set items c.place_of-at.result c.key_id_of.new.link in
+    let news = slice_set items c.plugin_link_place-at.result c.healthy_key_id.new.link in
     distinct_stay g.L.Kms.link (c.args.name.now ∷ []) items news
     (asked_alone g.L.Kms.link c.args.name.now same items news
-    (asks_at g.L.Kms.link c.args.name.now same items news c.place_of-at.result c.index_mut.result.now
-    c.key_id_of.new.link place c.index_mut.ensures.value refl
-    c.key_id_of.ensures.same c.key_id_of.ensures.same)) c.self.invariant
+    (asks_at g.L.Kms.link c.args.name.now same items news c.plugin_link_place-at.result c.index_mut.result.now
+    c.healthy_key_id.new.link place c.index_mut.ensures.value refl
+    c.healthy_key_id.ensures.same c.healthy_key_id.ensures.same)) c.self.invariant
 
 pub returns-clause-told : goal.returns-clause-told
 returns-clause-told g c =
     let test : g.row.L.Denot → Bool = λ l. bytes_eq (g.L.Kms.link l).name c.args.name.now in
-    let asks : g.row.L.Denot → g.row.L.Denot → Type 0 = λ old new. TellsKeyId (g.L.Kms.link old) c.key_id_of.result (g.L.Kms.link new) in
+    let asks : g.row.L.Denot → g.row.L.Denot → Type 0 = λ old new. TellsKeyId (g.L.Kms.link old) c.healthy_key_id.result (g.L.Kms.link new) in
     let place = ap (position test) (sym c.as_slice.ensures.value)
-    ∙ c.place_of-at.ensures.place in
+    ∙ c.plugin_link_place-at.ensures.place in
     let items = c.self.inside.items.items in
-    let news = slice_set items c.place_of-at.result c.key_id_of.new.link in
+    let news = slice_set items c.plugin_link_place-at.result c.healthy_key_id.new.link in
     subst (λ l. AsksOne g.L.Kms.link c.args.name.now asks l news) c.self.view_is
-    (asks_at g.L.Kms.link c.args.name.now asks items news c.place_of-at.result c.index_mut.result.now
-    c.key_id_of.new.link place c.index_mut.ensures.value refl
-    c.key_id_of.ensures.same c.key_id_of.ensures.told)
+    (asks_at g.L.Kms.link c.args.name.now asks items news c.plugin_link_place-at.result c.index_mut.result.now
+    c.healthy_key_id.new.link place c.index_mut.ensures.value refl
+    c.healthy_key_id.ensures.same c.healthy_key_id.ensures.told)
 
 pub returns-clause-exchanged : goal.returns-clause-exchanged
 returns-clause-exchanged g c =
     let step = g.L.Kms.step in
     let test : g.row.L.Denot → Bool = λ l. bytes_eq (g.L.Kms.link l).name c.args.name.now in
-    let Are = TellsKeyIdBy c.args.name.now c.key_id_of.result in
+    let Are = TellsKeyIdBy c.args.name.now c.healthy_key_id.result in
     let talks : g.row.L.Denot → g.row.L.Denot → Type 0 = λ old new. Talk step old new Are in
-    let place = ap (position test) (sym c.as_slice.ensures.value) ∙ c.place_of-at.ensures.place in
+    let place = ap (position test) (sym c.as_slice.ensures.value) ∙ c.plugin_link_place-at.ensures.place in
     let items = c.self.inside.items.items in
-    let news = slice_set items c.place_of-at.result c.key_id_of.new.link in
+    let news = slice_set items c.plugin_link_place-at.result c.healthy_key_id.new.link in
     subst (λ l. Talk (Among step) l news Are) c.self.view_is
     (talk_among step g.L.Kms.link c.args.name.now Are items news
-    (asks_at g.L.Kms.link c.args.name.now talks items news c.place_of-at.result c.index_mut.result.now
-    c.key_id_of.new.link place c.index_mut.ensures.value refl c.key_id_of.ensures.same
-    (subst (λ n. Talk step c.index_mut.result.now c.key_id_of.new.link (TellsKeyIdBy n c.key_id_of.result))
-    (place_named g.L.Kms.link c.args.name.now items c.place_of-at.result c.index_mut.result.now place
-    c.index_mut.ensures.value) c.key_id_of.ensures.asked)))
+    (asks_at g.L.Kms.link c.args.name.now talks items news c.plugin_link_place-at.result c.index_mut.result.now
+    c.healthy_key_id.new.link place c.index_mut.ensures.value refl c.healthy_key_id.ensures.same
+    (subst (λ n. Talk step c.index_mut.result.now c.healthy_key_id.new.link (TellsKeyIdBy n c.healthy_key_id.result))
+    (place_named g.L.Kms.link c.args.name.now items c.plugin_link_place-at.result c.index_mut.result.now place
+    c.index_mut.ensures.value) c.healthy_key_id.ensures.asked)))

@@ -8,8 +8,8 @@ use Rattle.kr_rollout.proofs.Keeping.{read_number, board_holds, rollout_taken}
 use Rattle.kr_rollout.proofs.Serving.{adopted_at}
 use Rattle.kr_rollout.proofs.rollout.Rollout.adopt.Goals as goal
 
-pub published_of-requires : goal.published_of-requires
-published_of-requires g c =
+pub published_generation-requires : goal.published_generation-requires
+published_generation-requires g c =
     let may = subst (λ (x : RolloutState). MayServe x c.args.seat (event.Adopt c.args.replica))
     (sym c.self.view_is) c.requires.may in
     let is : number_at c.self.inside.current.items c.args.replica ≡ Some c.in-Some.generation =
@@ -62,5 +62,5 @@ returns-in-Ok g c =
     c.args.seat c.args.replica c.in-Some.generation c.in-Ok.published c.self.invariant.0
     c.self.view_is c.hold.ensures c.requires.seat_in c.requires.may is
     (ap (λ (l : List Generation). published_at l (Some c.in-Some.generation))
-    (sym c.as_slice.ensures) ∙ c.published_of.ensures ∙ ap Some (sym c.in-Ok.ensures))
+    (sym c.as_slice.ensures) ∙ c.published_generation.ensures ∙ ap Some (sym c.in-Ok.ensures))
     c.line-line-in-Ok.ensures

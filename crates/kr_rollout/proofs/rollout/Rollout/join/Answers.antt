@@ -18,9 +18,9 @@ returns-in-Ok-Fits g c =
     (omega (arith, may.0, c.self.invariant.0.replicas)) c.index.ensures ∙ c.in_default.is in
     let judged = subst (λ x. IsJudgement c.self.inside.board c.args.replica c.args.published x)
     c.in-Ok-Fits.field-0-is c.in-Ok-Fits.ensures in
-    joined_at _ c.args.self.now c.take_up-generation.new.self c.self.inside.board c.args.seat
-    c.args.replica c.take_up-generation.result c.args.published c.in-Ok-Fits.published
+    joined_at _ c.args.self.now c.push_generation-generation.new.self c.self.inside.board c.args.seat
+    c.args.replica c.push_generation-generation.result c.args.published c.in-Ok-Fits.published
     c.line-line-in-Ok-Fits.result c.self.invariant.0 c.self.view_is c.requires.seat_in
     (subst (λ (x : Publication). IsPublished x) c.get.ensures c.known.ensures) judged.0
-    c.take_up-generation.ensures.number judged.2 c.take_up-generation.ensures.taken
+    c.push_generation-generation.ensures.number judged.2 c.push_generation-generation.ensures.taken
     c.requires.may is c.line-line-in-Ok-Fits.ensures

@@ -12,9 +12,9 @@ returns-in-Ok-Fits g c =
     c.in-Ok-Fits.field-0-is c.in-Ok-Fits.ensures in
     let is = subst (λ (x : RolloutState). HasExpected x.state c.args.replica c.args.expect)
     (sym c.self.view_is) c.requires.expected in
-    reloaded_at _ c.args.self.now c.take_up-generation.new.self c.self.inside.board c.args.seat
-    c.args.replica c.take_up-generation.result c.args.published c.in-Ok-Fits.published
+    reloaded_at _ c.args.self.now c.push_generation-generation.new.self c.self.inside.board c.args.seat
+    c.args.replica c.push_generation-generation.result c.args.published c.in-Ok-Fits.published
     c.line-line.result c.self.invariant.0 c.self.view_is c.requires.seat_in
     (subst (λ (x : Publication). IsPublished x) c.get.ensures c.known.ensures) judged.0
-    c.take_up-generation.ensures.number judged.2 c.take_up-generation.ensures.taken
+    c.push_generation-generation.ensures.number judged.2 c.push_generation-generation.ensures.taken
     c.args.expect c.requires.may is c.line-line.ensures

@@ -12,8 +12,8 @@ use Rattle.kr_rollout.proofs.Storing.{seen, own_published, replace_serves}
 use Rattle.kr_rollout.proofs.Growing.{faults_replace, grown_replace}
 use Rattle.kr_rollout.proofs.rollout.Rollout.replace.Goals as goal
 
-pub published_of-requires : goal.published_of-requires
-published_of-requires g c =
+pub published_generation-requires : goal.published_generation-requires
+published_generation-requires g c =
     let l = subst (λ (x : RolloutState). c.args.seat < length x.opening.reloads)
     (sym c.self.view_is) c.requires.seat_in in
     let held_is : number_at c.self.inside.held.items c.args.seat ≡ Some c.in-Some.number =
@@ -55,10 +55,10 @@ replace_live-result-requires-clause-stored g c =
     read_number c.self.inside.held.items c.args.seat c.index.result.now
     (omega (arith, l, c.self.invariant.0.seats)) c.index.ensures ∙ c.in-Some.is in
     let same = own_published c.self.inside.generations.0 c.self.inside.held.items c.args.seat
-    c.in-Some.number may.1 may.2 c.get-published.result.now c.published_of.result.now held_is may.4
+    c.in-Some.number may.1 may.2 c.get-published.result.now c.published_generation.result.now held_is may.4
     may.5
     (ap (λ (l : List Generation). published_at l (Some c.in-Some.number)) (sym c.as_slice.ensures)
-    ∙ c.published_of.ensures)
+    ∙ c.published_generation.ensures)
     c.get-published.ensures in
     c.size_of_sealing.ensures.few may.2 may.3.resource c.args.path may.7.plain c.args.stored
     (subst (λ (x : Publication). IsPublished x) (sym same) c.known.ensures) may.7.sealing
@@ -74,10 +74,10 @@ returns g c =
     read_number c.self.inside.held.items c.args.seat c.index.result.now
     (omega (arith, l, c.self.invariant.0.seats)) c.index.ensures ∙ c.in-Some.is in
     let same = own_published c.self.inside.generations.0 c.self.inside.held.items c.args.seat
-    c.in-Some.number may.1 may.2 c.get-published.result.now c.published_of.result.now held_is may.4
+    c.in-Some.number may.1 may.2 c.get-published.result.now c.published_generation.result.now held_is may.4
     may.5
     (ap (λ (l : List Generation). published_at l (Some c.in-Some.number)) (sym c.as_slice.ensures)
-    ∙ c.published_of.ensures)
+    ∙ c.published_generation.ensures)
     c.get-published.ensures in
     seen _ c.args.self.now _ c.args.seat (event.Replace c.args.path c.args.revision c.args.stored)
     (written_as c.replace_live-result.result) c.put_answer-answer.result

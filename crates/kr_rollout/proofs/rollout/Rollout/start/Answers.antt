@@ -9,7 +9,7 @@ use Rattle.kr_rollout.proofs.rollout.Rollout.start.Goals as goal
 pub invariant_of-result : goal.invariant_of-result
 invariant_of-result g c = (
   opened_rollout c.args.store c.args.replicas.0 c.args.names.0 c.args.reloads.now
-      c.in-Ok-board_of.board c.in-Ok.made.generations.0 c.in-Ok.made.current.items
+      c.in-Ok-make_opening_board.board c.in-Ok.made.generations.0 c.in-Ok.made.current.items
       c.in-Ok.made.held.items
       c.in-Ok.made.reloads.items c.revision-first_rows.result c.faults-first_faults.result
       c.torn-first_torn.result
@@ -21,8 +21,8 @@ invariant_of-result g c = (
       c.in-Ok.ensures.reloads
       (c.in-Ok.ensures.room ∙ ap (λ (l : List (Option Publication)). length l + sum
       c.args.reloads.now) c.as_slice.ensures)
-      (subst (λ rs. Boards c.args.store.rows rs c.in-Ok.made.room (Ok c.in-Ok-board_of.board))
-      (c.in-Ok.ensures.settings ∙ ap settings_of c.as_slice.ensures) c.in-Ok-board_of.ensures)
+      (subst (λ rs. Boards c.args.store.rows rs c.in-Ok.made.room (Ok c.in-Ok-make_opening_board.board))
+      (c.in-Ok.ensures.settings ∙ ap settings_of c.as_slice.ensures) c.in-Ok-make_opening_board.ensures)
       (omega (arith, c.requires.seats.0, c.requires.seats.1)),
   omega (arith, c.revision-first_rows.ensures),
   omega (
@@ -41,7 +41,7 @@ invariant_of-result g c = (
 pub returns-clause-opens : goal.returns-clause-opens
 returns-clause-opens g c = (
   opened_legal c.args.store c.args.replicas.0 c.args.names.0 c.args.reloads.now
-      c.in-Ok-board_of.board c.in-Ok.made.generations.0 c.in-Ok.made.current.items
+      c.in-Ok-make_opening_board.board c.in-Ok.made.generations.0 c.in-Ok.made.current.items
       c.in-Ok.made.held.items
       c.in-Ok.made.reloads.items c.revision-first_rows.result c.faults-first_faults.result
       c.torn-first_torn.result
@@ -53,14 +53,14 @@ returns-clause-opens g c = (
       c.in-Ok.ensures.reloads
       (c.in-Ok.ensures.room ∙ ap (λ (l : List (Option Publication)). length l + sum
       c.args.reloads.now) c.as_slice.ensures)
-      (subst (λ rs. Boards c.args.store.rows rs c.in-Ok.made.room (Ok c.in-Ok-board_of.board))
-      (c.in-Ok.ensures.settings ∙ ap settings_of c.as_slice.ensures) c.in-Ok-board_of.ensures)
+      (subst (λ rs. Boards c.args.store.rows rs c.in-Ok.made.room (Ok c.in-Ok-make_opening_board.board))
+      (c.in-Ok.ensures.settings ∙ ap settings_of c.as_slice.ensures) c.in-Ok-make_opening_board.ensures)
       c.known.ensures.1.0 c.requires.first c.requires.names
       (subst (λ (l : List (Option Publication)). All (λ replica. IfSome replica IsPublished) l)
       c.as_slice.ensures (c.in-Ok.ensures.published refl)),
-  (subst (λ rs. Boards c.args.store.rows rs c.in-Ok.made.room (Ok c.in-Ok-board_of.board))
-      (c.in-Ok.ensures.settings ∙ ap settings_of c.as_slice.ensures) c.in-Ok-board_of.ensures).0,
-  opened c.args.store c.args.replicas.0 c.args.names.0 c.args.reloads.now c.in-Ok-board_of.board
+  (subst (λ rs. Boards c.args.store.rows rs c.in-Ok.made.room (Ok c.in-Ok-make_opening_board.board))
+      (c.in-Ok.ensures.settings ∙ ap settings_of c.as_slice.ensures) c.in-Ok-make_opening_board.ensures).0,
+  opened c.args.store c.args.replicas.0 c.args.names.0 c.args.reloads.now c.in-Ok-make_opening_board.board
       c.in-Ok.made.generations.0 c.in-Ok.made.current.items c.in-Ok.made.held.items
       c.in-Ok.made.reloads.items c.revision-first_rows.result c.faults-first_faults.result
       c.torn-first_torn.result
@@ -72,6 +72,6 @@ returns-clause-opens g c = (
       c.in-Ok.ensures.reloads
       (c.in-Ok.ensures.room ∙ ap (λ (l : List (Option Publication)). length l + sum
       c.args.reloads.now) c.as_slice.ensures)
-      (subst (λ rs. Boards c.args.store.rows rs c.in-Ok.made.room (Ok c.in-Ok-board_of.board))
-      (c.in-Ok.ensures.settings ∙ ap settings_of c.as_slice.ensures) c.in-Ok-board_of.ensures),
+      (subst (λ rs. Boards c.args.store.rows rs c.in-Ok.made.room (Ok c.in-Ok-make_opening_board.board))
+      (c.in-Ok.ensures.settings ∙ ap settings_of c.as_slice.ensures) c.in-Ok-make_opening_board.ensures),
 )

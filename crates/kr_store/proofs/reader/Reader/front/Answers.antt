@@ -13,7 +13,7 @@ returns-in-Err-Breach-clause-names g c = elim
 
 pub returns-clause-names : goal.returns-clause-names
 returns-clause-names g c =
-    named_by c.args.self.now c.fill.new.self c.fill.new.into c.format_of.result
+    named_by c.args.self.now c.fill.new.self c.fill.new.into c.named_format.result
     c.in-Ok.ensures.read c.fill.ensures.advances.moves c.requires.start
     (omega (arith, c.requires.some, c.fill.auto.into)) (c.fill.auto.into ∙ c.requires.size)
-    c.format_of.ensures
+    c.named_format.ensures

@@ -4,16 +4,16 @@ use Rattle.std.specs.Int.{w64, to_be_bytes}
 use Rattle.kr_store.specs.Breaches.{Read, behind, kind_part, revision_part, path_part}
 use Rattle.kr_store.specs.File.{text_bytes}
 use Rattle.kr_store.specs.inner.Reading.{head_bytes}
-use Rattle.kr_store.specs.declared.kept_row.Kind.{Kind}
+use Rattle.kr_store.specs.declared.kept_row.RowKind.{RowKind}
 use Rattle.kr_store.proofs.Parts.{reads_kind, reads_revision}
 use Rattle.kr_store.proofs.Steps.{stops_behind, stops_first}
 use Rattle.kr_store.proofs.reader.Reader.head.Goals as goal
 
 -- what is read behind the kind, and behind the revision
-abbrev behind_revision : Kind → ℕ → List ℕ → Read (Kind × List ℕ)
+abbrev behind_revision : RowKind → ℕ → List ℕ → Read (RowKind × List ℕ)
 behind_revision kind k rest = behind (path_part rest) (λ path rest. Ok ((kind, path), rest))
 
-abbrev behind_kind : ℕ → Kind → List ℕ → Read (Kind × List ℕ)
+abbrev behind_kind : ℕ → RowKind → List ℕ → Read (RowKind × List ℕ)
 behind_kind k kind rest = behind (revision_part k rest) (behind_revision kind)
 
 pub returns-in-Err-clause-reads : goal.returns-in-Err-clause-reads

@@ -2,7 +2,7 @@
 use Rattle.std.proofs.Common.{Err, subst}
 use Rattle.kr_store.specs.inner.Reading.{Ahead, Reads, items_of}
 use Rattle.kr_store.specs.Breaches.{part}
-use Rattle.kr_store.specs.declared.answers.Stop.TheVariants.{Breach}
+use Rattle.kr_store.specs.declared.answers.LoadStop.TheVariants.{Breach}
 use Rattle.kr_store.specs.declared.answers.Cause.TheVariants.{Torn}
 use Rattle.kr_store.proofs.Steps.{torn, stays, was_broken, seen}
 use Rattle.kr_store.proofs.reader.Reader.part.Goals as goal

@@ -4,12 +4,12 @@ use Rattle.kr_store.specs.Breaches.{Read, behind, head_part, change_part, put_pa
 use Rattle.kr_store.specs.declared.format.Format.{Format}
 use Rattle.kr_store.specs.declared.rows.LogRow.{LogRow}
 use Rattle.kr_store.specs.inner.Reading.{Reads, put_bytes, kept_bytes}
-use Rattle.kr_store.specs.declared.kept_row.Kind.{Kind}
+use Rattle.kr_store.specs.declared.kept_row.RowKind.{RowKind}
 use Rattle.kr_store.proofs.Parts.{reads_head}
 use Rattle.kr_store.proofs.Steps.{stops_behind, stops_first}
 use Rattle.kr_store.proofs.reader.Reader.row.Goals as goal
 
-abbrev behind_head : Format → Kind × List ℕ → List ℕ → Read LogRow
+abbrev behind_head : Format → RowKind × List ℕ → List ℕ → Read LogRow
 behind_head format head rest =
     behind (change_part format head.0 rest)
     (λ change rest. Ok (record { path = head.1; change = change }, rest))
@@ -23,7 +23,7 @@ returns-in-Err-put-clause-reads g c =
     put_bytes (kept_bytes k) c.in-Err-put.stop c.in-Ok.ensures.reads.gives
     c.head.ensures.reads.advances.moves
     (λ rest. reads_head k head.0 head.1 rest c.ranges.revision.fits c.in-Ok.ensures.rule)
-    (subst (λ (kd : Kind). Reads c.head.new.self c.put.new.self put_bytes
+    (subst (λ (kd : RowKind). Reads c.head.new.self c.put.new.self put_bytes
     (λ rest. behind (change_part format kd rest)
     (λ change rest. Ok (record { path = head.1; change = change }, rest)))
     (Err c.in-Err-put.stop)) (sym c.in-Put.is)

@@ -12,14 +12,14 @@ returns-then-used-self-clause-read g c =
     let i = c.self.invariant in
     let told = g.T.Tape.told r.tape in
     let count = g.T.Tape.count r.tape in
-    let n = c.hand_out-n.result in
-    let into = c.hand_out-n.new.into in
+    let n = c.fill_front-n.result in
+    let into = c.fill_front-n.new.into in
     subst (λ (a : Ahead). (0 < n) × (n ≤ length into) × Takes a
     (seen told (r.place + n) r.end count) (take n into)) c.self.view_is
     (hands_on told told r.place r.end count count r.start r.filled n
     (length c.args.into.now) r.ahead.items c.deref.result.now into refl i.2 c.if-used-self.true
-    i.5 c.deref.ensures.value i.6 c.requires.some c.hand_out-n.auto.into
-    c.hand_out-n.ensures.count c.hand_out-n.ensures.same)
+    i.5 c.deref.ensures.value i.6 c.requires.some c.fill_front-n.auto.into
+    c.fill_front-n.ensures.count c.fill_front-n.ensures.same)
 
 pub returns-then-into-len-clause-read : goal.returns-then-into-len-clause-read
 returns-then-into-len-clause-read g c =
@@ -44,8 +44,8 @@ returns-clause-read g c =
     let told = g.T.Tape.told in
     let count = g.T.Tape.count in
     let now = c.read_at-2.new.self in
-    let n = c.hand_out-n-2.result in
-    let into = c.hand_out-n-2.new.into in
+    let n = c.fill_front-n-2.result in
+    let into = c.fill_front-n-2.new.into in
     subst (λ (a : Ahead). (0 < n) × (n ≤ length into) × Takes a
     (seen (told now) (r.place + n) r.end (count now)) (take n into)) c.self.view_is
     (hands_first (told r.tape) (told now) r.place r.end (count r.tape)
@@ -53,5 +53,5 @@ returns-clause-read g c =
     c.deref-2.result.now into c.in-Ok-read_at.ensures.same c.if-found-eq0.false
     c.in-Ok-read_at.ensures.bound.0 (c.deref-2.ensures.value ∙ take_at c.read_at-2.new.into _ _
     (c.read_at-2.auto.into ∙ c.deref_mut.ensures.len)) c.in-Ok-read_at.ensures.bytes
-    c.requires.some c.hand_out-n-2.auto.into c.hand_out-n-2.ensures.count
-    c.hand_out-n-2.ensures.same)
+    c.requires.some c.fill_front-n-2.auto.into c.fill_front-n-2.ensures.count
+    c.fill_front-n-2.ensures.same)

@@ -1,10 +1,10 @@
 -- Answers of Store::append.
 use Rattle.std.proofs.Common.{List, [], ◌∷◌, length, ◌+◌, ◌++◌, ◌≡◌, subst, sym, ap, ◌∙◌, arith}
 use Rattle.kr_store.specs.declared.rows.LogRow.{LogRow}
-use Rattle.kr_store.specs.declared.kept_row.Kind.{Kind}
+use Rattle.kr_store.specs.declared.kept_row.RowKind.{RowKind}
 use Rattle.kr_store.specs.declared.kept_row.KeptRow.{KeptRow}
 use Rattle.kr_store.specs.Rows.{MayChange}
-use Rattle.kr_store.specs.File.{kind_of}
+use Rattle.kr_store.specs.File.{byte_kind}
 use Rattle.kr_store.specs.Stores.{Kept, Fails, Wrote}
 use Rattle.kr_store.specs.inner.Index.{AddsAs}
 use Rattle.kr_store.specs.inner.KeptRows.{log_rows_of, IsChange}
@@ -38,8 +38,8 @@ invariant_of-self-in-Err-Failed g c =
     let r = c.self.inside in
     let now = c.write_row.new in
     let w = rw c.in-Err-Failed.field-0-is at c.in-Err-Failed.ensures in
-    let kind_is : c.kind-kind.result ≡ kind_of c.args.change =
-    c.kind-kind.ensures ∙ ap (λ (r : LogRow). kind_of r.change) c.in-Ok-make_row.ensures.row in
+    let kind_is : c.kind-kind.result ≡ byte_kind c.args.change =
+    c.kind-kind.ensures ∙ ap (λ (r : LogRow). byte_kind r.change) c.in-Ok-make_row.ensures.row in
     let may : MayChange r.format (log_rows_of r.rows.0) c.args.path.now c.args.change =
     subst (λ (k : Kept). MayChange k.format k.rows c.args.path.now c.args.change)
     (sym c.self.view_is) c.requires.change in
@@ -66,8 +66,8 @@ invariant_of-self-in-Err-NoMemory g c =
     let r = c.self.inside in
     let now = c.write_row.new in
     let w = rw c.in-Err-NoMemory.field-0-is at c.in-Err-NoMemory.ensures in
-    let kind_is : c.kind-kind.result ≡ kind_of c.args.change =
-    c.kind-kind.ensures ∙ ap (λ (r : LogRow). kind_of r.change) c.in-Ok-make_row.ensures.row in
+    let kind_is : c.kind-kind.result ≡ byte_kind c.args.change =
+    c.kind-kind.ensures ∙ ap (λ (r : LogRow). byte_kind r.change) c.in-Ok-make_row.ensures.row in
     let may : MayChange r.format (log_rows_of r.rows.0) c.args.path.now c.args.change =
     subst (λ (k : Kept). MayChange k.format k.rows c.args.path.now c.args.change)
     (sym c.self.view_is) c.requires.change in
@@ -85,8 +85,8 @@ invariant_of-self-2 g c =
     let k = length c.as_slice.result.now + 1 in
     let made = c.in-Ok-make_row.made.row in
     let row : LogRow = record { path = c.args.path.now; change = c.args.change } in
-    let kind_is : c.kind-kind.result ≡ kind_of c.args.change =
-    c.kind-kind.ensures ∙ ap (λ (r : LogRow). kind_of r.change) c.in-Ok-make_row.ensures.row in
+    let kind_is : c.kind-kind.result ≡ byte_kind c.args.change =
+    c.kind-kind.ensures ∙ ap (λ (r : LogRow). byte_kind r.change) c.in-Ok-make_row.ensures.row in
     let may : MayChange r.format (log_rows_of r.rows.0) c.args.path.now c.args.change =
     subst (λ (k : Kept). MayChange k.format k.rows c.args.path.now c.args.change)
     (sym c.self.view_is) c.requires.change in
@@ -97,7 +97,7 @@ invariant_of-self-2 g c =
     c.as_slice-2.result.now made row k c.end-at.result c.self.invariant w.0
     (ap (λ (l : List KeptRow). length l + 1) (c.as_slice.ensures ∙ c.reserve.ensures.items))
     c.end-at.ensures (c.as_slice-2.ensures ∙ c.in-Ok-make_row.ensures.bytes)
-    (subst (λ (kind : Kind). AddsAs r.index now.index k c.args.path.now kind) kind_is w.1)
+    (subst (λ (kind : RowKind). AddsAs r.index now.index k c.args.path.now kind) kind_is w.1)
     c.in-Ok-make_row.ensures.row c.in-Ok-make_row.ensures.rule
     (record {
       revision = omega (

@@ -10,19 +10,19 @@ append-requires-clause-change g c =
     live_seen r.format r.rows.0 r.limit r.log c.args.self.now r.index c.args.path.now
     c.in-Some._live c.self.view_is c.self.invariant.indexed (sym c.live.ensures ∙ c.in-Some.is)
 
-pub returns-in-Ok : goal.returns-in-Ok
-returns-in-Ok g c =
+pub returns-in-Ok-append : goal.returns-in-Ok-append
+returns-in-Ok-append g c =
     let r = c.self.inside in (
       live_seen r.format r.rows.0 r.limit r.log c.args.self.now r.index c.args.path.now
           c.in-Some._live c.self.view_is c.self.invariant.indexed (sym c.live.ensures
           ∙ c.in-Some.is),
-      c.in-Ok.ensures,
+      c.in-Ok-append.ensures,
     )
 
-pub returns-in-Err : goal.returns-in-Err
-returns-in-Err g c =
+pub returns-in-Err-append : goal.returns-in-Err-append
+returns-in-Err-append g c =
     let r = c.self.inside in
-    deletes_by c.args.self.now c.append.new.self c.args.path.now c.in-Err.why
+    deletes_by c.args.self.now c.append.new.self c.args.path.now c.in-Err-append.why
     (live_seen r.format r.rows.0 r.limit r.log c.args.self.now r.index c.args.path.now
     c.in-Some._live c.self.view_is c.self.invariant.indexed (sym c.live.ensures ∙ c.in-Some.is))
-    c.in-Err.ensures
+    c.in-Err-append.ensures

@@ -1,6 +1,6 @@
 -- One more change.
 use Rattle.std.proofs.Common.{ℕ, ◌+◌, ◌≤◌, ◌<◌, [], ◌∷◌, ◌++◌, length, arith, sym, ◌∙◌, ap, subst}
-use Rattle.kr_watch.specs.declared.change.Change.{Change}
+use Rattle.kr_watch.specs.declared.change.ObjectChange.{ObjectChange}
 use Rattle.kr_watch.specs.Changes.{earlier_ones, last_ones, revision_after}
 use Rattle.kr_watch.specs.inner.Keeping.{IsKept, KeptState}
 use Rattle.kr_watch.proofs.KeepSteps.{all_kept, first_dropped, nothing_dropped, rest_kept, rest_last, still_kept}
@@ -49,7 +49,7 @@ invariant_of-self-2 c =
     let size = now.ok.0 in
     let many : c.self.inside.keep < length now.items =
     (let long = c.if-len-self.false in let is = c.len.ensures in omega (arith, long, is, size)) in
-    subst (λ (x : Change). IsKept c.self.inside.keep x.revision c.pop_front.new.self.items)
+    subst (λ (x : ObjectChange). IsKept c.self.inside.keep x.revision c.pop_front.new.self.items)
     (sym c.get.ensures)
     (rest_kept c.self.inside.keep c.self.inside.oldest c.self.inside.changes.items now.items
     c.args.change c.self.invariant
@@ -77,7 +77,7 @@ returns-clause-dropped c =
     let size = now.ok.0 in
     let many : c.self.inside.keep < length now.items =
     (let long = c.if-len-self.false in let is = c.len.ensures in omega (arith, long, is, size)) in
-    ap (λ (x : Change). x.revision) c.get.ensures
+    ap (λ (x : ObjectChange). x.revision) c.get.ensures
     ∙ first_dropped c.self.inside.keep c.self.inside.oldest c.self.inside.changes.items now.items
     c.args.change c.self.invariant
     (c.requires.next ∙ ap (λ (s : KeptState × ℕ). revision_after s.0.oldest s.0.changes + 1)

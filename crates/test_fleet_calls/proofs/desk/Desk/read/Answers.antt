@@ -6,10 +6,10 @@ use Rattle.test_fleet_calls.proofs.desk.Desk.read.Goals as goal
 
 pub read-done-requires-clause-replica : goal.read-done-requires-clause-replica
 read-done-requires-clause-replica g c = omega
-    (arith, (c.may_at.ensures c.if-not-may_at.false).1, c.self.invariant.0.replicas_are)
+    (arith, (c.may_call.ensures c.if-not-may_call.false).1, c.self.invariant.0.replicas_are)
 
 pub read-done-requires-clause-idle : goal.read-done-requires-clause-idle
-read-done-requires-clause-idle g c = c.self.invariant.0.idle (c.may_at.ensures c.if-not-may_at.false).0
+read-done-requires-clause-idle g c = c.self.invariant.0.idle (c.may_call.ensures c.if-not-may_call.false).0
 
 pub read-done-requires-clause-links : goal.read-done-requires-clause-links
 read-done-requires-clause-links g c = served (g.A.Acts.caller c.self.inside.acts).opening.names

@@ -7,10 +7,10 @@ use Rattle.test_fleet_calls.proofs.desk.Desk.write.Goals as goal
 
 pub write-done-requires-clause-replica : goal.write-done-requires-clause-replica
 write-done-requires-clause-replica g c = omega
-    (arith, (c.may_at.ensures c.if-not-may_at.false).1, c.self.invariant.0.replicas_are)
+    (arith, (c.may_call.ensures c.if-not-may_call.false).1, c.self.invariant.0.replicas_are)
 
 pub write-done-requires-clause-idle : goal.write-done-requires-clause-idle
-write-done-requires-clause-idle g c = c.self.invariant.0.idle (c.may_at.ensures c.if-not-may_at.false).0
+write-done-requires-clause-idle g c = c.self.invariant.0.idle (c.may_call.ensures c.if-not-may_call.false).0
 
 pub write-done-requires-clause-links : goal.write-done-requires-clause-links
 write-done-requires-clause-links g c = served (g.A.Acts.caller c.self.inside.acts).opening.names

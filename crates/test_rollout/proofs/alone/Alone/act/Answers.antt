@@ -13,5 +13,5 @@ invariant_of-self-2 c = caller_acted c.args.self.now c.self.inside.solo c.act.ne
     c.args.event c.in_ok-answer.answer c.self.inside.hand c.take.new.self c.self.view_is c.requires
     c.in_ok-answer.ensures.acted
     (c.take.ensures
-    ∙ (λ i. hand_after (c.kind_of-kind.ensures i) (c.gain_of.ensures i) c.self.inside.hand))
+    ∙ (λ i. hand_after (c.event_effect-kind.ensures i) (c.answer_gain.ensures i) c.self.inside.hand))
     c.self.invariant

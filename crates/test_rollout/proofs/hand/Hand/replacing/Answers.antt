@@ -1,5 +1,6 @@
 -- `replacing`: what the seat holds seals the row anew.
-use Rattle.std.proofs.Common.{refl, sym}
+use Rattle.std.proofs.Common.{◌∙◌, refl, subst, sym}
+use Rattle.kr_base.specs.Rules.{IsPath}
 use Rattle.test_rollout.proofs.hand.Hand.replacing.Goals as goal
 
 pub returns-in-Ok : goal.returns-in-Ok
@@ -9,8 +10,8 @@ returns-in-Ok c =
       c.in_ok-held.ensures,
       c.in_ok-row.row.now,
       c.in_ok-row.ensures,
-      sym c.in-Ok.ensures,
+      sym (c.in-Ok.ensures ∙ c.as_str-text.ensures),
       refl,
-      place.0,
+      subst IsPath c.as_str-text.ensures place.0,
       c.in_ok-stored.ensures,
     )

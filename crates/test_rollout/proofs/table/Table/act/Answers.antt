@@ -10,5 +10,5 @@ invariant_of-self c =
     act_taken c.args.self.now c.self.inside.core c.apply-answer.new.self c.args.seat c.args.event
     c.apply-answer.result c.self.inside.hands.items hand c.take.new.self c.self.view_is
     c.requires.may c.apply-answer.ensures.applied c.index_mut.ensures.value
-    (c.take.ensures ∙ (λ i. hand_after (c.kind_of-kind.ensures i) (c.gain_of.ensures i) hand))
+    (c.take.ensures ∙ (λ i. hand_after (c.event_effect-kind.ensures i) (c.answer_gain.ensures i) hand))
     c.self.invariant

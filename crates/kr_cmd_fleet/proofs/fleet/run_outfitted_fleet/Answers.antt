@@ -1,0 +1,178 @@
+-- `run_outfitted_fleet`: the outfits are borrowed for what follows, and come back.
+use Rattle.std.proofs.Common.{◌∙◌, [], Err, ap, arith, length, subst, sym}
+use Rattle.std.proofs.lemmas.List.{length-map}
+use Rattle.kr_script.specs.Fleets.{worker_of}
+use Rattle.kr_cmd_steps.specs.Around.{Around, with_exchanges, with_world}
+use Rattle.kr_cmd_steps.specs.Steps.{hearing}
+use Rattle.kr_cmd_fleet.specs.FleetFiles.{all_rows}
+use Rattle.kr_cmd_fleet.specs.Fleets.{equipping, equipping_all, launching}
+use Rattle.kr_cmd_fleet.specs.inner.Plans.{plan_of}
+use Rattle.kr_cmd_fleet.specs.inner.FleetOutcomes.{RunsBy}
+use Rattle.kr_cmd_steps.specs.inner.Lent.{with_lent_tape}
+use Rattle.kr_cmd_fleet.specs.inner.Outfits.{AreNamed, links_of, with_outfits}
+use Rattle.kr_cmd_fleet.specs.inner.Workings.{AsksOutfits, BeginsLent}
+use Rattle.kr_cmd_steps.specs.inner.ProgramNames.{names_in}
+use Rattle.kr_cmd_steps.specs.inner.Tapes.{stored_of}
+use Rattle.kr_cmd_steps.proofs.Hearing.{around_none}
+use Rattle.kr_cmd_fleet.proofs.FleetRuns.{none_asked, runs_so}
+use Rattle.kr_cmd_fleet.proofs.StartExchanges.{asks_lent, were_asked}
+use Rattle.kr_cmd_fleet.proofs.FleetOutfits.{runs_equipped, runs_unequipped}
+use Rattle.kr_cmd_fleet.proofs.Outfits.{later_many, later_named}
+use Rattle.kr_cmd_fleet.proofs.Plans.{plan_workers}
+use Rattle.kr_cmd_fleet.proofs.fleet.run_outfitted_fleet.Goals as goal
+
+pub overflow_cast-seats : goal.overflow_cast-seats
+overflow_cast-seats g c = omega (
+  arith,
+  (plan_workers c.args.plan.now c.requires.plan).1,
+  ap length c.as_slice.ensures,
+)
+
+pub open_outfits-opened-requires-clause-none : goal.open_outfits-opened-requires-clause-none
+open_outfits-opened-requires-clause-none g c κs within = c.new-outfits.ensures
+
+pub open_outfits-opened-requires-clause-programs : goal.open_outfits-opened-requires-clause-programs
+open_outfits-opened-requires-clause-programs g c κs within = (
+  all_rows (plan_of c.args.plan.now).files,
+  ap names_in c.as_slice-2.ensures ∙ c.requires.plan.programs,
+)
+
+pub begin-made-requires-clause-seats : goal.begin-made-requires-clause-seats
+begin-made-requires-clause-seats g c κs within = c.in-Ok.ensures.many ∙ ap length c.as_slice.ensures
+
+pub begin-made-requires-clause-named : goal.begin-made-requires-clause-named
+begin-made-requires-clause-named g c κs within =
+    subst (λ ps. AreNamed g.W.Link.Kms.link (names_in ps) c.open_outfits-opened.new.outfits.0)
+    c.as_slice-2.ensures c.in-Ok.ensures.named
+
+pub close_outfits-requires-clause-out : goal.close_outfits-requires-clause-out
+close_outfits-requires-clause-out g c κs within =
+    let names = names_in c.as_slice-2.result.now in
+    let opened = c.open_outfits-opened.new.outfits.0 in
+    let closed = c.begin-made.result.2.0 in (
+      names,
+      later_named g.W.Link.Kms.link g.W.Rand.Dice.left g.W.Rand.Dice.count names opened closed
+          c.begin-made.ensures.later c.in-Ok.ensures.named,
+      λ seat lt. c.in-Ok.ensures.out seat (omega (
+        arith,
+        lt,
+        later_many g.W.Link.Kms.link g.W.Rand.Dice.left g.W.Rand.Dice.count opened closed
+            c.begin-made.ensures.later,
+      )),
+    )
+
+pub close_outfits-requires-clause-few : goal.close_outfits-requires-clause-few
+close_outfits-requires-clause-few g c κs within = omega (
+  arith,
+  later_many g.W.Link.Kms.link g.W.Rand.Dice.left g.W.Rand.Dice.count
+      c.open_outfits-opened.new.outfits.0
+      c.begin-made.result.2.0 c.begin-made.ensures.later,
+  c.in-Ok.ensures.few,
+  ap length c.as_slice.ensures,
+  (plan_workers c.args.plan.now c.requires.plan).1,
+)
+
+pub close_outfits-requires-in-Err-clause-out : goal.close_outfits-requires-in-Err-clause-out
+close_outfits-requires-in-Err-clause-out g c κs within =
+    (names_in c.as_slice-2.result.now, c.in-Err.ensures.named, c.in-Err.ensures.out)
+
+pub close_outfits-requires-in-Err-clause-few : goal.close_outfits-requires-in-Err-clause-few
+close_outfits-requires-in-Err-clause-few g c κs within = omega (
+  arith,
+  c.in-Err.ensures.few,
+  ap length c.as_slice.ensures,
+  (plan_workers c.args.plan.now c.requires.plan).1,
+)
+
+pub returns-in-Ok-clause-made : goal.returns-in-Ok-clause-made
+returns-in-Ok-clause-made g c =
+    let store = c.args.store in
+    let plan = plan_of c.args.plan.now in
+    let truth = g.W.Link.Kms.truth in
+    let link = g.W.Link.Kms.link in
+    let step = g.W.Link.Kms.step in
+    let left = g.W.Rand.Dice.left in
+    let count = g.W.Rand.Dice.count in
+    let watched = c.args.watched in
+    let next = launching watched plan (stored_of store) c.args.budgets.now.entries.items in
+    let old = g.W.World.told c.args.world.now in
+    let mid = g.W.World.told c.open_outfits-opened.new.world in
+    let new = g.W.World.told c.close_outfits.new.world in
+    let made = c.begin-made.result.0 in
+    let kept = c.begin-made.result.1 in
+    let back = c.begin-made.result.2.0 in
+    let olds = c.open_outfits-opened.new.outfits.0 in
+    let programs = c.as_slice-2.result.now in
+    let many = ap length c.as_slice.ensures
+    ∙ sym (length-map c.args.plan.now.script.workers.0 worker_of) in
+    let start = c.begin-made.ensures.made in
+    let es = start.exchanges in record {
+      exchanges = es;
+      asked = were_asked g.W.World.lent step es (links_of olds) start.news c.in-Ok.ensures.lent
+          start.asks;
+      done = λ name a t.
+          let told = hearing es a.heard in
+          let Begins = BeginsLent told step watched es g.W.World.lent g.W.World.took in
+          let behind = with_exchanges es a in
+          let before = with_lent_tape name store.told store.count (with_world old a) in
+          let after = with_lent_tape name kept.told kept.count (with_world new behind) in
+          subst (λ ps. RunsBy g.row.W-Tap.Denot truth link step left count Begins watched
+          (equipping ps 0 (length plan.fleet.workers) next) name plan before after made)
+          c.as_slice-2.ensures
+          (subst (λ n. RunsBy g.row.W-Tap.Denot truth link step left count Begins watched
+          (equipping programs 0 n next) name plan before after made) many
+          (runs_equipped g.row.W-Tap.Denot truth link step left count Begins watched name plan a
+          programs (length c.as_slice.result.now) next old mid new olds c.in-Ok.ensures.tapes
+          c.close_outfits.ensures.tapes behind store.told kept.told store.count kept.count back
+          c.in-Ok.ensures.does c.close_outfits.ensures.back made
+          (runs_so g.row.W-Tap.Denot truth link step left count
+          (AsksOutfits told step watched es olds back) Begins
+          (asks_lent told step watched es g.W.World.lent g.W.World.took olds back
+          c.in-Ok.ensures.lent c.close_outfits.ensures.taken) watched next name plan
+          (with_outfits link left count 0 olds
+          (with_lent_tape name store.told store.count (with_world mid a)))
+          (with_outfits link left count 0 back
+          (with_lent_tape name kept.told kept.count (with_world mid behind))) made
+          (start.done name (with_world mid a) t))));
+    }
+
+pub returns-in-Err-clause-made : goal.returns-in-Err-clause-made
+returns-in-Err-clause-made g c =
+    let store = c.args.store in
+    let plan = plan_of c.args.plan.now in
+    let truth = g.W.Link.Kms.truth in
+    let link = g.W.Link.Kms.link in
+    let step = g.W.Link.Kms.step in
+    let left = g.W.Rand.Dice.left in
+    let count = g.W.Rand.Dice.count in
+    let watched = c.args.watched in
+    let next = launching watched plan (stored_of store) c.args.budgets.now.entries.items in
+    let old = g.W.World.told c.args.world.now in
+    let mid = g.W.World.told c.open_outfits-opened.new.world in
+    let new = g.W.World.told c.close_outfits-in-Err.new.world in
+    let programs = c.as_slice-2.result.now in
+    let many = ap length c.as_slice.ensures
+    ∙ sym (length-map c.args.plan.now.script.workers.0 worker_of) in record {
+      exchanges = [];
+      asked = none_asked g.W.World.lent step;
+      done = λ name a t.
+          let Begins = BeginsLent (hearing [] a.heard) step watched [] g.W.World.lent
+          g.W.World.took in
+          let before = with_lent_tape name store.told store.count (with_world old a) in
+          let after : Around → Around = λ b. with_lent_tape name store.told store.count
+          (with_world new b) in
+          let stop = c.in-Err.stop in
+          subst (λ b. RunsBy g.row.W-Tap.Denot truth link step left count Begins watched
+          (equipping_all watched plan (stored_of store) c.args.budgets.now.entries.items) name plan
+          before (after b) (Err stop)) (sym (around_none a))
+          (subst (λ ps. RunsBy g.row.W-Tap.Denot truth link step left count Begins watched
+          (equipping ps 0 (length plan.fleet.workers) next) name plan before (after a) (Err stop))
+          c.as_slice-2.ensures
+          (subst (λ n. RunsBy g.row.W-Tap.Denot truth link step left count Begins watched
+          (equipping programs 0 n next) name plan before (after a) (Err stop)) many
+          (runs_unequipped g.row.W-Tap.Denot truth link step left count Begins watched name plan a
+          programs (length c.as_slice.result.now) next old mid new
+          c.open_outfits-opened.new.outfits.0 c.in-Err.ensures.tapes
+          c.close_outfits-in-Err.ensures.tapes store.told store.count stop c.in-Err.ensures.does
+          c.close_outfits-in-Err.ensures.back)));
+    }

@@ -1,0 +1,610 @@
+-- What each command asks plugins.
+use Rattle.std.proofs.Common.{◌≡◌, ℕ, zero, suc, List, [], ◌∷◌, ◌++◌, All, Bool, false, true, map, Contains, Option, None, Some, Result, Ok, Err, ◌∙◌, ap, append-nil, arith, inl, inr, refl, subst, sym}
+use Rattle.std.specs.Io.KnownBytes.{Consumes, IsAtEnd}
+use Rattle.std.proofs.lemmas.List.Elements.{All-nil}
+use Rattle.kr_base.specs.Limits.{data_limit}
+use Rattle.kr_base.specs.Told.{Agrees}
+use Rattle.std.specs.Prelude.{length, nat_lt}
+use Rattle.kr_config.specs.Kept.{ConfigEntry}
+use Rattle.kr_config.specs.Lists.{list_of}
+use Rattle.kr_config.specs.declared.who.Who.{Who}
+use Rattle.kr_config.specs.declared.who.Who.TheVariants.{Identity, Aescbc, Aesgcm, Kms}
+use Rattle.kr_envelope.specs.declared.object.EncryptedObject.{EncryptedObject}
+use Rattle.kr_envelope.specs.declared.object.ObjectNo.{ObjectNo}
+use Rattle.kr_kms.specs.Exchanges.{Exchange, UnwrapCall}
+use Rattle.kr_kms.specs.Health.{breach_in}
+use Rattle.kr_kms.specs.declared.health.Field.{Field}
+use Rattle.kr_kms.specs.declared.plugin.KmsNo.{KmsNo}
+use Rattle.kr_kms.specs.declared.seeds.SeedKey.{SeedKey}
+use Rattle.kr_kms.specs.declared.seeds.SeedRow.{SeedRow}
+use Rattle.kr_kms.specs.declared.world.Access.TheVariants.{ToMake, ToRead, ToWrite}
+use Rattle.kr_kms.specs.declared.world.WorldCall.TheVariants.{Tape}
+use Rattle.kr_provider.specs.Envelopes.{HasObject, seed_key}
+use Rattle.kr_provider.specs.PluginOrder.{plugin_order}
+use Rattle.kr_provider.specs.Publication.{Publication, seed_of}
+use Rattle.kr_provider.specs.Reading.{Reading, data_of, refused, unopened, value_reading, is_stale}
+use Rattle.kr_provider.specs.Readers.{reader_in, writer_of}
+use Rattle.kr_provider.specs.Sealing.{draw_size, sealed_by}
+use Rattle.kr_provider.specs.declared.refusal.Opened.{Opened}
+use Rattle.kr_provider.specs.declared.refusal.ValueNo.{ValueNo}
+use Rattle.kr_store.specs.Rows.{live}
+use Rattle.kr_store.specs.Stores.{IsListing}
+use Rattle.kr_store.specs.declared.rows.LogRow.{LogRow}
+use Rattle.kr_store.specs.declared.rows.Row as stored
+use Rattle.kr_cmd_messages.proofs.OneCommand.{one_command}
+use Rattle.kr_cmd_messages.specs.Receipts.{Receipt}
+use Rattle.kr_cmd_messages.specs.declared.refusal.Done.{Done}
+use Rattle.kr_cmd_messages.specs.declared.refusal.Stop.{Stop}
+use Rattle.kr_cmd_messages.specs.declared.refusal.Stop.TheVariants.{Fault, NoMemory, Refused, Words}
+use Rattle.kr_cmd_messages.specs.Command.{Asks, replica_names, reload_in, reload_number, reload_file}
+use Rattle.kr_cmd_messages.specs.declared.command.Command.{Command}
+use Rattle.kr_cmd_messages.specs.declared.command.Command.TheVariants.{Convert, Check, Inspect, Put, Get, Verify, Migrate, Rows, Judge, Plan, Rewrite}
+use Rattle.kr_cmd_messages.specs.declared.command.Conversion.{Conversion}
+use Rattle.kr_cmd_messages.specs.declared.command.Direction.{Direction}
+use Rattle.kr_cmd_messages.specs.declared.command.Direction.TheVariants.{Encrypt, Decrypt}
+use Rattle.kr_cmd_messages.specs.declared.command.Lookup.{Lookup}
+use Rattle.kr_cmd_messages.specs.declared.command.Migration.{Migration}
+use Rattle.kr_cmd_messages.specs.declared.command.Rewriting.{Rewriting}
+use Rattle.kr_cmd_messages.specs.declared.command.Verification.{Verification}
+use Rattle.kr_cmd_messages.specs.declared.refusal.Object.{Object}
+use Rattle.kr_cmd_messages.specs.declared.refusal.Object.TheVariants.{Store, Target}
+use Rattle.kr_cmd_messages.specs.declared.refusal.Outcome.{Outcome}
+use Rattle.kr_cmd_messages.specs.declared.refusal.Refusal.{Refusal}
+use Rattle.kr_cmd_steps.specs.Around.{Around, left_of, with_what_is_said}
+use Rattle.kr_cmd_steps.specs.Check.{listing}
+use Rattle.kr_cmd_steps.specs.Phases.{adding, by_result, configuration, input_of, linking_programs, settled_for, show, silently, stored_on, tape_for, with_memory, within_limit}
+use Rattle.kr_cmd_steps.specs.ValueSteps.{bench_steps, data_steps, draw_some, opening, published_source, reading_given, source_steps, value_read, value_sealed, value_steps, value_with, working, working_by}
+use Rattle.kr_cmd_steps.specs.StoreSteps.{configurations, copied_into, copying, judging_at, judging_by, live_on, migrated_line, migrated_row, migrating_into, new_row, revision_line, row_finding, row_findings, row_found, row_on, sealed_into, source_on, stored_into, target_on, target_read, telling, telling_findings, verifying_by, verifying_with}
+use Rattle.kr_cmd_steps.specs.Commands.{steps}
+use Rattle.kr_cmd_steps.specs.RewriteSteps.{Progress, driving, nothing_done, one_rewritten, replacing, resealing, rewriting_by, rewriting_live, rewriting_on, row_anew, row_by, row_data, row_steps, starting, within_journal}
+use Rattle.kr_cmd_steps.specs.Inspect.{Inspects}
+use Rattle.kr_cmd_steps.specs.PlanLines.{ShowsPlan}
+use Rattle.kr_cmd_steps.specs.Plugins.{borrow_links, make_seed, make_seeds, settings_programs, unless_breach, wrap_seed}
+use Rattle.kr_cmd_steps.specs.RowFindings.{finding_of}
+use Rattle.kr_cmd_steps.specs.RowLines.{ShowsRows}
+use Rattle.kr_cmd_steps.specs.Ran.{Answers, Closes, EndsAll, ReachesEnd}
+use Rattle.kr_cmd_steps.specs.Steps.{Steps, borrow_dice, settle, find, give, and_then, with_asked, with_tape, Left, Goes, Point, amid, awaits, gives, refuses}
+use Rattle.kr_cmd_steps.specs.StoreFiles.{IsStored, Stored, none_there, with_row}
+use Rattle.kr_cmd_steps.specs.declared.programs.Program.{Program}
+use Rattle.kr_cmd_laws.specs.PluginLaws.{IsInput, IsLiveOf, IsQuestion, IsRowOf, PluginsSee, Sees, verified_as}
+use Rattle.kr_cmd_laws.proofs.OnlyAsks.{AllHeard, OnlyAsks, only_asked, only_then}
+
+-- ---- phases that ask nothing
+
+module _ (P : Exchange → Type 0) where
+  results_only : {A B : Type 0} (r : Result A Refusal) (others : A → Steps B) (left : Left)
+      → ((x : A) → OnlyAsks P (others x) left) → OnlyAsks P (and_then (by_result r) others) left
+  results_only (Ok x) others left o = o x
+  results_only (Err why) others left o = tt
+
+  result_only : {A : Type 0} (r : Result A Refusal) (left : Left) → OnlyAsks P (by_result r) left
+  result_only (Ok x) left = tt
+  result_only (Err why) left = tt
+
+  configured : {B : Type 0} (name : List ℕ) (others : List ConfigEntry → Steps B) (left : Left)
+      → ((rows : List ConfigEntry) (l : Left) → l.input ≡ left.input → l.tapes ≡ left.tapes
+      → OnlyAsks P (others rows) l) → OnlyAsks P (and_then (configuration name) others) left
+  configured name others left o = λ bytes r is. results_only r others _
+      (λ rows. o rows _ refl refl)
+
+  linked : {B : Type 0} (options : List (List ℕ × List ℕ)) (rows : List ConfigEntry)
+      (others : List Program → Steps B) (left : Left)
+      → ((programs : List Program) → OnlyAsks P (others programs) left)
+      → OnlyAsks P (and_then (linking_programs options rows) others) left
+  linked options rows others left o = λ u v.
+      results_only (settings_programs options (plugin_order rows)) others left o
+
+  links_only : {A : Type 0} (programs : List Program) (next : Steps A)
+      → ((l : Left) → OnlyAsks P next l) → (left : Left)
+      → OnlyAsks P (borrow_links programs next) left
+  links_only [] next o left = o left
+  links_only (program ∷ programs) next o left = links_only programs next o _
+
+  draws_only : {A : Type 0} (size : ℕ) (next : List ℕ → Steps A)
+      → ((drawn : List ℕ) (l : Left) → OnlyAsks P (next drawn) l) → (left : Left)
+      → OnlyAsks P (draw_some size next) left
+  draws_only zero next o left = o [] left
+  draws_only (suc more) next o left = λ bytes rest fits. o bytes _
+
+  shown_only : (value : Option (List ℕ)) (left : Left) → OnlyAsks P (value_steps value) left
+  shown_only None left = tt
+  shown_only (Some value) left = tt
+
+  data_only : (read : Result Opened ValueNo) (left : Left) → OnlyAsks P (data_steps read) left
+  data_only (Ok opened) left = tt
+  data_only (Err why) left = tt
+
+  given_only : (reading : Reading) (stale : Bool) (left : Left)
+      → OnlyAsks P (reading_given reading stale) left
+  given_only (data_of plain) stale left = tt
+  given_only (refused why) stale left = tt
+  given_only unopened stale left = λ none u. absurd none
+
+  show_only : (Is : Result (List ℕ) Refusal → Type 0) (left : Left) → OnlyAsks P (show Is) left
+  show_only Is left = λ shown is. results_only shown (λ text. give (silently text)) left (λ text. tt)
+
+  stored_only : {B : Type 0} (object : Object) (name : List ℕ) (others : Stored → Steps B)
+      → ((held : Stored) (l : Left) → OnlyAsks P (others held) l) → (left : Left)
+      → OnlyAsks P (and_then (stored_on object name) others) left
+  stored_only object name others o left = λ bytes agrees r is.
+      results_only r others left (λ held. o held left)
+
+  adding_only : {B : Type 0} (object : Object) (name : List ℕ) (store : Stored) (row : LogRow)
+      (others : Stored → Steps B) → ((grown : Stored) (l : Left) → OnlyAsks P (others grown) l)
+      → (left : Left) → OnlyAsks P (and_then (adding object name store row) others) left
+  adding_only object name store row others o left = only_then P others o
+      (adding object name store row) left (λ u v. results_only (within_limit (with_row row store)) _
+      left (λ grown told. tt))
+
+  configurations_only : (read : List (Option (List ConfigEntry))) (names : List (List ℕ)) (left : Left)
+      → OnlyAsks P (configurations read names) left
+  configurations_only read [] left = λ u v. tt
+  configurations_only read (name ∷ names) left = configured name
+      (λ rows. configurations (read ++ Some rows ∷ []) names) left
+      (λ rows l i t. configurations_only (read ++ Some rows ∷ []) names l)
+
+  judged_only : (stored : List LogRow) (replicas : List (Option (List ConfigEntry))) (replica : ℕ)
+      (rows : List ConfigEntry) (left : Left) → OnlyAsks P (judging_at stored replicas replica rows) left
+  judged_only stored replicas replica rows left = λ r is.
+      results_only r telling left (λ verdict u v. tt)
+
+  judging_only : (options : List (List ℕ × List ℕ)) (held : List LogRow) (left : Left)
+      → OnlyAsks P (judging_by options held) left
+  judging_only options held left =
+      let file = reload_file (reload_in options) in
+      let replica = reload_number (reload_in options) in
+      only_then P (λ replicas. and_then (configuration file) (judging_at held replicas replica))
+      (λ replicas l. configured file (judging_at held replicas replica) l
+      (λ rows m i t. judged_only held replicas replica rows m))
+      (configurations [] (replica_names options)) left
+      (configurations_only [] (replica_names options) left)
+
+  copying_only : (name : List ℕ) (store : Stored) (rows : List LogRow) (left : Left)
+      → OnlyAsks P (copying name store rows) left
+  copying_only name store [] left = tt
+  copying_only name store (row ∷ rows) left = adding_only Target name store row
+      (λ grown. copying name grown rows) (λ grown l. copying_only name grown rows l) left
+
+  copied_only : (to : List ℕ) (rows : List ConfigEntry) (source target : Stored) (left : Left)
+      → OnlyAsks P (copied_into to rows source target) left
+  copied_only to rows source target left = λ u v.
+      only_then P (λ copied. give (silently (migrated_line source.rows))) (λ copied l. tt)
+      (copying to target (map (migrated_row rows) source.rows)) left
+      (copying_only to target (map (migrated_row rows) source.rows) left)
+
+  target_only : (name : List ℕ) (left : Left) → OnlyAsks P (target_on name) left
+  target_only name left = λ bytes agrees. results_only (none_there bytes) (λ u. target_read name)
+      left (λ u more also r is. result_only r left)
+
+  into_only : (to : List ℕ) (rows : List ConfigEntry) (source : Stored) (left : Left)
+      → OnlyAsks P (migrating_into to rows source) left
+  into_only to rows source left =
+      let out : Left = with_tape true to (with_asked (Tape to ToMake) left) in
+      only_then P (λ (made : Outcome). settle Target to (give made))
+      (λ made l. tt) (and_then (target_on to) (copied_into to rows source)) out
+      (only_then P (copied_into to rows source) (copied_only to rows source) (target_on to) out
+      (target_only to out))
+
+  migrating_only : (words : Migration) (left : Left)
+      → OnlyAsks P (steps (Migrate words)) left
+  migrating_only words left = configured words.config
+      (λ rows. tape_for words.store ToRead
+      (and_then (source_on words.store) (migrating_into words.to rows))) left
+      (λ rows l i t. λ bytes agrees r is. results_only r (migrating_into words.to rows)
+      (with_tape false words.store (with_asked (Tape words.store ToRead) l))
+      (λ source. into_only words.to rows source
+      (with_tape false words.store (with_asked (Tape words.store ToRead) l))))
+
+-- ---- seeds and values
+
+module _ (IsHeld : List ℕ → Type 0) where
+  -- what may be asked
+  abbrev P : Exchange → Type 0
+  P = IsQuestion IsHeld
+
+  seed_only : (plugin : List ℕ) (breach : Option (Field × List ℕ)) (left : Left)
+      → OnlyAsks P (unless_breach plugin breach (wrap_seed plugin)) left
+  seed_only plugin None left = λ bytes rest fits. (λ answer. fits, λ wrapped h. tt)
+  seed_only plugin (Some breach) left = tt
+
+  seeds_only : (plugins : List (List ℕ)) (left : Left) → OnlyAsks P (make_seeds plugins) left
+  seeds_only [] left = tt
+  seeds_only (plugin ∷ plugins) left = only_then P
+      (λ row. and_then (make_seeds plugins) (λ rows. give (row ∷ rows)))
+      (λ row l. only_then P (λ rows. give (row ∷ rows)) (λ rows m. tt) (make_seeds plugins) l
+      (seeds_only plugins l)) (make_seed plugin) left
+      (λ answer. tt, λ status h. seed_only plugin (breach_in status) _)
+
+  sealed_only : (seeds : List SeedRow) (who : Who) (path plain : List ℕ) (left : Left)
+      → OnlyAsks P (value_sealed seeds who path plain) left
+  sealed_only seeds who path plain left = λ u v. draws_only P (draw_size who)
+      (λ drawn. give (sealed_by seeds who path plain drawn)) (λ drawn l. tt) left
+
+  source_only : {A : Type 0} (source : Option (List ℕ)) (key : SeedKey)
+      (next : Option (List ℕ) → Steps A) (left : Left)
+      → ((answer : Result (List ℕ) KmsNo) → P (UnwrapCall key answer))
+      → ((o : Option (List ℕ)) (l : Left) → OnlyAsks P (next o) l)
+      → OnlyAsks P (source_steps source key next) left
+  source_only (Some seed) key next left asks o = o (Some seed) left
+  source_only None key next left asks o = (asks, λ bytes h. o (Some bytes) _)
+
+  opened_only : {A : Type 0} (seeds : List SeedRow) (reader : Option Who) (bytes : List ℕ)
+      (object : Result EncryptedObject ObjectNo) (next : Option (List ℕ) → Steps A) (left : Left)
+      → IsHeld bytes → HasObject reader bytes object
+      → ((o : Option (List ℕ)) (l : Left) → OnlyAsks P (next o) l)
+      → OnlyAsks P (opening seeds reader object next) left
+  opened_only seeds None bytes object next left held has o = o None left
+  opened_only seeds (Some Identity) bytes object next left held has o = o None left
+  opened_only seeds (Some (Aescbc name secret)) bytes object next left held has o = o None left
+  opened_only seeds (Some (Aesgcm name secret)) bytes object next left held has o = o None left
+  opened_only seeds (Some (Kms name)) bytes (Err why) next left held has o = o None left
+  opened_only seeds (Some (Kms name)) bytes (Ok object) next left held has o =
+      source_only (published_source (seed_of name seeds) (seed_key name object))
+      (seed_key name object) next left (λ answer. (bytes, name, object, held, has, refl)) o
+
+  value_only : (seeds : List SeedRow) (list : List Who) (path bytes : List ℕ) (left : Left)
+      → IsHeld bytes → OnlyAsks P (value_read seeds list path bytes) left
+  value_only seeds list path bytes left held = λ object has.
+      opened_only seeds (reader_in list bytes) bytes object
+      (value_with seeds list path bytes object) left held has (λ source l. given_only P
+      (value_reading (record { object = object; source = source }) list path bytes)
+      (is_stale (record { object = object; source = source }) seeds list bytes) l)
+
+  work_only : (direction : Direction) (resource path : List ℕ) (rows : List ConfigEntry) (bytes : List ℕ)
+      (seeds : List SeedRow) (left : Left) → (direction ≡ Decrypt → IsHeld bytes)
+      → OnlyAsks P (working_by direction resource path rows bytes seeds) left
+  work_only Encrypt resource path rows bytes seeds left held =
+      let writer = writer_of (list_of rows resource) in
+      only_then P value_steps (shown_only P) (value_sealed seeds writer path bytes) left
+      (sealed_only seeds writer path bytes left)
+  work_only Decrypt resource path rows bytes seeds left held =
+      let list = list_of rows resource in
+      only_then P data_steps (data_only P) (value_read seeds list path bytes) left
+      (value_only seeds list path bytes left (held refl))
+
+  bench_only : (programs : List Program) (direction : Direction) (resource path : List ℕ)
+      (rows : List ConfigEntry) (bytes : List ℕ) (left : Left) → (direction ≡ Decrypt → IsHeld bytes)
+      → OnlyAsks P (bench_steps programs direction resource path rows bytes) left
+  bench_only programs direction resource path rows bytes left held =
+      links_only P programs (working direction resource path rows bytes)
+      (λ l u v. only_then P (working_by direction resource path rows bytes)
+      (λ seeds m. work_only direction resource path rows bytes seeds m held)
+      (make_seeds (plugin_order rows)) l (seeds_only (plugin_order rows) l)) _
+
+  findings_only : (p : Publication) (rows : List stored.Row) (left : Left)
+      → ((row : stored.Row) → Contains rows row → IsHeld row.stored)
+      → OnlyAsks P (row_findings p rows) left
+  findings_only p [] left held = tt
+  findings_only p (row ∷ rows) left held =
+      only_then P (λ finding. with_memory
+      (and_then (row_findings p rows) (λ findings. give (finding ∷ findings))))
+      (λ finding l. λ u v. only_then P (λ findings. give (finding ∷ findings)) (λ findings m. tt)
+      (row_findings p rows) l (findings_only p rows l
+      (λ other c. held other (suc c.0, omega (arith, c.1), c.2))))
+      (row_finding p row) left
+      (only_then P (λ read. give (finding_of read)) (λ read l. tt)
+      (value_read p.seeds (list_of p.rows row.resource) row.path row.stored) left
+      (value_only p.seeds (list_of p.rows row.resource) row.path row.stored left
+      (held row (0, omega arith, refl))))
+
+  verified_only : (programs : List Program) (rows : List ConfigEntry) (found : List stored.Row) (left : Left)
+      → ((row : stored.Row) → Contains found row → IsHeld row.stored)
+      → OnlyAsks P (verifying_with programs rows found) left
+  verified_only programs rows found left held =
+      links_only P programs (verifying_by rows found) (λ l u v. only_then P
+      (λ seeds. and_then (row_findings (record { rows = rows; seeds = seeds }) found)
+      (telling_findings found))
+      (λ seeds m. only_then P (telling_findings found) (λ findings n a b. tt)
+      (row_findings (record { rows = rows; seeds = seeds }) found) m
+      (findings_only (record { rows = rows; seeds = seeds }) found m held))
+      (make_seeds (plugin_order rows)) l (seeds_only (plugin_order rows) l)) _
+
+  -- ---- the rows of a rewrite
+
+  replacing_only : (name : List ℕ) (p : Publication) (row : stored.Row) (at : Progress)
+      (value : Option (List ℕ)) (left : Left) → OnlyAsks P (replacing name p row at value) left
+  replacing_only name p row at None left = tt
+  replacing_only name p row at (Some value) left =
+      let new = row_anew at.store.format p row value in
+      adding_only P Store name at.store new (λ grown. give (one_rewritten new at))
+      (λ grown l. tt) left
+
+  resealing_only : (long : Bool) (name : List ℕ) (p : Publication) (row : stored.Row)
+      (plain : List ℕ) (at : Progress) (left : Left)
+      → OnlyAsks P (resealing long name p row plain at) left
+  resealing_only true name p row plain at left = tt
+  resealing_only false name p row plain at left =
+      let who = writer_of (list_of p.rows row.resource) in
+      only_then P (replacing name p row at) (replacing_only name p row at)
+      (value_sealed p.seeds who row.path plain) left (sealed_only p.seeds who row.path plain left)
+
+  row_data_only : (name : List ℕ) (p : Publication) (row : stored.Row) (at : Progress)
+      (plain : List ℕ) (stale : Bool) (left : Left)
+      → OnlyAsks P (row_data name p row at plain stale) left
+  row_data_only name p row at plain false left = tt
+  row_data_only name p row at plain true left = λ u v.
+      resealing_only (nat_lt data_limit (length plain)) name p row plain at left
+
+  row_by_only : (name : List ℕ) (p : Publication) (row : stored.Row) (at : Progress)
+      (read : Result Opened ValueNo) (left : Left) → OnlyAsks P (row_by name p row at read) left
+  row_by_only name p row at (Ok opened) left =
+      row_data_only name p row at opened.plain opened.stale left
+  row_by_only name p row at (Err why) left = tt
+
+  driving_only : (name : List ℕ) (p : Publication) (rows : List stored.Row) (at : Progress)
+      (left : Left) → ((row : stored.Row) → Contains rows row → IsHeld row.stored)
+      → OnlyAsks P (driving name p rows at) left
+  driving_only name p [] at left held = λ told u v. tt
+  driving_only name p (row ∷ rows) at left held = λ told.
+      let list = list_of p.rows row.resource in
+      only_then P (driving name p rows)
+      (λ next l. driving_only name p rows next l
+      (λ other c. held other (suc c.0, omega (arith, c.1), c.2)))
+      (row_steps name p row at) _
+      (only_then P (row_by name p row at) (row_by_only name p row at)
+      (value_read p.seeds list row.path row.stored) _
+      (value_only p.seeds list row.path row.stored _ (held row (0, omega arith, refl))))
+
+  rewritten_only : (name : List ℕ) (programs : List Program) (rows : List ConfigEntry)
+      (store : Stored) (found : List stored.Row) (left : Left)
+      → ((row : stored.Row) → Contains found row → IsHeld row.stored)
+      → OnlyAsks P (rewriting_live name rows programs store found) left
+  rewritten_only name programs rows store found left held =
+      results_only P (within_journal found)
+      (λ u. borrow_dice 0 (borrow_links programs (rewriting_by name rows store found))) left
+      (λ u. links_only P programs (rewriting_by name rows store found) (λ l a b. only_then P
+      (λ seeds. and_then (starting store.rows rows) (λ v.
+      driving name (record { rows = rows; seeds = seeds }) found (nothing_done store)))
+      (λ seeds m r is. results_only P r (λ v.
+      driving name (record { rows = rows; seeds = seeds }) found (nothing_done store)) m
+      (λ v. driving_only name (record { rows = rows; seeds = seeds }) found (nothing_done store) m
+      held))
+      (make_seeds (plugin_order rows)) l (seeds_only (plugin_order rows) l)) _)
+
+-- ---- commands
+
+-- what was taken to the end of a told input is the input
+whole : (told rest : Option (List ℕ)) (bytes : List ℕ) → Consumes told rest bytes → IsAtEnd rest
+    → Agrees told bytes
+whole None rest bytes c e = tt
+whole (Some all) None bytes c e = absurd c
+whole (Some all) (Some rest) bytes c e =
+    c ∙ ap (λ r. bytes ++ r) e ∙ append-nil bytes
+
+module _ (old : Around) where
+  -- where a command begins, that asked nothing before
+  abbrev begin : Left
+  begin = record (left_of old) { heard = Some [] }
+
+  input_held : (direction : Direction) (bytes : List ℕ) → Agrees old.input bytes
+      → direction ≡ Decrypt → IsInput direction old bytes
+  input_held Encrypt bytes agrees is = absurd cc
+  input_held Decrypt bytes agrees is = agrees
+
+  converts : (words : Conversion) → OnlyAsks (Sees (Convert words) old) (steps (Convert words))
+      begin
+  converts words =
+      let P = IsQuestion (IsInput words.direction old) in
+      configured P words.config (λ rows. and_then (linking_programs words.options rows)
+      (λ programs. and_then (input_of words.direction) (λ bytes.
+      bench_steps programs words.direction words.resource words.path rows bytes))) begin
+      (λ rows l i t. linked P words.options rows (λ programs. and_then (input_of words.direction)
+      (λ bytes. bench_steps programs words.direction words.resource words.path rows bytes)) l
+      (λ programs. λ bytes rest c e. bench_only (IsInput words.direction old) programs
+      words.direction words.resource words.path rows bytes _
+      (input_held words.direction bytes
+      (subst (λ told. Agrees told bytes) i (whole l.input rest bytes c e)))))
+
+  puts : (words : Conversion) (store : List ℕ)
+      → OnlyAsks (Sees (Put words store) old) (steps (Put words store)) begin
+  puts words store =
+      let None_held : List ℕ → Type 0 = λ value. ⊥ in
+      let P = IsQuestion None_held in
+      configured P words.config (λ rows. and_then (linking_programs words.options rows)
+      (λ programs. and_then (input_of Encrypt) (stored_into words store rows programs)))
+      begin
+      (λ rows l i t. linked P words.options rows (λ programs. and_then (input_of Encrypt)
+      (stored_into words store rows programs)) l
+      (λ programs. λ bytes rest c e. only_then P (λ (made : Outcome). settle Store store (give made))
+      (λ made m. tt)
+      (and_then (stored_on Store store) (sealed_into words store rows programs bytes)) _
+      (stored_only P Store store (sealed_into words store rows programs bytes)
+      (λ held m. only_then P (λ sealed. and_then (adding Store store held
+      (new_row held.format words rows sealed.bytes))
+      (λ grown. give (silently (revision_line grown))))
+      (λ sealed n. adding_only P Store store held (new_row held.format words rows sealed.bytes)
+      (λ grown. give (silently (revision_line grown))) (λ grown o. tt) n)
+      (bench_steps programs Encrypt words.resource words.path rows bytes) m
+      (bench_only None_held programs Encrypt words.resource words.path rows bytes m
+      (λ is. absurd cc))) _)))
+
+  gets : (words : Lookup) → OnlyAsks (Sees (Get words) old) (steps (Get words)) begin
+  gets words =
+      let P = IsQuestion (IsRowOf words old) in
+      configured P words.config (λ rows. and_then (linking_programs words.options rows) (λ programs.
+      and_then (tape_for words.store ToRead (row_on words.store words.path)) (λ row.
+      bench_steps programs Decrypt row.resource words.path rows row.stored))) begin
+      (λ rows l i t. linked P words.options rows (λ programs.
+      and_then (tape_for words.store ToRead (row_on words.store words.path)) (λ row.
+      bench_steps programs Decrypt row.resource words.path rows row.stored)) l
+      (λ programs. λ bytes agrees r is. on_store programs rows _ bytes
+      (subst (λ tapes. Agrees (tapes words.store) (Some bytes)) t agrees) r is))
+    where
+      at : (programs : List Program) (rows : List ConfigEntry) (left : Left) (bytes : List ℕ)
+          → Agrees (old.world.tapes.told words.store) (Some bytes) → (held : Stored)
+          → IsStored bytes (Ok held) → (found : Option stored.Row)
+          → live held.rows words.path ≡ found
+          → OnlyAsks (IsQuestion (IsRowOf words old))
+          (and_then (by_result (row_found words.path found)) (λ row.
+          bench_steps programs Decrypt row.resource words.path rows row.stored)) left
+      at programs rows left bytes agrees held read None is = tt
+      at programs rows left bytes agrees held read (Some row) is =
+          bench_only (IsRowOf words old) programs Decrypt row.resource words.path rows row.stored left
+          (λ d. record {
+            bytes = bytes;
+            store = held;
+            row = row;
+            held = agrees;
+            read = read;
+            found = is;
+            is = refl;
+          })
+
+      on_store : (programs : List Program) (rows : List ConfigEntry) (left : Left) (bytes : List ℕ)
+          → Agrees (old.world.tapes.told words.store) (Some bytes) → (r : Result Stored Refusal)
+          → IsStored bytes r → OnlyAsks (IsQuestion (IsRowOf words old))
+          (and_then (and_then (by_result r)
+          (λ read. with_memory (by_result (row_found words.path (live read.rows words.path)))))
+          (λ row. bench_steps programs Decrypt row.resource words.path rows row.stored)) left
+      on_store programs rows left bytes agrees (Err why) is = tt
+      on_store programs rows left bytes agrees (Ok held) is = λ u v.
+          at programs rows left bytes agrees held is (live held.rows words.path) refl
+
+  verifies : (words : Verification)
+      → OnlyAsks (Sees (Verify words) old) (steps (Verify words)) begin
+  verifies words =
+      let P = IsQuestion (IsLiveOf words old) in
+      configured P words.config (λ rows. and_then (linking_programs words.options rows) (λ programs.
+      and_then (tape_for words.store ToRead (live_on words.store)) (verifying_with programs rows)))
+      begin
+      (λ rows l i t. linked P words.options rows (λ programs.
+      and_then (tape_for words.store ToRead (live_on words.store)) (verifying_with programs rows)) l
+      (λ programs. λ bytes agrees r is. on_store programs rows _ bytes
+      (subst (λ tapes. Agrees (tapes words.store) (Some bytes)) t agrees) r is))
+    where
+      on_store : (programs : List Program) (rows : List ConfigEntry) (left : Left) (bytes : List ℕ)
+          → Agrees (old.world.tapes.told words.store) (Some bytes) → (r : Result Stored Refusal)
+          → IsStored bytes r → OnlyAsks (IsQuestion (IsLiveOf words old))
+          (and_then (and_then (by_result r)
+          (λ read. find (List stored.Row) (IsListing read.rows) give))
+          (verifying_with programs rows)) left
+      on_store programs rows left bytes agrees (Err why) is = tt
+      on_store programs rows left bytes agrees (Ok held) is = λ found listed.
+          verified_only (IsLiveOf words old) programs rows found left (λ row among. record {
+            live = found;
+            row = row;
+            are = record {
+              bytes = bytes;
+              store = held;
+              held = agrees;
+              read = is;
+              listing = listed;
+            };
+            among = among;
+            is = refl;
+          })
+
+  rewrites : (words : Rewriting)
+      → OnlyAsks (Sees (Rewrite words) old) (steps (Rewrite words)) begin
+  rewrites words =
+      let P = IsQuestion (IsLiveOf (verified_as words) old) in
+      configured P words.config (λ rows. and_then (linking_programs words.options rows) (λ programs.
+      settled_for Store words.store ToWrite (rewriting_on words.store rows programs))) begin
+      (λ rows l i t. linked P words.options rows (λ programs.
+      settled_for Store words.store ToWrite (rewriting_on words.store rows programs)) l
+      (λ programs. only_then P (λ (made : Outcome). settle Store words.store (give made))
+      (λ made m. tt) (rewriting_on words.store rows programs) _
+      (λ bytes agrees r is. on_store programs rows _ bytes
+      (subst (λ tapes. Agrees (tapes words.store) (Some bytes)) t agrees) r is)))
+    where
+      on_store : (programs : List Program) (rows : List ConfigEntry) (left : Left) (bytes : List ℕ)
+          → Agrees (old.world.tapes.told words.store) (Some bytes) → (r : Result Stored Refusal)
+          → IsStored bytes r → OnlyAsks (IsQuestion (IsLiveOf (verified_as words) old))
+          (and_then (by_result r) (λ store.
+          find (List stored.Row) (IsListing store.rows)
+          (rewriting_live words.store rows programs store))) left
+      on_store programs rows left bytes agrees (Err why) is = tt
+      on_store programs rows left bytes agrees (Ok held) is = λ found listed.
+          rewritten_only (IsLiveOf (verified_as words) old) words.store programs rows held found left
+          (λ row among. record {
+            live = found;
+            row = row;
+            are = record {
+              bytes = bytes;
+              store = held;
+              held = agrees;
+              read = is;
+              listing = listed;
+            };
+            among = among;
+            is = refl;
+          })
+
+  pub command_asks : (command : Command) → OnlyAsks (Sees command old) (steps command) begin
+  command_asks (Convert words) = converts words
+  command_asks (Put words store) = puts words store
+  command_asks (Get words) = gets words
+  command_asks (Verify words) = verifies words
+  command_asks (Rewrite words) = rewrites words
+  command_asks (Check config resource) =
+      configured (Sees (Check config resource) old) config
+      (λ rows. show (λ shown. shown ≡ Ok (listing rows resource))) begin (λ rows l i t.
+      show_only (Sees (Check config resource) old) (λ shown. shown ≡ Ok (listing rows resource)) l)
+  command_asks (Plan words) = configured (Sees (Plan words) old) words.from
+      (λ from. and_then (configuration words.to) (λ to. show (ShowsPlan words from to)))
+      begin (λ from l i t. configured (Sees (Plan words) old) words.to
+      (λ to. show (ShowsPlan words from to)) l
+      (λ to m j u. show_only (Sees (Plan words) old) (ShowsPlan words from to) m))
+  command_asks Inspect = λ bytes rest c e. show_only (Sees Inspect old) (Inspects bytes) _
+  command_asks (Migrate words) = migrating_only (Sees (Migrate words) old) words begin
+  command_asks (Rows store) = stored_only (Sees (Rows store) old) Store store
+      (λ held. show (ShowsRows held.rows))
+      (λ held l. show_only (Sees (Rows store) old) (ShowsRows held.rows) l) _
+  command_asks (Judge words) = stored_only (Sees (Judge words) old) Store words.store
+      (λ held. judging_by words.options held.rows)
+      (λ held l. judging_only (Sees (Judge words) old) words.options held.rows l) _
+
+-- ---- a run
+
+-- what closes a command asks nothing
+closed_heard : (command : Command) (stop point : Point Outcome) (end last : Left)
+    → Closes command stop end point last → last.heard ≡ end.heard
+closed_heard command stop point end last (inl (nothing, e)) = ap (λ (l : Left). l.heard) e.1
+closed_heard command stop point end last (inr (is, (name, reports, inl e))) =
+    ap (λ (l : Left). l.heard) e.1
+closed_heard command stop point end last (inr (is, (name, reports, inr e))) =
+    ap (λ (l : Left). l.heard) e.1
+
+module _ (words : List (List ℕ)) (old new : Around) (exchanges : List Exchange) (command : Command)
+    (asks : Asks words command) where
+  abbrev silence : Around
+  silence = record old { heard = Some [] }
+
+  abbrev now : Around
+  now = record new { heard = Some exchanges }
+
+  abbrev Seen : Type 0
+  Seen = All (Sees command old) exchanges
+
+  reached : (said : List ℕ) (c : Command) (point : Point Outcome) → Asks words c
+      → ReachesEnd c (left_of silence) (with_what_is_said said now) point → Seen
+  reached said c point also r =
+      let goes = subst (λ d. Goes r.stop r.end (steps d) (left_of silence))
+      (one_command also asks) r.goes in
+      let end_heard : Some exchanges ≡ r.end.heard =
+      r.stays.heard ∙ closed_heard c r.stop point r.end r.last r.closes in
+      subst (AllHeard (Sees command old)) (sym end_heard)
+      (only_asked (Sees command old) r.stop r.end (steps command) (left_of silence)
+      (command_asks old command) (All-nil (Sees command old)) goes)
+
+  ended : (said : List ℕ) (made : Result Outcome Stop) (c : Command) → Asks words c
+      → EndsAll c (left_of silence) silence (with_what_is_said said now) made → Seen
+  ended said (Ok made) c also r = reached said c (gives made) also r
+  ended said (Err (Words why)) c also r = absurd r
+  ended said (Err (Refused why)) c also r = reached said c (refuses why) also r
+  ended said (Err (Fault object count)) c also (call, r, fault) =
+      reached said c (awaits call) also r
+  ended said (Err NoMemory) c also (inl (call, may, r)) = reached said c (awaits call) also r
+  ended said (Err NoMemory) c also (inr r) = reached said c amid also r
+
+  answered : (output : Receipt) (result : Result Done Stop)
+      → Answers words silence now output result → Seen
+  answered output result (inl (stops, same)) =
+      let e : Some exchanges ≡ Some [] = ap (λ (a : Around). a.heard) same.0 in
+      subst (AllHeard (Sees command old)) (sym e) (All-nil (Sees command old))
+  answered output result (inr (said, made, did, writes)) =
+      ended said made did.command did.asks did.ends
+
+pub plugins_see : PluginsSee
+plugins_see words old new exchanges output errors status ran command asks =
+    answered words old new exchanges command asks output ran.result ran.answers

@@ -1,0 +1,187 @@
+-- A drive over the rows of a store refuses nothing but that its limit would be passed.
+use Rattle.std.proofs.Common.{◌≡◌, ℕ, zero, suc, List, [], ◌∷◌, ◌++◌, length, Bool, true, false, Option, None, Some, Result, Ok, Err, sym, ap, subst, inl, inr}
+use Rattle.std.specs.Prelude.{nat_lt, if◌then◌else◌}
+use Rattle.kr_base.specs.Limits.{data_limit, store_limit}
+use Rattle.kr_config.specs.Lists.{list_of}
+use Rattle.kr_config.specs.declared.who.Who.{Who}
+use Rattle.kr_config.specs.declared.who.Who.TheVariants.{Identity, Aescbc, Aesgcm, Kms}
+use Rattle.kr_envelope.specs.declared.object.EncryptedObject.{EncryptedObject}
+use Rattle.kr_envelope.specs.declared.object.ObjectNo.{ObjectNo}
+use Rattle.kr_kms.specs.declared.seeds.SeedKey.{SeedKey}
+use Rattle.kr_kms.specs.declared.seeds.SeedRow.{SeedRow}
+use Rattle.kr_provider.specs.Envelopes.{seed_key}
+use Rattle.kr_provider.specs.Publication.{Publication, seed_of}
+use Rattle.kr_provider.specs.Reading.{Reading, data_of, refused, unopened, value_reading, is_stale}
+use Rattle.kr_provider.specs.Readers.{reader_in, writer_of}
+use Rattle.kr_provider.specs.Sealing.{draw_size, sealed_by}
+use Rattle.kr_provider.specs.declared.refusal.Opened.{Opened}
+use Rattle.kr_provider.specs.declared.refusal.ValueNo.{ValueNo}
+use Rattle.kr_store.specs.File.{file_bytes}
+use Rattle.kr_store.specs.declared.rows.LogRow.{LogRow}
+use Rattle.kr_store.specs.declared.rows.Row as stored
+use Rattle.kr_cmd_messages.specs.declared.refusal.Limit.TheVariants as limit
+use Rattle.kr_cmd_messages.specs.declared.refusal.Object.TheVariants.{Store}
+use Rattle.kr_cmd_messages.specs.declared.refusal.Refusal.{Refusal}
+use Rattle.kr_cmd_messages.specs.declared.refusal.Refusal.TheVariants.{Limit}
+use Rattle.kr_cmd_steps.specs.Phases.{adding, by_result}
+use Rattle.kr_cmd_steps.specs.RewriteSteps.{Progress, driving, one_fresh, one_rewritten, replacing, resealing, row_anew, row_by, row_data, row_steps}
+use Rattle.kr_cmd_steps.specs.StoreFiles.{Stored, with_row}
+use Rattle.kr_cmd_steps.specs.ValueSteps.{draw_some, opening, published_source, reading_given, source_steps, value_read, value_sealed, value_with}
+use Rattle.kr_cmd_steps.specs.Steps.{Steps, write_row, give, and_then, Point, awaits, amid, refuses, gives, Left, Goes}
+use Rattle.kr_cmd_steps.proofs.Goes.{Further}
+use Rattle.kr_cmd_laws.proofs.Behind.{parted}
+
+-- this point is no refusal
+abbrev IsNone : {A : Type 0} → Point A → Type 0
+IsNone (refuses why) = ⊥
+IsNone point = Unit {0}
+
+none_refused : {A B : Type 0} {why : Refusal} {here : Point A} → refuses why ≡ here → IsNone here
+    → B
+none_refused {A} {B} e none = absurd (subst (λ (q : Point A). IsNone q) (sym e) none)
+
+abbrev refusal_of : {A : Type 0} → Refusal → Point A → Refusal
+refusal_of other (awaits call) = other
+refusal_of other amid = other
+refusal_of other (refuses why) = why
+refusal_of other (gives x) = other
+
+module _ (P : Refusal → Type 0) where
+  same_refusal : {A : Type 0} (why cause : Refusal)
+      → ◌≡◌ {A = Point A} (refuses why) (refuses cause) → P cause → P why
+  same_refusal {A} why cause e p =
+      subst P (sym (ap (λ (q : Point A). refusal_of cause q) e)) p
+
+  -- steps refuse nothing but this
+  abbrev pub RefusesOnly : {A : Type 0} → Steps A → Type 0
+  RefusesOnly s = (why : Refusal) (end left : Left) → Goes (refuses why) end s left → P why
+
+  give_refuses : {A : Type 0} (x : A) → RefusesOnly (give x)
+  give_refuses x why end left at = none_refused at.0 tt
+
+  refuses_then : {A B : Type 0} (others : A → Steps B) → ((x : A) → RefusesOnly (others x))
+      → (first : Steps A) → RefusesOnly first → RefusesOnly (and_then first others)
+  refuses_then {A} {B} others o first f why end left goes =
+      let r = parted others (refuses why) end first left goes in by r.0 r.1 r.2 r.3
+    where
+      by : (q : Point A) (mid : Left) → Goes q mid first left
+          → Further (refuses why) end others q mid → P why
+      by (awaits call) mid g at = none_refused at.0 tt
+      by amid mid g at = none_refused at.0 tt
+      by (refuses cause) mid g at = same_refusal why cause at.0 (f cause mid left g)
+      by (gives x) mid g at = o x why end mid at
+
+  -- ---- a value
+
+  given_refuses : (reading : Reading) (stale : Bool) → RefusesOnly (reading_given reading stale)
+  given_refuses (data_of plain) stale why end left at = none_refused at.0 tt
+  given_refuses (refused cause) stale why end left at = none_refused at.0 tt
+  given_refuses unopened stale why end left (inl at) = none_refused at.0 tt
+  given_refuses unopened stale why end left (inr (none, u, goes)) = absurd none
+
+  source_refuses : {A : Type 0} (source : Option (List ℕ)) (key : SeedKey)
+      (next : Option (List ℕ) → Steps A) → ((o : Option (List ℕ)) → RefusesOnly (next o))
+      → RefusesOnly (source_steps source key next)
+  source_refuses (Some seed) key next r why end left goes = r (Some seed) why end left goes
+  source_refuses None key next r why end left (inl at) = none_refused at.0 tt
+  source_refuses None key next r why end left (inr (inl (answer, at))) = none_refused at.0 tt
+  source_refuses None key next r why end left (inr (inr (inl at))) = none_refused at.0 tt
+  source_refuses None key next r why end left
+      (inr (inr (inr (bytes, tells, inl (was, goes))))) = r (Some bytes) why end left goes
+  source_refuses None key next r why end left (inr (inr (inr (bytes, tells, inr goes)))) =
+      r (Some bytes) why end _ goes
+
+  opening_refuses : {A : Type 0} (seeds : List SeedRow) (reader : Option Who)
+      (object : Result EncryptedObject ObjectNo) (next : Option (List ℕ) → Steps A)
+      → ((o : Option (List ℕ)) → RefusesOnly (next o))
+      → RefusesOnly (opening seeds reader object next)
+  opening_refuses seeds None object next r = r None
+  opening_refuses seeds (Some Identity) object next r = r None
+  opening_refuses seeds (Some (Aescbc name secret)) object next r = r None
+  opening_refuses seeds (Some (Aesgcm name secret)) object next r = r None
+  opening_refuses seeds (Some (Kms name)) (Err why) next r = r None
+  opening_refuses seeds (Some (Kms name)) (Ok object) next r = source_refuses
+      (published_source (seed_of name seeds) (seed_key name object)) (seed_key name object) next r
+
+  read_refuses : (seeds : List SeedRow) (list : List Who) (path bytes : List ℕ)
+      → RefusesOnly (value_read seeds list path bytes)
+  read_refuses seeds list path bytes why end left (inl at) = none_refused at.0 tt
+  read_refuses seeds list path bytes why end left (inr (object, has, goes)) =
+      opening_refuses seeds (reader_in list bytes) object (value_with seeds list path bytes object)
+      (λ source. given_refuses
+      (value_reading (record { object = object; source = source }) list path bytes)
+      (is_stale (record { object = object; source = source }) seeds list bytes)) why end left goes
+
+  draws_refuse : {A : Type 0} (size : ℕ) (next : List ℕ → Steps A)
+      → ((drawn : List ℕ) → RefusesOnly (next drawn)) → RefusesOnly (draw_some size next)
+  draws_refuse zero next r why end left goes = r [] why end left goes
+  draws_refuse (suc more) next r why end left (inl at) = none_refused at.0 tt
+  draws_refuse (suc more) next r why end left (inr (bytes, rest, c, fits, goes)) =
+      r bytes why end _ goes
+
+  sealed_refuses : (seeds : List SeedRow) (who : Who) (path plain : List ℕ)
+      → RefusesOnly (value_sealed seeds who path plain)
+  sealed_refuses seeds who path plain why end left (inl at) = none_refused at.0 tt
+  sealed_refuses seeds who path plain why end left (inr (u, v, goes)) =
+      draws_refuse (draw_size who) (λ drawn. give (sealed_by seeds who path plain drawn))
+      (λ drawn. give_refuses (sealed_by seeds who path plain drawn)) why end left goes
+
+  -- ---- a row, where the limit of a store may be refused
+
+  module _ (full : P (Limit limit.Store)) (name : List ℕ) where
+    adding_refuses : (store : Stored) (row : LogRow) → RefusesOnly (adding Store name store row)
+    adding_refuses store row why end left (inl at) = none_refused at.0 tt
+    adding_refuses store row why end left (inr (u, v, goes)) =
+        by (nat_lt store_limit (length (file_bytes store.format (store.rows ++ row ∷ [])))) goes
+      where
+        by : (large : Bool) → Goes (refuses why) end (and_then
+            (by_result (if large then Err (Limit limit.Store) else Ok (with_row row store)))
+            (λ grown. write_row Store name store row (give grown))) left → P why
+        by true at = same_refusal why (Limit limit.Store) at.0 full
+        by false (inl (told, begins, at)) = none_refused at.0 tt
+        by false (inr (told, holds, at)) = none_refused at.0 tt
+
+    module _ (p : Publication) where
+      replacing_refuses : (row : stored.Row) (at : Progress) (value : Option (List ℕ))
+          → RefusesOnly (replacing name p row at value)
+      replacing_refuses row at None = give_refuses _
+      replacing_refuses row at (Some value) =
+          let new = row_anew at.store.format p row value in
+          refuses_then (λ grown. give (one_rewritten new at))
+          (λ grown. give_refuses (one_rewritten new at)) (adding Store name at.store new)
+          (adding_refuses at.store new)
+
+      resealing_refuses : (long : Bool) (row : stored.Row) (plain : List ℕ) (at : Progress)
+          → RefusesOnly (resealing long name p row plain at)
+      resealing_refuses true row plain at = give_refuses _
+      resealing_refuses false row plain at =
+          let who = writer_of (list_of p.rows row.resource) in
+          refuses_then (replacing name p row at) (replacing_refuses row at)
+          (value_sealed p.seeds who row.path plain) (sealed_refuses p.seeds who row.path plain)
+
+      data_refuses : (row : stored.Row) (at : Progress) (plain : List ℕ) (stale : Bool)
+          → RefusesOnly (row_data name p row at plain stale)
+      data_refuses row at plain false why end left e = give_refuses (one_fresh at) why end left e
+      data_refuses row at plain true why end left (inl e) = none_refused e.0 tt
+      data_refuses row at plain true why end left (inr (u, v, goes)) =
+          resealing_refuses (nat_lt data_limit (length plain)) row plain at why end left goes
+
+      by_refuses : (row : stored.Row) (at : Progress) (read : Result Opened ValueNo)
+          → RefusesOnly (row_by name p row at read)
+      by_refuses row at (Ok opened) = data_refuses row at opened.plain opened.stale
+      by_refuses row at (Err cause) = give_refuses _
+
+      row_refuses : (row : stored.Row) (at : Progress) → RefusesOnly (row_steps name p row at)
+      row_refuses row at =
+          let list = list_of p.rows row.resource in
+          refuses_then (row_by name p row at) (by_refuses row at)
+          (value_read p.seeds list row.path row.stored)
+          (read_refuses p.seeds list row.path row.stored)
+
+      pub driving_refuses : (live : List stored.Row) (at : Progress)
+          → RefusesOnly (driving name p live at)
+      driving_refuses [] at why end left (told, holds, inl e) = none_refused e.0 tt
+      driving_refuses [] at why end left (told, holds, inr (u, v, e)) = none_refused e.0 tt
+      driving_refuses (row ∷ live) at why end left (told, holds, goes) =
+          refuses_then (driving name p live) (driving_refuses live) (row_steps name p row at)
+          (row_refuses row at) why end _ goes

@@ -1,9 +1,0 @@
--- What the tactic leaves open of `entry_for`.
-use Rattle.kr_config.specs.Nexts.{lent_class}
-use Rattle.kr_config.proofs.ClassIndexes.{listed}
-use Rattle.kr_config.proofs.class_index.entry_for.Goals as goal
-
-pub returns-in-Some : goal.returns-in-Some
-returns-in-Some c = λ rows indexed.
-    listed rows c.args.index.now (lent_class c.args.class) c.in-Some.entry indexed
-    c.in-Some.ensures.some

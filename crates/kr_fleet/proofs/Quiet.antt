@@ -1,0 +1,91 @@
+-- Between its Adopt and its LetGo a call neither adopts nor lets go.
+use Rattle.std.proofs.Common.{◌≡◌, inl, inr, ℕ, List, Option, Some, Result, Ok, Err, subst}
+use Rattle.std.specs.Prelude.{IfSome}
+use Rattle.kr_kms.specs.Calls.{Link}
+use Rattle.kr_kms.specs.Truth.{Truth}
+use Rattle.kr_provider.specs.Publication.{Publication}
+use Rattle.kr_provider.specs.declared.refusal.Opened.{Opened}
+use Rattle.kr_provider.specs.declared.refusal.UnsealNo.{UnsealNo}
+use Rattle.kr_provider.specs.declared.refusal.ValueNo.TheVariants as value
+use Rattle.kr_store.specs.declared.rows.Row.{Row}
+use Rattle.kr_rollout.specs.declared.answer.Answer.{Answer}
+use Rattle.kr_rollout.specs.declared.answer.Answer.TheVariants as answer
+use Rattle.kr_rollout.specs.declared.event.Event.TheVariants as event
+use Rattle.kr_history.specs.Acting.{Caller}
+use Rattle.kr_history.specs.CallerLaws.{LeavesHolding}
+use Rattle.kr_history.specs.declared.call.CallNo.{CallNo}
+use Rattle.kr_history.specs.declared.call.CallNo.TheVariants as refusal
+use Rattle.kr_history.proofs.KeyMoments.{AddsQuietly, quiet_none, quiet_one}
+use Rattle.kr_fleet.specs.ReadCalls.{Finds, FindsRow}
+use Rattle.kr_fleet.specs.WriteCalls.{Puts, PutsSealed}
+use Rattle.kr_fleet.specs.declared.outcome.Read.{Read}
+use Rattle.kr_fleet.specs.declared.outcome.Read.TheVariants.{Absent, Value}
+
+-- ---- a Fetch
+
+module _ {L : Type 0} (truth : Truth) (link : L → Link) (path : List ℕ) (p : Publication)
+    (old new : Caller) (olds news : List L) where
+  finds_row : (row : Row) (opened : Result Opened UnsealNo)
+      → FindsRow truth link path p old olds row opened new news → AddsQuietly old new
+  finds_row row opened f = quiet_one old new (event.Fetch path) (answer.Found row) tt f.found
+
+  finds : (result : Result Read CallNo) → Finds truth link path p old olds result new news
+      → AddsQuietly old new
+  finds (Ok Absent) f = quiet_one old new (event.Fetch path) answer.Absent tt f.0.absent
+  finds (Ok (Value revision plain stale)) f =
+      finds_row f.0 (Ok (record { plain = plain; stale = stale })) f.1
+  finds (Err (refusal.Refused why)) f = finds_row f.0 _ f.1
+  finds (Err (refusal.PluginFailed name)) f = finds_row f.0 _ f.1
+  finds (Err refusal.NoMemory) (inl f) = finds_row f.0 _ f.1
+  finds (Err refusal.NoMemory) (inr f) =
+      quiet_one old new (event.Fetch path) answer.NoMemory tt f.0
+  finds (Err refusal.Spent) f = quiet_none old new f.0.same
+  finds (Err refusal.DiceFailed) f = absurd f
+  finds (Err refusal.StoreFailed) f = absurd f
+  finds (Err (refusal.StoreFull needed)) f = absurd f
+  finds (Err (refusal.Unhealthy name field text)) f = absurd f
+  finds (Err refusal.Gone) f = absurd f
+
+-- by the configuration that the bench has
+pub finds_quietly : {L : Type 0} (truth : Truth) (link : L → Link) (path : List ℕ)
+    (published : Option Publication) (p : Publication) (old new : Caller) (olds news : List L)
+    (result : Result Read CallNo) → published ≡ Some p
+    → IfSome published (λ p. Finds truth link path p old olds result new news)
+    → AddsQuietly old new
+finds_quietly truth link path published p old new olds news result is f =
+    finds truth link path p old new olds news result
+    (subst (λ o. IfSome o (λ p. Finds truth link path p old olds result new news)) is f)
+
+-- ---- a Put
+
+module _ {D : Type 0} (left : D → Option (List ℕ)) (count : D → ℕ)
+    (resource path plain : List ℕ) (p : Publication) (old new : Caller) (dice after : D) where
+  puts_sealed : (given : Answer) → LeavesHolding given
+      → PutsSealed left count resource path plain p old dice given new after → AddsQuietly old new
+  puts_sealed given stays f =
+      quiet_one old new (event.Put path resource plain f.stored) given stays f.put
+
+  puts : (result : Result ℕ CallNo) → Puts left count resource path plain p old dice result new after
+      → AddsQuietly old new
+  puts (Ok revision) f = puts_sealed (answer.Written revision) tt f
+  puts (Err (refusal.Refused value.LooksEncrypted)) f = quiet_none old new f.1
+  puts (Err (refusal.Refused value.TooLarge)) f = quiet_none old new f.1
+  puts (Err refusal.DiceFailed) f = quiet_none old new f.1
+  puts (Err refusal.StoreFailed) f = puts_sealed answer.StoreFailed tt f
+  puts (Err (refusal.StoreFull needed)) f = puts_sealed (answer.StoreFull needed) tt f
+  puts (Err refusal.Spent) f = quiet_none old new f.nothing.same
+  puts (Err refusal.NoMemory) (inl f) = quiet_none old new f.1
+  puts (Err refusal.NoMemory) (inr f) = puts_sealed answer.NoMemory tt f
+  puts (Err (refusal.Refused why)) f = absurd f
+  puts (Err why) f = absurd f
+
+-- by the configuration that the bench has
+pub puts_quietly : {D : Type 0} (left : D → Option (List ℕ)) (count : D → ℕ)
+    (resource path plain : List ℕ) (published : Option Publication) (p : Publication)
+    (old new : Caller) (dice after : D) (result : Result ℕ CallNo) → published ≡ Some p
+    → IfSome published (λ p. Puts left count resource path plain p old dice result new after)
+    → AddsQuietly old new
+puts_quietly left count resource path plain published p old new dice after result is f =
+    puts left count resource path plain p old new dice after result
+    (subst (λ o. IfSome o (λ p. Puts left count resource path plain p old dice result new after))
+    is f)

@@ -1,5 +1,0 @@
-use Rattle.kr_history.proofs.PartsAdd as proved
-use Rattle.kr_history.proofs.laws_parts.parts_add_up.Goals as goal
-
-pub returns : goal.returns
-returns c = proved.parts_add_up

@@ -1,6 +1,0 @@
-use Rattle.kr_opening.proofs.Taking.{AreTaken}
-use Rattle.kr_opening.proofs.opening_board.take_all_up.Given as goal
-use Rattle.kr_opening.specs.Replicas.{rows_in}
-
-abbrev pub invariant-loop-replica : goal.invariant-loop-replica
-invariant-loop-replica l = AreTaken (rows_in l.replicas) l.initial.board l.board l.replica

@@ -1,0 +1,53 @@
+-- `plugin_key_id`: the plugin of the name alone is asked, and a refusal is its own.
+use Rattle.std.proofs.Common.{◌≡◌, ℕ, List, Ok, Err, refl, sym, subst, inl, inr}
+use Rattle.std.specs.Prelude.{◌⊎◌}
+use Rattle.kr_kms.specs.Calls.{Link}
+use Rattle.kr_kms.specs.Health.{TellsKeyId}
+use Rattle.kr_kms.specs.declared.health.SeedNo.{SeedNo}
+use Rattle.kr_kms.specs.declared.health.SeedNo.TheVariants as seed
+use Rattle.kr_provider.specs.Publishing.{AnswersKeyId, TellsKeyIdOf}
+use Rattle.kr_provider.specs.declared.refusal.PublishNo.{PublishNo}
+use Rattle.kr_provider.specs.declared.refusal.PublishNo.TheVariants.{NoMemory}
+use Rattle.kr_base.proofs.Walks.{talk_so}
+use Rattle.kr_provider.specs.Exchanges.{plugin_refusal}
+use Rattle.kr_provider.proofs.Makings.{told_or}
+use Rattle.kr_provider.proofs.AskedLists.{asked_alone}
+use Rattle.kr_provider.proofs.bench.plugin_key_id.Goals as goal
+
+tells : {L : Type 0} (link : L → Link) (name : List ℕ) (olds news : List L) (why : SeedNo)
+    (refusal : PublishNo) → (refusal ≡ plugin_refusal name why) ⊎ (refusal ≡ NoMemory)
+    → AnswersKeyId link name olds (Err why) news → TellsKeyIdOf link name olds (Err refusal) news
+tells link name olds news why refusal (inr e) a =
+    subst (λ r. TellsKeyIdOf link name olds (Err r) news) (sym e) tt
+tells {L} link name olds news why refusal (inl e) a =
+    subst (λ r. TellsKeyIdOf link name olds (Err r) news) (sym e) (by why a)
+  where
+    by : (why : SeedNo) → AnswersKeyId link name olds (Err why) news
+        → TellsKeyIdOf link name olds (Err (plugin_refusal name why)) news
+    by seed.Failed a = (refl, a)
+    by seed.DiceFailed a = absurd a.asks
+    by (seed.Unhealthy field text) a = (refl, a)
+    by seed.NoMemory a = tt
+
+pub returns-in-Ok-clause-asked : goal.returns-in-Ok-clause-asked
+returns-in-Ok-clause-asked g c = asked_alone g.L.Kms.link c.args.name.now
+    (λ old new. TellsKeyId (g.L.Kms.link old) c.key_id.result (g.L.Kms.link new))
+    c.args.links.now c.key_id.new.self c.key_id.ensures.told
+
+pub returns-in-Err-clause-told : goal.returns-in-Err-clause-told
+returns-in-Err-clause-told g c = tells g.L.Kms.link c.args.name.now c.args.links.now
+    c.key_id.new.self c.in-Err.why c.plugin_refusal.result
+    (told_or c.args.name.now c.in-Err.why c.plugin_refusal.result c.plugin_refusal.ensures) c.in-Err.ensures.told
+
+pub returns-in-Err-clause-asked : goal.returns-in-Err-clause-asked
+returns-in-Err-clause-asked g c = asked_alone g.L.Kms.link c.args.name.now
+    (λ old new. TellsKeyId (g.L.Kms.link old) c.key_id.result (g.L.Kms.link new))
+    c.args.links.now c.key_id.new.self c.key_id.ensures.told
+
+pub returns-in-Ok-clause-exchanged : goal.returns-in-Ok-clause-exchanged
+returns-in-Ok-clause-exchanged g c = talk_so _ _ _ _ _ c.in-Ok.ensures.exchanged (λ es tells.
+    (Ok c.in-Ok.key_id, tells, refl))
+
+pub returns-in-Err-clause-exchanged : goal.returns-in-Err-clause-exchanged
+returns-in-Err-clause-exchanged g c = talk_so _ _ _ _ _ c.in-Err.ensures.exchanged (λ es tells.
+    (Err c.in-Err.why, tells, c.plugin_refusal.ensures))

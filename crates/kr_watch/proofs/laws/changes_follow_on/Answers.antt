@@ -1,5 +1,0 @@
-use Rattle.kr_watch.proofs.ChangeLaws as proved
-use Rattle.kr_watch.proofs.laws.changes_follow_on.Goals as goal
-
-pub returns : goal.returns
-returns c = proved.changes_follow_on

@@ -1,6 +1,0 @@
-use Rattle.std.proofs.Common.{◌≡◌}
-use Rattle.kr_turn.specs.Seats.{IsSeatOf, number_of}
-use Rattle.test_leaf.proofs.tests.turn.hand_over.Given as goal
-
-abbrev pub invariant-loop-number : goal.invariant-loop-number
-invariant-loop-number g l = IsSeatOf l.turn l.seat × (number_of l.seat ≡ number_of l.fn.seat)

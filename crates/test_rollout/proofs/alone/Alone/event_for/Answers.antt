@@ -1,7 +1,0 @@
--- `event_for`: the seat may ask for what its hand permits.
-use Rattle.test_rollout.proofs.Hands.{caller_may}
-use Rattle.test_rollout.proofs.alone.Alone.event_for.Goals as goal
-
-pub returns : goal.returns
-returns c = caller_may c.args.self.now c.self.inside.solo c.self.inside.hand c.event_for.result
-    c.self.view_is c.known.ensures.seat_in c.self.invariant c.event_for.ensures

@@ -1,5 +1,0 @@
-use Rattle.test_rollout.proofs.Starting.{IsWithin}
-use Rattle.test_rollout.proofs.terms.are_within.Given as goal
-
-abbrev pub invariant-loop-number : goal.invariant-loop-number
-invariant-loop-number l = IsWithin l.numbers l.room l.left l.number-index
