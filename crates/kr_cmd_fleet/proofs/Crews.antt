@@ -7,7 +7,6 @@ use Rattle.std.proofs.lemmas.List.{append_assoc, get_or-map, get_or_append_left,
 use Rattle.std.proofs.lemmas.List.Elements.{All-contains_itself}
 use Rattle.kr_kms.specs.Calls.{Link}
 use Rattle.kr_kms.specs.Exchanges.{Exchange}
-use Rattle.kr_kms.specs.Truth.{Truth}
 use Rattle.kr_provider.specs.AskedLinks.{AskedOnly}
 use Rattle.kr_provider.specs.Names.{names_of}
 use Rattle.kr_history.specs.Calls.{AreServed}
@@ -268,12 +267,12 @@ module _ {T L D : Type 0} (link : L → Link) (count : D → ℕ) where
     later_each olds news (omega (arith, same)) (λ i d l. each (suc i) d (omega (arith, l))),
   )
 
-module _ {T L D : Type 0} (truth : Truth) (link : L → Link) (step : L → Exchange → L → Type 0)
+module _ {T L D : Type 0} (link : L → Link) (step : L → Exchange → L → Type 0)
     (left : D → Option (List ℕ))
     (count : D → ℕ) (files : List SettingsFile) (history : List Entry) (o : Opening)
     (parts : List Part) (budgets : List ℕ) (old new : List (Worker T L D))
     (as_many : length old ≡ length parts)
-    (one : IsOneHistory truth link step left count files history o parts budgets old new) where
+    (one : IsOneHistory link step left count files history o parts budgets old new) where
   pub workers_later : AreLater link count (outfits_of old) (outfits_of new)
   workers_later = later_each link count old new one.many (λ i d l.
       let inside : i < length parts = omega (arith, l, as_many) in
@@ -326,32 +325,32 @@ module _ {T L D : Type 0} (link : L → Link) (names served : List (List ℕ))
       → MayBegin link names (get_or ps i part) (get_or workers i worker))
       (sym same_parts) (begins same named)
 
-module _ {T L D : Type 0} (truth : Truth) (link : L → Link) (step : L → Exchange → L → Type 0)
+module _ {T L D : Type 0} (link : L → Link) (step : L → Exchange → L → Type 0)
     (left : D → Option (List ℕ))
     (count : D → ℕ) (files : List SettingsFile) (o : Opening) (parts : List Part)
     (budgets : List ℕ) (old new : List (Worker T L D)) where
   -- however the fleet ended, there are as many workers
   pub still_many : {E : Type 0} (result : Result CoreState E)
-      → IfOk result (λ end. IsOneHistory truth link step left count files end.history o parts
+      → IfOk result (λ end. IsOneHistory link step left count files end.history o parts
       budgets
       old new) → OnErr result (new ≡ old) → length new ≡ length old
   still_many (Ok end) one same = one.many
   still_many (Err refused) one same = ap length same
 
 -- the files, the parts and the budgets as they were lent are the plan's
-module _ {T L D : Type 0} (truth : Truth) (link : L → Link) (step : L → Exchange → L → Type 0)
+module _ {T L D : Type 0} (link : L → Link) (step : L → Exchange → L → Type 0)
     (left : D → Option (List ℕ))
     (count : D → ℕ) (files lent_files : List SettingsFile) (history : List Entry) (o : Opening)
     (parts lent_parts : List Part) (budgets lent_budgets : List ℕ)
     (old new : List (Worker T L D)) where
   pub one_as_asked : lent_files ≡ files → lent_parts ≡ parts → lent_budgets ≡ budgets
-      → IsOneHistory truth link step left count lent_files history o lent_parts lent_budgets old new
-      → IsOneHistory truth link step left count files history o parts budgets old new
+      → IsOneHistory link step left count lent_files history o lent_parts lent_budgets old new
+      → IsOneHistory link step left count files history o parts budgets old new
   one_as_asked same_files same_parts same_budgets one =
-      subst (λ fs. IsOneHistory truth link step left count fs history o parts budgets old new)
+      subst (λ fs. IsOneHistory link step left count fs history o parts budgets old new)
       same_files
-      (subst (λ ps. IsOneHistory truth link step left count lent_files history o ps budgets old new)
+      (subst (λ ps. IsOneHistory link step left count lent_files history o ps budgets old new)
       same_parts
-      (subst (λ bs. IsOneHistory truth link step left count lent_files history o lent_parts bs old
+      (subst (λ bs. IsOneHistory link step left count lent_files history o lent_parts bs old
       new)
       same_budgets one))

@@ -1,14 +1,14 @@
 -- The live rows, as the first replica's configuration reads them with the first worker's outfit.
-use Rattle.std.proofs.Common.{◌≡◌, ◌≢◌, ℕ, zero, suc, ◌+◌, ◌<◌, ◌≤◌, Bool, true, false, List, [], ◌∷◌, ◌++◌, length, get_or, append-nil, append_assoc, Option, None, Some, Result, Ok, Err, refl, sym, ◌∙◌, ap, subst, inl, inr, arith, Contains}
-use Rattle.std.specs.Prelude.{All, IfOk, IfSome, IsSome, reverse}
+use Rattle.std.proofs.Common.{◌≡◌, ℕ, ◌≤◌, Bool, true, false, List, [], ◌∷◌, ◌++◌, length, Option, None, Some, Result, Ok, Err, refl, sym, ◌∙◌, ap, subst, inl, inr, arith, Contains}
+use Rattle.std.specs.Prelude.{All, IfOk, IfSome, reverse}
+use Rattle.kr_base.specs.Walks.{Talk, Walk}
 use Rattle.std.proofs.lemmas.List.{reverse-append, reverse-reverse}
 use Rattle.std.proofs.lemmas.List.Elements.{All-append, All-contains, All-cons, All-head, All-nil}
-use Rattle.kr_base.specs.Limits.{path_limit, value_limit}
 use Rattle.kr_config.specs.Kept.{plugins_in}
 use Rattle.kr_kms.specs.Calls.{Link}
-use Rattle.kr_kms.specs.Truth.{TellsOf, Truth, key_of}
-use Rattle.kr_provider.specs.AskedLinks.{AskedOnly}
-use Rattle.kr_provider.specs.Names.{HasLinks, names_of}
+use Rattle.kr_kms.specs.Exchanges.{Exchange}
+use Rattle.kr_provider.specs.AskedLinks.{Among, AskedOnly}
+use Rattle.kr_provider.specs.Names.{names_of}
 use Rattle.kr_provider.specs.Publication.{Publication}
 use Rattle.kr_rollout.specs.Openings.{NamesAmong}
 use Rattle.kr_store.specs.Laws.{FollowEachOther}
@@ -21,7 +21,8 @@ use Rattle.kr_store.proofs.Listings.{nexts_are_listing}
 use Rattle.kr_watch.specs.declared.item.Item.{Item}
 use Rattle.kr_cmd_messages.specs.declared.refusal.Stop.{Stop}
 use Rattle.kr_cmd_messages.specs.declared.refusal.Stop.TheVariants.{NoMemory}
-use Rattle.kr_cmd_steps.specs.Around.{Around, IsUnheard}
+use Rattle.kr_cmd_steps.specs.Around.{Around, with_exchanges}
+use Rattle.kr_cmd_steps.specs.ValueSteps.{none_kept}
 use Rattle.kr_cmd_steps.specs.inner.Phases.{Does}
 use Rattle.kr_cmd_steps.specs.inner.ProgramNames.{names_in}
 use Rattle.kr_cmd_fleet.specs.FirstItems.{reading_live, reading_rows, watching}
@@ -29,13 +30,17 @@ use Rattle.kr_cmd_fleet.specs.declared.fleet_file.LoadedFleet.{LoadedFleet}
 use Rattle.kr_cmd_fleet.specs.declared.outfit.Outfit.{Outfit}
 use Rattle.kr_cmd_fleet.specs.inner.Beginnings.{with_first}
 use Rattle.kr_cmd_fleet.specs.inner.FleetOutcomes.{ArePublished}
-use Rattle.kr_cmd_fleet.specs.inner.Outfits.{AreLater, AreNamed, with_outfits}
+use Rattle.kr_cmd_fleet.specs.StartExchanges.{AsksFirst}
+use Rattle.kr_cmd_fleet.specs.declared.watch_start.WatchStart.{WatchStart}
+use Rattle.kr_cmd_fleet.specs.inner.Outfits.{AreLater, AreNamed, links_of, with_outfits}
 use Rattle.kr_cmd_fleet.specs.inner.Plans.{IsWholePlan, named, plan_of}
-use Rattle.kr_cmd_fleet.specs.inner.Readings.{AreFirstItems, AreReadOf, HasFirst, IsFirst, IsReadable, first_in}
-use Rattle.kr_cmd_steps.specs.Steps.{find, give}
+use Rattle.kr_cmd_fleet.specs.inner.Readings.{AreReadOf, HasFirst, IsFirst, IsReadable, KnowsItems, first_in, items_in, read_in}
+use Rattle.kr_cmd_steps.specs.Steps.{Steps, find, give}
 use Rattle.kr_cmd_steps.proofs.Goes.{given, goes_on, home_refl, reach}
 use Rattle.kr_cmd_fleet.proofs.Plans.{plan_names}
-use Rattle.kr_cmd_fleet.proofs.Publishings.{first_later, published_among, with_the_first}
+use Rattle.kr_cmd_steps.proofs.Hearing.{around_none}
+use Rattle.kr_cmd_fleet.proofs.Publishings.{first_asks, first_later, heard_first, published_among}
+use Rattle.kr_cmd_fleet.proofs.RowReads.{Leaves, reads_behind}
 
 -- ---- what the first replica published, and the first outfit
 
@@ -44,34 +49,24 @@ pub is_first : (replicas : List (Option Publication)) (p : Publication)
 is_first [] p e = absurd (let x : None ≡ Some p = e in cc)
 is_first (replica ∷ others) p e = (others, ap (λ r. r ∷ others) e)
 
-seeds_told : (truth : Truth) (plan : LoadedFleet) (replicas : List (List ℕ × List ℕ)) (p : Publication)
-    (others : List (Option Publication))
-    → ArePublished truth (named plan.files.0) replicas (Some p ∷ others)
-    → All (λ row. TellsOf truth (key_of row) row.seed) p.seeds
-seeds_told truth plan [] p others all = absurd all
-seeds_told truth plan (replica ∷ replicas) p others all = all.0.1
-
-module _ {L D : Type 0} (truth : Truth) (link : L → Link) (plan : LoadedFleet)
+module _ {L D : Type 0} (link : L → Link) (plan : LoadedFleet)
     (whole : IsWholePlan (plan_of plan)) where
   pub has_first : (outfits : List (Outfit L D)) (made : List (Option Publication))
       → AreNamed link (names_in plan.programs) outfits
-      → ArePublished truth (named plan.files.0) plan.script.replicas.0 made
-      → HasFirst truth link outfits made
+      → ArePublished (named plan.files.0) plan.script.replicas.0 made
+      → HasFirst link outfits made
   has_first outfits made are_named all p others outfit more is has =
       let names = names_in plan.programs in
       let among : NamesAmong names p.rows = All-head
       (λ r. IfSome r (λ q. NamesAmong names q.rows)) (Some p) others
       (subst (All (λ r. IfSome r (λ q. NamesAmong names q.rows))) is
-      (published_among truth (named plan.files.0) names (plan_names plan whole)
+      (published_among (named plan.files.0) names (plan_names plan whole)
       plan.script.replicas.0 made all)) in
       let own : names_of link outfit.links ≡ names = All-head
       (λ (o : Outfit L D). names_of link o.links ≡ names) outfit more
-      (subst (All (λ (o : Outfit L D). names_of link o.links ≡ names)) has are_named) in (
-        λ name c. subst (λ ns. Contains ns name) (sym own)
-            (All-contains (λ n. Contains names n) (plugins_in p.rows) name among c),
-        seeds_told truth plan plan.script.replicas.0 p others
-            (subst (ArePublished truth (named plan.files.0) plan.script.replicas.0) is all),
-      )
+      (subst (All (λ (o : Outfit L D). names_of link o.links ≡ names)) has are_named) in
+      λ name c. subst (λ ns. Contains ns name) (sym own)
+      (All-contains (λ n. Contains names n) (plugins_in p.rows) name among c)
 
 -- ---- the live rows
 
@@ -129,10 +124,11 @@ lacks_live rows p others a =
 -- this listing was found, and then its rows were read so
 pub live_does : (rows : List LogRow) (p : Publication) (others : List (Option Publication))
     (listing : List Row) → IsListing rows listing → (old new : Around)
-    (result : Result (List Item) Stop) → Does (reading_rows p listing []) old new result
+    (result : Result (List Item) Stop)
+    → Does (reading_rows p listing [] none_kept) old new result
     → Does (reading_live rows (Some p ∷ others)) old new result
 live_does rows p others listing is old new result d =
-    goes_on (find (List Row) (IsListing rows) give) (λ l. reading_rows p l []) listing
+    goes_on (find (List Row) (IsListing rows) give) (λ l. reading_rows p l [] none_kept) listing
     (record { home = home_refl old; ends = λ l s. reach l (inr (listing, is, (refl, refl))) s }) d
 
 -- ---- the outfits
@@ -151,78 +147,173 @@ pub first_back : {X : Type 0} (back front now : List X) (y : X) → now ≡ fron
 first_back back front now y e b =
     b ∙ ap reverse e ∙ reverse-append front (y ∷ [])
 
-module _ {L D : Type 0} (truth : Truth) (link : L → Link) (left : D → Option (List ℕ))
-    (count : D → ℕ) where
+module _ {L D : Type 0} (link : L → Link) (step : L → Exchange → L → Type 0)
+    (left : D → Option (List ℕ)) (count : D → ℕ) where
   abbrev With : List (Outfit L D) → Around → Around
   With outfits a = with_outfits link left count 0 outfits a
+
+  abbrev First : Outfit L D → List L → Around → Around
+  First first links a = with_first link links (left first.dice) (count first.dice) a
+
+  -- how the live rows were read with these outfits, by what was asked
+  abbrev pub ReadsLive : (watched : Bool) → List LogRow → List (Option Publication)
+      → (outfits back : List (Outfit L D)) → Result WatchStart Stop → Type 0
+  ReadsLive watched rows replicas outfits back result = (es : List Exchange)
+      × AsksFirst step es (links_of outfits) (links_of back)
+      × ((a : Around) → Does (watching watched rows replicas) (With outfits a)
+      (With back (with_exchanges es a)) (read_in result))
+      × IfOk result (λ start. KnowsItems watched es rows replicas start.items.0)
+
+  -- nothing was asked
+  none_asks : (outfits : List (Outfit L D)) → 1 ≤ length outfits
+      → AsksFirst step [] (links_of outfits) (links_of outfits)
+  none_asks [] some = absurd (omega (arith, some))
+  none_asks (outfit ∷ rest) some = record {
+    old = outfit.links;
+    new = outfit.links;
+    others = links_of rest;
+    olds_are = refl;
+    news_are = refl;
+    walk = refl;
+  }
+
+  none_heard : (watched : Bool) (rows : List LogRow) (replicas : List (Option Publication))
+      (outfits : List (Outfit L D)) (result : Result (List Item) Stop)
+      → ((a : Around) → Does (watching watched rows replicas) a a result) → (a : Around)
+      → Does (watching watched rows replicas) (With outfits a)
+      (With outfits (with_exchanges [] a)) result
+  none_heard watched rows replicas outfits result does a =
+      subst (λ b. Does (watching watched rows replicas) (With outfits a) (With outfits b) result)
+      (sym (around_none a)) (does (With outfits a))
+
+  -- no one watches
+  pub reads_none : (watched : Bool) → watched ≡ false → (rows : List LogRow)
+      (replicas : List (Option Publication)) (outfits : List (Outfit L D)) → 1 ≤ length outfits
+      → (start : WatchStart) → start.items.0 ≡ []
+      → ReadsLive watched rows replicas outfits outfits (Ok start)
+  reads_none watched off rows replicas outfits some start none = (
+    [],
+    none_asks outfits some,
+    none_heard watched rows replicas outfits (Ok start.items.0) (λ a.
+        subst (λ w. Does (watching w rows replicas) a a (Ok start.items.0)) (sym off)
+        (subst (λ items. Does (give []) a a (Ok items)) (sym none) (given [] a))),
+    λ on. absurd (let no : true ≡ false = sym on ∙ off in cc),
+  )
+
+  -- memory lacked before a row was read
+  pub lacks_live_rows : (watched : Bool) → watched ≡ true → (rows : List LogRow)
+      (replicas : List (Option Publication)) (p : Publication) → IsFirst p replicas
+      → (outfits : List (Outfit L D)) → 1 ≤ length outfits
+      → ReadsLive watched rows replicas outfits outfits (Err NoMemory)
+  lacks_live_rows watched on rows replicas p (others, is) outfits some = (
+    [],
+    none_asks outfits some,
+    none_heard watched rows replicas outfits (Err NoMemory) (λ a.
+        subst (λ w. Does (watching w rows replicas) a a (Err NoMemory)) (sym on)
+        (subst (λ rs. Does (reading_live rows rs) a a (Err NoMemory)) (sym is)
+        (lacks_live rows p others a))),
+    tt,
+  )
 
   module _ (outfits back rest : List (Outfit L D)) (first new : Outfit L D)
       (is : outfits ≡ first ∷ rest) (now : back ≡ new ∷ rest) (same : new.dice ≡ first.dice)
     where
-      -- the live rows were read with the first outfit
-      pub reads_out : (rows : List LogRow) (p : Publication) (others : List (Option Publication))
-          (listing : List Row) → IsListing rows listing → (result : Result (List Item) Stop)
-          → ((b : Around) → IsUnheard truth b → Does (reading_rows p listing [])
-          (with_first link first.links (left first.dice) (count first.dice) b)
-          (with_first link new.links (left first.dice) (count first.dice) b) result)
-          → (a : Around) → IsUnheard truth a
-          → Does (reading_live rows (Some p ∷ others)) (With outfits a) (With back a) result
-      reads_out rows p others listing lists result d a t =
-          let steps = reading_live rows (Some p ∷ others) in
-          subst (λ os. Does steps (With os a) (With back a) result) (sym is)
-          (subst (λ os. Does steps (With (first ∷ rest) a) (With os a) result) (sym now)
-          (live_does rows p others listing lists (With (first ∷ rest) a) (With (new ∷ rest) a)
-          result
-          (with_the_first truth link left count (reading_rows p listing []) result
-          (first ∷ rest) first new (omega arith) refl
-          (λ b u. subst (λ (x : D). Does (reading_rows p listing [])
-          (with_first link first.links (left first.dice) (count first.dice) b)
-          (with_first link new.links (left x) (count x) b) result) (sym same) (d b u)) a t)))
-
-      pub reads_watched : (watched : Bool) → watched ≡ true → (rows : List LogRow)
-          (replicas : List (Option Publication)) (p : Publication) → IsFirst p replicas
-          → (listing : List Row) → IsListing rows listing
-          → (result : Result (List Item) Stop)
-          → ((b : Around) → IsUnheard truth b → Does (reading_rows p listing [])
-          (with_first link first.links (left first.dice) (count first.dice) b)
-          (with_first link new.links (left first.dice) (count first.dice) b) result)
-          → (a : Around) → IsUnheard truth a
-          → Does (watching watched rows replicas) (With outfits a) (With back a) result
-      reads_watched watched on rows replicas p (others, is_first) listing lists result d a t =
-          subst (λ w. Does (watching w rows replicas) (With outfits a) (With back a) result) (sym on)
-          (subst (λ rs. Does (reading_live rows rs) (With outfits a) (With back a) result)
-          (sym is_first) (reads_out rows p others listing lists result d a t))
-
       pub reads_later : AskedOnly link (names_of link first.links) first.links new.links
           → AreLater link count outfits back
       reads_later asked = subst (λ os. AreLater link count os back) (sym is)
           (subst (λ os. AreLater link count (first ∷ rest) os) (sym now)
-          (first_later truth link left count (first ∷ rest) first new (omega arith) refl asked
+          (first_later link left count (first ∷ rest) first new (omega arith) refl asked
           (omega (arith, ap count same))))
 
--- what is known of the items
-pub knows_items : (watched : Bool) (truth : Truth) (rows : List LogRow)
-    (replicas : List (Option Publication)) (p : Publication) → IsFirst p replicas
-    → (listing : List Row) (items : List Item) → IsListing rows listing → AreReadOf truth p listing items
-    → watched ≡ true → AreFirstItems truth rows replicas items
-knows_items watched truth rows replicas p (others, is) listing items lists reads on = record {
-  first = p;
-  others = others;
-  replicas_are = is;
-  listing = listing;
-  lists = lists;
-  reads = reads;
+      module _ (watched : Bool) (on : watched ≡ true) (rows : List LogRow)
+          (replicas : List (Option Publication)) (p : Publication) (is_first : IsFirst p replicas)
+          (listing : List Row) (lists : IsListing rows listing) where
+        abbrev Reading : Steps (List Item)
+        Reading = reading_rows p listing [] none_kept
+
+        asks : (es : List Exchange) → Walk (Among step) first.links es new.links
+            → AsksFirst step es (links_of outfits) (links_of back)
+        asks es walk = subst (λ os. AsksFirst step es (links_of os) (links_of back)) (sym is)
+            (subst (λ os. AsksFirst step es (links_of (first ∷ rest)) (links_of os)) (sym now)
+            (first_asks link left count step (first ∷ rest) first new es (omega arith) refl walk))
+
+        -- the live rows were read with the first outfit
+        reads_out : (es : List Exchange) (result : Result (List Item) Stop)
+            → ((b : Around) → Does Reading (First first first.links b)
+            (First first new.links (with_exchanges es b)) result) → (a : Around)
+            → Does (watching watched rows replicas) (With outfits a) (With back (with_exchanges es a))
+            result
+        reads_out es result d a =
+            let steps = reading_live rows (Some p ∷ is_first.0) in
+            subst (λ w. Does (watching w rows replicas) (With outfits a)
+            (With back (with_exchanges es a)) result) (sym on)
+            (subst (λ rs. Does (reading_live rows rs) (With outfits a)
+            (With back (with_exchanges es a)) result) (sym is_first.1)
+            (subst (λ os. Does steps (With os a) (With back (with_exchanges es a)) result) (sym is)
+            (subst (λ os. Does steps (With (first ∷ rest) a) (With os (with_exchanges es a)) result)
+            (sym now)
+            (live_does rows p is_first.0 listing lists (With (first ∷ rest) a)
+            (With (new ∷ rest) (with_exchanges es a)) result
+            (heard_first link left count Reading result (first ∷ rest) first new es (omega arith)
+            refl (λ b. subst (λ (x : D). Does Reading (First first first.links b)
+            (with_first link new.links (left x) (count x) (with_exchanges es b)) result) (sym same)
+            (d b)) a)))))
+
+        known : (es : List Exchange) (items : List Item) → AreReadOf es p listing items
+            → KnowsItems watched es rows replicas items
+        known es items reads is_on = record {
+          first = p;
+          others = is_first.0;
+          replicas_are = is_first.1;
+          listing = listing;
+          lists = lists;
+          reads = reads;
+        }
+
+        module _ (made : Result (List Item × ℕ) Stop)
+            (talk : Talk (Among step) first.links new.links
+            (Leaves link step p listing first.links (left first.dice) (count first.dice) new.links
+            made)) where
+          pub reads_ok : (items : List Item × ℕ) → made ≡ Ok items → (start : WatchStart)
+              → start.items.0 ≡ items.0 → ReadsLive watched rows replicas outfits back (Ok start)
+          reads_ok items e start same_items = (
+            talk.steps,
+            asks talk.steps talk.walk,
+            λ a. subst (λ l. Does (watching watched rows replicas) (With outfits a)
+                (With back (with_exchanges talk.steps a)) (Ok l)) (sym same_items)
+                (reads_out talk.steps (Ok items.0) (λ b. subst (λ m. Does Reading
+                (First first first.links b) (First first new.links (with_exchanges talk.steps b))
+                (items_in m)) e (talk.are.0 b)) a),
+            known talk.steps start.items.0
+                (subst (λ l. AreReadOf talk.steps p listing l) (sym same_items)
+                (subst (λ m. IfOk m (λ items. AreReadOf talk.steps p listing items.0)) e
+                talk.are.1)),
+          )
+
+          pub reads_err : (stop : Stop) → made ≡ Err stop
+              → ReadsLive watched rows replicas outfits back (Err stop)
+          reads_err stop e = (
+            talk.steps,
+            asks talk.steps talk.walk,
+            reads_out talk.steps (Err stop) (λ b. subst (λ m. Does Reading
+                (First first first.links b) (First first new.links (with_exchanges talk.steps b))
+                (items_in m)) e (talk.are.0 b)),
+            tt,
+          )
+
+-- what was asked before is among what was asked
+pub knows_behind : (watched : Bool) (es fs : List Exchange) (rows : List LogRow)
+    (replicas : List (Option Publication)) (items : List Item)
+    → KnowsItems watched fs rows replicas items → KnowsItems watched (es ++ fs) rows replicas items
+knows_behind watched es fs rows replicas items k on = let f = k on in record {
+  first = f.first;
+  others = f.others;
+  replicas_are = f.replicas_are;
+  listing = f.listing;
+  lists = f.lists;
+  reads = reads_behind es fs f.first f.listing items f.reads;
 }
 
 -- a row that keeps the rules of its parts can be read
 pub readable : (format : Format) (row : Row) → IsRow format row → IsReadable row
 readable format row (path, put) = (path.1, put.1)
-
--- memory lacked before a row was read
-pub lacks_first : (watched : Bool) → watched ≡ true → (rows : List LogRow)
-    (replicas : List (Option Publication)) (p : Publication) → IsFirst p replicas → (a : Around)
-    → Does (watching watched rows replicas) a a (Err NoMemory)
-lacks_first watched on rows replicas p (others, is) a =
-    subst (λ w. Does (watching w rows replicas) a a (Err NoMemory)) (sym on)
-    (subst (λ rs. Does (reading_live rows rs) a a (Err NoMemory)) (sym is)
-    (lacks_live rows p others a))

@@ -7,18 +7,15 @@ use Rattle.std.specs.List.{IsDistinct}
 use Rattle.std.specs.Option.{option_map}
 use Rattle.std.specs.Str.{bytes_eq}
 use Rattle.std.proofs.lemmas.List.{get_or-map, length-map}
-use Rattle.std.proofs.lemmas.List.Elements.{All-nil}
 use Rattle.kr_base.specs.Limits.{store_limit}
 use Rattle.kr_kms.specs.Calls.{Link}
 use Rattle.kr_kms.specs.Exchanges.{Exchange}
 use Rattle.kr_kms.specs.Outside.{Objects, same_name, same_seat}
-use Rattle.kr_kms.specs.Truth.{Truth}
 use Rattle.kr_kms.proofs.Lent.{names_decide, seats_decide}
 use Rattle.kr_rollout.specs.Cores.{CoreState}
 use Rattle.kr_rollout.specs.Histories.{IsLegal, state_of}
 use Rattle.kr_history.proofs.NoNames.{no_names_no_plugin}
 use Rattle.kr_history.proofs.WithoutPlugin.{honest_without_plugin}
-use Rattle.kr_history.specs.Honesty.{IsHonestEntry}
 use Rattle.kr_rollout.specs.Openings.{opening_by}
 use Rattle.kr_rollout.specs.declared.opening.Opening.{Opening}
 use Rattle.kr_script.specs.Fleets.{worker_of}
@@ -48,15 +45,17 @@ use Rattle.kr_cmd_fleet.specs.inner.Plans.{IsWholePlan, named, plan_of}
 use Rattle.kr_cmd_fleet.specs.inner.FleetOutcomes.{ArePublished, LacksWorkers, RunsBy}
 use Rattle.kr_cmd_fleet.specs.inner.Readings.{KnowsItems}
 use Rattle.kr_cmd_steps.specs.inner.Lent.{Tapes, lent_links, with_lent_tape}
-use Rattle.kr_cmd_fleet.specs.inner.Outfits.{AreLater, AreNamed, with_outfits}
+use Rattle.kr_cmd_fleet.specs.StartExchanges.{AsksFirst, OpenBy}
+use Rattle.kr_cmd_fleet.specs.inner.Outfits.{AreLater, AreNamed, links_of, with_outfits}
 use Rattle.kr_cmd_steps.specs.inner.ProgramNames.{names_in}
 use Rattle.kr_cmd_steps.specs.inner.Phases.{Does}
 use Rattle.kr_cmd_steps.specs.inner.Tapes.{stored_of}
-use Rattle.kr_cmd_fleet.specs.inner.Workings.{TakesOutfits}
-use Rattle.kr_cmd_steps.proofs.Goes.{files_same, goes_on, home_trans}
+use Rattle.kr_cmd_fleet.specs.inner.Workings.{StaysIdle, TakesOutfits}
+use Rattle.kr_cmd_steps.proofs.Goes.{files_same, home_trans}
 use Rattle.kr_cmd_steps.proofs.Lending.{by_key, home_behind, home_same}
-use Rattle.kr_cmd_fleet.proofs.Outfits.{LinksOf, later_named, later_refl, later_trans, names_differ, outfits_asked, outfits_equipped, outfits_file, outfits_heard, outfits_home, outfits_input, outfits_said, outfits_tapes, outfits_truth, told_apart, outfits_faults, later_many}
-use Rattle.kr_cmd_fleet.proofs.Publishings.{published_open, published_settings}
+use Rattle.kr_cmd_fleet.proofs.Outfits.{LinksOf, later_named, later_refl, later_trans, names_differ, outfits_asked, outfits_equipped, outfits_file, outfits_heard, outfits_home, outfits_input, outfits_said, outfits_tapes, told_apart, outfits_faults, later_many}
+use Rattle.kr_cmd_fleet.proofs.Publishings.{published_settings}
+use Rattle.kr_cmd_fleet.proofs.StartExchanges.{workers_links}
 use Rattle.kr_cmd_steps.proofs.Tapes.{own_name}
 
 -- ---- the core
@@ -221,25 +220,37 @@ module _ {L D : Type 0} (link : L → Link) (left : D → Option (List ℕ)) (co
       ∙ links_beyond (seat + 1) outfits x other plugin (omega (arith, past))
 
 -- what the workers had comes back as it was, or later
-pub ran_back : {T L D : Type 0} (truth : Truth) (link : L → Link) (step : L → Exchange → L → Type 0)
+pub ran_back : {T L D : Type 0} (link : L → Link) (step : L → Exchange → L → Type 0)
     (left : D → Option (List ℕ))
     (count : D → ℕ) (plan : LoadedFleet) (budgets : List ℕ) (olds outs : List (Outfit L D))
     → AreLater link count olds outs → (o : Opening) (start : WatchStart)
     (workers : List (Worker T L D)) → outfits_of workers ≡ outs → (kept : Kept)
     (back : List (Outfit L D)) (result : Result Record Stop)
-    → RunsCrew truth link step left count plan budgets o start workers result kept back
+    → RunsCrew link step left count plan budgets o start workers result kept back
     → AreLater link count olds back
-ran_back truth link step left count plan budgets olds outs later o start workers are kept back
+ran_back link step left count plan budgets olds outs later o start workers are kept back
     (Ok made) r =
     later_trans link left count olds outs back later
     (subst (λ os. AreLater link count os back) are r.later)
-ran_back truth link step left count plan budgets olds outs later o start workers are kept back
+ran_back link step left count plan budgets olds outs later o start workers are kept back
     (Err stop) r =
     subst (λ os. AreLater link count olds os) (sym (r.outfits_are ∙ are)) later
 
+-- nothing was asked where none was started
+pub crew_idle : {T L D : Type 0} (link : L → Link) (step : L → Exchange → L → Type 0)
+    (left : D → Option (List ℕ)) (count : D → ℕ) (plan : LoadedFleet) (budgets : List ℕ)
+    (outs : List (Outfit L D)) (o : Opening) (start : WatchStart) (workers : List (Worker T L D))
+    → outfits_of workers ≡ outs → (kept : Kept) (back : List (Outfit L D))
+    (result : Result Record Stop)
+    → RunsCrew link step left count plan budgets o start workers result kept back
+    → StaysIdle result (links_of outs) (links_of back)
+crew_idle link step left count plan budgets outs o start workers are kept back (Ok made) r = tt
+crew_idle link step left count plan budgets outs o start workers are kept back (Err stop) r =
+    ap links_of (r.outfits_are ∙ are)
+
 -- ---- up to the workers, and with them
 
-module _ {L D : Type 0} (truth : Truth) (link : L → Link) (step : L → Exchange → L → Type 0)
+module _ {L D : Type 0} (link : L → Link) (step : L → Exchange → L → Type 0)
     (left : D → Option (List ℕ))
     (count : D → ℕ) (watched : Bool) (plan : LoadedFleet) (whole : IsWholePlan (plan_of plan))
     (budgets : List ℕ) (name : List ℕ) (a : Around) (store : Kept) where
@@ -252,14 +263,15 @@ module _ {L D : Type 0} (truth : Truth) (link : L → Link) (step : L → Exchan
   Next = launching watched (plan_of plan) (stored_of store) budgets
 
   module _ (olds outs : List (Outfit L D)) (first : Around) (replicas : Replicas)
-      (start : WatchStart)
+      (es : List Exchange) (start : WatchStart)
       (all_does : Does Next first (With outs store)
       (Ok (begun_with plan budgets store replicas start.items.0)))
-      (knows : KnowsItems watched truth store.rows replicas start.items.0)
+      (knows : KnowsItems watched es store.rows replicas start.items.0)
+      (asks : AsksFirst step es (links_of olds) (links_of outs)) (open_by : OpenBy es replicas)
       (revision : start.revision ≡ length store.rows)
       (are_named : AreNamed link (names_in plan.programs) olds)
       (seats : length olds ≡ length plan.script.workers.0) (later : AreLater link count olds outs)
-      (published : ArePublished truth (named plan.files.0) plan.script.replicas.0 replicas)
+      (published : ArePublished (named plan.files.0) plan.script.replicas.0 replicas)
       (sound : (store.limit ≡ store_limit) × (store.torn ≡ false)) (reloads : List ℕ)
       (known : reloads ≡ all_reloads plan.script.workers.0) (o : Opening)
       (opens : o ≡ opening_by store replicas (names_in plan.programs) reloads) where
@@ -319,8 +331,6 @@ module _ {L D : Type 0} (truth : Truth) (link : L → Link) (step : L → Exchan
 
         rest : LeavesRest name (length (plan_of plan).fleet.workers) Mid (With back kept)
         rest = record {
-          truth = outfits_truth link left count 0 back (Over_now kept)
-              ∙ sym (outfits_truth link left count 0 outs (Over_now store));
           file = outfits_file link left count 0 back (Over_now kept)
               ∙ sym (outfits_file link left count 0 outs (Over_now store));
           tapes = λ other apart.
@@ -368,10 +378,10 @@ module _ {L D : Type 0} (truth : Truth) (link : L → Link) (step : L → Exchan
     -- memory lacked for the workers
     pub unhired : (T : Type 0) → (kept : Kept) → KeepsStore o o.rows kept
         → (back : List (Outfit L D)) → back ≡ outs
-        → LacksWorkers T truth link step left count Next name first (With back kept) NoMemory
+        → LacksWorkers T link step left count Next name first (With back kept) NoMemory
     unhired T kept k back are =
         let same = later_refl link left count outs in
-        subst (λ os. LacksWorkers T truth link step left count Next name first
+        subst (λ os. LacksWorkers T link step left count Next name first
         (With os kept) NoMemory) (sym are) (record {
           stops = refl;
           begun = begun;
@@ -395,19 +405,19 @@ module _ {L D : Type 0} (truth : Truth) (link : L → Link) (step : L → Exchan
         (cold : All (λ (w : Worker T L D). w.bench.cache.rows ≡ []) workers) (kept : Kept)
         (back : List (Outfit L D)) where
       further_on : (made : Record)
-          → WorkersRan truth link step left count plan budgets o start workers made kept back
+          → WorkersRan link step left count plan budgets o start workers made kept back
           → AreLater link count outs back
       further_on made r = subst (λ os. AreLater link count os back) are r.later
 
       runs : (made : Record)
-          → (r : WorkersRan truth link step left count plan budgets o start workers made kept back)
-          → RunsFleet truth link step left count name begun Mid (With back kept) r.history r.ended
+          → (r : WorkersRan link step left count plan budgets o start workers made kept back)
+          → RunsFleet link step left count name begun Mid (With back kept) r.history r.ended
       runs made r =
           let names = names_in plan.programs in
           let back_named = later_named link left count names outs back (further_on made r)
           outs_named in record {
-            published = published_settings truth (named plan.files.0) plan.script.replicas.0
-                replicas published;
+            published = published_settings (named plan.files.0) plan.script.replicas.0 replicas
+                published;
             parts = plan.script.workers.0;
             parts_are = refl;
             files = plan.files.0;
@@ -417,12 +427,14 @@ module _ {L D : Type 0} (truth : Truth) (link : L → Link) (step : L → Exchan
             cold = cold;
             before = workers_equipped link left count plan.programs distinct workers outs
                 (sym are) outs_named (Over_now store);
-            one = subst (λ p. IsOneHistory truth link step left count plan.files.0 r.history p
+            one = subst (λ p. IsOneHistory link step left count plan.files.0 r.history p
                 plan.script.workers.0 budgets workers r.ended) opening_is r.one;
-            opens = λ told. record {
-              opening = published_open truth (named plan.files.0) told plan.script.replicas.0
-                  replicas published;
-              entries = All-nil (IsHonestEntry truth.opens);
+            made = record {
+              exchanges = es;
+              given = links_of olds;
+              asks = subst (AsksFirst step es (links_of olds))
+                  (sym (workers_links workers ∙ ap links_of are)) asks;
+              opens = open_by;
             };
             bare = λ none any.
                 let here = opening_of name begun Mid in
@@ -441,8 +453,8 @@ module _ {L D : Type 0} (truth : Truth) (link : L → Link) (step : L → Exchan
           }
 
       pub ran_with : (result : Result Record Stop)
-          → RunsCrew truth link step left count plan budgets o start workers result kept back
-          → RunsBy T truth link step left count (TakesOutfits a.heard outs back) watched Next name
+          → RunsCrew link step left count plan budgets o start workers result kept back
+          → RunsBy T link step left count (TakesOutfits a.heard es outs back) watched Next name
           (plan_of plan) first (With back kept) result
       unfolding runs
       ran_with (Ok made) r = record {
@@ -455,6 +467,7 @@ module _ {L D : Type 0} (truth : Truth) (link : L → Link) (step : L → Exchan
         runs = runs made r;
         begins = (
           outfits_heard link left count 0 outs (Over_now store),
+          refl,
           are,
           sym r.outfits_are,
         );
@@ -465,6 +478,6 @@ module _ {L D : Type 0} (truth : Truth) (link : L → Link) (step : L → Exchan
         known = knows;
         home = new_home kept back (further_on made r) r.kept.later;
       }
-      ran_with (Err stop) r = inr (subst (λ s. LacksWorkers T truth link step left count Next name
+      ran_with (Err stop) r = inr (subst (λ s. LacksWorkers T link step left count Next name
           first (With back kept) s) (sym r.stops)
           (unhired T kept r.kept back (r.outfits_are ∙ are)))

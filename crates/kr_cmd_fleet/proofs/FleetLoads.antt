@@ -176,38 +176,44 @@ last_read (first ∷ files) name rows = subst IsSome
 
 pub through_none : (files : List NamedRows) (world : Outside)
     → GoesThrough files files [] world world (Ok tt)
-through_none files world = (covers_none files, λ a end names result d. d)
+through_none files world = (refl, covers_none files, λ a end names result d. d)
 
 module _ (f g h : List NamedRows) (xs ys : List (List ℕ)) (old mid new : Outside)
     (first : GoesThrough f g xs old mid (Ok tt)) where
   pub through_then : (result : Result (Unit {0}) Stop) → GoesThrough g h ys mid new result
       → GoesThrough f h (xs ++ ys) old new result
   through_then (Ok done) second = (
-    covers_both f g h xs ys first.0 second.0,
+    second.0 ∙ first.0,
+    covers_both f g h xs ys first.1 second.1,
     λ a end names result d.
         subst (λ l. Does (files_in f l) (with_world old a) end result)
         (sym (append_assoc xs ys names))
-        (first.1 a end (ys ++ names) result (second.1 a end names result d)),
+        (first.2 a end (ys ++ names) result (second.2 a end names result d)),
   )
-  through_then (Err stop) second = λ a names.
-      subst (λ l. Does (files_in f l) (with_world old a) (with_world new a) (Err stop))
-      (sym (append_assoc xs ys names)) (first.1 a (with_world new a) (ys ++ names) (Err stop)
-      (second a names))
+  through_then (Err stop) second = (
+    second.0 ∙ first.0,
+    λ a names. subst (λ l. Does (files_in f l) (with_world old a) (with_world new a) (Err stop))
+        (sym (append_assoc xs ys names)) (first.2 a (with_world new a) (ys ++ names) (Err stop)
+        (second.1 a names)),
+  )
 
   -- what comes behind stays undone
   pub through_stops : (stop : Stop) → GoesThrough g h ys mid new (Err stop)
       → (zs : List (List ℕ)) → GoesThrough f h ((xs ++ ys) ++ zs) old new (Err stop)
-  through_stops stop second zs = λ a names.
-      subst (λ l. Does (files_in f l) (with_world old a) (with_world new a) (Err stop))
-      (sym (append_assoc (xs ++ ys) zs names))
-      (through_then (Err stop) second a (zs ++ names))
+  through_stops stop second zs = let both = through_then (Err stop) second in (
+    both.0,
+    λ a names. subst (λ l. Does (files_in f l) (with_world old a) (with_world new a) (Err stop))
+        (sym (append_assoc (xs ++ ys) zs names)) (both.1 a (zs ++ names)),
+  )
 
 pub through_cut : (f g h : List NamedRows) (xs : List (List ℕ)) (old new : Outside)
     (stop : Stop) (ys : List (List ℕ)) → GoesThrough f g xs old new (Err stop)
     → GoesThrough f h (xs ++ ys) old new (Err stop)
-through_cut f g h xs old new stop ys first = λ a names.
-    subst (λ l. Does (files_in f l) (with_world old a) (with_world new a) (Err stop))
-    (sym (append_assoc xs ys names)) (first a (ys ++ names))
+through_cut f g h xs old new stop ys first = (
+  first.0,
+  λ a names. subst (λ l. Does (files_in f l) (with_world old a) (with_world new a) (Err stop))
+      (sym (append_assoc xs ys names)) (first.1 a (ys ++ names)),
+)
 
 -- the parts of a list one behind another
 pub more_parts : {X Y : Type 0} (f : X → List Y) (xs : List X) (i : ℕ) (x : X) → i < length xs
@@ -291,6 +297,7 @@ module _ (files : List NamedRows) (name : List ℕ) where
   pub already : (world : Outside) (rows : List ConfigEntry) → file_entries files name ≡ Some rows
       → GoesThrough files files (name ∷ []) world world (Ok tt)
   already world rows there = (
+    refl,
     record {
       read = All-cons (IsRead files) name [] (subst IsSome (sym there) refl)
           (All-nil (IsRead files));
@@ -308,6 +315,7 @@ module _ (files : List NamedRows) (name : List ℕ) where
         (Ok tt)
     loaded settings c q =
         let file : NamedRows = (name, rows_of settings.entries.0) in (
+          objects.links,
           record {
             read = All-cons (IsRead (files ++ file ∷ [])) name []
                 (last_read files name (rows_of settings.entries.0))
@@ -326,26 +334,31 @@ module _ (files : List NamedRows) (name : List ℕ) where
         → Configures old new name (Err stop)
         → AskedFor {T = Settings} old.asked new.asked (File name) (Err stop)
         → GoesThrough files others (name ∷ []) old new (Err stop)
-    not_loaded others stop c q = λ a names.
-        subst (λ r. Does (once names r) (with_world old a) (with_world new a) (Err stop))
-        (sym absent)
-        (stops (configuration name)
-        (λ rows. with_memory (files_in (files ++ (name, rows) ∷ []) names)) stop
-        (configures kept objects a name (Err stop) c q))
+    not_loaded others stop c q = (
+      objects.links,
+      λ a names. subst (λ r. Does (once names r) (with_world old a) (with_world new a) (Err stop))
+          (sym absent)
+          (stops (configuration name)
+          (λ rows. with_memory (files_in (files ++ (name, rows) ∷ []) names)) stop
+          (configures kept objects a name (Err stop) c q)),
+    )
 
     -- it was loaded, but there was no memory to keep it
     pub not_kept : (others : List NamedRows) (settings : Settings)
         → Configures old new name (Ok settings)
         → AskedFor {T = Settings} old.asked new.asked (File name) (Ok settings)
         → GoesThrough files others (name ∷ []) old new (Err NoMemory)
-    not_kept others settings c q = λ a names.
-        subst (λ r. Does (once names r) (with_world old a) (with_world new a) (Err NoMemory))
-        (sym absent)
-        (goes_on (configuration name)
-        (λ rows. with_memory (files_in (files ++ (name, rows) ∷ []) names))
-        (rows_of settings.entries.0) (configures kept objects a name (Ok settings) c q)
-        (lacks (files_in (files ++ (name, rows_of settings.entries.0) ∷ []) names)
-        (with_world new a)))
+    not_kept others settings c q = (
+      objects.links,
+      λ a names. subst
+          (λ r. Does (once names r) (with_world old a) (with_world new a) (Err NoMemory))
+          (sym absent)
+          (goes_on (configuration name)
+          (λ rows. with_memory (files_in (files ++ (name, rows) ∷ []) names))
+          (rows_of settings.entries.0) (configures kept objects a name (Ok settings) c q)
+          (lacks (files_in (files ++ (name, rows_of settings.entries.0) ∷ []) names)
+          (with_world new a))),
+    )
 
 -- it stands behind the others
 pub named_more : (files all : List SettingsFile) (file : SettingsFile) (name : List ℕ)
@@ -372,16 +385,16 @@ pub all_through : (files : List NamedRows) (names : List (List ℕ)) {old new : 
 all_through files names {old} {new} all a =
     subst (λ l. Does (files_in [] l) (with_world old a) (with_world new a) (Ok files))
     (append-nil names)
-    (all.1 a (with_world new a) [] (Ok files) (given files (with_world new a)))
+    (all.2 a (with_world new a) [] (Ok files) (given files (with_world new a)))
 
 pub all_read : (files : List NamedRows) (names : List (List ℕ)) {old new : Outside}
     → GoesThrough [] files names old new (Ok tt)
     → All (λ name. IsSome (file_entries files name)) names
-all_read files names all = all.0.read
+all_read files names all = all.1.read
 
 pub not_through : (files : List NamedRows) (names : List (List ℕ)) {old new : Outside}
     (stop : Stop) → GoesThrough [] files names old new (Err stop) → (a : Around)
     → Does (files_in [] names) (with_world old a) (with_world new a) (Err stop)
 not_through files names {old} {new} stop none a =
     subst (λ l. Does (files_in [] l) (with_world old a) (with_world new a) (Err stop))
-    (append-nil names) (none a [])
+    (append-nil names) (none.1 a [])

@@ -4,7 +4,6 @@ use Rattle.std.specs.Option.{option_map}
 use Rattle.kr_kms.specs.Calls.{Link}
 use Rattle.kr_kms.specs.Exchanges.{Exchange}
 use Rattle.kr_kms.specs.Outside.{Outside, same_name}
-use Rattle.kr_kms.specs.Truth.{Truth}
 use Rattle.kr_cmd_steps.specs.Around.{Around, with_lent, with_world}
 use Rattle.kr_cmd_fleet.specs.FleetFiles.{FleetPlan}
 use Rattle.kr_cmd_fleet.specs.Fleets.{Begun, equipping}
@@ -21,7 +20,7 @@ use Rattle.kr_cmd_fleet.proofs.FleetRuns.{before}
 use Rattle.kr_cmd_steps.proofs.Goes.{nothing, stops}
 use Rattle.kr_cmd_fleet.proofs.Outfitting.{equipped_then}
 
-module _ (T : Type 0) {L D : Type 0} (truth : Truth) (link : L → Link)
+module _ (T : Type 0) {L D : Type 0} (link : L → Link)
     (step : L → Exchange → L → Type 0)
     (left : D → Option (List ℕ)) (count : D → ℕ) (Begins : Beginning T L D) (watched : Bool)
     (name : List ℕ) (plan : FleetPlan) (a : Around) (programs : List Program) (seats : ℕ)
@@ -67,26 +66,26 @@ module _ (T : Type 0) {L D : Type 0} (truth : Truth) (link : L → Link)
     pub runs_equipped : (around : Around) (told back : Option (List ℕ)) (n last : ℕ)
         (closed : List (Outfit L D)) → Opened (Ok tt) → Closed closed
         → (result : Result Record Stop)
-        → RunsBy T truth link step left count Begins watched next name plan
+        → RunsBy T link step left count Begins watched next name plan
         (with_outfits link left count 0 opened (Over mid told n))
         (with_outfits link left count 0 closed (With around mid back last)) result
-        → RunsBy T truth link step left count Begins watched (equipping programs 0 seats next) name
+        → RunsBy T link step left count Begins watched (equipping programs 0 seats next) name
         plan
         (Over old told n) (With around new back last) result
     runs_equipped around told back n last closed opens closes result runs =
-        subst (λ s. RunsBy T truth link step left count Begins watched s name plan (Over old told n)
+        subst (λ s. RunsBy T link step left count Begins watched s name plan (Over old told n)
         (With around new back last) result) (equipped_then programs 0 seats next)
-        (before T truth link step left count Begins watched name plan
+        (before T link step left count Begins watched name plan
         (equipping programs 0 seats nothing)
         (λ u. next) tt (With around new back last) (opened_over told n (Ok tt) opens) result
-        (subst (λ b. RunsBy T truth link step left count Begins watched next name plan
+        (subst (λ b. RunsBy T link step left count Begins watched next name plan
         (with_outfits link left count 0 opened (Over mid told n)) b result)
         (closed_over around closed back last closes) runs))
 
     -- one wasn't
     pub runs_unequipped : (told : Option (List ℕ)) (n : ℕ) (stop : Stop) → Opened (Err stop)
         → Closed opened
-        → RunsBy T truth link step left count Begins watched (equipping programs 0 seats next) name
+        → RunsBy T link step left count Begins watched (equipping programs 0 seats next) name
         plan
         (Over old told n) (Over new told n) (Err stop)
     runs_unequipped told n stop opens closes = inl

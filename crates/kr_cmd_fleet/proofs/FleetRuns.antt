@@ -2,12 +2,9 @@
 use Rattle.kr_cmd_messages.specs.Message.{line_of, status_of as stop_status}
 use Rattle.std.proofs.Common.{◌≡◌, ℕ, ◌+◌, ◌<◌, ◌≤◌, ◌⊎◌, List, [], ◌∷◌, map, codes, Option, Some, Result, Ok, Err, refl, sym, ◌∙◌, ap, subst, inl, inr, arith}
 use Rattle.std.specs.Prelude.{Bool, false, true, sum, count_by}
-use Rattle.std.proofs.lemmas.List.Elements.{All-nil}
 use Rattle.std.proofs.lemmas.List.Sums.{sum_by-cons}
-use Rattle.kr_kms.specs.Outside.{Outside}
 use Rattle.kr_kms.specs.Calls.{Link}
 use Rattle.kr_kms.specs.Exchanges.{Exchange}
-use Rattle.kr_kms.specs.Truth.{Truth}
 use Rattle.kr_rollout.specs.declared.opening.Entry.{Entry}
 use Rattle.kr_script.specs.Fleets.{worker_of}
 use Rattle.kr_script.specs.Output.{fleet_output}
@@ -25,7 +22,7 @@ use Rattle.kr_workers.specs.declared.budget.BudgetNo.TheVariants as budget
 use Rattle.kr_workers.specs.declared.ending.Ending.{Ending}
 use Rattle.kr_workers.specs.declared.worker.Worker as fleet_worker
 use Rattle.kr_workers.proofs.Summing.{parts_fit}
-use Rattle.kr_cmd_steps.specs.Around.{Around, left_of, with_world}
+use Rattle.kr_cmd_steps.specs.Around.{Around, left_of}
 use Rattle.kr_cmd_messages.specs.FleetAsked.{AskAlone, AsksFleet}
 use Rattle.kr_cmd_fleet.specs.FleetFiles.{FleetPlan, planning}
 use Rattle.kr_cmd_fleet.specs.Fleets.{Begun, DidFleet, RanFleet, WritesFleet, budgeting, over_store, parts_of}
@@ -44,162 +41,165 @@ use Rattle.kr_cmd_steps.specs.inner.Lent.{with_lent_tape}
 use Rattle.kr_cmd_steps.specs.inner.Phases.{Does}
 use Rattle.kr_cmd_fleet.specs.inner.Workings.{BeginsLent}
 use Rattle.kr_cmd_fleet.specs.StartExchanges.{WereAsked}
+use Rattle.kr_cmd_fleet.proofs.StartExchanges.{none_were}
 use Rattle.kr_cmd_steps.proofs.Hearing.{heard_none}
 use Rattle.kr_cmd_steps.proofs.Goes.{goes_on, home_refl, home_trans, reach, stays_refl, stops}
 
--- no link was asked
-pub none_asked : {L : Type 0} (lent : ℕ → L → Type 0) (step : L → Exchange → L → Type 0)
-    → WereAsked lent step []
-none_asked lent step =
-    record { olds = []; news = []; lent_are = All-nil (lent 0); walk = refl }
-
-module _ (T : Type 0) {L D : Type 0} (truth : Truth) (link : L → Link)
+module _ (T : Type 0) {L D : Type 0} (link : L → Link)
     (step : L → Exchange → L → Type 0) (lent took : ℕ → L → Type 0)
     (left : D → Option (List ℕ)) (count : D → ℕ) (words : FleetWords) where
   -- the plan wasn't made
   pub unplanned : (old new : Around) (file : List ℕ) → file ≡ words.file → (stop : Stop)
       (output : Receipt) → Does (planning file words.options) old new (Err stop)
-      → WroteNothing output → new.heard ≡ old.heard
-      → DidFleet T truth link step lent took left count words old new output (Err stop)
-  unplanned old new file is stop output d idle same =
+      → WroteNothing output → new.heard ≡ old.heard → new.world.links ≡ old.world.links
+      → DidFleet T link step lent took left count words old new output (Err stop)
+  unplanned old new file is stop output d idle same links =
       let all = stops (planning words.file words.options) (over_store false words.store) stop
       (subst (λ f. Does (planning f words.options) old new (Err stop)) is d) in
       record {
         home = all.home;
         exchanges = [];
         heard = same ∙ sym (heard_none old.heard);
-        asked = none_asked lent step;
+        asked = none_were link lent took step links;
         did = inl (inl (all.ends (left_of old) (stays_refl old)), idle);
+        came = refl;
       }
 
   module _ (plan : FleetPlan) (old now new : Around) (file : List ℕ) (is : file ≡ words.file)
       (planned : Does (planning file words.options) old now (Ok plan)) (store : List ℕ)
       (is_store : store ≡ words.store) (exchanges : List Exchange)
-      (heard : new.heard ≡ hearing exchanges old.heard) (asked : WereAsked lent step exchanges)
-    where
-      d : Does (planning words.file words.options) old now (Ok plan)
-      d = subst (λ f. Does (planning f words.options) old now (Ok plan)) is planned
+      (heard : new.heard ≡ hearing exchanges old.heard)
+      (asked : WereAsked link lent took step exchanges old.world new.world) where
+    abbrev Lent : Beginning T L D
+    Lent =
+        BeginsLent (hearing exchanges old.heard) exchanges step lent took asked.begun asked.back
 
-      -- the steps behind it ended the command, or want of memory did, or the store couldn't be
-      -- settled
-      pub stopped : (stop : Stop) (output : Receipt)
-          → Does (over_store false store plan) now new (Err stop)
-          ⊎ LacksWorkers T truth link step left count (over_store false store plan) store now new
-          stop
-          ⊎ LacksSettling T truth link step left count
-          (over_store false store plan) store now new stop
-          → WroteNothing output
-          → DidFleet T truth link step lent took left count words old new output (Err stop)
-      stopped stop output (inl e) idle =
-          let all = goes_on (planning words.file words.options) (over_store false words.store) plan
-          d
-          (subst (λ s. Does (over_store false s plan) now new (Err stop)) is_store e) in
-          record {
-            home = all.home;
-            exchanges = exchanges;
-            heard = heard;
-            asked = asked;
-            did = inl (inl (all.ends (left_of old) (stays_refl old)), idle);
-          }
-      stopped stop output (inr (inl lacking)) idle =
-          let l = subst (λ s. LacksWorkers T truth link step left count (over_store false s plan) s
-          now new
-          stop) is_store lacking in
-          let all =
-          goes_on (planning words.file words.options) (over_store false words.store) plan d l.does
-          in
-          record {
-            home = home_trans d.home l.home;
-            exchanges = exchanges;
-            heard = heard;
-            asked = asked;
-            did = inl (
-              inr (inl (
-                l.stops,
-                (l.mid, l.begun, all.ends (left_of old) (stays_refl old), l.none, all.home),
-              )),
-              idle,
-            );
-          }
-      stopped stop output (inr (inr lacking)) idle =
-          let l = subst (λ s. LacksSettling T truth link step left count (over_store false s plan) s
-          now new
-          stop) is_store lacking in
-          let all =
-          goes_on (planning words.file words.options) (over_store false words.store) plan d l.does
-          in
-          record {
-            home = home_trans d.home l.home;
-            exchanges = exchanges;
-            heard = heard;
-            asked = asked;
-            did = inl (
-              inr (inr (
-                l.mid,
-                l.begun,
-                all.ends (left_of old) (stays_refl old),
-                l.fails,
-                all.home,
-              )),
-              idle,
-            );
-          }
+    d : Does (planning words.file words.options) old now (Ok plan)
+    d = subst (λ f. Does (planning f words.options) old now (Ok plan)) is planned
 
-      -- the workers ran
-      pub ran : (made : Record) (output : Receipt) (result : Result Ending Stop)
-          → LeavesRecord T truth link step left count
-          (BeginsLent (hearing exchanges old.heard) step false exchanges lent took) true false
-          (over_store false store plan) store plan now new made
-          → WritesFleet (fleet_output plan.fleet made.lines.0 made.replies.0)
-          (gravest_ending made.replies.0) output result
-          → DidFleet T truth link step lent took left count words old new output result
-      ran made output result left_so w =
-          let l = subst (λ s. LeavesRecord T truth link step left count
-          (BeginsLent (hearing exchanges old.heard) step false exchanges lent took) true false
-          (over_store false s plan) s plan now
-          new made) is_store left_so in
-          let all =
-          goes_on (planning words.file words.options) (over_store false words.store) plan d l.does
-          in
-          let journal = map (λ (e : Entry). e.line) l.history in
-          let told = map (λ (worker : fleet_worker.Worker T L D). worker.told) l.ended in
-          let by_lines = subst (λ lines. WritesFleet (fleet_output plan.fleet lines made.replies.0)
-          (gravest_ending made.replies.0) output result) l.lines w in
-          let by_replies = subst (λ replies. WritesFleet (fleet_output plan.fleet journal replies)
-          (gravest_ending replies) output result) l.replies by_lines in
-          record {
-            home = home_trans d.home l.home;
-            exchanges = exchanges;
-            heard = heard;
-            asked = asked;
-            did = inr (
-              record {
-                begun = l.begun;
-                mid = l.mid;
-                reaches = all.ends (left_of old) (stays_refl old);
-                since = all.home;
-                exchanges = exchanges;
-                heard = l.begins.0;
-                began = l.begins.1 refl;
-                history = l.history;
-                ended = l.ended;
-                runs = l.runs;
-                writes = subst (λ p. WritesFleet (fleet_output p.fleet journal told)
-                    (gravest_ending told) output result) (sym l.plan_is) by_replies;
-              },
-              refl,
-            );
-          }
+    -- the steps behind it ended the command, or want of memory did, or the store couldn't be
+    -- settled
+    pub stopped : (stop : Stop) (output : Receipt)
+        → ((asked.back ≡ asked.begun) × (Does (over_store false store plan) now new (Err stop)
+        ⊎ LacksWorkers T link step left count (over_store false store plan) store now new
+        stop))
+        ⊎ LacksSettling T link step left count Lent
+        (over_store false store plan) store now new stop
+        → WroteNothing output
+        → DidFleet T link step lent took left count words old new output (Err stop)
+    stopped stop output (inl (unasked, inl e)) idle =
+        let all = goes_on (planning words.file words.options) (over_store false words.store) plan
+        d
+        (subst (λ s. Does (over_store false s plan) now new (Err stop)) is_store e) in
+        record {
+          home = all.home;
+          exchanges = exchanges;
+          heard = heard;
+          asked = asked;
+          did = inl (inl (all.ends (left_of old) (stays_refl old)), idle);
+          came = unasked;
+        }
+    stopped stop output (inl (unasked, inr lacking)) idle =
+        let l = subst (λ s. LacksWorkers T link step left count (over_store false s plan) s
+        now new
+        stop) is_store lacking in
+        let all =
+        goes_on (planning words.file words.options) (over_store false words.store) plan d l.does
+        in
+        record {
+          home = home_trans d.home l.home;
+          exchanges = exchanges;
+          heard = heard;
+          asked = asked;
+          did = inl (
+            inr (inl (
+              l.stops,
+              (l.mid, l.begun, all.ends (left_of old) (stays_refl old), l.none, all.home),
+            )),
+            idle,
+          );
+          came = unasked;
+        }
+    stopped stop output (inr lacking) idle =
+        let l = subst (λ s. LacksSettling T link step left count Lent (over_store false s plan) s
+        now new
+        stop) is_store lacking in
+        let all =
+        goes_on (planning words.file words.options) (over_store false words.store) plan d l.does
+        in
+        record {
+          home = home_trans d.home l.home;
+          exchanges = exchanges;
+          heard = heard;
+          asked = asked;
+          did = inl (
+            inr (inr (
+              l.mid,
+              l.begun,
+              all.ends (left_of old) (stays_refl old),
+              l.fails,
+              all.home,
+            )),
+            idle,
+          );
+          came = (l.begins.3, l.begins.4, l.begins.1);
+        }
+
+    -- the workers ran
+    pub ran : (made : Record) (output : Receipt) (result : Result Ending Stop)
+        → LeavesRecord T link step left count Lent true false
+        (over_store false store plan) store plan now new made
+        → WritesFleet (fleet_output plan.fleet made.lines.0 made.replies.0)
+        (gravest_ending made.replies.0) output result
+        → DidFleet T link step lent took left count words old new output result
+    ran made output result left_so w =
+        let l = subst (λ s. LeavesRecord T link step left count Lent true false
+        (over_store false s plan) s plan now
+        new made) is_store left_so in
+        let all =
+        goes_on (planning words.file words.options) (over_store false words.store) plan d l.does
+        in
+        let journal = map (λ (e : Entry). e.line) l.history in
+        let told = map (λ (worker : fleet_worker.Worker T L D). worker.told) l.ended in
+        let by_lines = subst (λ lines. WritesFleet (fleet_output plan.fleet lines made.replies.0)
+        (gravest_ending made.replies.0) output result) l.lines w in
+        let by_replies = subst (λ replies. WritesFleet (fleet_output plan.fleet journal replies)
+        (gravest_ending replies) output result) l.replies by_lines in
+        record {
+          home = home_trans d.home l.home;
+          exchanges = exchanges;
+          heard = heard;
+          asked = asked;
+          did = inr (
+            record {
+              begun = l.begun;
+              mid = l.mid;
+              reaches = all.ends (left_of old) (stays_refl old);
+              since = all.home;
+              exchanges = exchanges;
+              heard = l.begins.0;
+              began = l.begins.2;
+              made = l.begins.1;
+              history = l.history;
+              ended = l.ended;
+              runs = l.runs;
+              writes = subst (λ p. WritesFleet (fleet_output p.fleet journal told)
+                  (gravest_ending told) output result) (sym l.plan_is) by_replies;
+            },
+            refl,
+          );
+          came = (l.begins.3, l.begins.4);
+        }
 
 -- ---- phases up to the workers
 
-module _ (T : Type 0) {L D : Type 0} (truth : Truth) (link : L → Link)
+module _ (T : Type 0) {L D : Type 0} (link : L → Link)
     (step : L → Exchange → L → Type 0)
     (left : D → Option (List ℕ)) (count : D → ℕ) (Begins : Beginning T L D) (watched : Bool)
     (store : List ℕ) (plan : FleetPlan) where
   abbrev pub Runs : Steps Begun → (old new : Around) → Result Record Stop → Type 0
   Runs steps old new result =
-      RunsBy T truth link step left count Begins watched steps store plan old new result
+      RunsBy T link step left count Begins watched steps store plan old new result
 
   module _ {A : Type 0} (first : Steps A) (others : A → Steps Begun) where
     -- the first steps gave something, and the fleet ran by the others
@@ -247,16 +247,17 @@ module _ (T : Type 0) {L D : Type 0} (truth : Truth) (link : L → Link)
         (subst (λ m. Runs steps old (with_lent_tape store told m a) result) (sym e) r)
 
 -- of the workers something else holds
-pub runs_so : (T : Type 0) {L D : Type 0} (truth : Truth) (link : L → Link)
+pub runs_so : (T : Type 0) {L D : Type 0} (link : L → Link)
     (step : L → Exchange → L → Type 0)
     (left : D → Option (List ℕ)) (count : D → ℕ) (Begins Others : Beginning T L D)
-    (so : (heard : Option (List Exchange)) (workers ended : List (fleet_worker.Worker T L D))
-    → Begins heard workers ended → Others heard workers ended) (watched : Bool)
+    (so : (heard : Option (List Exchange)) (asked : List Exchange)
+    (workers ended : List (fleet_worker.Worker T L D)) → Begins heard asked workers ended
+    → Others heard asked workers ended) (watched : Bool)
     (steps : Steps Begun) (store : List ℕ) (plan : FleetPlan) (old new : Around)
     (result : Result Record Stop)
-    → RunsBy T truth link step left count Begins watched steps store plan old new result
-    → RunsBy T truth link step left count Others watched steps store plan old new result
-runs_so T truth link step left count Begins Others so watched steps store plan old new (Ok made) l =
+    → RunsBy T link step left count Begins watched steps store plan old new result
+    → RunsBy T link step left count Others watched steps store plan old new result
+runs_so T link step left count Begins Others so watched steps store plan old new (Ok made) l =
     record {
       begun = l.begun;
       plan_is = l.plan_is;
@@ -265,7 +266,7 @@ runs_so T truth link step left count Begins Others so watched steps store plan o
       history = l.history;
       ended = l.ended;
       runs = l.runs;
-      begins = so l.mid.heard l.runs.workers l.ended l.begins;
+      begins = so l.mid.heard l.runs.made.exchanges l.runs.workers l.ended l.begins;
       lines = l.lines;
       replies = l.replies;
       items_are = l.items_are;
@@ -273,7 +274,7 @@ runs_so T truth link step left count Begins Others so watched steps store plan o
       known = l.known;
       home = l.home;
     }
-runs_so T truth link step left count Begins Others so watched steps store plan old new (Err stop) r
+runs_so T link step left count Begins Others so watched steps store plan old new (Err stop) r
     =
     r
 
@@ -364,17 +365,16 @@ one_fleet words a b p q =
     ∙ ap (λ s. fleet_words b.file s a.options) (inside store)
     ∙ ap (fleet_words b.file b.store) same
 
-pub for_asked : {T L D : Type 0} {truth : Truth} {link : L → Link}
+pub for_asked : {T L D : Type 0} {link : L → Link}
     {step : L → Exchange → L → Type 0} {lent took : ℕ → L → Type 0}
     {left : D → Option (List ℕ)} {count : D → ℕ} {a b : FleetWords} {old new : Around}
     {output errors : Receipt} {status : ℕ}
-    → a ≡ b → RanFleet T truth link step lent took left count a old new output errors status
-    → RanFleet T truth link step lent took left count b old new output errors status
-for_asked {T} {truth = truth} {link = link} {step = step} {lent = lent} {took = took} {left = left}
-    {count = count} {old = old}
-    {new = new}
-    {output = output} {errors = errors} {status = status} e r =
-    subst (λ w. RanFleet T truth link step lent took left count w old new output errors status) e r
+    → a ≡ b → RanFleet T link step lent took left count a old new output errors status
+    → RanFleet T link step lent took left count b old new output errors status
+for_asked {T} {link = link} {step = step} {lent = lent} {took = took} {left = left}
+    {count = count} {old = old} {new = new} {output = output} {errors = errors} {status = status} e
+    r =
+    subst (λ w. RanFleet T link step lent took left count w old new output errors status) e r
 
 -- ---- the words stop the call
 
@@ -395,13 +395,13 @@ alone_or_memory words (Refused why) h errors status t = absurd h
 alone_or_memory words (Fault object count) h errors status t = absurd h
 alone_or_memory words NoMemory h errors status t = inr t
 
-module _ (T : Type 0) {L D : Type 0} (truth : Truth) (link : L → Link)
+module _ (T : Type 0) {L D : Type 0} (link : L → Link)
     (step : L → Exchange → L → Type 0) (lent took : ℕ → L → Type 0)
     (left : D → Option (List ℕ)) (count : D → ℕ) where
   pub unread : (words : List (List ℕ)) (asked : FleetWords) → AsksFleet words asked
       → (stop : Stop) → IsFleetAsked words (Err stop) → (a : Around) (output : Receipt)
       → WroteNothing output
-      → DidFleet T truth link step lent took left count asked a a output (Err stop)
+      → DidFleet T link step lent took left count asked a a output (Err stop)
   unread words asked asks (Words why) h a output idle = absurd (h.1 asked asks)
   unread words asked asks (Refused why) h a output idle = absurd h
   unread words asked asks (Fault object n) h a output idle = absurd h
@@ -409,6 +409,7 @@ module _ (T : Type 0) {L D : Type 0} (truth : Truth) (link : L → Link)
     home = home_refl a;
     exchanges = [];
     heard = sym (heard_none a.heard);
-    asked = none_asked lent step;
+    asked = none_were link lent took step refl;
     did = inl (inl (inr (reach (left_of a) (inl (refl, refl)) (stays_refl a))), idle);
+    came = refl;
   }

@@ -8,6 +8,7 @@ pub mod FleetLoads
 pub mod FleetOutfits
 pub mod FleetPrograms
 pub mod FleetRuns
+pub mod Handed
 pub mod Outfits
 pub mod Outfitting
 pub mod Plans
@@ -15,4 +16,5 @@ pub mod Publishings
 pub mod Returning
 pub mod SettledRuns
 pub mod RowReads
+pub mod SeedsHeard
 pub mod StartExchanges

@@ -144,11 +144,6 @@ module _ {L D : Type 0} (link : L → Link) (left : D → Option (List ℕ)) (co
 
   -- ---- what is around them
 
-  pub outfits_truth : (seat : ℕ) (outfits : List (Outfit L D)) (a : Around)
-      → (with_outfits link left count seat outfits a).truth ≡ a.truth
-  outfits_truth seat [] a = refl
-  outfits_truth seat (outfit ∷ outfits) a = outfits_truth (seat + 1) outfits a
-
   pub outfits_heard : (seat : ℕ) (outfits : List (Outfit L D)) (a : Around)
       → (with_outfits link left count seat outfits a).heard ≡ a.heard
   outfits_heard seat [] a = refl

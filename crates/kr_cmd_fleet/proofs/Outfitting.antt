@@ -1,9 +1,10 @@
 -- How outfits are borrowed, one behind another, and come back.
-use Rattle.std.proofs.Common.{◌≡◌, ◌≢◌, ℕ, zero, suc, ◌+◌, ◌<◌, ◌≤◌, ◌⊎◌, List, [], ◌∷◌, ◌++◌, length, get_or, drop, drop-cons, Option, Some, Result, Ok, Err, Contains, refl, sym, ◌∙◌, ap, subst, inl, inr, arith}
+use Rattle.std.proofs.Common.{◌≡◌, ◌≢◌, ℕ, zero, suc, ◌+◌, ◌<◌, ◌≤◌, ◌⊎◌, List, [], ◌∷◌, ◌++◌, length, get_or, drop, drop-cons, append-nil, Option, Some, Result, Ok, Err, Contains, refl, sym, ◌∙◌, ap, subst, inl, inr, arith}
 use Rattle.std.specs.Prelude.{Bool, true, false, ◌==◌, if◌then◌else◌, ◌-◌}
 use Rattle.std.proofs.lemmas.Bool.Decides.{Decides-eqb}
 use Rattle.std.proofs.lemmas.List.{length_push}
-use Rattle.std.proofs.lemmas.List.Elements.{All-pop, All-push, Contains-append_cases}
+use Rattle.std.specs.Prelude.{All}
+use Rattle.std.proofs.lemmas.List.Elements.{All-cons, All-nil, All-pop, All-push, Contains-append_cases}
 use Rattle.kr_config.specs.Kept.{ConfigEntry}
 use Rattle.kr_kms.specs.Calls.{Link}
 use Rattle.kr_kms.specs.Outside.{HandsOut, KeepsFiles, KeepsObjects, Objects, Outside, at_key, file_faults, same_link, same_seat}
@@ -21,7 +22,8 @@ use Rattle.kr_cmd_steps.specs.declared.programs.Program.{Program}
 use Rattle.kr_cmd_messages.specs.declared.refusal.Stop.{Stop}
 use Rattle.kr_cmd_messages.specs.declared.refusal.Stop.TheVariants.{NoMemory}
 use Rattle.kr_cmd_steps.specs.inner.Lent.{Tapes, lent_links, with_lent_dice, with_lent_links, with_tapes}
-use Rattle.kr_cmd_fleet.specs.inner.Outfits.{AreNamed, AreOut, IsOut, KeepsOthers, Opens, OpensLinks, OutfitReturn, equipping_one, with_outfits}
+use Rattle.kr_cmd_fleet.specs.StartExchanges.{keys_at, keys_of}
+use Rattle.kr_cmd_fleet.specs.inner.Outfits.{AreNamed, AreOut, IsOut, KeepsOthers, LinksHanded, Opens, OpensLinks, OutfitReturn, OutfitsHanded, equipping_one, links_of, with_outfits}
 use Rattle.kr_cmd_steps.specs.inner.ProgramNames.{names_in}
 use Rattle.kr_cmd_steps.specs.inner.Phases.{AskedUnless, DiceLoan, Does, LendsNothing, LinkLoan, LinkReturn}
 use Rattle.kr_cmd_steps.proofs.Apart.{files_apart, link_apart, link_back_apart, loan_apart, objects_apart}
@@ -29,7 +31,9 @@ use Rattle.kr_cmd_steps.proofs.Goes.{IsSeen, borrowed, dice_seen, given, goes_on
 use Rattle.kr_cmd_steps.proofs.Lending.{AreSeen, by_key, no_more, seen_behind}
 use Rattle.kr_cmd_steps.proofs.Linked.{is_new, links_then, loan_within, one_linked, return_within}
 use Rattle.kr_cmd_steps.proofs.Links.{lent_link, link_back, links_seen, seen_links}
+use Rattle.kr_cmd_fleet.proofs.Handed.{With, handed_none, handed_then, keys_end, keys_push, lent_handed, links_long, links_push}
 use Rattle.kr_cmd_fleet.proofs.Outfits.{LinksOf, out_apart}
+use Rattle.kr_cmd_steps.proofs.HeardLinks.{loan_handed}
 
 -- ---- steps
 
@@ -332,6 +336,7 @@ module _ {L D : Type 0} (link : L → Link) (left : D → Option (List ℕ)) (co
     pub others : KeepsOthers seat first now
     pub dice : now.dice ≡ first.dice
     pub tapes : now.tapes ≡ first.tapes
+    pub handed : now.links.handed ≡ With (keys_at link seat links) first.links.handed
 
   pub no_link : (links : List L) → links ≡ [] → IsLinking 0 first links
   no_link links none = subst (λ l. IsLinking 0 first l) (sym none) (record {
@@ -341,6 +346,7 @@ module _ {L D : Type 0} (link : L → Link) (left : D → Option (List ℕ)) (co
     others = record { dice = λ other n. refl; links = λ other name n. refl };
     dice = refl;
     tapes = refl;
+    handed = handed_none first.links.handed;
   })
 
   pub all_opened : (at : ℕ) (now : Outside) (links : List L) → IsLinking at now links
@@ -380,6 +386,16 @@ module _ {L D : Type 0} (link : L → Link) (left : D → Option (List ℕ)) (co
     in_order = ap (λ ps. names_of link links ++ names_in ps) (sym next_program) ∙ so.named ∙ order
 
     -- a link wasn't handed out
+    pub refused_handed : (lent took : ℕ → L → Type 0) (next : Outside) → KeepsObjects now next
+        → LinksHanded link lent took seat first next links
+    refused_handed lent took next objects = record {
+      lost = [];
+      handed = ap (λ (o : LinksOf). o.handed) objects.links ∙ so.handed
+          ∙ ap (λ l. With (keys_at link seat l) first.links.handed) (sym (append-nil links));
+      lent_are = All-nil (lent seat);
+      took_are = All-nil (took seat);
+    }
+
     pub refused_link : (next : Outside) → KeepsFiles now next → KeepsObjects now next
         → (stop : Stop)
         → LendsNothing now.faults.links next.faults.links (file_faults next) stop
@@ -406,6 +422,12 @@ module _ {L D : Type 0} (link : L → Link) (left : D → Option (List ℕ)) (co
       new_name =
           is_new link rows links program (drop (at + 1) programs) in_order it its_name
 
+      handed_now : out.links.handed
+          ≡ With (keys_at link seat links ++ (seat, (link it).name) ∷ []) first.links.handed
+      handed_now = handed_then (keys_at link seat links) ((seat, (link it).name) ∷ [])
+          first.links.handed so.handed
+          (loan_handed loan)
+
       pub one_link : (more : List L) → more ≡ links ++ it ∷ [] → IsLinking (at + 1) out more
       one_link more more_is = record {
         far = λ dice front tapes a end result d. so.far dice front tapes a end result
@@ -423,6 +445,8 @@ module _ {L D : Type 0} (link : L → Link) (left : D → Option (List ℕ)) (co
         others = others_trans so.others (others_linked loan);
         dice = loan.dice ∙ so.dice;
         tapes = loan.tapes ∙ so.tapes;
+        handed = handed_now ∙ ap (λ keys. With keys first.links.handed)
+            (sym (keys_end link seat links it) ∙ ap (keys_at link seat) (sym more_is));
       }
         where
           only : (name : List ℕ) → Contains ((link it).name ∷ []) name → (link it).name ≡ name
@@ -456,6 +480,18 @@ module _ {L D : Type 0} (link : L → Link) (left : D → Option (List ℕ)) (co
             (loan_within (left dice) (count dice) (link_apart tapes loan))
             (return_within (left dice) (count dice) (link_back_apart tapes
             (subst (λ l. LinkReturn seat out back (link l)) same returned))))))
+
+        pub lacked_handed : {lent took : ℕ → L → Type 0} → lent seat it → took seat again
+            → (still : List L) → still ≡ links → LinksHanded link lent took seat first back still
+        lacked_handed {lent} {took} given taken still still_is = record {
+          lost = it ∷ [];
+          handed = returned.home.handed ∙ handed_now
+              ∙ ap (λ keys. With keys first.links.handed) (sym (keys_end link seat links it)
+              ∙ ap (λ l. keys_at link seat (l ++ it ∷ [])) (sym still_is));
+          lent_are = All-cons (lent seat) it [] given (All-nil (lent seat));
+          took_are = All-cons (took seat) it [] (subst (took seat) same taken)
+              (All-nil (took seat));
+        }
 
         pub still_out : (still : List L) → still ≡ links → (name : List ℕ)
             → Contains (names_of link still) name → 0 < back.links.out (seat, name)
@@ -535,6 +571,7 @@ module _ {L D : Type 0} (link : L → Link) (left : D → Option (List ℕ)) (co
       pub named : AreNamed link (names_in programs) outfits
       pub out : AreOut (names_in programs) at now
       pub tapes : now.tapes ≡ first.tapes
+      pub handed : now.links.handed ≡ With (keys_of link 0 (links_of outfits)) first.links.handed
 
     pub no_outfit : (outfits : List (Outfit L D)) → outfits ≡ [] → IsOutfitting 0 first outfits
     no_outfit outfits none = subst (λ os. IsOutfitting 0 first os) (sym none) (record {
@@ -545,6 +582,7 @@ module _ {L D : Type 0} (link : L → Link) (left : D → Option (List ℕ)) (co
       named = λ k o lt. absurd (omega (arith, lt));
       out = λ seat lt. absurd (omega (arith, lt));
       tapes = refl;
+      handed = handed_none first.links.handed;
     })
 
     module _ (at : ℕ) (now : Outside) (outfits : List (Outfit L D))
@@ -577,8 +615,10 @@ module _ {L D : Type 0} (link : L → Link) (left : D → Option (List ℕ)) (co
             → Opens link left count at programs now next (Ok outfit)
             → names_of link outfit.links ≡ names_in programs
             → IsOut (names_in programs) at next → KeepsOthers at now next
-            → next.tapes ≡ now.tapes → IsOutfitting (at + 1) next more
-        one_outfit outfit more more_is opens named out others tapes = record {
+            → next.tapes ≡ now.tapes
+            → next.links.handed ≡ With (keys_at link at outfit.links) now.links.handed
+            → IsOutfitting (at + 1) next more
+        one_outfit outfit more more_is opens named out others tapes handed = record {
           far = λ tapes a end result d. so.far tapes a end result (by_one
               (goes_on (equipping_one at programs)
               (λ u. equipping programs (at + 1) (seats - (at + 1)) nothing) tt
@@ -594,6 +634,11 @@ module _ {L D : Type 0} (link : L → Link) (left : D → Option (List ℕ)) (co
               outfit so.named named);
           out = λ seat lt. each seat lt (Decides-eqb seat at).0 (seat == at) refl;
           tapes = tapes ∙ so.tapes;
+          handed = handed_then (keys_of link 0 (links_of outfits)) (keys_at link at outfit.links)
+              first.links.handed so.handed handed ∙ ap (λ keys. With keys first.links.handed)
+              (sym (keys_push link 0 at (links_of outfits) outfit.links
+              (omega (arith, so.many, links_long outfits)))
+              ∙ ap (keys_of link 0) (sym (ap links_of more_is ∙ links_push outfits outfit)));
         }
           where
             each : (seat : ℕ) → seat < at + 1 → (seat == at ≡ true → seat ≡ at) → (q : Bool)
@@ -607,6 +652,20 @@ module _ {L D : Type 0} (link : L → Link) (left : D → Option (List ℕ)) (co
                   dice = omega (arith, was.dice, others.dice seat n);
                   links = λ name c. omega (arith, was.links name c, others.links seat name n);
                 }
+
+        pub outfit_unhanded : {lent took : ℕ → L → Type 0}
+            → LinksHanded link lent took at now next []
+            → OutfitsHanded link lent took first next (links_of outfits)
+        outfit_unhanded {lent} {took} h =
+            let here : at ≡ length (links_of outfits) =
+            omega (arith, so.many, links_long outfits) in record {
+              lost = h.lost;
+              handed = handed_then (keys_of link 0 (links_of outfits)) (keys_at link at h.lost)
+                  first.links.handed so.handed h.handed ∙ ap (λ keys. With keys first.links.handed)
+                  (sym (keys_push link 0 at (links_of outfits) h.lost (omega (arith, here))));
+              lent_are = subst (λ s. All (lent s) h.lost) here h.lent_are;
+              took_are = subst (λ s. All (took s) h.lost) here h.took_are;
+            }
 
         pub outfit_refused : (stop : Stop) → Opens link left count at programs now next (Err stop)
             → (tapes : Tapes) (a : Around) → Does (equipping programs 0 seats nothing)
@@ -638,6 +697,7 @@ module _ {L D : Type 0} (link : L → Link) (left : D → Option (List ℕ)) (co
       pub named : AreNamed link names outfits
       pub out : AreOut names (length outfits) now
       pub tapes : now.tapes ≡ old.tapes
+      pub handed : now.links.handed ≡ old.links.handed
       pub few : length outfits ≤ length first
 
     pub none_closed : AreNamed link names first → AreOut names (length first) old
@@ -647,6 +707,7 @@ module _ {L D : Type 0} (link : L → Link) (left : D → Option (List ℕ)) (co
       named = named;
       out = out;
       tapes = refl;
+      handed = refl;
       few = omega arith;
     }
 
@@ -681,6 +742,8 @@ module _ {L D : Type 0} (link : L → Link) (left : D → Option (List ℕ)) (co
                   links = λ name c. omega (arith, was.links name c, others.links seat name n);
                 };
             tapes = h.tapes ∙ so.tapes;
+            handed = ap (λ (o : LinksOf). o.handed) h.links_are
+                ∙ lent_handed link (length rest) last.links now.links ∙ so.handed;
             few = omega (arith, so.few, one_less);
           }
 

@@ -1,17 +1,18 @@
 -- What the replicas publish, one behind another.
 use Rattle.std.proofs.Common.{◌≡◌, ℕ, suc, ◌+◌, ◌<◌, ◌≤◌, Bool, true, false, List, [], ◌∷◌, ◌++◌, length, take, drop, get_or, set, drop-cons, add-one, Option, None, Some, Result, Ok, Err, refl, sym, ◌∙◌, ap, subst, inl, inr, arith, Contains}
-use Rattle.std.specs.Prelude.{All, IfSome, IsSome, map, if◌then◌else◌}
+use Rattle.std.specs.Prelude.{All, IfOk, IfSome, IsSome, map, if◌then◌else◌}
 use Rattle.std.specs.Option.{option_map}
 use Rattle.std.specs.Str.{bytes_eq}
 use Rattle.std.proofs.lemmas.List.{drop_all, take_all, take_more}
-use Rattle.std.proofs.lemmas.List.Elements.{All-cons, All-nil}
+use Rattle.std.proofs.lemmas.List.Elements.{All-append, All-cons, All-nil}
 use Rattle.kr_config.specs.Kept.{ConfigEntry, rows_of}
 use Rattle.kr_config.specs.declared.settings.Settings.{Settings}
 use Rattle.kr_base.specs.Walks.{Talk, Walk}
 use Rattle.kr_base.proofs.Walks.{talk_none, talk_so, talk_then}
 use Rattle.kr_kms.specs.Calls.{Link}
-use Rattle.kr_kms.specs.Exchanges.{Exchange}
-use Rattle.kr_kms.specs.Truth.{TellsOf, Truth, key_of}
+use Rattle.kr_kms.specs.Exchanges.{AgreeAll, Exchange}
+use Rattle.kr_kms.specs.Opens.{Opens}
+use Rattle.kr_kms.proofs.Opening.{agree_parts}
 use Rattle.kr_kms.specs.declared.seeds.SeedRow.{SeedRow}
 use Rattle.kr_provider.specs.AskedLinks.{Among, AskedOnly}
 use Rattle.kr_provider.specs.Names.{HasLinks, names_of}
@@ -23,7 +24,7 @@ use Rattle.kr_rollout.specs.Openings.{AreAmong, NamesAmong}
 use Rattle.kr_opening.specs.Replicas.{IsFirstIn, settings_of}
 use Rattle.kr_workers.specs.Files as workers
 use Rattle.kr_workers.specs.declared.files.SettingsFile.{SettingsFile}
-use Rattle.kr_cmd_steps.specs.Around.{Around, IsUnheard, with_exchanges}
+use Rattle.kr_cmd_steps.specs.Around.{Around, with_exchanges}
 use Rattle.kr_cmd_steps.specs.Phases.{with_memory}
 use Rattle.kr_cmd_fleet.specs.FleetFiles.{NamedRows, no_file, file_entries}
 use Rattle.kr_cmd_fleet.specs.Fleets.{Replicas, publishes, publishing, rows_of_replica}
@@ -36,7 +37,7 @@ use Rattle.kr_cmd_messages.specs.declared.refusal.Stop.TheVariants.{NoMemory}
 use Rattle.kr_cmd_fleet.specs.inner.Beginnings.{MayPublish, PublishesNext, with_first}
 use Rattle.kr_cmd_fleet.specs.inner.Plans.{IsWholePlan, named, plan_of}
 use Rattle.kr_cmd_fleet.specs.inner.FleetOutcomes.{ArePublished, IsPublishedBy}
-use Rattle.kr_cmd_fleet.specs.StartExchanges.{AsksFirst}
+use Rattle.kr_cmd_fleet.specs.StartExchanges.{AsksFirst, OpenBy}
 use Rattle.kr_cmd_fleet.specs.inner.Outfits.{AreLater, AreNamed, IsLater, links_of, with_outfits}
 use Rattle.kr_cmd_steps.specs.inner.ProgramNames.{names_in}
 use Rattle.kr_cmd_steps.specs.inner.Phases.{Does}
@@ -44,9 +45,32 @@ use Rattle.kr_cmd_fleet.proofs.FleetLoads.{same_rows}
 use Rattle.kr_cmd_steps.proofs.Hearing.{around_more, around_none}
 use Rattle.kr_cmd_steps.proofs.Goes.{given, goes_on, home_refl, reach, stops}
 use Rattle.kr_cmd_steps.proofs.Made.{remembers}
-use Rattle.kr_cmd_fleet.proofs.Outfits.{later_refl, outfits_exchanges, outfits_heard, outfits_truth}
+use Rattle.kr_cmd_fleet.proofs.Outfits.{later_refl, outfits_exchanges}
 use Rattle.kr_cmd_fleet.proofs.Plans.{plan_links, plan_read}
 use Rattle.kr_cmd_steps.proofs.Works.{lacks}
+
+-- ---- what opens by what was asked
+
+abbrev IsOpen : Opens → Option Publication → Type 0
+IsOpen opens p = IfSome p (SeedsOpen opens)
+
+pub open_none : (es : List Exchange) → OpenBy es []
+open_none es opens agree = All-nil (IsOpen opens)
+
+pub open_one : (es : List Exchange) (p : Option Publication)
+    → ((opens : Opens) → AgreeAll opens es → IfSome p (SeedsOpen opens)) → OpenBy es (p ∷ [])
+open_one es p so opens agree =
+    All-cons (IsOpen opens) p [] (so opens agree) (All-nil (IsOpen opens))
+
+-- by more exchanges too
+pub open_on : (es fs : List Exchange) (made : Replicas) → OpenBy es made → OpenBy (es ++ fs) made
+open_on es fs made so opens agree = so opens (agree_parts opens es fs agree).0
+
+open_more : (es fs : List Exchange) (made : Replicas) (p : Option Publication) → OpenBy es made
+    → OpenBy fs (p ∷ []) → OpenBy (es ++ fs) (made ++ p ∷ [])
+open_more es fs made p so own opens agree =
+    let parts = agree_parts opens es fs agree in
+    All-append (IsOpen opens) made (p ∷ []) (so opens parts.0) (own opens parts.1)
 
 -- ---- one replica
 
@@ -84,9 +108,8 @@ module _ (files : List NamedRows) (replica : List ℕ × List ℕ) where
       subst (λ r. Does (publishes r made (λ more. publishing files more others)) a end result)
       (sym (rows_gap gap)) d
 
-  pub published_gap : (truth : Truth) → bytes_eq replica.1 no_file ≡ true
-      → IsPublishedBy truth files replica None
-  published_gap truth gap = (sym (rows_gap gap), tt)
+  pub published_gap : bytes_eq replica.1 no_file ≡ true → IsPublishedBy files replica None
+  published_gap gap = sym (rows_gap gap)
 
   pub next_lacks : (a : Around) → PublishesNext files replica a a (Err NoMemory)
   next_lacks a made others = lacks_rest files made (replica ∷ others) a
@@ -97,12 +120,11 @@ module _ (files : List NamedRows) (replica : List ℕ × List ℕ) where
     behind made others seeds =
         publishing files (made ++ Some (record { rows = rows; seeds = seeds }) ∷ []) others
 
-    pub published_by : (truth : Truth) (p shared : Publication) → shared ≡ p → p.rows ≡ rows
-        → All (λ row. TellsOf truth (key_of row) row.seed) p.seeds
-        → IsPublishedBy truth files replica (Some shared)
-    published_by truth p shared one same opens =
-        subst (λ q. IsPublishedBy truth files replica (Some q)) (sym one)
-        (ap (λ r. Some r) same ∙ sym is, opens)
+    pub published_by : (p shared : Publication) → shared ≡ p → p.rows ≡ rows
+        → IsPublishedBy files replica (Some shared)
+    published_by p shared one same =
+        subst (λ q. IsPublishedBy files replica (Some q)) (sym one)
+        (ap (λ r. Some r) same ∙ sym is)
 
     by_rows : {old : Around} (made : Replicas) (others : List (List ℕ × List ℕ)) {end : Around}
         {result : Result Replicas Stop}
@@ -141,17 +163,22 @@ module _ (files : List NamedRows) (replica : List ℕ × List ℕ) where
           (lacks_rest files (made ++ Some (record { rows = rows; seeds = seeds }) ∷ []) others new))
 
 -- nothing was asked
-pub none_next : {L : Type 0} (truth : Truth) (step : L → Exchange → L → Type 0)
+pub none_next : {L : Type 0} (step : L → Exchange → L → Type 0)
     (files : List NamedRows) (replica : List ℕ × List ℕ) (links : List L)
     (with_parts : Around → Around) (result : Result (Option Publication) Stop)
     → ((a : Around) → PublishesNext files replica a a result)
-    → Talk (Among step) links links (λ es. (a : Around) → a.truth ≡ truth
+    → IfOk result (λ published. OpenBy [] (published ∷ []))
+    → Talk (Among step) links links (λ es. ((a : Around)
     → PublishesNext files replica (with_parts a) (with_parts (with_exchanges es a)) result)
-none_next truth step files replica links with_parts result next =
-    talk_none (Among step) (λ es. (a : Around) → a.truth ≡ truth
-    → PublishesNext files replica (with_parts a) (with_parts (with_exchanges es a)) result) links
-    (λ a t. subst (λ b. PublishesNext files replica (with_parts a) (with_parts b) result)
-    (sym (around_none a)) (next (with_parts a)))
+    × IfOk result (λ published. OpenBy es (published ∷ [])))
+none_next step files replica links with_parts result next so =
+    talk_none (Among step) (λ es. ((a : Around)
+    → PublishesNext files replica (with_parts a) (with_parts (with_exchanges es a)) result)
+    × IfOk result (λ published. OpenBy es (published ∷ []))) links (
+      λ a. subst (λ b. PublishesNext files replica (with_parts a) (with_parts b) result)
+          (sym (around_none a)) (next (with_parts a)),
+      so,
+    )
 
 -- ---- the file of a replica
 
@@ -194,47 +221,48 @@ asked_wider link names more all (x ∷ xs) (y ∷ ys) a = (
 
 -- ---- all replicas
 
-pub published_more : (truth : Truth) (files : List NamedRows)
+pub published_more : (files : List NamedRows)
     (replicas : List (List ℕ × List ℕ)) (made : Replicas) (replica : List ℕ × List ℕ)
-    (p : Option Publication) → ArePublished truth files replicas made
-    → IsPublishedBy truth files replica p
-    → ArePublished truth files (replicas ++ replica ∷ []) (made ++ p ∷ [])
-published_more truth files [] [] replica p all is = (is, tt)
-published_more truth files [] (q ∷ made) replica p all is = absurd all
-published_more truth files (r ∷ replicas) [] replica p all is = absurd all
-published_more truth files (r ∷ replicas) (q ∷ made) replica p all is =
-    (all.0, published_more truth files replicas made replica p all.1 is)
+    (p : Option Publication) → ArePublished files replicas made
+    → IsPublishedBy files replica p
+    → ArePublished files (replicas ++ replica ∷ []) (made ++ p ∷ [])
+published_more files [] [] replica p all is = (is, tt)
+published_more files [] (q ∷ made) replica p all is = absurd all
+published_more files (r ∷ replicas) [] replica p all is = absurd all
+published_more files (r ∷ replicas) (q ∷ made) replica p all is =
+    (all.0, published_more files replicas made replica p all.1 is)
 
-module _ {L D : Type 0} (truth : Truth) (link : L → Link) (step : L → Exchange → L → Type 0)
+module _ {L D : Type 0} (link : L → Link) (step : L → Exchange → L → Type 0)
     (left : D → Option (List ℕ)) (count : D → ℕ) (files : List NamedRows)
     (replicas : List (List ℕ × List ℕ)) where
   -- while the first seat has these links and this random source
   abbrev First : List L → D → Around → Around
   First links dice a = with_first link links (left dice) (count dice) a
 
-  -- behind these exchanges, what the others do completes it
+  -- behind these exchanges, what the others do completes it; and by them what was published opens
   abbrev pub Onward : (number : ℕ) (made : Replicas) (olds mids : List L) (old mid : D)
       → List Exchange → Type 0
-  Onward number made olds mids old mid es = (a : Around) → a.truth ≡ truth → (end : Around)
+  Onward number made olds mids old mid es = ((a : Around) (end : Around)
       (result : Result Replicas Stop)
       → Does (publishing files made (drop number replicas)) (First mids mid (with_exchanges es a))
       end result
-      → Does (publishing files [] replicas) (First olds old a) end result
+      → Does (publishing files [] replicas) (First olds old a) end result) × OpenBy es made
 
   -- so many were gone through
   pub record IsPublishing (number : ℕ) (made : Replicas) (olds mids : List L) (old mid : D)
       : Type 0 where
     pub onward : Talk (Among step) olds mids (Onward number made olds mids old mid)
-    pub published : ArePublished truth files (take number replicas) made
+    pub published : ArePublished files (take number replicas) made
     pub asked : AskedOnly link (names_of link olds) olds mids
     pub later : count old ≤ count mid
 
   pub publishing_none : (links : List L) (dice : D) → IsPublishing 0 [] links links dice dice
   publishing_none links dice = record {
-    onward = talk_none (Among step) (Onward 0 [] links links dice dice) links
-        (λ a t end result d. subst (λ b. Does (publishing files [] replicas) (First links dice b)
-        end
-        result) (around_none a) d);
+    onward = talk_none (Among step) (Onward 0 [] links links dice dice) links (
+      λ a end result d. subst (λ b. Does (publishing files [] replicas) (First links dice b) end
+          result) (around_none a) d,
+      open_none [],
+    );
     published = tt;
     asked = asked_none link (names_of link links) links;
     later = omega arith;
@@ -251,9 +279,9 @@ module _ {L D : Type 0} (truth : Truth) (link : L → Link) (step : L → Exchan
 
     -- how all of it is said of what was asked
     abbrev pub Ended : (news : List L) (new : D) → Result Replicas Stop → List Exchange → Type 0
-    Ended news new result es = (a : Around) → a.truth ≡ truth
-        → Does (publishing files [] replicas) (First olds old a)
-        (First news new (with_exchanges es a)) result
+    Ended news new result es = ((a : Around) → Does (publishing files [] replicas)
+        (First olds old a) (First news new (with_exchanges es a)) result)
+        × IfOk result (OpenBy es)
 
     module _ (news : List L) (new : D) where
       pub asked_further : AskedOnly link (names_of link mids) mids news
@@ -273,32 +301,34 @@ module _ {L D : Type 0} (truth : Truth) (link : L → Link) (step : L → Exchan
 
         -- the next one, and then these steps
         onward_by : (es : List Exchange) → Onward number made olds mids old mid es → (a : Around)
-            → a.truth ≡ truth → (end : Around) (result : Result Replicas Stop)
+            → (end : Around) (result : Result Replicas Stop)
             → Does (publishing files made (replica ∷ drop (number + 1) replicas))
             (First mids mid (with_exchanges es a)) end result
             → Does (publishing files [] replicas) (First olds old a) end result
-        onward_by es onward a t end result d = onward a t end result
+        onward_by es onward a end result d = onward.0 a end result
             (subst (λ l. Does (publishing files made l) (First mids mid (with_exchanges es a)) end
             result) (sym next_is) d)
 
         -- what the next one's exchanges lead to
         abbrev Next : Result (Option Publication) Stop → List Exchange → Type 0
-        Next result es = (a : Around) → a.truth ≡ truth
-            → PublishesNext files replica (First mids mid a) (First news new (with_exchanges es a))
-            result
+        Next result es = ((a : Around) → PublishesNext files replica (First mids mid a)
+            (First news new (with_exchanges es a)) result)
+            × IfOk result (λ published. OpenBy es (published ∷ []))
 
         -- it ended there
-        both_end : (result : Result Replicas Stop) (first others : List Exchange)
-            → ((a : Around) → a.truth ≡ truth → Does (publishing files [] replicas)
+        both_end : (stop : Stop) (first others : List Exchange)
+            → ((a : Around) → Does (publishing files [] replicas)
             (First olds old a)
-            (First news new (with_exchanges others (with_exchanges first a))) result)
-            → Ended news new result (first ++ others)
-        both_end result first others does a t =
-            subst (λ b. Does (publishing files [] replicas) (First olds old a) (First news new b)
-            result) (around_more first others a) (does a t)
+            (First news new (with_exchanges others (with_exchanges first a))) (Err stop))
+            → Ended news new (Err stop) (first ++ others)
+        both_end stop first others does = (
+          λ a. subst (λ b. Does (publishing files [] replicas) (First olds old a)
+              (First news new b) (Err stop)) (around_more first others a) (does a),
+          tt,
+        )
 
         module _ (p : Option Publication) (next : Talk (Among step) mids news (Next (Ok p))) where
-          pub publishing_more : IsPublishedBy truth files replica p
+          pub publishing_more : IsPublishedBy files replica p
               → AskedOnly link (names_of link mids) mids news → count mid ≤ count new
               → (all : Replicas) → all ≡ made ++ p ∷ []
               → IsPublishing (number + 1) all olds news old new
@@ -307,16 +337,18 @@ module _ {L D : Type 0} (truth : Truth) (link : L → Link) (step : L → Exchan
               (record {
                 onward = talk_then (Among step) (Onward number made olds mids old mid) (Next (Ok p))
                     (Onward (number + 1) (made ++ p ∷ []) olds news old new) olds mids news
-                    so_far.onward next (λ es fs so goes a t end result d.
-                    onward_by es so a t end result
-                    (goes (with_exchanges es a) t made (drop (number + 1) replicas) end result
-                    (subst (λ b. Does
-                    (publishing files (made ++ p ∷ []) (drop (number + 1) replicas))
-                    (First news new b) end result) (sym (around_more es fs a)) d)));
-                published = subst (λ l. ArePublished truth files l (made ++ p ∷ []))
+                    so_far.onward next (λ es fs so goes. (
+                      λ a end result d. onward_by es so a end result
+                          (goes.0 (with_exchanges es a) made (drop (number + 1) replicas) end
+                          result (subst (λ b. Does
+                          (publishing files (made ++ p ∷ []) (drop (number + 1) replicas))
+                          (First news new b) end result) (sym (around_more es fs a)) d)),
+                      open_more es fs made p so.1 goes.1,
+                    ));
+                published = subst (λ l. ArePublished files l (made ++ p ∷ []))
                     (ap (λ r. take number replicas ++ r ∷ []) is
                     ∙ sym (take_more replicas number replica below))
-                    (published_more truth files (take number replicas) made replica p
+                    (published_more files (take number replicas) made replica p
                     so_far.published by);
                 asked = asked_further asked;
                 later = later_further later;
@@ -325,38 +357,40 @@ module _ {L D : Type 0} (truth : Truth) (link : L → Link) (step : L → Exchan
           pub publishing_unkept : Talk (Among step) olds news (Ended news new (Err NoMemory))
           publishing_unkept = talk_then (Among step) (Onward number made olds mids old mid)
               (Next (Ok p)) (Ended news new (Err NoMemory)) olds mids news so_far.onward next
-              (λ es fs so goes. both_end (Err NoMemory) es fs (λ a t.
+              (λ es fs so goes. both_end NoMemory es fs (λ a.
               let end = First news new (with_exchanges fs (with_exchanges es a)) in
-              onward_by es so a t end (Err NoMemory)
-              (goes (with_exchanges es a) t made (drop (number + 1) replicas) end (Err NoMemory)
+              onward_by es so a end (Err NoMemory)
+              (goes.0 (with_exchanges es a) made (drop (number + 1) replicas) end (Err NoMemory)
               (lacks_rest files (made ++ p ∷ []) (drop (number + 1) replicas) end))))
 
         pub publishing_stops : (stop : Stop) → Talk (Among step) mids news (Next (Err stop))
             → Talk (Among step) olds news (Ended news new (Err stop))
         publishing_stops stop next = talk_then (Among step) (Onward number made olds mids old mid)
             (Next (Err stop)) (Ended news new (Err stop)) olds mids news so_far.onward next
-            (λ es fs so goes. both_end (Err stop) es fs (λ a t. onward_by es so a t
+            (λ es fs so goes. both_end stop es fs (λ a. onward_by es so a
             (First news new (with_exchanges fs (with_exchanges es a))) (Err stop)
-            (goes (with_exchanges es a) t made (drop (number + 1) replicas))))
+            (goes.0 (with_exchanges es a) made (drop (number + 1) replicas))))
 
     module _ (past : length replicas ≤ number) where
       pub publishing_all : Talk (Among step) olds mids (Ended mids mid (Ok made))
       publishing_all = talk_so (Among step) (Onward number made olds mids old mid)
-          (Ended mids mid (Ok made)) olds mids so_far.onward (λ es so a t.
-          let end = First mids mid (with_exchanges es a) in
-          so a t end (Ok made)
-          (subst (λ l. Does (publishing files made l) end end (Ok made))
-          (sym (drop_all number replicas past)) (remembers (given made end))))
+          (Ended mids mid (Ok made)) olds mids so_far.onward (λ es so. (
+            λ a. let end = First mids mid (with_exchanges es a) in
+                so.0 a end (Ok made)
+                (subst (λ l. Does (publishing files made l) end end (Ok made))
+                (sym (drop_all number replicas past)) (remembers (given made end))),
+            so.1,
+          ))
 
-      pub published_all : ArePublished truth files replicas made
-      published_all = subst (λ l. ArePublished truth files l made) (take_all number replicas past)
+      pub published_all : ArePublished files replicas made
+      published_all = subst (λ l. ArePublished files l made) (take_all number replicas past)
           so_far.published
 
 -- ---- what all of them published
 
-module _ (truth : Truth) (files : List NamedRows) where
+module _ (files : List NamedRows) where
   pub published_many : (replicas : List (List ℕ × List ℕ)) (made : Replicas)
-      → ArePublished truth files replicas made → length made ≡ length replicas
+      → ArePublished files replicas made → length made ≡ length replicas
   published_many [] [] all = refl
   published_many [] (p ∷ made) all = absurd all
   published_many (replica ∷ replicas) [] all = absurd all
@@ -365,13 +399,13 @@ module _ (truth : Truth) (files : List NamedRows) where
 
   -- in order, the settings of their files
   pub published_settings : (replicas : List (List ℕ × List ℕ)) (made : Replicas)
-      → ArePublished truth files replicas made
+      → ArePublished files replicas made
       → settings_of made ≡ map (rows_of_replica files) replicas
   published_settings [] [] all = refl
   published_settings [] (p ∷ made) all = absurd all
   published_settings (replica ∷ replicas) [] all = absurd all
   published_settings (replica ∷ replicas) (p ∷ made) all =
-      λ i. all.0.0 i ∷ published_settings replicas made all.1 i
+      λ i. all.0 i ∷ published_settings replicas made all.1 i
 
   is_in : (p : Option Publication) (rows : Option (List ConfigEntry))
       → option_map (λ (q : Publication). q.rows) p ≡ rows → IsSome rows → IsSome p
@@ -379,14 +413,14 @@ module _ (truth : Truth) (files : List NamedRows) where
   is_in None rows e some = subst (λ (r : Option (List ConfigEntry)). IsSome r) (sym e) some
 
   pub published_first : (replicas : List (List ℕ × List ℕ)) (made : Replicas)
-      → ArePublished truth files replicas made → 1 ≤ length replicas
+      → ArePublished files replicas made → 1 ≤ length replicas
       → ((replica : List ℕ × List ℕ) (others : List (List ℕ × List ℕ))
       → replicas ≡ replica ∷ others → IsSome (rows_of_replica files replica))
       → IsFirstIn made
   published_first [] made all some first = absurd (omega (arith, some))
   published_first (replica ∷ replicas) [] all some first = absurd all
   published_first (replica ∷ replicas) (p ∷ made) all some first =
-      is_in p (rows_of_replica files replica) all.0.0 (first replica replicas refl)
+      is_in p (rows_of_replica files replica) all.0 (first replica replicas refl)
 
   module _ (names : List (List ℕ)) (among : (name : List ℕ) (rows : List ConfigEntry)
       → file_entries files name ≡ Some rows → NamesAmong names rows) where
@@ -396,36 +430,19 @@ module _ (truth : Truth) (files : List NamedRows) where
     names_by file rows false e = among file rows (sym e)
 
     among_one : (replica : List ℕ × List ℕ) (p : Option Publication)
-        → IsPublishedBy truth files replica p → IfSome p (λ q. NamesAmong names q.rows)
+        → IsPublishedBy files replica p → IfSome p (λ q. NamesAmong names q.rows)
     among_one replica None by = tt
     among_one replica (Some p) by =
-        names_by replica.1 p.rows (bytes_eq replica.1 no_file) by.0
+        names_by replica.1 p.rows (bytes_eq replica.1 no_file) by
 
     pub published_among : (replicas : List (List ℕ × List ℕ)) (made : Replicas)
-        → ArePublished truth files replicas made → AreAmong names made
+        → ArePublished files replicas made → AreAmong names made
     published_among [] [] all = All-nil (λ p. IfSome p (λ q. NamesAmong names q.rows))
     published_among [] (p ∷ made) all = absurd all
     published_among (replica ∷ replicas) [] all = absurd all
     published_among (replica ∷ replicas) (p ∷ made) all =
         All-cons (λ r. IfSome r (λ q. NamesAmong names q.rows)) p made
         (among_one replica p all.0) (published_among replicas made all.1)
-
-  -- where the truth is told their seeds open
-  module _ (told : truth.told ≡ true) where
-    opens_one : (replica : List ℕ × List ℕ) (p : Option Publication)
-        → IsPublishedBy truth files replica p → IfSome p (SeedsOpen truth.opens)
-    opens_one replica None by = tt
-    opens_one replica (Some p) by = λ k d below. by.1 k d below told
-
-    pub published_open : (replicas : List (List ℕ × List ℕ)) (made : Replicas)
-        → ArePublished truth files replicas made
-        → All (λ p. IfSome p (SeedsOpen truth.opens)) made
-    published_open [] [] all = All-nil (λ p. IfSome p (SeedsOpen truth.opens))
-    published_open [] (p ∷ made) all = absurd all
-    published_open (replica ∷ replicas) [] all = absurd all
-    published_open (replica ∷ replicas) (p ∷ made) all =
-        All-cons (λ q. IfSome q (SeedsOpen truth.opens)) p made
-        (opens_one replica p all.0) (published_open replicas made all.1)
 
 -- ---- by the first worker's outfit
 
@@ -450,42 +467,22 @@ module _ (plan : LoadedFleet) (whole : IsWholePlan (plan_of plan)) (names : List
       (λ k d below there. may_by (get_or plan.script.replicas.0 k d).1 _ refl
       (plan_read plan whole k d below there)))
 
-module _ {L D : Type 0} (truth : Truth) (link : L → Link) (left : D → Option (List ℕ))
+module _ {L D : Type 0} (link : L → Link) (left : D → Option (List ℕ))
     (count : D → ℕ) where
   abbrev With : List (Outfit L D) → Around → Around
   With outfits a = with_outfits link left count 0 outfits a
 
   -- what was done with the first outfit, with all of them
-  pub with_the_first : {A : Type 0} (next : Steps A) (result : Result A Stop)
-      (outfits : List (Outfit L D)) (first new : Outfit L D) → 1 ≤ length outfits
-      → first ≡ get_or outfits 0 first
-      → ((b : Around) → IsUnheard truth b → Does next
-      (with_first link first.links (left first.dice) (count first.dice) b)
-      (with_first link new.links (left new.dice) (count new.dice) b) result)
-      → (a : Around) → IsUnheard truth a
-      → Does next (With outfits a) (With (set outfits 0 new) a) result
-  with_the_first next result [] first new some is does a t = absurd (omega (arith, some))
-  with_the_first next result (outfit ∷ rest) first new some is does a t =
-      let b = with_outfits link left count 1 rest a in
-      subst (λ (f : Outfit L D). Does next
-      (with_first link f.links (left f.dice) (count f.dice) b)
-      (with_first link new.links (left new.dice) (count new.dice) b) result) is
-      (does b (
-        outfits_truth link left count 1 rest a ∙ t.0,
-        outfits_heard link left count 1 rest a ∙ t.1,
-      ))
-
-  -- the same, where what was asked is told
   pub heard_first : {A : Type 0} (next : Steps A) (result : Result A Stop)
       (outfits : List (Outfit L D)) (first new : Outfit L D) (es : List Exchange)
       → 1 ≤ length outfits → first ≡ get_or outfits 0 first
-      → ((b : Around) → b.truth ≡ truth → Does next
+      → ((b : Around) → Does next
       (with_first link first.links (left first.dice) (count first.dice) b)
       (with_first link new.links (left new.dice) (count new.dice) (with_exchanges es b)) result)
-      → (a : Around) → a.truth ≡ truth
+      → (a : Around)
       → Does next (With outfits a) (With (set outfits 0 new) (with_exchanges es a)) result
-  heard_first next result [] first new es some is does a t = absurd (omega (arith, some))
-  heard_first next result (outfit ∷ rest) first new es some is does a t =
+  heard_first next result [] first new es some is does a = absurd (omega (arith, some))
+  heard_first next result (outfit ∷ rest) first new es some is does a =
       let b = with_outfits link left count 1 rest a in
       subst (λ (c : Around). Does next
       (with_first link outfit.links (left outfit.dice) (count outfit.dice) b)
@@ -494,7 +491,7 @@ module _ {L D : Type 0} (truth : Truth) (link : L → Link) (left : D → Option
       (subst (λ (f : Outfit L D). Does next
       (with_first link f.links (left f.dice) (count f.dice) b)
       (with_first link new.links (left new.dice) (count new.dice) (with_exchanges es b)) result) is
-      (does b (outfits_truth link left count 1 rest a ∙ t)))
+      (does b))
 
   pub first_asks : (step : L → Exchange → L → Type 0) (outfits : List (Outfit L D))
       (first new : Outfit L D) (es : List Exchange) → 1 ≤ length outfits

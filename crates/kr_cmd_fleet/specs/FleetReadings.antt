@@ -3,7 +3,6 @@ use Rattle.std.specs.Prelude.{◌≡◌, ℕ, ◌<◌, ◌⊎◌, List, Contains
 use Rattle.kr_base.specs.Limits.{store_limit}
 use Rattle.kr_kms.specs.Calls.{Link}
 use Rattle.kr_kms.specs.Exchanges.{Exchange}
-use Rattle.kr_kms.specs.Truth.{Truth}
 use Rattle.kr_rollout.specs.declared.line.Gave.TheVariants as gave
 use Rattle.kr_rollout.specs.declared.opening.Entry.{Entry}
 use Rattle.kr_workers.specs.declared.ending.Ending.{Ending}
@@ -22,12 +21,12 @@ abbrev pub PassesLimit : List Entry → Type 0
 PassesLimit history = (e : Entry) × Contains history e × (needed : ℕ)
     × (e.line.gave ≡ gave.StoreFull needed) × (store_limit < needed)
 
-module _ (T : Type 0) {L D : Type 0} (truth : Truth) (link : L → Link)
+module _ (T : Type 0) {L D : Type 0} (link : L → Link)
     (step : L → Exchange → L → Type 0) (lent took : ℕ → L → Type 0)
     (left : D → Option (List ℕ)) (count : D → ℕ) (words : FleetWords) (old new : Around)
     (output errors : Receipt) where
   abbrev pub HasStarted : Result Ending Stop → Type 0
-  HasStarted result = Starts T truth link step lent took left count words old new output result
+  HasStarted result = Starts T link step lent took left count words old new output result
 
   -- the workers did their lines; an entry found the store full: with its row the file would have
   -- passed its limit

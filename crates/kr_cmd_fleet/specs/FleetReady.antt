@@ -12,7 +12,7 @@ use Rattle.kr_cmd_steps.specs.Around.{Around}
 use Rattle.kr_cmd_steps.specs.Configuration.{IsConfiguration}
 use Rattle.kr_cmd_fleet.specs.FleetFiles.{IsFleetFile, all_files, no_file}
 use Rattle.kr_cmd_fleet.specs.Fleets.{AreWithin, parts_of}
-use Rattle.kr_cmd_steps.specs.Ran.{AreTold}
+use Rattle.kr_cmd_steps.specs.Telling.{AreTold}
 use Rattle.kr_cmd_steps.specs.Steps.{or_empty}
 use Rattle.kr_cmd_steps.specs.StoreFiles.{IsStored, Stored}
 use Rattle.kr_cmd_messages.specs.declared.fleet_words.FleetWords.{FleetWords}

@@ -1,4 +1,5 @@
 -- `fleet`: the steps up to its workers, and what a call did once they were started.
+use mathlib.Core.Logic.{inl, inr}
 use Rattle.std.specs.Prelude.{◌≡◌, ◌≢◌, ℕ, Bool, suc, zero, ◌+◌, ◌<◌, ◌≤◌, ◌⊎◌, true, false, List, [], ◌∷◌, ◌++◌, length, map, sum, get_or, All, Option, None, Some, Result, Ok, Err, ⊤, if◌then◌else◌}
 use Rattle.std.specs.Io.KnownBytes.{Appends}
 use Rattle.std.specs.Str.{bytes_eq}
@@ -10,7 +11,7 @@ use Rattle.kr_kms.specs.Calls.{Link}
 use Rattle.kr_kms.specs.Exchanges.{Exchange}
 use Rattle.kr_kms.specs.Outside.{link_at, with_call}
 use Rattle.kr_kms.specs.declared.world.WorldCall.TheVariants.{Settled}
-use Rattle.kr_kms.specs.Truth.{Opens, Truth}
+use Rattle.kr_kms.specs.Opens.{Opens}
 use Rattle.kr_kms.specs.declared.world.Access.TheVariants.{ToMake}
 use Rattle.kr_provider.specs.Names.{names_of}
 use Rattle.kr_provider.specs.PluginOrder.{plugin_order}
@@ -39,7 +40,7 @@ use Rattle.kr_cmd_steps.specs.Around.{Around, Ends, IsHome, Reaches, left_of, wi
 use Rattle.kr_cmd_steps.specs.Phases.{by_result, stored_on, tape_for, with_memory}
 use Rattle.kr_cmd_messages.specs.FleetAsked.{AskAlone, AsksFleet}
 use Rattle.kr_cmd_fleet.specs.FirstItems.{watching}
-use Rattle.kr_cmd_fleet.specs.StartExchanges.{BeganWith, WereAsked}
+use Rattle.kr_cmd_fleet.specs.StartExchanges.{BeganWith, WereAsked, WereMade, links_in}
 use Rattle.kr_cmd_fleet.specs.FleetFiles.{FleetPlan, NamedRows, named_rows, no_file, planning, file_entries}
 use Rattle.kr_cmd_steps.specs.Judgements.{start_refusal}
 use Rattle.kr_cmd_messages.specs.LoadAsked.{AsksLoad}
@@ -220,7 +221,6 @@ HasRows None begun rows before now = ⊤
 -- beside the links and random sources of so many seats and the store's tape all is as it was when
 -- the workers started
 pub record LeavesRest (store : List ℕ) (seats : ℕ) (mid new : Around) : Type 0 where
-  pub truth : new.truth ≡ mid.truth
   pub file : new.world.file ≡ mid.world.file
   pub tapes : (other : List ℕ) → other ≢ store
       → new.world.tapes.told other ≡ mid.world.tapes.told other
@@ -234,13 +234,14 @@ pub record LeavesRest (store : List ℕ) (seats : ℕ) (mid new : Around) : Type
   pub said : new.said ≡ mid.said
 
 -- One history: that of a core which began with the store's rows and what the replicas published,
--- in order the settings of their files, a gap for one that isn't in. It is legal, honest (without a
--- program for a plugin whatever sources open to), with the lines of each worker, whose bench kept
--- no seed when it began, and with nothing else.
+-- in order the settings of their files, a gap for one that isn't in; their seeds were made by what
+-- the first worker's links had answered, so that the opening is honest by all openings that agree
+-- with that. It is legal (without a program for a plugin honest whatever sources open to), with the
+-- lines of each worker, whose bench kept no seed when it began, and with nothing else.
 -- What it says of the replies follows: the headline, and the law `replies_are_true` of kr_workers.
 -- The store has the opening's rows and the written entries', and its count is that of the last
 -- line; what the workers had is back.
-pub record RunsFleet {T L D : Type 0} (truth : Truth) (link : L → Link)
+pub record RunsFleet {T L D : Type 0} (link : L → Link)
     (step : L → Exchange → L → Type 0)
     (left : D → Option (List ℕ)) (count : D → ℕ) (store : List ℕ) (begun : Begun)
     (mid new : Around) (history : List Entry) (ended : List (fleet_worker.Worker T L D))
@@ -255,9 +256,9 @@ pub record RunsFleet {T L D : Type 0} (truth : Truth) (link : L → Link)
   pub many : length workers ≡ length parts
   pub cold : All (λ (worker : fleet_worker.Worker T L D). worker.bench.cache.rows ≡ []) workers
   pub before : AreEquipped link left count begun.plan.programs mid workers
-  pub one : IsOneHistory truth link step left count files history (opening_of store begun mid) parts
+  pub one : IsOneHistory link step left count files history (opening_of store begun mid) parts
       begun.budgets workers ended
-  pub opens : truth.told ≡ true → IsHonest truth.opens (opening_of store begun mid) []
+  pub made : WereMade step begun.replicas workers
   pub bare : begun.plan.programs ≡ [] → (any : Opens)
       → IsHonest any (opening_of store begun mid) history
   pub after : AreEquipped link left count begun.plan.programs new ended
@@ -278,14 +279,14 @@ pub record StartsNone (store : List ℕ) (begun : Begun) (mid new : Around) : Ty
 
 -- The workers ran, and left this; then what they stored couldn't be settled, so that the store's
 -- count rose once more. It tells what it told, and all else stayed
-pub record FailsToSettle (T : Type 0) {L D : Type 0} (truth : Truth) (link : L → Link)
+pub record FailsToSettle (T : Type 0) {L D : Type 0} (link : L → Link)
     (step : L → Exchange → L → Type 0)
     (left : D → Option (List ℕ)) (count : D → ℕ) (store : List ℕ) (begun : Begun)
     (mid new : Around) (stop : Stop) : Type 0 where
   pub ran : Around
   pub history : List Entry
   pub ended : List (fleet_worker.Worker T L D)
-  pub runs : RunsFleet truth link step left count store begun mid ran history ended
+  pub runs : RunsFleet link step left count store begun mid ran history ended
   pub told : new.world.tapes.told store ≡ ran.world.tapes.told store
   pub rose : Rose (ran.world.tapes.faults store) (new.world.tapes.faults store)
   pub stops : stop ≡ Fault Store (new.world.tapes.faults store)
@@ -313,7 +314,7 @@ WritesFleet text ending output (Err (Fault object n)) =
 WritesFleet text ending output (Err NoMemory) = AppendsFront output.old output.new text
 WritesFleet text ending output (Err why) = ⊥
 
-module _ (T : Type 0) {L D : Type 0} (truth : Truth) (link : L → Link)
+module _ (T : Type 0) {L D : Type 0} (link : L → Link)
     (step : L → Exchange → L → Type 0)
     (left : D → Option (List ℕ)) (count : D → ℕ) where
   -- nothing was written: the steps up to the workers ended the command, or want of memory did
@@ -327,10 +328,25 @@ module _ (T : Type 0) {L D : Type 0} (truth : Truth) (link : L → Link)
       × Reaches steps (left_of old) mid (gives begun)
       × StartsNone store begun mid new × IsHome old mid))
       ⊎ ((mid : Around) × (begun : Begun) × Reaches steps (left_of old) mid (gives begun)
-      × FailsToSettle T truth link step left count store begun mid new stop × IsHome old mid))
+      × FailsToSettle T link step left count store begun mid new stop × IsHome old mid))
       × WroteNothing output
 
-module _ (T : Type 0) {L D : Type 0} (truth : Truth) (link : L → Link)
+  -- links that had come so far before the workers came back so, unless these had them: then as
+  -- these left them, and what the first worker's had answered before is just this
+  abbrev pub ComeBack : List Exchange → (begun back : List (List L)) → (steps : Steps Begun)
+      (store : List ℕ) (old new : Around) (output : Receipt) (result : Result Ending Stop)
+      → StopsBefore steps store old new output result → Type 0
+  ComeBack exchanges begun back steps store old new output (Ok ending) stops = ⊥
+  ComeBack exchanges begun back steps store old new output (Err stop) (inl ends, idle) =
+      back ≡ begun
+  ComeBack exchanges begun back steps store old new output (Err stop) (inr (inl none), idle) =
+      back ≡ begun
+  ComeBack exchanges begun back steps store old new output (Err stop)
+      (inr (inr (mid, started, reaches, fails, home)), idle) =
+      (links_in fails.runs.workers ≡ begun) × (links_in fails.ended ≡ back)
+      × (fails.runs.made.exchanges ≡ exchanges)
+
+module _ (T : Type 0) {L D : Type 0} (link : L → Link)
     (step : L → Exchange → L → Type 0) (lent took : ℕ → L → Type 0)
     (left : D → Option (List ℕ)) (count : D → ℕ) where
   -- The workers were started, and what they stored is settled. What the steps up to them asked of
@@ -345,24 +361,42 @@ module _ (T : Type 0) {L D : Type 0} (truth : Truth) (link : L → Link)
     pub heard : mid.heard ≡ hearing exchanges old.heard
     pub history : List Entry
     pub ended : List (fleet_worker.Worker T L D)
-    pub runs : RunsFleet truth link step left count words.store begun
+    pub runs : RunsFleet link step left count words.store begun
         (settled_behind words.store mid) new history ended
     pub writes : WritesFleet (text_of begun.plan.fleet history ended)
         (gravest_ending (map (λ (w : fleet_worker.Worker T L D). w.told) ended)) output result
     pub began : BeganWith lent took step exchanges runs.workers ended
+    pub made : runs.made.exchanges ≡ exchanges
+
+  -- how the call ended
+  abbrev pub EndsFleet : FleetWords → (old new : Around) → Receipt → Result Ending Stop
+      → List Exchange → Type 0
+  EndsFleet words old new output result exchanges =
+      StopsBefore T link step left count (fleet_steps words) words.store old new output result
+      ⊎ ((start : Starts words old new output result) × (start.exchanges ≡ exchanges))
+
+  -- so these links came back
+  abbrev pub BackFrom : (begun back : List (List L)) → (words : FleetWords) (old new : Around)
+      (output : Receipt) (result : Result Ending Stop) (exchanges : List Exchange)
+      → EndsFleet words old new output result exchanges → Type 0
+  BackFrom begun back words old new output result exchanges (inl stops) =
+      ComeBack T link step left count exchanges begun back (fleet_steps words) words.store old new
+      output result stops
+  BackFrom begun back words old new output result exchanges (inr (start, same)) =
+      (links_in start.runs.workers ≡ begun) × (links_in start.ended ≡ back)
 
   -- all that was handed out is back; what the steps up to the workers asked, as far as they went,
-  -- some links that were lent to the first seat answered; where the workers were started, it is
-  -- just what those answered with which the first worker began (one list, that of `Starts`)
+  -- the links that were lent to the first seat answered, of all that were handed out; where the
+  -- workers were started, it is just what those answered with which the first worker began (one
+  -- list, that of `Starts`)
   pub record DidFleet (words : FleetWords) (old new : Around) (output : Receipt)
       (result : Result Ending Stop) : Type 0 where
     pub home : IsHome old new
     pub exchanges : List Exchange
     pub heard : new.heard ≡ hearing exchanges old.heard
-    pub asked : WereAsked lent step exchanges
-    pub did : StopsBefore T truth link step left count (fleet_steps words) words.store old new
-        output result
-        ⊎ ((start : Starts words old new output result) × (start.exchanges ≡ exchanges))
+    pub asked : WereAsked link lent took step exchanges old.world new.world
+    pub did : EndsFleet words old new output result exchanges
+    pub came : BackFrom asked.begun asked.back words old new output result exchanges did
 
 -- ---- the status
 
@@ -374,12 +408,12 @@ TellsFleet (Err stop) errors status = Tells (line_of (Err stop)) (stop_status (E
     status
 
 -- what a call of `run` did for a fleet
-pub record RanFleet (T : Type 0) {L D : Type 0} (truth : Truth) (link : L → Link)
+pub record RanFleet (T : Type 0) {L D : Type 0} (link : L → Link)
     (step : L → Exchange → L → Type 0) (lent took : ℕ → L → Type 0)
     (left : D → Option (List ℕ)) (count : D → ℕ) (words : FleetWords) (old new : Around)
     (output errors : Receipt) (status : ℕ) : Type 0 where
   pub result : Result Ending Stop
-  pub did : DidFleet T truth link step lent took left count words old new output result
+  pub did : DidFleet T link step lent took left count words old new output result
   pub tells : TellsFleet result errors status
   pub written : output.old_faults ≤ output.new_faults
   pub told : errors.old_faults ≤ errors.new_faults

@@ -1,6 +1,6 @@
 //! `fleet`: the fleet file and the configurations that it names, the store, each worker's random
 //! source and links, what each replica publishes, and the workers at one core.
-ghost use Rattle.std.specs.Prelude.{◌≡◌, ◌≤◌, Bool, All, IfErr, IfOk, [], false, length, sum};
+ghost use Rattle.std.specs.Prelude.{◌≡◌, ◌≤◌, Bool, All, IfErr, IfOk, [], ◌∷◌, false, length, sum};
 ghost use Rattle.kr_base.specs.Limits.{store_limit, journal_limit};
 ghost use Rattle.kr_base.specs.Walks.{Talk};
 ghost use Rattle.kr_provider.specs.AskedLinks.{Among, AskedOnly};
@@ -12,18 +12,18 @@ ghost use Rattle.kr_script.specs.Output.{fleet_output};
 ghost use Rattle.kr_cmd_steps.specs.Around.{Around, with_exchanges, with_world};
 ghost use Rattle.kr_cmd_steps.specs.Phases.{stored_on};
 ghost use Rattle.kr_cmd_fleet.specs.FirstItems.{Items};
-ghost use Rattle.kr_cmd_fleet.specs.StartExchanges.{AsksFirst, Exchanges};
+ghost use Rattle.kr_cmd_fleet.specs.StartExchanges.{AsksFirst, Exchanges, OpenBy};
 ghost use Rattle.kr_cmd_fleet.specs.Fleets.{DidFleet, WritesFleet, beginning, equipping_all, launching};
 ghost use Rattle.kr_cmd_fleet.specs.Fleets.{over_store, publishing, starting};
 ghost use Rattle.kr_cmd_messages.specs.Receipts.{receipt};
 ghost use Rattle.kr_cmd_steps.specs.Steps.{and_then, hearing};
-ghost use Rattle.kr_cmd_fleet.specs.inner.Beginnings.{MayHear, MayPublish, PublishesNext, begun_in, begun_with};
+ghost use Rattle.kr_cmd_fleet.specs.inner.Beginnings.{MayPublish, PublishesNext, begun_in, begun_with};
 ghost use Rattle.kr_cmd_fleet.specs.inner.Beginnings.{first_core, with_first};
 ghost use Rattle.kr_cmd_steps.specs.inner.Starts.{start_stop};
 ghost use Rattle.kr_cmd_fleet.specs.inner.Crews.{IsCrew, IsReadyCore, outfits_of};
 ghost use Rattle.kr_cmd_fleet.specs.inner.CrewRuns.{RunsCrew};
 ghost use Rattle.kr_cmd_fleet.specs.inner.Plans.{IsWholePlan, named, plan_of};
-ghost use Rattle.kr_cmd_fleet.specs.inner.FleetOutcomes.{ArePublished, IsPublishedBy, RunsBy, SettlesBy, budget_stop};
+ghost use Rattle.kr_cmd_fleet.specs.inner.FleetOutcomes.{ArePublished, IsPublishedBy, RunsBy, SettlesOr, budget_stop};
 ghost use Rattle.kr_cmd_fleet.specs.inner.FleetOutcomes.{published_in};
 ghost use Rattle.kr_cmd_steps.specs.inner.Lent.{Name, with_lent_tape};
 ghost use Rattle.kr_cmd_fleet.specs.inner.Outfits.{AreLater, AreNamed, links_of, with_outfits};
@@ -31,7 +31,7 @@ ghost use Rattle.kr_cmd_steps.specs.inner.ProgramNames.{names_in};
 ghost use Rattle.kr_cmd_steps.specs.inner.Phases.{Does};
 ghost use Rattle.kr_cmd_steps.specs.inner.Tapes.{stored_of};
 ghost use Rattle.kr_cmd_fleet.specs.inner.Workings.{AsksOutfits, BeginsLent, IsPublished, Outfits};
-ghost use Rattle.kr_cmd_fleet.specs.inner.Workings.{StartsFrom, StartsLent, TakesOutfits, with_crew};
+ghost use Rattle.kr_cmd_fleet.specs.inner.Workings.{StartsFrom, StartsLent, StaysIdle, TakesOutfits, with_crew};
 ghost use Rattle.kr_workers.specs.Budgets.{AreBudgets, all_reloads};
 ghost use Rattle.kr_workers.specs.Endings.{gravest_ending};
 
@@ -76,9 +76,8 @@ pub fn fleet<R: Threads + Wait + Sync, W: World, O: Sink>(
     world: &mut W,
     output: &mut O,
 ) -> Result<Ending, Stop>
-    ensures did { (es : Exchanges) × ((a : Around) → a.truth ≡ W.Link.truth
-        → DidFleet W.Tap W.Link.truth W.Link.link W.Link.step W.lent W.took W.Rand.left
-        W.Rand.count words.now
+    ensures did { (es : Exchanges) × ((a : Around)
+        → DidFleet W.Tap W.Link.link W.Link.step W.lent W.took W.Rand.left W.Rand.count words.now
         (with_world (W.told world.old) a) (with_world (W.told world.new) (with_exchanges es a))
         (receipt (O.held output.old) (O.held output.new) (O.count output.old) (O.count output.new))
         result) }
@@ -105,9 +104,10 @@ pub fn run_fleet_over_store<R: Threads + Wait + Sync, W: World>(
     world: &mut W,
 ) -> Result<Record, Stop>
     requires plan { IsWholePlan (plan_of plan.now) }
-    ensures { StartsLent W.lent W.Link.step (λ es. (a : Around) → MayHear W.Link.truth watched a
-        → SettlesBy W.Tap W.Link.truth W.Link.link W.Link.step W.Rand.left W.Rand.count
-        (BeginsLent (hearing es a.heard) W.Link.step watched es W.lent W.took) watched
+    ensures { StartsLent W.Link.link W.lent W.took W.Link.step (W.told world.old)
+        (W.told world.new) (λ es begun back. (a : Around)
+        → SettlesOr W.Tap W.Link.link W.Link.step W.Rand.left W.Rand.count (back ≡ begun)
+        (BeginsLent (hearing es a.heard) es W.Link.step W.lent W.took begun back) watched
         (over_store watched store.now (plan_of plan.now)) store.now (plan_of plan.now)
         (with_world (W.told world.old) a) (with_world (W.told world.new) (with_exchanges es a))
         result) }
@@ -130,16 +130,17 @@ fn run_fleet_on_tape<R: Threads + Wait + Sync, W: World>(
     world: &mut W,
 ) -> (Result<Record, Stop>, W::Tap)
     requires plan { IsWholePlan (plan_of plan.now) }
-    ensures made { StartsLent W.lent W.Link.step (λ es. (name : Name) (a : Around)
-        → MayHear W.Link.truth watched a
-        → RunsBy W.Tap W.Link.truth W.Link.link W.Link.step W.Rand.left W.Rand.count
-        (BeginsLent (hearing es a.heard) W.Link.step watched es W.lent W.took) watched
+    ensures made { StartsLent W.Link.link W.lent W.took W.Link.step (W.told world.old)
+        (W.told world.new) (λ es begun back. StaysIdle result.0 begun back
+        × ((name : Name) (a : Around)
+        → RunsBy W.Tap W.Link.link W.Link.step W.Rand.left W.Rand.count
+        (BeginsLent (hearing es a.heard) es W.Link.step W.lent W.took begun back) watched
         (and_then (stored_on Object.Store name) (beginning watched (plan_of plan.now))) name
         (plan_of plan.now)
         (with_lent_tape name (W.Tap.told tape) (W.Tap.count tape)
         (with_world (W.told world.old) a))
         (with_lent_tape name (W.Tap.told result.1) (W.Tap.count result.1)
-        (with_world (W.told world.new) (with_exchanges es a))) result.0) }
+        (with_world (W.told world.new) (with_exchanges es a))) result.0)) }
     ensures out { (W.told world.new).tapes ≡ (W.told world.old).tapes }
 {
     let store = match load_store(alloc, tape, Object::Store) {
@@ -180,15 +181,16 @@ fn run_outfitted_fleet<R: Threads + Wait + Sync, W: World>(
     requires fit { sum budgets.now.reloads.items ≤ sum budgets.now.entries.items }
     requires store { (store.limit ≡ store_limit) × (store.torn ≡ false) }
     requires plan { IsWholePlan (plan_of plan.now) }
-    ensures made { StartsLent W.lent W.Link.step (λ es. (name : Name) (a : Around)
-        → MayHear W.Link.truth watched a
-        → RunsBy W.Tap W.Link.truth W.Link.link W.Link.step W.Rand.left W.Rand.count
-        (BeginsLent (hearing es a.heard) W.Link.step watched es W.lent W.took) watched
+    ensures made { StartsLent W.Link.link W.lent W.took W.Link.step (W.told world.old)
+        (W.told world.new) (λ es begun back. StaysIdle result.0 begun back
+        × ((name : Name) (a : Around)
+        → RunsBy W.Tap W.Link.link W.Link.step W.Rand.left W.Rand.count
+        (BeginsLent (hearing es a.heard) es W.Link.step W.lent W.took begun back) watched
         (equipping_all watched (plan_of plan.now) (stored_of store) budgets.now.entries.items) name
         (plan_of plan.now)
         (with_lent_tape name store.told store.count (with_world (W.told world.old) a))
         (with_lent_tape name result.1.told result.1.count
-        (with_world (W.told world.new) (with_exchanges es a))) result.0) }
+        (with_world (W.told world.new) (with_exchanges es a))) result.0)) }
     ensures out { (W.told world.new).tapes ≡ (W.told world.old).tapes }
 {
     let mut outfits = List::new(alloc);
@@ -226,16 +228,16 @@ pub fn begin<R: Threads + Wait + Sync, T: Tape + Send, L: Kms + Send, D: Dice + 
     requires plan { IsWholePlan (plan_of plan.now) }
     requires seats { length outfits.0 ≡ length plan.now.script.workers.0 }
     requires named { AreNamed L.link (names_in plan.now.programs) outfits.0 }
-    ensures made { StartsFrom L.step outfits.0 (λ es. (name : Name) (a : Around)
-        → MayHear L.truth watched a
-        → RunsBy T L.truth L.link L.step D.left D.count
-        (AsksOutfits (hearing es a.heard) L.step watched es outfits.0 result.2.0) watched
+    ensures made { StartsFrom L.step outfits.0 (λ es begun.
+        StaysIdle result.0 begun (links_of result.2.0) × ((name : Name) (a : Around)
+        → RunsBy T L.link L.step D.left D.count
+        (AsksOutfits (hearing es a.heard) es begun (links_of result.2.0)) watched
         (launching watched (plan_of plan.now) (stored_of store) budgets.now.entries.items) name
         (plan_of plan.now)
         (with_outfits L.link D.left D.count 0 outfits.0
         (with_lent_tape name store.told store.count a))
         (with_outfits L.link D.left D.count 0 result.2.0
-        (with_lent_tape name result.1.told result.1.count (with_exchanges es a))) result.0) }
+        (with_lent_tape name result.1.told result.1.count (with_exchanges es a))) result.0)) }
     ensures later { AreLater L.link D.count outfits.0 result.2.0 }
 {
     let (published, outfits) = publish_first(alloc, plan, outfits);
@@ -271,17 +273,18 @@ fn run_core_and_workers<R: Threads + Wait + Sync, T: Tape + Send, L: Kms + Send,
     requires plan { IsWholePlan (plan_of plan.now) }
     requires seats { length outfits.0 ≡ length plan.now.script.workers.0 }
     requires named { AreNamed L.link (names_in plan.now.programs) outfits.0 }
-    requires published { ArePublished L.truth (named plan.now.files.0)
+    requires published { ArePublished (named plan.now.files.0)
         plan.now.script.replicas.0 replicas.0 }
     requires revision { start.revision ≡ length store.rows }
-    ensures made { (name : Name) (first a : Around) (olds : Outfits L D) (watched : Bool)
-        → IsPublished L.link D.left D.count L.truth watched plan.now budgets.now.entries.items name
-        store first a olds outfits.0 replicas.0 start.items.0
-        → RunsBy T L.truth L.link L.step D.left D.count
-        (TakesOutfits a.heard outfits.0 result.2.0) watched
+    ensures made { (name : Name) (first a : Around) (olds : Outfits L D) (es : Exchanges)
+        (watched : Bool) → IsPublished L.link D.left D.count L.step watched plan.now
+        budgets.now.entries.items name store first a olds outfits.0 es replicas.0 start.items.0
+        → RunsBy T L.link L.step D.left D.count
+        (TakesOutfits a.heard es outfits.0 result.2.0) watched
         (launching watched (plan_of plan.now) (stored_of store) budgets.now.entries.items) name
         (plan_of plan.now) first
         (with_crew L.link D.left D.count name result.1 result.2.0 a) result.0 }
+    ensures idle { StaysIdle result.0 (links_of outfits.0) (links_of result.2.0) }
     ensures later { AreLater L.link D.count outfits.0 result.2.0 }
 {
     let core = match start_core(alloc, plan, budgets, store, replicas) {
@@ -318,7 +321,7 @@ fn run_crew<R: Threads + Wait + Sync, T: Tape + Send, L: Kms + Send, D: Dice + S
         crew.workers.items }
     requires named { AreNamed L.link (names_in plan.now.programs)
         (outfits_of crew.workers.items) }
-    ensures ran { RunsCrew L.truth L.link L.step D.left D.count plan.now budgets.now.entries.items
+    ensures ran { RunsCrew L.link L.step D.left D.count plan.now budgets.now.entries.items
         core.opening start crew.workers.items result.0 result.1 result.2.0 }
 {
     let mut crew = crew;
@@ -365,12 +368,11 @@ fn publish_first<L: Kms, D: Dice>(
     requires named { AreNamed L.link (names_in plan.now.programs) outfits.0 }
     ensures does { (es : Exchanges)
         × AsksFirst L.step es (links_of outfits.0) (links_of result.1.0)
-        × ((a : Around) → a.truth ≡ L.truth
-        → Does (publishing (named plan.now.files.0) [] plan.now.script.replicas.0)
+        × ((a : Around) → Does (publishing (named plan.now.files.0) [] plan.now.script.replicas.0)
         (with_outfits L.link D.left D.count 0 outfits.0 a)
         (with_outfits L.link D.left D.count 0 result.1.0 (with_exchanges es a))
-        (published_in result.0)) }
-    ensures replicas { IfOk result.0 (λ made. ArePublished L.truth
+        (published_in result.0)) × IfOk result.0 (λ made. OpenBy es made.0) }
+    ensures replicas { IfOk result.0 (λ made. ArePublished
         (named plan.now.files.0) plan.now.script.replicas.0 made.0) }
     ensures later { AreLater L.link D.count outfits.0 result.1.0 }
 {
@@ -392,13 +394,12 @@ fn publish_each<L: Kms, D: Dice>(
 ) -> Result<List<Option<Shared<Published>>>, Stop>
     requires read { All (λ replica. MayPublish (plugin_names L.link links.old)
         (named files.now) replica.1) replicas.now }
-    ensures does { Talk (Among L.step) links.old links.new (λ es. (a : Around)
-        → a.truth ≡ L.truth
+    ensures does { Talk (Among L.step) links.old links.new (λ es. ((a : Around)
         → Does (publishing (named files.now) [] replicas.now)
         (with_first L.link links.old (D.left dice.old) (D.count dice.old) a)
         (with_first L.link links.new (D.left dice.new) (D.count dice.new) (with_exchanges es a))
-        (published_in result)) }
-    ensures replicas { IfOk result (λ made. ArePublished L.truth (named files.now) replicas.now
+        (published_in result)) × IfOk result (λ made. OpenBy es made.0)) }
+    ensures replicas { IfOk result (λ made. ArePublished (named files.now) replicas.now
         made.0) }
     ensures asked { AskedOnly L.link (plugin_names L.link links.old) links.old links.new }
     ensures later { D.count dice.old ≤ D.count dice.new }
@@ -426,12 +427,12 @@ fn publish_replica<L: Kms, D: Dice>(
     dice: &mut D,
 ) -> Result<Option<Shared<Published>>, Stop>
     requires read { MayPublish (plugin_names L.link links.old) (named files.now) replica.now.1 }
-    ensures does { Talk (Among L.step) links.old links.new (λ es. (a : Around)
-        → a.truth ≡ L.truth → PublishesNext (named files.now) replica.now
+    ensures does { Talk (Among L.step) links.old links.new (λ es. ((a : Around)
+        → PublishesNext (named files.now) replica.now
         (with_first L.link links.old (D.left dice.old) (D.count dice.old) a)
         (with_first L.link links.new (D.left dice.new) (D.count dice.new) (with_exchanges es a))
-        result) }
-    ensures published { IfOk result (IsPublishedBy L.truth (named files.now) replica.now) }
+        result) × IfOk result (λ published. OpenBy es (published ∷ []))) }
+    ensures published { IfOk result (IsPublishedBy (named files.now) replica.now) }
     ensures asked { AskedOnly L.link (plugin_names L.link links.old) links.old links.new }
     ensures later { D.count dice.old ≤ D.count dice.new }
 {

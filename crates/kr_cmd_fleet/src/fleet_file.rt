@@ -46,6 +46,7 @@ pub fn load_plan<W: World>(
     ensures does { (a : Around) → Does (planning name.now options.now)
         (with_world (W.told world.old) a) (with_world (W.told world.new) a) (plan_in result) }
     ensures whole { IfOk result (λ plan. IsWholePlan (plan_of plan)) }
+    ensures links { (W.told world.new).links ≡ (W.told world.old).links }
 {
     let script = match load_fleet(alloc, world, name) {
         Ok(script) => script,
@@ -71,6 +72,7 @@ pub fn load_plan<W: World>(
 fn load_fleet<W: World>(alloc: Global, world: &mut W, name: &str) -> Result<Script, Stop>
     ensures does { (a : Around) → Does (fleet_in name.now) (with_world (W.told world.old) a)
         (with_world (W.told world.new) a) (fleet_in_result result) }
+    ensures links { (W.told world.new).links ≡ (W.told world.old).links }
     ensures rules { IfOk result (λ script. IsRuled (fleet_of script)) }
 {
     load_script(alloc, world, name)

@@ -7,6 +7,7 @@ ghost use Rattle.kr_cmd_fleet.specs.StartExchanges.{AreOfSeats};
 ghost use Rattle.kr_cmd_steps.specs.Steps.{give};
 ghost use Rattle.kr_cmd_steps.specs.inner.Lent.{Tapes, with_tapes};
 ghost use Rattle.kr_cmd_fleet.specs.inner.Outfits.{AreBorrowed, AreNamed, AreOut, ArePlugins, HasOut, IsOut};
+ghost use Rattle.kr_cmd_fleet.specs.inner.Outfits.{HandsLinks, HandsOutfit, HandsOutfits};
 ghost use Rattle.kr_cmd_fleet.specs.inner.Outfits.{KeepsOthers, LinksReturn, Opens, OpensLinks, OutfitReturn};
 ghost use Rattle.kr_cmd_fleet.specs.inner.Outfits.{links_of, with_outfits};
 ghost use Rattle.kr_cmd_steps.specs.inner.ProgramNames.{names_in};
@@ -48,6 +49,8 @@ pub fn open_outfits<W: World>(
     ensures named { AreNamed W.Link.link (names_in programs.now) outfits.new.0 }
     ensures out { AreOut (names_in programs.now) (length outfits.new.0) (W.told world.new) }
     ensures lent { AreOfSeats W.lent 0 (links_of outfits.new.0) }
+    ensures handed { HandsOutfits W.Link.link W.lent W.took (W.told world.old) (W.told world.new)
+        (links_of outfits.new.0) result }
 {
     match outfits.reserve(seats as usize) {
         Ok(()) => {}
@@ -72,6 +75,7 @@ pub fn close_outfits<W: World>(world: &mut W, outfits: List<Outfit<W::Link, W::R
         ≡ with_world (with_tapes tapes (W.told world.new)) a }
     ensures tapes { (W.told world.new).tapes ≡ (W.told world.old).tapes }
     ensures taken { AreOfSeats W.took 0 (links_of outfits.0) }
+    ensures handed { (W.told world.new).links.handed ≡ (W.told world.old).links.handed }
 {
     let mut outfits = outfits;
     while let Some(outfit) = outfits.pop() {
@@ -96,6 +100,8 @@ fn open_outfit<W: World>(
         (λ outfit. names_of W.Link.link outfit.links ≡ names_in programs.now) }
     ensures out { OnOk result (IsOut (names_in programs.now) seat (W.told world.new)) }
     ensures lent { IfOk result (λ outfit. All (W.lent seat) outfit.links) }
+    ensures handed { HandsOutfit W.Link.link W.lent W.took seat (W.told world.old)
+        (W.told world.new) result }
     ensures others { KeepsOthers seat (W.told world.old) (W.told world.new) }
 {
     let dice = match open_dice(alloc, world, seat) {
@@ -129,6 +135,8 @@ fn open_links<W: World>(
     ensures named { OnOk result (names_of W.Link.link links.new ≡ names_in programs.now) }
     ensures out { HasOut W.Link.link seat links.new (W.told world.new) }
     ensures lent { All (W.lent seat) links.new }
+    ensures handed { HandsLinks W.Link.link W.lent W.took seat (W.told world.old)
+        (W.told world.new) links.new result }
     ensures others { KeepsOthers seat (W.told world.old) (W.told world.new) }
 {
     for program in programs {

@@ -1,18 +1,20 @@
 //! What a watch begins with: the live rows of the opening, as the first replica's configuration
 //! reads them.
-ghost use Rattle.std.specs.Prelude.{◌≡◌, ◌≤◌, All, Err, IfOk, IfSome, IsSome, Some, [], false, length};
-ghost use Rattle.kr_kms.specs.Truth.{TellsOf, key_of};
+ghost use Rattle.std.specs.Prelude.{◌≡◌, ◌≤◌, All, Err, IfOk, IfSome, IsSome, Some, [], length};
+ghost use Rattle.kr_base.specs.Walks.{Talk};
 ghost use Rattle.kr_provider.specs.Names.{AreDistinct, HasLinks, names_of as plugin_names};
-ghost use Rattle.kr_provider.specs.AskedLinks.{AskedOnly};
+ghost use Rattle.kr_provider.specs.AskedLinks.{Among, AskedOnly};
 ghost use Rattle.kr_opening.specs.Replicas.{IsFirstIn};
 ghost use Rattle.kr_store.specs.Stores.{IsListing};
 ghost use Rattle.kr_cmd_fleet.specs.FirstItems.{item_with, reading_rows, watching};
-ghost use Rattle.kr_cmd_fleet.specs.inner.Beginnings.{MayHear, with_first};
-ghost use Rattle.kr_cmd_fleet.specs.inner.Outfits.{AreLater, with_outfits};
+ghost use Rattle.kr_cmd_fleet.specs.StartExchanges.{AsksFirst, Exchanges};
+ghost use Rattle.kr_cmd_fleet.specs.inner.Beginnings.{with_first};
+ghost use Rattle.kr_cmd_fleet.specs.inner.Outfits.{AreLater, links_of, with_outfits};
 ghost use Rattle.kr_cmd_fleet.specs.inner.Readings.{AreReadOf, HasFirst, IsReadEnd, IsReadable};
 ghost use Rattle.kr_cmd_fleet.specs.inner.Readings.{KnowsItems, NamesALink, ReadsAll, ReadsRow};
 ghost use Rattle.kr_cmd_fleet.specs.inner.Readings.{first_in, items_in, read_in};
-ghost use Rattle.kr_cmd_steps.specs.Around.{Around, IsUnheard};
+ghost use Rattle.kr_cmd_steps.specs.Around.{Around, with_exchanges};
+ghost use Rattle.kr_cmd_steps.specs.ValueSteps.{none_kept};
 ghost use Rattle.kr_cmd_steps.specs.inner.Phases.{Does};
 ghost use Rattle.kr_cmd_steps.specs.inner.Tapes.{walk_path};
 
@@ -72,15 +74,15 @@ pub(crate) fn read_first<T: Tape, L: Kms, D: Dice>(
 ) -> (Result<WatchStart, Stop>, List<Outfit<L, D>>)
     requires first { IsFirstIn replicas.now }
     requires some { 1 ≤ length outfits.0 }
-    requires links { HasFirst L.truth L.link outfits.0 replicas.now }
-    ensures does { (a : Around) → MayHear L.truth watched a
-        → Does (watching watched store.now.rows replicas.now)
+    requires links { HasFirst L.link outfits.0 replicas.now }
+    ensures does { (es : Exchanges)
+        × AsksFirst L.step es (links_of outfits.0) (links_of result.1.0)
+        × ((a : Around) → Does (watching watched store.now.rows replicas.now)
         (with_outfits L.link D.left D.count 0 outfits.0 a)
-        (with_outfits L.link D.left D.count 0 result.1.0 a) (read_in result.0) }
-    ensures known { IfOk result.0 (λ start.
-        KnowsItems watched L.truth store.now.rows replicas.now start.items.0) }
+        (with_outfits L.link D.left D.count 0 result.1.0 (with_exchanges es a)) (read_in result.0))
+        × IfOk result.0 (λ start.
+        KnowsItems watched es store.now.rows replicas.now start.items.0) }
     ensures revision { IfOk result.0 (λ start. start.revision ≡ length store.now.rows) }
-    ensures unread { watched ≡ false → result.1.0 ≡ outfits.0 }
     ensures later { AreLater L.link D.count outfits.0 result.1.0 }
 {
     let mut start = WatchStart::unread(alloc, store);
@@ -160,14 +162,13 @@ fn read_start_rows<L: Kms, D: Dice>(
     outfit: Outfit<L, D>,
 ) -> (Result<List<Item>, Stop>, Outfit<L, D>)
     requires links { HasLinks (plugin_names L.link outfit.links) published.now.rows }
-    requires opens { All (λ row. TellsOf L.truth (key_of row) row.seed) published.now.seeds }
     requires rules { All IsReadable rows.now }
-    ensures does { (a : Around) → IsUnheard L.truth a
-        → Does (reading_rows published.now rows.now [])
+    ensures does { Talk (Among L.step) outfit.links result.1.links (λ es. ((a : Around)
+        → Does (reading_rows published.now rows.now [] none_kept)
         (with_first L.link outfit.links (D.left outfit.dice) (D.count outfit.dice) a)
-        (with_first L.link result.1.links (D.left outfit.dice) (D.count outfit.dice) a)
-        (items_in result.0) }
-    ensures reads { IfOk result.0 (λ items. AreReadOf L.truth published.now rows.now items.0) }
+        (with_first L.link result.1.links (D.left outfit.dice) (D.count outfit.dice)
+        (with_exchanges es a)) (items_in result.0))
+        × IfOk result.0 (λ items. AreReadOf es published.now rows.now items.0)) }
     ensures asked { AskedOnly L.link (plugin_names L.link outfit.links) outfit.links
         result.1.links }
     ensures dice { result.1.dice ≡ outfit.dice }
@@ -219,10 +220,9 @@ fn read_rows<L: Kms, D: Dice>(
 ) -> Result<List<Item>, RowReadNo>
     requires adopted { IsSome bench.old.published }
     requires distinct { AreDistinct L.link bench.old.links }
-    requires opens { IfSome bench.old.published
-        (λ p. All (λ row. TellsOf L.truth (key_of row) row.seed) p.seeds) }
+    requires cold { bench.old.cache ≡ none_kept }
     requires rules { All IsReadable rows.now }
-    ensures read { IfSome bench.old.published (λ p. ReadsAll L.truth L.link p rows.now
+    ensures read { IfSome bench.old.published (λ p. ReadsAll L.link L.step p rows.now
         bench.old.links result bench.new.links) }
     ensures kept { bench.new
         ≡ record bench.old { links = bench.new.links; cache = bench.new.cache } }
@@ -249,8 +249,8 @@ fn read_row<L: Kms, D: Dice>(
 ) -> Result<Item, RowReadNo>
     requires adopted { IsSome bench.old.published }
     requires rules { IsReadable row.now }
-    ensures read { IfSome bench.old.published (λ p. ReadsRow L.truth L.link p row.now
-        bench.old.links result bench.new.links) }
+    ensures read { IfSome bench.old.published (λ p. ReadsRow L.link L.step p row.now
+        bench.old.links bench.new.links bench.old.cache bench.new.cache result) }
     ensures kept { bench.new
         ≡ record bench.old { links = bench.new.links; cache = bench.new.cache } }
 {

@@ -20,7 +20,6 @@ use Rattle.kr_config.specs.declared.pattern.Pattern.TheVariants.{Exact}
 use Rattle.kr_config.specs.declared.who.Who.TheVariants.{Identity}
 use Rattle.kr_kms.specs.Calls.{Link}
 use Rattle.kr_kms.specs.Exchanges.{Exchange}
-use Rattle.kr_kms.specs.Truth.{Truth}
 use Rattle.kr_judge.specs.Fits.{ReadsWriter}
 use Rattle.kr_workload.specs.Endings.{ending_of_load}
 use Rattle.kr_workload.specs.FullLoads.{AreFull, IsBlankRun}
@@ -208,14 +207,14 @@ walks_blank words small old (stored, (file, told, holds), empty) = (
 -- ---- the workers
 
 -- they are those of the load
-pub load_run : (T : Type 0) → {L : Type 0} → (truth : Truth) (link : L → Link)
+pub load_run : (T : Type 0) → {L : Type 0} → (link : L → Link)
     (step : L → Exchange → L → Type 0)
     (words : LoadWords) (sources : List StreamState) (old new : Around) (output : Receipt)
     (result : Result Ending Stop)
-    → (s : StartsLoad T truth link step words sources old new output result)
-    → IsLoadRun truth link step left_in link_faults words.seed words.size s.runs.files s.history
+    → (s : StartsLoad T link step words sources old new output result)
+    → IsLoadRun link step left_in link_faults words.seed words.size s.runs.files s.history
     (opening_of words.store s.begun s.mid) s.runs.parts s.begun.budgets s.runs.workers s.ended
-load_run T truth link step words sources old new output result s = record {
+load_run T link step words sources old new output result s = record {
   parts_are = s.runs.parts_are ∙ ap (λ (p : FleetPlan). p.fleet.workers) s.plan_is;
   files_are = s.runs.files_are ∙ ap (λ (p : FleetPlan). p.files) s.plan_is;
   opens = s.runs.published
@@ -224,16 +223,16 @@ load_run T truth link step words sources old new output result s = record {
 }
 
 -- so each put that was done has its row
-pub keeps_puts : (T : Type 0) → {L : Type 0} → (truth : Truth) (link : L → Link)
+pub keeps_puts : (T : Type 0) → {L : Type 0} → (link : L → Link)
     (step : L → Exchange → L → Type 0)
     (words : LoadWords) (sources : List StreamState) (old new : Around) (output : Receipt)
     (result : Result Ending Stop)
-    → (s : StartsLoad T truth link step words sources old new output result)
-    → KeepsPuts T truth link step words sources old new output result s
-keeps_puts T truth link step words sources old new output result s =
-    puts_are_kept T truth link step left_in link_faults words.seed words.size s.runs.files s.history
+    → (s : StartsLoad T link step words sources old new output result)
+    → KeepsPuts T link step words sources old new output result s
+keeps_puts T link step words sources old new output result s =
+    puts_are_kept T link step left_in link_faults words.seed words.size s.runs.files s.history
     (opening_of words.store s.begun s.mid) s.runs.parts s.begun.budgets s.runs.workers s.ended
-    (load_run T truth link step words sources old new output result s)
+    (load_run T link step words sources old new output result s)
 
 -- ---- their draws
 
@@ -262,10 +261,10 @@ told_so : (told : Option (List ℕ)) (source : StreamState) → left_in source �
     → (dice : Option (List ℕ)) → Keeps dice told → Keeps dice (Some source.left)
 told_so told source is dice keeps = subst (λ t. Keeps dice t) (sym is) keeps
 
-module _ (T : Type 0) {L : Type 0} (truth : Truth) (link : L → Link)
+module _ (T : Type 0) {L : Type 0} (link : L → Link)
     (step : L → Exchange → L → Type 0) (words : LoadWords) (sources : List StreamState)
     (old new : Around) (output : Receipt) (result : Result Ending Stop)
-    (s : StartsLoad T truth link step words sources old new output result) where
+    (s : StartsLoad T link step words sources old new output result) where
   -- a worker's source
   pub source_whole : (number : ℕ) (before : fleet_worker.Worker T L StreamState) → number < 4
       → slice_get s.runs.workers number ≡ Some before
@@ -283,17 +282,17 @@ module _ (T : Type 0) {L : Type 0} (truth : Truth) (link : L → Link)
       (ap (λ (w : fleet_worker.Worker T L StreamState). left_in w.bench.dice) (sym own)
       ∙ had.left_is) (s.reaches.end.dice number) (s.reaches.stays.dice number)))
 
-  its_run : IsLoadRun truth link step left_in link_faults words.seed words.size s.runs.files
+  its_run : IsLoadRun link step left_in link_faults words.seed words.size s.runs.files
       s.history (opening_of words.store s.begun s.mid) s.runs.parts s.begun.budgets s.runs.workers
       s.ended
-  its_run = load_run T truth link step words sources old new output result s
+  its_run = load_run T link step words sources old new output result s
 
   -- so none of them failed
   pub calm_sources : words.size ≤ 10000
       → All (λ (w : fleet_worker.Worker T L StreamState). link_faults w.bench.dice ≡ 0) s.ended
   calm_sources small number d below =
       let four : length s.runs.workers ≡ 4 =
-      four_old T truth link step left_in link_faults words.seed words.size s.runs.files s.history
+      four_old T link step left_in link_faults words.seed words.size s.runs.files s.history
       (opening_of words.store s.begun s.mid) s.runs.parts s.begun.budgets s.runs.workers s.ended
       its_run in
       let few : number < 4 = omega (arith, below, four, s.runs.one.many) in
@@ -306,11 +305,11 @@ module _ (T : Type 0) {L : Type 0} (truth : Truth) (link : L → Link)
       none_failed after.bench.dice
       (still_much words.size before.bench.dice.left after.bench.dice.left small
       (source_whole number before few was)
-      (draws_few T truth link step left_in link_faults words.seed words.size s.runs.files s.history
+      (draws_few T link step left_in link_faults words.seed words.size s.runs.files s.history
       (opening_of words.store s.begun s.mid) s.runs.parts s.begun.budgets s.runs.workers s.ended
       its_run number before after was now))
 
-module _ (T : Type 0) {L : Type 0} (truth : Truth) (link : L → Link)
+module _ (T : Type 0) {L : Type 0} (link : L → Link)
     (step : L → Exchange → L → Type 0) (words : LoadWords) (sources : List StreamState)
     (old new : Around) (output errors : Receipt) (small : words.size ≤ 10000)
     (blank : IsBlank words old)
@@ -335,7 +334,7 @@ module _ (T : Type 0) {L : Type 0} (truth : Truth) (link : L → Link)
   calls (asking seat plugin) free rose = none.calls (asking seat plugin) rose
 
   module _ (result : Result Ending Stop)
-      (s : StartsLoad T truth link step words sources old new output result) where
+      (s : StartsLoad T link step words sources old new output result) where
     rows_none : s.begun.stored.rows ≡ []
     rows_none = allowed BeginsBlank (gives s.begun) s.reaches.end (load_steps words)
         (left_of (with_streams words.seed old)) (walks_blank words small old blank) s.reaches.goes
@@ -360,19 +359,19 @@ module _ (T : Type 0) {L : Type 0} (truth : Truth) (link : L → Link)
           (Rose-later _ _ _ (s.since.tapes.later words.store)
           (subst (λ n. Rose (s.mid.world.tapes.faults words.store) n) (sym s.runs.counted) rose));
       drawn = λ number before after was now rose.
-          let run = load_run T truth link step words sources old new output result s in
+          let run = load_run T link step words sources old new output result s in
           let few : number < 4 = omega (
             arith,
             slice_get_within s.runs.workers number before was,
-            four_old T truth link step left_in link_faults words.seed words.size s.runs.files
+            four_old T link step left_in link_faults words.seed words.size s.runs.files
                 s.history (opening_of words.store s.begun s.mid) s.runs.parts s.begun.budgets
                 s.runs.workers s.ended run,
           ) in
           calm_source (link_faults before.bench.dice) after.bench.dice rose
           (still_much words.size before.bench.dice.left after.bench.dice.left small
-          (source_whole T truth link step words sources old new output result s number before few
+          (source_whole T link step words sources old new output result s number before few
           was)
-          (draws_few T truth link step left_in link_faults words.seed words.size s.runs.files
+          (draws_few T link step left_in link_faults words.seed words.size s.runs.files
           s.history (opening_of words.store s.begun s.mid) s.runs.parts s.begun.budgets
           s.runs.workers s.ended run number before after was now));
     }
@@ -382,16 +381,16 @@ module _ (T : Type 0) {L : Type 0} (truth : Truth) (link : L → Link)
 
     full_run : (ending_of_load told_by ≡ ending.Memory)
         ⊎ AreFull words.seed words.size told_by
-    full_run = loads_are_full T truth link step left_in link_faults words.seed words.size
+    full_run = loads_are_full T link step left_in link_faults words.seed words.size
         s.runs.files s.history (opening_of words.store s.begun s.mid) s.runs.parts
         s.begun.budgets s.runs.workers s.ended
-        (load_run T truth link step words sources old new output result s) blank_run
+        (load_run T link step words sources old new output result s) blank_run
 
   abbrev Ends : ℕ → Type 0
   Ends status = IsFullLoad words output errors status
 
   ended_so : (status : ℕ) (e : Ending)
-      → (s : StartsLoad T truth link step words sources old new output (Ok e)) → WroteNothing errors
+      → (s : StartsLoad T link step words sources old new output (Ok e)) → WroteNothing errors
       → status ≡ status_of e → Ends status
   ended_so status e s idle is = by (full_run (Ok e) s)
     where
@@ -415,8 +414,8 @@ module _ (T : Type 0) {L : Type 0} (truth : Truth) (link : L → Link)
           )
 
   stopped_so : (status : ℕ) (stop : Stop) → status ≡ stop_status (Err stop)
-      → StopsBefore T truth link step left_in link_faults (load_steps words) words.store Began Ended output (Err stop)
-      ⊎ StartsLoad T truth link step words sources old new output (Err stop) → Ends status
+      → StopsBefore T link step left_in link_faults (load_steps words) words.store Began Ended output (Err stop)
+      ⊎ StartsLoad T link step words sources old new output (Err stop) → Ends status
   stopped_so status (Words why) is (inl (inl ends, idle)) = absurd ends
   stopped_so status (Words why) is (inl (inr (inl (e, lacking)), idle)) = absurd cc
   stopped_so status (Words why) is (inl (inr (inr (mid, begun, reaches, fails, home)), idle)) =
@@ -441,20 +440,20 @@ module _ (T : Type 0) {L : Type 0} (truth : Truth) (link : L → Link)
   stopped_so status NoMemory is did = inr is
 
   by_result_so : (status : ℕ) (result : Result Ending Stop)
-      → StopsBefore T truth link step left_in link_faults (load_steps words) words.store Began Ended output result
-      ⊎ StartsLoad T truth link step words sources old new output result
+      → StopsBefore T link step left_in link_faults (load_steps words) words.store Began Ended output result
+      ⊎ StartsLoad T link step words sources old new output result
       → TellsFleet result errors status → Ends status
   by_result_so status (Ok e) (inl stops) tells = absurd stops
   by_result_so status (Ok e) (inr s) tells = ended_so status e s tells.1 tells.0
   by_result_so status (Err stop) did (inl tells) = stopped_so status stop tells.0 did
   by_result_so status (Err stop) did (inr tells) = absurd (none.told tells.1)
 
-pub full_load : (T : Type 0) → {L : Type 0} → (truth : Truth) (link : L → Link)
+pub full_load : (T : Type 0) → {L : Type 0} → (link : L → Link)
     (step : L → Exchange → L → Type 0) (words : LoadWords) (old new : Around)
     (output errors : Receipt) → words.size ≤ 10000 → IsBlank words old
     → NoneRose old new output errors → (status : ℕ)
-    → RanLoad T truth link step words old new output errors status
+    → RanLoad T link step words old new output errors status
     → IsFullLoad words output errors status
-full_load T truth link step words old new output errors small blank none status ran =
-    by_result_so T truth link step words ran.did.sources old new output errors small blank none
+full_load T link step words old new output errors small blank none status ran =
+    by_result_so T link step words ran.did.sources old new output errors small blank none
     status ran.result ran.did.did ran.tells

@@ -10,7 +10,6 @@ use Rattle.std.proofs.Math.ListN.{get_or}
 use Rattle.kr_kms.specs.Calls.{Link}
 use Rattle.kr_kms.specs.Exchanges.{Exchange}
 use Rattle.kr_kms.specs.Outside.{KeepsFiles, KeepsObjects, Outside}
-use Rattle.kr_kms.specs.Truth.{Truth}
 use Rattle.kr_kms.specs.declared.world.WorldCall.TheVariants.{Tape}
 use Rattle.kr_kms.specs.declared.world.Access.{Access}
 use Rattle.kr_kms.specs.declared.world.Access.TheVariants.{ToMake}
@@ -181,10 +180,10 @@ settled_seeded sources old new name back n (Err why) result (same, returned) =
 
 -- ---- what a load over a store gives
 
-module _ (T : Type 0) {L : Type 0} (truth : Truth) (link : L → Link)
+module _ (T : Type 0) {L : Type 0} (link : L → Link)
     (step : L → Exchange → L → Type 0) (seed : ℕ) (store : List ℕ) (plan : FleetPlan) where
   abbrev Settles : Steps Begun → (old new : Around) → Result Record Stop → Type 0
-  Settles steps old new result = SettlesLoad T truth link step seed steps store plan old new result
+  Settles steps old new result = SettlesLoad T link step seed steps store plan old new result
 
   -- memory lacked before anything was asked for
   pub load_lacks : (a : Around) → Settles (load_over store plan) a a (Err NoMemory)
@@ -218,20 +217,20 @@ module _ (T : Type 0) {L : Type 0} (truth : Truth) (link : L → Link)
         (made result : Result Record Stop) → before ≡ streams_of seed
         → LentTape store ToMake old out given first
         → ReturnsSettled store Store out new back n made result
-        → RunsBy T truth link step left_in link_faults (Anyhow T L StreamState) false steps store
+        → RunsBy T link step left_in link_faults (Anyhow T L StreamState) false steps store
         plan
         (with_lent_tape store given first (with_sources before (with_world out a)))
         (with_lent_tape store back n (with_sources after (with_world out a))) made
         → Settles (tape_for store ToMake steps) (with_world old a) (with_world new a) result
     load_taped {given} {first} new back n before after made result whole h returned r = (
       after,
-      over_settled T truth link step left_in link_faults (Anyhow T L StreamState) false store plan
+      over_settled T link step left_in link_faults (Anyhow T L StreamState) false store plan
           steps a a (seeded_world (streams_of seed) old) (seeded_world (streams_of seed) out) given
           first
           (seeded_world after out) (seeded_world after new) back n made result
           (lent_seeded (streams_of seed) {old = old} {new = out} h)
           (settled_seeded after out new store back n made result returned)
-          (subst (λ sources. RunsBy T truth link step left_in link_faults (Anyhow T L StreamState)
+          (subst (λ sources. RunsBy T link step left_in link_faults (Anyhow T L StreamState)
           false steps store plan
           (with_lent_tape store given first (with_sources sources (with_world out a)))
           (with_lent_tape store back n (with_sources after (with_world out a))) made) whole r),

@@ -3,7 +3,6 @@ use Rattle.std.specs.Prelude.{◌⊎◌, map}
 use Rattle.std.proofs.Common.{ℕ, List, Result, Ok, Err, inl, inr, ap, ◌∙◌}
 use Rattle.kr_kms.specs.Calls.{Link}
 use Rattle.kr_kms.specs.Exchanges.{Exchange}
-use Rattle.kr_kms.specs.Truth.{Truth}
 use Rattle.kr_script.specs.Fleets.{Worker}
 use Rattle.kr_workers.specs.Endings.{status_of as status_of_replies}
 use Rattle.kr_workers.specs.declared.ending.Ending.{Ending}
@@ -41,13 +40,13 @@ prints words workers replies output errors status (Err NoMemory) w t = inr (w, t
 prints words workers replies output errors status (Err (Words why)) w t = absurd w
 prints words workers replies output errors status (Err (Refused why)) w t = absurd w
 
-module _ (T : Type 0) {L : Type 0} (truth : Truth) (link : L → Link)
+module _ (T : Type 0) {L : Type 0} (link : L → Link)
     (step : L → Exchange → L → Type 0) (words : LoadWords) (sources : List StreamState)
     (old new : Around) (output errors : Receipt) (status : ℕ) where
   started : (result : Result Ending Stop)
-      → StartsLoad T truth link step words sources old new output result
+      → StartsLoad T link step words sources old new output result
       → TellsFleet result errors status
-      → StartsLoadWorkers T truth link step words old new output errors status sources
+      → StartsLoadWorkers T link step words old new output errors status sources
   started result s tells = record {
     begun = s.begun;
     plan_is = s.plan_is;
@@ -56,36 +55,36 @@ module _ (T : Type 0) {L : Type 0} (truth : Truth) (link : L → Link)
     since = s.since;
     history = s.history;
     ended = s.ended;
-    has = workers_headline truth link step left_in link_faults words.store s.begun
+    has = workers_headline link step left_in link_faults words.store s.begun
         (settled_behind words.store s.mid) (with_sources sources new) s.history s.ended s.runs;
-    calm = calm_sources T truth link step words sources old new output result s;
+    calm = calm_sources T link step words sources old new output result s;
     prints = prints words s.begun.plan.fleet.workers
         (map (λ (w : fleet_worker.Worker T L StreamState). w.told) s.ended) output errors status
         result s.writes tells;
   }
 
   either : (result : Result Ending Stop)
-      → StopsBefore T truth link step left_in link_faults (load_steps words) words.store
+      → StopsBefore T link step left_in link_faults (load_steps words) words.store
       (with_streams words.seed old)
       (with_sources sources new) output result
-      ⊎ StartsLoad T truth link step words sources old new output result
+      ⊎ StartsLoad T link step words sources old new output result
       → TellsFleet result errors status
-      → StartsNobody T truth link step left_in link_faults (load_steps words) words.store
+      → StartsNobody T link step left_in link_faults (load_steps words) words.store
       (with_streams words.seed old)
       (with_sources sources new) output errors status
-      ⊎ StartsLoadWorkers T truth link step words old new output errors status sources
+      ⊎ StartsLoadWorkers T link step words old new output errors status sources
   either (Ok ending) (inl stops) tells = absurd stops
   either (Err stop) (inl stops) tells =
       inl (record { stop = stop; stops = stops; tells = tells })
   either result (inr began) tells = inr (started result began tells)
 
-pub load_headline : (T : Type 0) → {L : Type 0} → (truth : Truth) (link : L → Link)
+pub load_headline : (T : Type 0) → {L : Type 0} → (link : L → Link)
     (step : L → Exchange → L → Type 0)
-    → LoadsHaveHeadlines T truth link step
-load_headline T truth link step words old new output errors status ran = (
+    → LoadsHaveHeadlines T link step
+load_headline T link step words old new output errors status ran = (
   ran.did.home,
   ran.did.others,
   ran.did.sources,
-  either T truth link step words ran.did.sources old new output errors status ran.result
+  either T link step words ran.did.sources old new output errors status ran.result
       ran.did.did ran.tells,
 )

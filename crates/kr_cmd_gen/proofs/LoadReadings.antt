@@ -2,7 +2,6 @@
 use Rattle.std.proofs.Common.{List, ℕ, ◌≤◌, Result, Err}
 use Rattle.kr_kms.specs.Calls.{Link}
 use Rattle.kr_kms.specs.Exchanges.{Exchange}
-use Rattle.kr_kms.specs.Truth.{Truth}
 use Rattle.kr_workers.specs.declared.ending.Ending.{Ending}
 use Rattle.kr_workload.specs.Streams.{StreamState, link_faults, left_in}
 use Rattle.kr_cmd_steps.specs.Around.{Around}
@@ -16,11 +15,11 @@ use Rattle.kr_cmd_laws.proofs.Causes.{BreaksOff, causes}
 use Rattle.kr_cmd_gen.proofs.FullLoads.{full_load, keeps_puts}
 use Rattle.kr_cmd_gen.proofs.LoadSettled.{settled_load}
 
-module _ (T : Type 0) {L : Type 0} (truth : Truth) (link : L → Link)
+module _ (T : Type 0) {L : Type 0} (link : L → Link)
     (step : L → Exchange → L → Type 0) (words : LoadWords)
     (old new : Around) (output errors : Receipt) where
   abbrev Began : List StreamState → Result Ending Stop → Type 0
-  Began sources result = HasStarted T truth link step words old new output errors sources result
+  Began sources result = HasStarted T link step words old new output errors sources result
 
   breaks : (sources : List StreamState) (stop : Stop) → Began sources (Err stop)
       → BreaksOff output stop
@@ -30,16 +29,16 @@ module _ (T : Type 0) {L : Type 0} (truth : Truth) (link : L → Link)
   breaks sources NoMemory s = tt
 
   pub load_readings : (status : ℕ) → words.size ≤ 10000
-      → RanLoad T truth link step words old new output errors status
-      → LoadReadings T truth link step words old new output errors status
+      → RanLoad T link step words old new output errors status
+      → LoadReadings T link step words old new output errors status
   load_readings status small ran = let sources = ran.did.sources in record {
     sources = sources;
-    causes = causes T truth link step left_in link_faults (load_steps words) words.store (Began sources) (with_streams words.seed old)
+    causes = causes T link step left_in link_faults (load_steps words) words.store (Began sources) (with_streams words.seed old)
         (with_sources sources new) output errors
         (λ e s. (s.begun, (s.reaches.end, s.reaches.goes))) (breaks sources)
         (TellsTape words old) (settled_load words old) status ran.result
         ran.did.seated ran.did.did ran.tells;
     complete = λ blank none.
-        full_load T truth link step words old new output errors small blank none status ran;
-    kept = λ result s. keeps_puts T truth link step words sources old new output result s;
+        full_load T link step words old new output errors small blank none status ran;
+    kept = λ result s. keeps_puts T link step words sources old new output result s;
   }

@@ -3,7 +3,6 @@ use Rattle.std.proofs.Common.{◌≡◌, ℕ, List, map, Result, Ok, Err, refl, 
 use Rattle.std.specs.Prelude.{◌⊎◌}
 use Rattle.kr_kms.specs.Calls.{Link}
 use Rattle.kr_kms.specs.Exchanges.{Exchange}
-use Rattle.kr_kms.specs.Truth.{Truth}
 use Rattle.kr_workers.specs.declared.ending.Ending.{Ending}
 use Rattle.kr_workload.specs.Streams.{StreamState}
 use Rattle.kr_workers.specs.declared.worker.Worker as fleet_worker
@@ -48,20 +47,20 @@ no_load_or_memory words none NoMemory h errors status t = inr t
 
 -- ---- a load
 
-pub for_load : {T L : Type 0} {truth : Truth} {link : L → Link}
+pub for_load : {T L : Type 0} {link : L → Link}
     {step : L → Exchange → L → Type 0} {a b : LoadWords}
     {old new : Around} {output errors : Receipt} {status : ℕ} → a ≡ b
-    → RanLoad T truth link step a old new output errors status
-    → RanLoad T truth link step b old new output errors status
-for_load {T} {truth = truth} {link = link} {step = step} {old = old} {new = new} {output = output}
+    → RanLoad T link step a old new output errors status
+    → RanLoad T link step b old new output errors status
+for_load {T} {link = link} {step = step} {old = old} {new = new} {output = output}
     {errors = errors} {status = status} e r =
-    subst (λ w. RanLoad T truth link step w old new output errors status) e r
+    subst (λ w. RanLoad T link step w old new output errors status) e r
 
-module _ (T : Type 0) {L : Type 0} (truth : Truth) (link : L → Link)
+module _ (T : Type 0) {L : Type 0} (link : L → Link)
     (step : L → Exchange → L → Type 0) where
   -- memory lacked before anything was done
   pub unbegun : (asked : LoadWords) (a : Around) (output : Receipt) → WroteNothing output
-      → DidLoad T truth link step asked a a output (Err NoMemory)
+      → DidLoad T link step asked a a output (Err NoMemory)
   unbegun asked a output idle = record {
     home = home_refl a;
     others = record { dice = refl; links = refl };
@@ -76,7 +75,7 @@ module _ (T : Type 0) {L : Type 0} (truth : Truth) (link : L → Link)
 
   pub load_unread : (words : List (List ℕ)) (asked : LoadWords) → AsksLoad words asked
       → (stop : Stop) → IsLoadAsked words (Err stop) → (a : Around) (output : Receipt)
-      → WroteNothing output → DidLoad T truth link step asked a a output (Err stop)
+      → WroteNothing output → DidLoad T link step asked a a output (Err stop)
   load_unread words asked asks (Words why) h a output idle = absurd (h.1 asked asks)
   load_unread words asked asks (Refused why) h a output idle = absurd h
   load_unread words asked asks (Fault object n) h a output idle = absurd h
@@ -85,7 +84,7 @@ module _ (T : Type 0) {L : Type 0} (truth : Truth) (link : L → Link)
   -- the same where the words were read as a fleet's
   pub fleet_unread : (words : List (List ℕ)) (asked : LoadWords) → AsksLoad words asked
       → (stop : Stop) → IsFleetAsked words (Err stop) → (a : Around) (output : Receipt)
-      → WroteNothing output → DidLoad T truth link step asked a a output (Err stop)
+      → WroteNothing output → DidLoad T link step asked a a output (Err stop)
   fleet_unread words asked asks (Words why) h a output idle = absurd (h.2 asked asks)
   fleet_unread words asked asks (Refused why) h a output idle = absurd h
   fleet_unread words asked asks (Fault object n) h a output idle = absurd h
@@ -104,9 +103,9 @@ module _ (T : Type 0) {L : Type 0} (truth : Truth) (link : L → Link)
 
     -- the steps behind the plan ended the command, or want of memory did
     pub load_stopped : (stop : Stop) (output : Receipt) → LeavesOthers old.world new.world
-        → SettlesLoad T truth link step asked.seed (load_over asked.store plan) asked.store plan
+        → SettlesLoad T link step asked.seed (load_over asked.store plan) asked.store plan
         old new (Err stop)
-        → WroteNothing output → DidLoad T truth link step asked old new output (Err stop)
+        → WroteNothing output → DidLoad T link step asked old new output (Err stop)
     load_stopped stop output others (sources, inl e) idle =
         let d = does_load (Err stop) e in record {
           home = home_unseeded asked.seed sources old new others d.home;
@@ -144,10 +143,10 @@ module _ (T : Type 0) {L : Type 0} (truth : Truth) (link : L → Link)
     -- the workers ran
     pub load_ran : (made : Record) (output : Receipt) (result : Result Ending Stop)
         → LeavesOthers old.world new.world
-        → SettlesLoad T truth link step asked.seed (load_over asked.store plan) asked.store plan
+        → SettlesLoad T link step asked.seed (load_over asked.store plan) asked.store plan
         old new (Ok made)
         → WritesLoad asked plan.fleet.workers made.replies.0 output result
-        → DidLoad T truth link step asked old new output result
+        → DidLoad T link step asked old new output result
     load_ran made output result others (sources, l) w =
         let d = does_load (Ok l.begun) l.does in
         let told = map (λ (worker : fleet_worker.Worker T L StreamState). worker.told) l.ended in

@@ -1,12 +1,12 @@
 -- The steps of a load up to its workers draw nothing, since its configurations name no plugin.
 use Rattle.std.proofs.Common.{◌≡◌, ℕ, ◌<◌, ◌^◌, zero, suc, List, [], Some, Result, Ok, Err, ap, sym, subst, inl, inr, ◌∙◌, arith, false}
-use Rattle.std.specs.Prelude.{length, ⊤, ◌-◌}
+use Rattle.std.specs.Prelude.{length, ⊤}
 use Rattle.std.specs.Io.KnownBytes.{Keeps}
 use Rattle.kr_workload.specs.Streams.{stream_key}
 use Rattle.kr_workload.proofs.Streaming.{rest_long}
 use Rattle.kr_cmd_steps.specs.Around.{Around, left_of}
 use Rattle.kr_cmd_steps.specs.Phases.{by_result, with_memory}
-use Rattle.kr_cmd_steps.specs.Steps.{Steps, load, take_input, borrow_dice, borrow_tape, read_tape, write_row, keep_rows, settle, draw, borrow_link, ask_status, wrap, unwrap, note, find, refuse, give, and_then, Call, lending, scanning, drawing, Point, awaits, amid, refuses, gives, Left, Goes}
+use Rattle.kr_cmd_steps.specs.Steps.{Steps, load, take_input, borrow_dice, borrow_tape, read_tape, write_row, keep_rows, settle, give_back, draw, borrow_link, ask_status, wrap, unwrap, note, find, refuse, give, and_then, Call, lending, scanning, drawing, Point, awaits, amid, refuses, gives, Left, Goes}
 use Rattle.kr_cmd_steps.specs.StoreFiles.{Stored}
 use Rattle.kr_cmd_fleet.specs.Fleets.{Begun, IsStart, Replicas, launching, starting_with}
 use Rattle.kr_cmd_gen.specs.GeneratedLoads.{load_beginning, load_plan, load_steps, with_streams}
@@ -63,6 +63,7 @@ module _ {A : Type 0} (point : Point A) (end : Left) where
   undrawn (write_row object name store row next) left uses goes = absurd uses
   undrawn (keep_rows name store next) left uses goes = absurd uses
   undrawn (settle object name next) left uses goes = absurd uses
+  undrawn (give_back name next) left uses goes = absurd uses
   undrawn (draw seat size next) left uses goes = absurd uses
   undrawn (borrow_link seat plugin program next) left uses goes = absurd uses
   undrawn (ask_status seat plugin next) left uses goes = absurd uses

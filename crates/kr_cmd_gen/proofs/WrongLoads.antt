@@ -4,7 +4,6 @@ use Rattle.std.proofs.Common.{ℕ, ◌≤◌, ◌<◌, List, length, arith}
 use Rattle.std.proofs.lemmas.Option.{slice_get-get_or}
 use Rattle.kr_kms.specs.Calls.{Link}
 use Rattle.kr_kms.specs.Exchanges.{Exchange}
-use Rattle.kr_kms.specs.Truth.{Truth}
 use Rattle.kr_script.specs.declared.script.ScriptLine.TheVariants as line
 use Rattle.kr_script.specs.declared.told.Told.TheVariants as told
 use Rattle.kr_workers.specs.declared.worker.Worker as fleet_worker
@@ -19,13 +18,13 @@ use Rattle.kr_cmd_gen.specs.LoadHeadlines.{StartsLoadWorkers}
 use Rattle.kr_cmd_gen.specs.WrongLoads.{EachLoadIsWrong, WrongLoads}
 use Rattle.kr_cmd_gen.specs.WrongLoads as wrong
 
-module _ (T : Type 0) {L : Type 0} (truth : Truth) (link : L → Link)
+module _ (T : Type 0) {L : Type 0} (link : L → Link)
     (step : L → Exchange → L → Type 0) (words : LoadWords)
     (old new : Around) (output errors : Receipt) (status : ℕ) (small : words.size ≤ 10000)
     (sources : List StreamState)
-    (s : StartsLoadWorkers T truth link step words old new output errors status sources) where
+    (s : StartsLoadWorkers T link step words old new output errors status sources) where
   abbrev run : Run
-  run = wrong.run T truth link step words old new output errors status sources s
+  run = wrong.run T link step words old new output errors status sources s
 
   never : (worker at : ℕ) → worker < length s.ended → run.SourceFailed worker at → ⊥
   never worker at within failed =
@@ -45,7 +44,7 @@ module _ (T : Type 0) {L : Type 0} (truth : Truth) (link : L → Link)
       (get_or s.has.page.parts worker part).lines.0 first.bench last.bench benches
       (s.calm small worker after within) at failed
 
-  wrong_loads : WrongLoads T truth link step words old new output errors status sources s
+  wrong_loads : WrongLoads T link step words old new output errors status sources s
   wrong_loads = record {
     source_failed = never;
     put_draws = λ worker at seat path resource plain within told_is. never worker at within
@@ -53,7 +52,7 @@ module _ (T : Type 0) {L : Type 0} (truth : Truth) (link : L → Link)
         (told.FaultDice seat) told_is).1;
   }
 
-pub each_load_is_wrong : (T : Type 0) → {L : Type 0} → (truth : Truth) (link : L → Link)
-    (step : L → Exchange → L → Type 0) → EachLoadIsWrong T truth link step
-each_load_is_wrong T truth link step words old new output errors status small sources s =
-    wrong_loads T truth link step words old new output errors status small sources s
+pub each_load_is_wrong : (T : Type 0) → {L : Type 0} → (link : L → Link)
+    (step : L → Exchange → L → Type 0) → EachLoadIsWrong T link step
+each_load_is_wrong T link step words old new output errors status small sources s =
+    wrong_loads T link step words old new output errors status small sources s

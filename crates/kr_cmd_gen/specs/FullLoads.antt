@@ -3,7 +3,6 @@ use Rattle.std.specs.Prelude.{◌≡◌, ℕ, ◌⊎◌, List, [], Result}
 use Rattle.std.specs.Io.KnownBytes.{Appends}
 use Rattle.kr_kms.specs.Calls.{Link}
 use Rattle.kr_kms.specs.Exchanges.{Exchange}
-use Rattle.kr_kms.specs.Truth.{Truth}
 use Rattle.kr_workload.specs.FullLoads.{IsFull}
 use Rattle.kr_workload.specs.KeptPuts.{HasRow}
 use Rattle.kr_workload.specs.Loads.{put_of}
@@ -35,12 +34,12 @@ IsFullLoad words output errors status = ((status ≡ 0) × WroteNothing errors
     ⊎ (status ≡ 5)
 
 -- each put that a worker replied to be done has its row behind the workers, a sealing of its data
-abbrev pub KeepsPuts : (T : Type 0) → {L : Type 0} → (truth : Truth) → (link : L → Link)
+abbrev pub KeepsPuts : (T : Type 0) → {L : Type 0} → (link : L → Link)
     (step : L → Exchange → L → Type 0)
     → (words : LoadWords) → (sources : List StreamState) → (old new : Around)
     → (output : Receipt) → (result : Result Ending Stop)
-    → StartsLoad T truth link step words sources old new output result → Type 0
-KeepsPuts T truth link step words sources old new output result s = (worker at number revision : ℕ)
+    → StartsLoad T link step words sources old new output result → Type 0
+KeepsPuts T link step words sources old new output result s = (worker at number revision : ℕ)
     → Replies s.runs.parts s.ended worker at (put_of words.seed words.size worker number)
     (told.Put revision)
     → HasRow words.seed words.size

@@ -7,7 +7,6 @@ use Rattle.kr_base.specs.Streams.{AppendsFront}
 use Rattle.kr_kms.specs.Calls.{Link}
 use Rattle.kr_kms.specs.Exchanges.{Exchange}
 use Rattle.kr_kms.specs.Outside.{Objects, Outside, same_seat}
-use Rattle.kr_kms.specs.Truth.{Truth}
 use Rattle.kr_kms.specs.declared.world.Access.TheVariants.{ToMake}
 use Rattle.kr_workload.specs.Endings.{ending_of_load}
 use Rattle.kr_workload.specs.Loads.{configurations, load_fleet}
@@ -93,7 +92,7 @@ pub record LeavesOthers (old new : Outside) : Type 0 where
   pub dice : new.dice ≡ old.dice
   pub links : new.links ≡ old.links
 
-module _ (T : Type 0) {L : Type 0} (truth : Truth) (link : L → Link)
+module _ (T : Type 0) {L : Type 0} (link : L → Link)
     (step : L → Exchange → L → Type 0) where
   -- the workers were started, and what they stored is settled. Each drew from its own stream, from
   -- its begin on, and left the rest of it in these sources
@@ -107,7 +106,7 @@ module _ (T : Type 0) {L : Type 0} (truth : Truth) (link : L → Link)
     pub since : IsHome (with_streams words.seed old) mid
     pub history : List Entry
     pub ended : List (fleet_worker.Worker T L StreamState)
-    pub runs : RunsFleet truth link step left_in link_faults words.store begun
+    pub runs : RunsFleet link step left_in link_faults words.store begun
         (settled_behind words.store mid) (with_sources sources new) history ended
     pub writes : WritesLoad words begun.plan.fleet.workers
         (map (λ (w : fleet_worker.Worker T L StreamState). w.told) ended) output result
@@ -119,18 +118,18 @@ module _ (T : Type 0) {L : Type 0} (truth : Truth) (link : L → Link)
     pub others : LeavesOthers old.world new.world
     pub sources : List StreamState
     pub seated : IsHome (with_streams words.seed old) (with_sources sources new)
-    pub did : StopsBefore T truth link step left_in link_faults (load_steps words) words.store
+    pub did : StopsBefore T link step left_in link_faults (load_steps words) words.store
         (with_streams words.seed old)
         (with_sources sources new) output result
         ⊎ StartsLoad words sources old new output result
 
 -- what a call of `run` did for a load
-pub record RanLoad (T : Type 0) {L : Type 0} (truth : Truth) (link : L → Link)
+pub record RanLoad (T : Type 0) {L : Type 0} (link : L → Link)
     (step : L → Exchange → L → Type 0)
     (words : LoadWords) (old new : Around) (output errors : Receipt) (status : ℕ)
     : Type 0 where
   pub result : Result Ending Stop
-  pub did : DidLoad T truth link step words old new output result
+  pub did : DidLoad T link step words old new output result
   pub tells : TellsFleet result errors status
   pub written : output.old_faults ≤ output.new_faults
   pub told : errors.old_faults ≤ errors.new_faults

@@ -7,7 +7,6 @@ use Rattle.kr_base.specs.Faults.{Rose}
 use Rattle.kr_base.specs.Streams.{AppendsFront}
 use Rattle.kr_kms.specs.Calls.{Link}
 use Rattle.kr_kms.specs.Exchanges.{Exchange}
-use Rattle.kr_kms.specs.Truth.{Truth}
 use Rattle.kr_rollout.specs.declared.opening.Entry.{Entry}
 use Rattle.kr_script.specs.Fleets.{Worker}
 use Rattle.kr_workers.specs.Endings.{status_of as status_of_replies}
@@ -38,7 +37,7 @@ PrintsSummary words workers replies output errors status =
     × TellsStop (Fault Output output.new_faults) errors status)))
     ⊎ (Keeps output.old output.new × TellsStop NoMemory errors status)
 
-module _ (T : Type 0) {L : Type 0} (truth : Truth) (link : L → Link)
+module _ (T : Type 0) {L : Type 0} (link : L → Link)
     (step : L → Exchange → L → Type 0) (words : LoadWords)
     (old new : Around) (output errors : Receipt) (status : ℕ) where
   -- the workers of the load that the seed and the size decide were started, each with the random
@@ -53,7 +52,7 @@ module _ (T : Type 0) {L : Type 0} (truth : Truth) (link : L → Link)
     pub since : IsHome (with_streams words.seed old) mid
     pub history : List Entry
     pub ended : List (fleet_worker.Worker T L StreamState)
-    pub has : WorkersHeadline truth link step left_in link_faults words.store begun
+    pub has : WorkersHeadline link step left_in link_faults words.store begun
         (settled_behind words.store mid) (with_sources sources new) history ended
     pub calm : words.size ≤ 10000
         → All (λ (w : fleet_worker.Worker T L StreamState). link_faults w.bench.dice ≡ 0) ended
@@ -64,6 +63,6 @@ module _ (T : Type 0) {L : Type 0} (truth : Truth) (link : L → Link)
   -- Nothing was printed, or the run of the workers has the headline
   abbrev pub LoadHeadline : Type 0
   LoadHeadline = IsHome old new × LeavesOthers old.world new.world × (sources : List StreamState)
-      × (StartsNobody T truth link step left_in link_faults (load_steps words) words.store
+      × (StartsNobody T link step left_in link_faults (load_steps words) words.store
       (with_streams words.seed old)
       (with_sources sources new) output errors status ⊎ StartsLoadWorkers sources)

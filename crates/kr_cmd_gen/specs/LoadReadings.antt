@@ -2,7 +2,6 @@
 use Rattle.std.specs.Prelude.{ℕ, List, IsSome, Result}
 use Rattle.kr_kms.specs.Calls.{Link}
 use Rattle.kr_kms.specs.Exchanges.{Exchange}
-use Rattle.kr_kms.specs.Truth.{Truth}
 use Rattle.kr_workers.specs.declared.ending.Ending.{Ending}
 use Rattle.kr_workload.specs.Streams.{StreamState}
 use Rattle.kr_cmd_steps.specs.Around.{Around}
@@ -17,11 +16,11 @@ use Rattle.kr_cmd_messages.specs.declared.refusal.Stop.{Stop}
 abbrev pub TellsTape : LoadWords → Around → Type 0
 TellsTape words old = IsSome (old.world.tapes.told words.store)
 
-module _ (T : Type 0) {L : Type 0} (truth : Truth) (link : L → Link)
+module _ (T : Type 0) {L : Type 0} (link : L → Link)
     (step : L → Exchange → L → Type 0) (words : LoadWords)
     (old new : Around) (output errors : Receipt) where
   abbrev pub HasStarted : List StreamState → Result Ending Stop → Type 0
-  HasStarted sources result = StartsLoad T truth link step words sources old new output result
+  HasStarted sources result = StartsLoad T link step words sources old new output result
 
   pub record LoadReadings (status : ℕ) : Type 0 where
     pub sources : List StreamState
@@ -34,4 +33,4 @@ module _ (T : Type 0) {L : Type 0} (truth : Truth) (link : L → Link)
         → IsFullLoad words output errors status
     -- each put that was done has its row, a sealing of its data by a configuration of the load
     pub kept : (result : Result Ending Stop) → (s : HasStarted sources result)
-        → KeepsPuts T truth link step words sources old new output result s
+        → KeepsPuts T link step words sources old new output result s

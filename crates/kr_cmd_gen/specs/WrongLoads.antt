@@ -2,7 +2,6 @@
 use Rattle.std.specs.Prelude.{◌≤◌, ◌<◌, ℕ, List, length}
 use Rattle.kr_kms.specs.Calls.{Link}
 use Rattle.kr_kms.specs.Exchanges.{Exchange}
-use Rattle.kr_kms.specs.Truth.{Truth}
 use Rattle.kr_script.specs.declared.script.ScriptLine.TheVariants as line
 use Rattle.kr_script.specs.declared.told.Told.TheVariants as told
 use Rattle.kr_workload.specs.Streams.{StreamState, link_faults}
@@ -15,10 +14,10 @@ use Rattle.kr_cmd_steps.specs.Around.{Around}
 use Rattle.kr_cmd_fleet.specs.Fleets.{opening_of, settled_behind}
 use Rattle.kr_cmd_gen.specs.LoadHeadlines.{StartsLoadWorkers}
 
-module _ (T : Type 0) {L : Type 0} (truth : Truth) (link : L → Link)
+module _ (T : Type 0) {L : Type 0} (link : L → Link)
     (step : L → Exchange → L → Type 0) (words : LoadWords)
     (old new : Around) (output errors : Receipt) (status : ℕ) (sources : List StreamState)
-    (s : StartsLoadWorkers T truth link step words old new output errors status sources) where
+    (s : StartsLoadWorkers T link step words old new output errors status sources) where
   abbrev pub run : Run
   run = run_in sealed_values link step link_faults s.has.page.workers s.ended s.has.page.files
       (opening_of words.store s.begun (settled_behind words.store s.mid)) s.has.page.parts s.history
@@ -32,9 +31,9 @@ module _ (T : Type 0) {L : Type 0} (truth : Truth) (link : L → Link)
         → IsTold run worker at (line.Put resource path plain) (told.FaultDice seat) → ⊥
 
 -- so it is with each load within its limit
-abbrev pub EachLoadIsWrong : (T : Type 0) → {L : Type 0} → Truth → (L → Link)
+abbrev pub EachLoadIsWrong : (T : Type 0) → {L : Type 0} → (L → Link)
     → (L → Exchange → L → Type 0) → Type 0
-EachLoadIsWrong T truth link step = (words : LoadWords) (old new : Around)
+EachLoadIsWrong T link step = (words : LoadWords) (old new : Around)
     (output errors : Receipt) (status : ℕ) → words.size ≤ 10000 → (sources : List StreamState)
-    (s : StartsLoadWorkers T truth link step words old new output errors status sources)
-    → WrongLoads T truth link step words old new output errors status sources s
+    (s : StartsLoadWorkers T link step words old new output errors status sources)
+    → WrongLoads T link step words old new output errors status sources s

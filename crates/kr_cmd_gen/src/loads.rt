@@ -38,8 +38,8 @@ pub fn load<R: Threads + Wait + Sync, W: World, O: Sink>(
     world: &mut W,
     output: &mut O,
 ) -> Result<Ending, Stop>
-    ensures did { (a : Around) → IsUnheard W.Link.truth a
-        → DidLoad W.Tap W.Link.truth W.Link.link W.Link.step words.now
+    ensures did { (a : Around) → IsUnheard a
+        → DidLoad W.Tap W.Link.link W.Link.step words.now
         (with_world (W.told world.old) a) (with_world (W.told world.new) a)
         (receipt (O.held output.old) (O.held output.new) (O.count output.old) (O.count output.new))
         result }
@@ -78,8 +78,8 @@ fn run_load_over_store<R: Threads + Wait + Sync, W: World>(
     world: &mut W,
 ) -> Result<Record, Stop>
     requires plan { IsLoadPlan plan.now }
-    ensures runs { (a : Around) → IsUnheard W.Link.truth a
-        → SettlesLoad W.Tap W.Link.truth W.Link.link W.Link.step words.now.seed
+    ensures runs { (a : Around) → IsUnheard a
+        → SettlesLoad W.Tap W.Link.link W.Link.step words.now.seed
         (load_over words.now.store (plan_of plan.now)) words.now.store (plan_of plan.now)
         (with_world (W.told world.old) a) (with_world (W.told world.new) a) result }
     ensures others { LeavesOthers (W.told world.old) (W.told world.new) }
@@ -116,8 +116,8 @@ fn run_load_on_tape<R: Threads + Wait + Sync, T: Tape + Send, L: Kms + Send>(
     requires plan { IsLoadPlan plan.now }
     requires four { length outfits.0 ≡ 4 }
     requires bare { AreBare outfits.0 }
-    ensures made { (name : Name) (a : Around) → IsUnheard L.truth a
-        → RunsBy T L.truth L.link L.step left_in link_faults (Anyhow T L StreamState) false
+    ensures made { (name : Name) (a : Around) → IsUnheard a
+        → RunsBy T L.link L.step left_in link_faults (Anyhow T L StreamState) false
         (and_then (stored_on Object.Store name) (load_beginning (plan_of plan.now))) name
         (plan_of plan.now)
         (with_lent_tape name (T.told tape) (T.count tape) (with_sources (sources_in outfits.0) a))

@@ -8,13 +8,14 @@ use Rattle.kr_config.specs.declared.who.Who.{Who}
 use Rattle.kr_config.specs.declared.who.Who.TheVariants.{Aescbc, Aesgcm, Identity, Kms}
 use Rattle.kr_envelope.specs.declared.object.EncryptedObject.{EncryptedObject}
 use Rattle.kr_envelope.specs.declared.object.ObjectNo.{ObjectNo}
+use Rattle.kr_kms.specs.Cache.{CacheState, seed_at, with_used}
 use Rattle.kr_kms.specs.declared.plugin.Status.{Status}
 use Rattle.kr_kms.specs.declared.plugin.Wrapped.{Wrapped}
 use Rattle.kr_kms.specs.declared.seeds.SeedKey.{SeedKey}
 use Rattle.kr_kms.specs.declared.seeds.SeedRow.{SeedRow}
 use Rattle.kr_kms.specs.declared.world.Access.{Access}
 use Rattle.kr_kms.specs.declared.world.Access.TheVariants.{ToMake, ToRead, ToWrite}
-use Rattle.kr_provider.specs.Envelopes.{seed_key}
+use Rattle.kr_provider.specs.Envelopes.{seed_key, Envelope}
 use Rattle.kr_provider.specs.PluginOrder.{plugin_order}
 use Rattle.kr_provider.specs.Publication.{Publication, seed_of}
 use Rattle.kr_provider.specs.Readers.{reader_in, writer_of}
@@ -36,16 +37,17 @@ use Rattle.kr_cmd_steps.specs.Commands.{steps}
 use Rattle.kr_cmd_steps.specs.Phases.{adding, by_result, configuration, input_of, linking_programs, settled_for, silently, stored_on, tape_for, within_limit}
 use Rattle.kr_cmd_steps.specs.Plugins.{borrow_links, make_seeds, settings_programs}
 use Rattle.kr_cmd_steps.specs.RewriteSteps.{Progress, driving, nothing_done, one_rewritten, replacing, resealing, rewriting_by, rewriting_live, rewriting_on, row_anew, row_by, row_data, row_steps, starting, within_journal}
-use Rattle.kr_cmd_steps.specs.Steps.{Left, or_empty, with_dice, with_input, with_tape, with_told, Steps, load, take_input, borrow_dice, borrow_tape, read_tape, write_row, keep_rows, settle, draw, borrow_link, ask_status, wrap, unwrap, note, find, refuse, give, and_then}
+use Rattle.kr_cmd_steps.specs.Steps.{Left, or_empty, with_dice, with_input, with_tape, with_told, Steps, load, take_input, borrow_dice, borrow_tape, read_tape, write_row, keep_rows, settle, give_back, draw, borrow_link, ask_status, wrap, unwrap, note, find, refuse, give, and_then}
 use Rattle.kr_cmd_steps.specs.StoreFiles.{Stored, none_there, with_row}
 use Rattle.kr_cmd_steps.specs.StoreSteps.{copied_into, copying, migrated_line, migrated_row, migrating_into, new_row, revision_line, sealed_into, source_on, stored_into, target_on, target_read}
-use Rattle.kr_cmd_steps.specs.ValueSteps.{bench_steps, draw_some, opening, published_source, reading_given, source_steps, value_read, value_sealed, value_with}
+use Rattle.kr_cmd_steps.specs.ValueSteps.{bench_steps, draw_some, opening, published_source, reading_given, source_steps, value_read, value_sealed, value_with, fetching, none_kept}
 use Rattle.kr_cmd_steps.specs.declared.programs.Program.{Program}
 use Rattle.kr_kms.specs.Exchanges.{Exchange}
 use Rattle.kr_kms.specs.Outside.{makes, same_name}
 use Rattle.kr_cmd_messages.specs.declared.command.Conversion.{Conversion}
 use Rattle.kr_cmd_steps.specs.Around.{left_of}
-use Rattle.kr_cmd_laws.specs.Results.{AllIsTold, IsTold}
+use Rattle.kr_cmd_steps.specs.Telling.{IsTold}
+use Rattle.kr_cmd_laws.specs.Results.{AllIsTold}
 use Rattle.kr_cmd_laws.proofs.ReadOnly.{IsReadOnly, command_reads, seeds_read, work_reads}
 use Rattle.kr_cmd_laws.proofs.Settled.{told_or_empty}
 
@@ -65,6 +67,7 @@ Uses R W (borrow_link seat plugin program next) = Uses R W next
 Uses R W (ask_status seat plugin next) = (status : Status) → Uses R W (next status)
 Uses R W (wrap seat plugin plain next) = (wrapped : Wrapped) → Uses R W (next wrapped)
 Uses R W (unwrap seat key next) = (bytes : List ℕ) → Uses R W (next bytes)
+Uses R W (give_back name next) = Uses R W next
 Uses R W (note text next) = Uses R W next
 Uses R W (find B P next) = (b : B) → P b → Uses R W (next b)
 Uses R W (refuse why) = Unit {0}
@@ -106,6 +109,7 @@ wider R S W V f g (ask_status seat plugin next) u =
 wider R S W V f g (wrap seat plugin plain next) u =
     λ wrapped. wider R S W V f g (next wrapped) (u wrapped)
 wider R S W V f g (unwrap seat key next) u = λ bytes. wider R S W V f g (next bytes) (u bytes)
+wider R S W V f g (give_back name next) u = wider R S W V f g next u
 wider R S W V f g (note text next) u = wider R S W V f g next u
 wider R S W V f g (find B P next) u = λ b is. wider R S W V f g (next b) (u b is)
 wider R S W V f g (refuse why) u = tt
@@ -134,6 +138,7 @@ behind R W others on (wrap seat plugin plain next) u =
     λ wrapped. behind R W others on (next wrapped) (u wrapped)
 behind R W others on (unwrap seat key next) u =
     λ bytes. behind R W others on (next bytes) (u bytes)
+behind R W others on (give_back name next) u = behind R W others on next u
 behind R W others on (note text next) u = behind R W others on next u
 behind R W others on (find D P next) u = λ b is. behind R W others on (next b) (u b is)
 behind R W others on (refuse why) u = tt
@@ -161,6 +166,7 @@ last R W others on (ask_status seat plugin next) u =
 last R W others on (wrap seat plugin plain next) u =
     λ wrapped. last R W others on (next wrapped) (u wrapped)
 last R W others on (unwrap seat key next) u = λ bytes. last R W others on (next bytes) (u bytes)
+last R W others on (give_back name next) u = last R W others on next u
 last R W others on (note text next) u = last R W others on next u
 last R W others on (find D P next) u = λ b is. last R W others on (next b) (u b is)
 last R W others on (refuse why) u = tt
@@ -181,6 +187,7 @@ read_alone (borrow_link seat plugin program next) r = read_alone next r
 read_alone (ask_status seat plugin next) r = λ status. read_alone (next status) (r status)
 read_alone (wrap seat plugin plain next) r = λ wrapped. read_alone (next wrapped) (r wrapped)
 read_alone (unwrap seat key next) r = λ bytes. read_alone (next bytes) (r bytes)
+read_alone (give_back name next) r = read_alone next r
 read_alone (note text next) r = read_alone next r
 read_alone (find B P next) r = λ b is. read_alone (next b) (r b)
 read_alone (refuse why) r = tt
@@ -248,6 +255,7 @@ module _ (exchanges : List Exchange) where
       (refl, λ wrapped among. told_all R W (next wrapped) told (u wrapped) t)
   told_all R W (unwrap seat key next) told u t =
       (refl, λ bytes among. told_all R W (next bytes) told (u bytes) t)
+  told_all R W (give_back name next) told u t = told_all R W next told u t
   told_all R W (note text next) told u t = told_all R W next told u t
   told_all R W (find B P next) told u t = λ b is. told_all R W (next b) told (u b is) t
   told_all R W (refuse why) told u t = tt
@@ -315,31 +323,48 @@ given (data_of plain) stale = tt
 given (refused why) stale = tt
 given unopened stale = λ none u. absurd none
 
-sourced : {A : Type 0} (known : Option (List ℕ)) (key : SeedKey)
-    (next : Option (List ℕ) → Steps A) → ((source : Option (List ℕ)) → Quiet (next source))
-    → Quiet (source_steps known key next)
-sourced (Some seed) key next u = u (Some seed)
-sourced None key next u = λ source. u (Some source)
+fetched : {A : Type 0} (seed : Option (List ℕ)) (kept : CacheState) (key : SeedKey)
+    (next : Option (List ℕ) → CacheState → Steps A)
+    → ((source : Option (List ℕ)) (after : CacheState) → Quiet (next source after))
+    → Quiet (fetching seed kept key next)
+fetched (Some seed) kept key next u = u (Some seed) (with_used kept key)
+fetched None kept key next u = λ source after keeps. u (Some source) after
+
+sourced : {A : Type 0} (known : Option (List ℕ)) (kept : CacheState) (key : SeedKey)
+    (next : Option (List ℕ) → CacheState → Steps A)
+    → ((source : Option (List ℕ)) (after : CacheState) → Quiet (next source after))
+    → Quiet (source_steps known kept key next)
+sourced (Some seed) kept key next u = u (Some seed) kept
+sourced None kept key next u = fetched (seed_at kept.rows key) kept key next u
 
 opened : {A : Type 0} (seeds : List SeedRow) (reader : Option Who)
-    (object : Result EncryptedObject ObjectNo) (next : Option (List ℕ) → Steps A)
-    → ((source : Option (List ℕ)) → Quiet (next source)) → Quiet (opening seeds reader object next)
-opened seeds None object next u = u None
-opened seeds (Some Identity) object next u = u None
-opened seeds (Some (Aescbc name secret)) object next u = u None
-opened seeds (Some (Aesgcm name secret)) object next u = u None
-opened seeds (Some (Kms name)) (Err why) next u = u None
-opened seeds (Some (Kms name)) (Ok object) next u =
-    sourced (published_source (seed_of name seeds) (seed_key name object)) (seed_key name object)
-    next u
+    (object : Result EncryptedObject ObjectNo) (kept : CacheState)
+    (next : Option (List ℕ) → CacheState → Steps A)
+    → ((source : Option (List ℕ)) (after : CacheState) → Quiet (next source after))
+    → Quiet (opening seeds reader object kept next)
+opened seeds None object kept next u = u None kept
+opened seeds (Some Identity) object kept next u = u None kept
+opened seeds (Some (Aescbc name secret)) object kept next u = u None kept
+opened seeds (Some (Aesgcm name secret)) object kept next u = u None kept
+opened seeds (Some (Kms name)) (Err why) kept next u = u None kept
+opened seeds (Some (Kms name)) (Ok object) kept next u =
+    sourced (published_source (seed_of name seeds) (seed_key name object)) kept
+    (seed_key name object) next u
 
-read : (seeds : List SeedRow) (list : List Who) (path bytes : List ℕ)
-    → Quiet (value_read seeds list path bytes)
-read seeds list path bytes = λ object is.
-    opened seeds (reader_in list bytes) object (value_with seeds list path bytes object)
-    (λ source. given
-    (value_reading (record { object = object; source = source }) list path bytes)
-    (is_stale (record { object = object; source = source }) seeds list bytes))
+read_with : (seeds : List SeedRow) (list : List Who) (path bytes : List ℕ)
+    (object : Result EncryptedObject ObjectNo) (source : Option (List ℕ)) (kept : CacheState)
+    → Quiet (value_with seeds list path bytes object source kept)
+read_with seeds list path bytes object source kept =
+    let envelope : Envelope = record { object = object; source = source } in
+    after ⊥ ⊥ (λ read. give (read, kept)) (λ read. tt)
+    (reading_given (value_reading envelope list path bytes) (is_stale envelope seeds list bytes))
+    (given (value_reading envelope list path bytes) (is_stale envelope seeds list bytes))
+
+read : (seeds : List SeedRow) (list : List Who) (path bytes : List ℕ) (kept : CacheState)
+    → Quiet (value_read seeds list path bytes kept)
+read seeds list path bytes kept = λ object is.
+    opened seeds (reader_in list bytes) object kept (value_with seeds list path bytes object)
+    (read_with seeds list path bytes object)
 
 -- steps over the programs of a configuration in a file
 over : {A : Type 0} (config : List ℕ) (options : List (List ℕ × List ℕ))
@@ -385,14 +410,19 @@ module _ (name : List ℕ) (p : Publication) where
   by_reading row at (Ok opened) = renewed row at opened.plain opened.stale
   by_reading row at (Err why) = tt
 
-  driven : (live : List stored.Row) (at : Progress) → Writes (driving name p live at)
-  driven [] at = (tt, λ u v. tt)
-  driven (row ∷ live) at = (
+  driven : (live : List stored.Row) (kept : CacheState) (at : Progress)
+      → Writes (driving name p live kept at)
+  driven [] kept at = (tt, λ u v. tt)
+  driven (row ∷ live) kept at = (
     tt,
-    last ⊥ (Unit {0}) (driving name p live) (driven live) (row_steps name p row at)
-        (after ⊥ (Unit {0}) (row_by name p row at) (by_reading row at)
-        (value_read p.seeds (list_of p.rows row.resource) row.path row.stored)
-        (read p.seeds (list_of p.rows row.resource) row.path row.stored)),
+    last ⊥ (Unit {0}) (λ done. driving name p live done.1 done.0)
+        (λ done. driven live done.1 done.0) (row_steps name p row kept at)
+        (after ⊥ (Unit {0})
+        (λ read. and_then (row_by name p row at read.0) (λ done. give (done, read.1)))
+        (λ read. last ⊥ (Unit {0}) (λ done. give (done, read.1)) (λ done. tt)
+        (row_by name p row at read.0) (by_reading row at read.0))
+        (value_read p.seeds (list_of p.rows row.resource) row.path row.stored kept)
+        (read p.seeds (list_of p.rows row.resource) row.path row.stored kept)),
   )
 
 -- steps that only write may read at first
@@ -403,11 +433,11 @@ rewritten : (name : List ℕ) (rows : List ConfigEntry) (store : Stored) (live :
     → Both (rewriting_by name rows store live)
 rewritten name rows store live = λ u v. behind (Unit {0}) (Unit {0})
     (λ seeds. and_then (starting store.rows rows) (λ w.
-    driving name (record { rows = rows; seeds = seeds }) live (nothing_done store)))
+    driving name (record { rows = rows; seeds = seeds }) live none_kept (nothing_done store)))
     (λ seeds. after (Unit {0}) (Unit {0})
-    (λ w. driving name (record { rows = rows; seeds = seeds }) live (nothing_done store))
-    (λ w. to_write (driving name (record { rows = rows; seeds = seeds }) live (nothing_done store))
-    (driven name (record { rows = rows; seeds = seeds }) live (nothing_done store)))
+    (λ w. driving name (record { rows = rows; seeds = seeds }) live none_kept (nothing_done store))
+    (λ w. to_write (driving name (record { rows = rows; seeds = seeds }) live none_kept (nothing_done store))
+    (driven name (record { rows = rows; seeds = seeds }) live none_kept (nothing_done store)))
     (starting store.rows rows) (λ r is. result r))
     (make_seeds (plugin_order rows))
     (read_alone (make_seeds (plugin_order rows)) (seeds_read (plugin_order rows)))

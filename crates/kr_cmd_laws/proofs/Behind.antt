@@ -6,7 +6,7 @@ use Rattle.kr_kms.specs.declared.world.WorldCall.TheVariants.{File, Link, Random
 use Rattle.kr_kms.specs.declared.world.Access.{Access}
 use Rattle.kr_cmd_steps.specs.Afterwards.{IsSettledLast}
 use Rattle.kr_cmd_steps.specs.Phases.{settled_for}
-use Rattle.kr_cmd_steps.specs.Steps.{Steps, load, take_input, borrow_dice, borrow_tape, read_tape, write_row, keep_rows, settle, draw, borrow_link, ask_status, wrap, unwrap, note, find, refuse, give, and_then, Point, awaits, amid, refuses, gives, Left, Goes, loading, reading, opening, lending, scanning, writing, settling, drawing, linking, asking, with_asked, with_heard, with_input, with_told}
+use Rattle.kr_cmd_steps.specs.Steps.{Steps, load, take_input, borrow_dice, borrow_tape, read_tape, write_row, keep_rows, settle, give_back, draw, borrow_link, ask_status, wrap, unwrap, note, find, refuse, give, and_then, Point, awaits, amid, refuses, gives, Left, Goes, loading, reading, opening, lending, scanning, writing, settling, drawing, linking, asking, with_asked, with_heard, with_input, with_told}
 use Rattle.kr_cmd_messages.specs.declared.refusal.Object.{Object}
 use Rattle.kr_cmd_steps.proofs.Goes.{Further}
 
@@ -112,9 +112,9 @@ module _ {A B : Type 0} (others : A → Steps B) (p : Point B) (end : Left) wher
     inr (inr (inl (refl, refl))),
     at,
   )
-  parted (wrap seat plugin plain next) left (inr (inr (inr (wrapped, tells, within, goes)))) =
+  parted (wrap seat plugin plain next) left (inr (inr (inr (wrapped, within, goes)))) =
       let r = parted (next wrapped) _ goes in
-      (r.0, r.1, inr (inr (inr (wrapped, tells, within, r.2))), r.3)
+      (r.0, r.1, inr (inr (inr (wrapped, within, r.2))), r.3)
   parted (unwrap seat key next) left (inl at) = (amid, left, inl (refl, refl), at)
   parted (unwrap seat key next) left (inr (inl (answer, at))) = (
     amid,
@@ -128,12 +128,10 @@ module _ {A B : Type 0} (others : A → Steps B) (p : Point B) (end : Left) wher
     inr (inr (inl (refl, refl))),
     at,
   )
-  parted (unwrap seat key next) left (inr (inr (inr (bytes, tells, inl (was, goes))))) =
+  parted (unwrap seat key next) left (inr (inr (inr (bytes, goes)))) =
       let r = parted (next bytes) _ goes in
-      (r.0, r.1, inr (inr (inr (bytes, tells, inl (was, r.2)))), r.3)
-  parted (unwrap seat key next) left (inr (inr (inr (bytes, tells, inr goes)))) =
-      let r = parted (next bytes) _ goes in
-      (r.0, r.1, inr (inr (inr (bytes, tells, inr r.2))), r.3)
+      (r.0, r.1, inr (inr (inr (bytes, r.2))), r.3)
+  parted (give_back name next) left goes = parted next _ goes
   parted (note text next) left goes = parted next _ goes
   parted (find D P next) left (inl at) = (amid, left, inl (refl, refl), at)
   parted (find D P next) left (inr (d, is, goes)) =

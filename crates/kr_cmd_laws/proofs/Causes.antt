@@ -6,7 +6,6 @@ use Rattle.kr_base.specs.Faults.{Rose}
 use Rattle.kr_base.proofs.Counting.{Rose-later}
 use Rattle.kr_kms.specs.Calls.{Link}
 use Rattle.kr_kms.specs.Exchanges.{Exchange}
-use Rattle.kr_kms.specs.Truth.{Truth}
 use Rattle.kr_workers.specs.Endings.{status_of}
 use Rattle.kr_workers.specs.declared.ending.Ending.{Ending}
 use Rattle.kr_workers.specs.declared.ending.Ending.TheVariants as ending
@@ -31,7 +30,7 @@ BreaksOff output (Refused why) = ⊥
 BreaksOff output (Fault object n) = Rose output.old_faults output.new_faults
 BreaksOff output NoMemory = ⊤
 
-module _ (T : Type 0) {L D : Type 0} (truth : Truth) (link : L → Link)
+module _ (T : Type 0) {L D : Type 0} (link : L → Link)
     (step : L → Exchange → L → Type 0) (left : D → Option (List ℕ)) (count : D → ℕ)
     (steps : Steps Begun) (store : List ℕ) (HasStarted : Result Ending Stop → Type 0)
     (old new : Around) (output errors : Receipt)
@@ -42,7 +41,7 @@ module _ (T : Type 0) {L D : Type 0} (truth : Truth) (link : L → Link)
   Decided point status = IsDecidedBy steps store HasStarted old new output errors point status
 
   abbrev Stopped : Stop → Type 0
-  Stopped stop = StopsBefore T truth link step left count steps store old new output (Err stop)
+  Stopped stop = StopsBefore T link step left count steps store old new output (Err stop)
 
   abbrev Ended : Ending → Type 0
   Ended e = HasEnded HasStarted errors e
@@ -102,7 +101,7 @@ module _ (T : Type 0) {L D : Type 0} (truth : Truth) (link : L → Link)
 
     decided_so : (point : Point Begun) (status : ℕ) → WouldBegin steps old point
         → (result : Result Ending Stop)
-        → StopsBefore T truth link step left count steps store old new output result
+        → StopsBefore T link step left count steps store old new output result
         ⊎ HasStarted result
         → TellsFleet result errors status → Decided point status
     decided_so point status would (Ok e) (inl never) tells = absurd never
@@ -216,7 +215,7 @@ module _ (T : Type 0) {L D : Type 0} (truth : Truth) (link : L → Link)
     broke NoMemory s is = lacked is
 
     by_end : (result : Result Ending Stop) → IsHome old new
-        → StopsBefore T truth link step left count steps store old new output result
+        → StopsBefore T link step left count steps store old new output result
         ⊎ HasStarted result
         → TellsFleet result errors status → AreRead
     by_end (Ok e) home (inl never) tells = absurd never
@@ -228,7 +227,7 @@ module _ (T : Type 0) {L D : Type 0} (truth : Truth) (link : L → Link)
   pub causes : (IsTold : Type 0)
       → (IsTold → GoOneWay (and_then steps closing) (left_of old))
       → (status : ℕ) (result : Result Ending Stop) → IsHome old new
-      → StopsBefore T truth link step left count steps store old new output result
+      → StopsBefore T link step left count steps store old new output result
       ⊎ HasStarted result
       → TellsFleet result errors status
       → Causes steps store HasStarted old new output errors IsTold status

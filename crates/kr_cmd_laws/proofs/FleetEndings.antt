@@ -10,7 +10,6 @@ use Rattle.kr_kms.specs.Calls.{Link}
 use Rattle.kr_kms.specs.Exchanges.{Exchange}
 use Rattle.kr_kms.specs.Health.{breach_in}
 use Rattle.kr_kms.specs.Outside.{link_at}
-use Rattle.kr_kms.specs.Truth.{Truth}
 use Rattle.kr_kms.specs.declared.plugin.Status.{Status}
 use Rattle.kr_provider.specs.Names.{names_of}
 use Rattle.kr_rollout.specs.Histories.{IsRun, state_from, state_of}
@@ -92,28 +91,28 @@ name_there link links it (k, below, is) = (
 
 -- ---- whether its workers were started
 
-pub started_or_not : {T L D : Type 0} {truth : Truth} {link : L → Link}
+pub started_or_not : {T L D : Type 0} {link : L → Link}
     {step : L → Exchange → L → Type 0} {lent took : ℕ → L → Type 0}
     {left : D → Option (List ℕ)} {count : D → ℕ} {words : FleetWords} {old new : Around}
     {output : Receipt} {result : Result Ending Stop}
-    → DidFleet T truth link step lent took left count words old new output result
-    → StopsBefore T truth link step left count (fleet_steps words) words.store old new output result
-    ⊎ Starts T truth link step lent took left count words old new output result
-started_or_not {T} {truth = truth} {link = link} {step = step} {lent = lent} {took = took}
+    → DidFleet T link step lent took left count words old new output result
+    → StopsBefore T link step left count (fleet_steps words) words.store old new output result
+    ⊎ Starts T link step lent took left count words old new output result
+started_or_not {T} {link = link} {step = step} {lent = lent} {took = took}
     {left = left} {count = count} {words = words} {old = old} {new = new} {output = output}
     {result = result} d = by d.did
   where
-    by : StopsBefore T truth link step left count (fleet_steps words) words.store old new output
+    by : StopsBefore T link step left count (fleet_steps words) words.store old new output
         result
-        ⊎ ((s : Starts T truth link step lent took left count words old new output result)
+        ⊎ ((s : Starts T link step lent took left count words old new output result)
         × (s.exchanges ≡ d.exchanges))
-        → StopsBefore T truth link step left count (fleet_steps words) words.store old new output
+        → StopsBefore T link step left count (fleet_steps words) words.store old new output
         result
-        ⊎ Starts T truth link step lent took left count words old new output result
+        ⊎ Starts T link step lent took left count words old new output result
     by (inl stops) = inl stops
     by (inr began) = inr began.0
 
-module _ (T : Type 0) {L D : Type 0} (truth : Truth) (link : L → Link)
+module _ (T : Type 0) {L D : Type 0} (link : L → Link)
     (step : L → Exchange → L → Type 0) (lent took : ℕ → L → Type 0)
     (left : D → Option (List ℕ)) (count : D → ℕ) (words : FleetWords) (old : Around)
     (ready : IsReady words old) (new : Around) (output errors : Receipt)
@@ -134,7 +133,7 @@ module _ (T : Type 0) {L D : Type 0} (truth : Truth) (link : L → Link)
       (begins : BeginsWell words old ready begun end)
       (links : mid.world.links.told ≡ old.world.links.told)
       (history : List Entry) (ended : List (Worker T L D))
-      (runs : RunsFleet truth link step left count words.store begun mid new history ended) where
+      (runs : RunsFleet link step left count words.store begun mid new history ended) where
     many_are : length runs.workers ≡ length ready.fleet.workers
     many_are = runs.many ∙ sym (length-map runs.parts worker_of)
         ∙ ap length (runs.parts_are ∙ ap (λ (f : Fleet). f.workers) begins.fleet_is)
@@ -230,10 +229,10 @@ module _ (T : Type 0) {L D : Type 0} (truth : Truth) (link : L → Link)
             sym t.2 ∙ ap breach_in same ∙ has.has.2 in cc)
 
   abbrev Completed : ℕ → Type 0
-  Completed status = IsCompleted T truth link step lent took left count words old new output errors
+  Completed status = IsCompleted T link step lent took left count words old new output errors
       status
 
-  module _ (e : Ending) (s : Starts T truth link step lent took left count words old new output
+  module _ (e : Ending) (s : Starts T link step lent took left count words old new output
       (Ok e))
       (idle : WroteNothing errors) where
     begins : BeginsWell words old ready s.begun s.reaches.end
@@ -245,13 +244,13 @@ module _ (T : Type 0) {L D : Type 0} (truth : Truth) (link : L → Link)
 
     rests : RestsOn link count s.history s.runs.workers s.ended e
     rests = subst (RestsOn link count s.history s.runs.workers s.ended) (sym s.writes.0)
-        (histories_tell T truth link step left count s.runs.files s.history
+        (histories_tell T link step left count s.runs.files s.history
         (opening_of words.store s.begun s.mid) s.runs.parts s.begun.budgets s.runs.workers s.ended
         s.runs.one).rests
 
   -- the workers ran
   ended_so : (status : ℕ) (e : Ending)
-      → Starts T truth link step lent took left count words old new output (Ok e)
+      → Starts T link step lent took left count words old new output (Ok e)
       → WroteNothing errors
       → status ≡ status_of e → Completed status
   ended_so status ending.Done s idle is = inl (is, (s, idle))
@@ -273,9 +272,9 @@ module _ (T : Type 0) {L D : Type 0} (truth : Truth) (link : L → Link)
 
   -- they didn't
   stopped_so : (status : ℕ) (stop : Stop) → status ≡ stop_status (Err stop)
-      → StopsBefore T truth link step left count (fleet_steps words) words.store old new output
+      → StopsBefore T link step left count (fleet_steps words) words.store old new output
       (Err stop)
-      ⊎ Starts T truth link step lent took left count words old new output (Err stop)
+      ⊎ Starts T link step lent took left count words old new output (Err stop)
       → Completed status
   stopped_so status (Words why) is (inl (inl ends, idle)) = absurd ends
   stopped_so status (Words why) is (inl (inr (inl (e, lacking)), idle)) = absurd cc
@@ -300,14 +299,14 @@ module _ (T : Type 0) {L D : Type 0} (truth : Truth) (link : L → Link)
   stopped_so status NoMemory is did = inr (inr (inr is))
 
   pub completed : (status : ℕ)
-      → RanFleet T truth link step lent took left count words old new output errors status
+      → RanFleet T link step lent took left count words old new output errors status
       → Completed status
   completed status ran = by ran.result (started_or_not ran.did) ran.tells
     where
       by : (result : Result Ending Stop)
-          → StopsBefore T truth link step left count (fleet_steps words) words.store old new output
+          → StopsBefore T link step left count (fleet_steps words) words.store old new output
           result
-          ⊎ Starts T truth link step lent took left count words old new output result
+          ⊎ Starts T link step lent took left count words old new output result
           → TellsFleet result errors status → Completed status
       by (Ok e) (inl never) tells = absurd never
       by (Ok e) (inr s) tells = ended_so status e s tells.1 tells.0

@@ -30,7 +30,7 @@ use Rattle.kr_cmd_fleet.specs.FleetReady.{IsFleetTold}
 use Rattle.kr_cmd_fleet.specs.Fleets.{AreWithin, Begun, IsStart, Replicas, beginning, equipping_all, equipping, fleet_steps, launching, over_store, parts_of, publishes, publishing, rows_of_replica, starting, starting_with}
 use Rattle.kr_cmd_steps.specs.Judgements.{start_refusal}
 use Rattle.kr_cmd_steps.specs.Plugins.{join_program, make_seeds, settings_programs}
-use Rattle.kr_cmd_steps.specs.Ran.{AreTold}
+use Rattle.kr_cmd_steps.specs.Telling.{AreTold}
 use Rattle.kr_cmd_steps.specs.Steps.{Left, Steps, and_then, give, or_empty, with_asked}
 use Rattle.kr_cmd_steps.specs.StoreFiles.{Stored}
 use Rattle.kr_cmd_messages.specs.declared.fleet_words.FleetWords.{FleetWords}
@@ -43,7 +43,8 @@ use Rattle.kr_cmd_laws.proofs.OneBeginning.{GoOneWay, closing}
 use Rattle.kr_cmd_laws.proofs.OnePoint.{IsSettled}
 use Rattle.kr_cmd_fleet.proofs.Plans.{rows_among}
 use Rattle.kr_cmd_steps.proofs.Linked.{links_then}
-use Rattle.kr_cmd_laws.proofs.Settled.{one_configuration, regroup, settled_links_of, settled_pair, settled_seeds, told_or_empty}
+use Rattle.kr_cmd_laws.proofs.Once.{one_configuration}
+use Rattle.kr_cmd_laws.proofs.Settled.{regroup, settled_links_of, settled_pair, settled_seeds, told_or_empty}
 use Rattle.kr_cmd_steps.proofs.Tapes.{own_name}
 
 -- ---- what is found is one thing

@@ -46,7 +46,7 @@ use Rattle.kr_cmd_fleet.proofs.FleetLoads.{IsRead, first_found, found_by, last_r
 use Rattle.kr_cmd_steps.proofs.GivesOnly.{GivesOnly, gives_then}
 use Rattle.kr_cmd_laws.proofs.Listed.{one_stored}
 use Rattle.kr_cmd_fleet.proofs.Plans.{halves, replicas_read}
-use Rattle.kr_cmd_laws.proofs.Settled.{one_configuration}
+use Rattle.kr_cmd_laws.proofs.Once.{one_configuration}
 use Rattle.kr_cmd_steps.proofs.Tapes.{own_name}
 
 -- ---- what is told

@@ -1,7 +1,6 @@
 -- Steps that gave something: the first gave something, from which the others went on.
 use Rattle.std.proofs.Common.{◌≡◌, Bool, true, false, refl, ◌∙◌, ap, inl, inr}
-use Rattle.kr_kms.specs.Truth.{Truth}
-use Rattle.kr_cmd_steps.specs.Steps.{Steps, load, take_input, borrow_dice, borrow_tape, read_tape, write_row, keep_rows, settle, draw, borrow_link, ask_status, wrap, unwrap, note, find, refuse, give, and_then, Point, gives, Left, IsAt, Goes}
+use Rattle.kr_cmd_steps.specs.Steps.{Steps, load, take_input, borrow_dice, borrow_tape, read_tape, write_row, keep_rows, settle, give_back, draw, borrow_link, ask_status, wrap, unwrap, note, find, refuse, give, and_then, Point, gives, Left, IsAt, Goes}
 
 abbrev pub is_value : {A : Type 0} → Point A → Bool
 is_value (gives x) = true
@@ -76,18 +75,17 @@ module _ {A B : Type 0} (others : A → Steps B) (y : B) (end : Left) where
   joint (wrap seat plugin plain next) left (inl at) = absurd (no_value at refl)
   joint (wrap seat plugin plain next) left (inr (inl (answer, at))) = absurd (no_value at refl)
   joint (wrap seat plugin plain next) left (inr (inr (inl at))) = absurd (no_value at refl)
-  joint (wrap seat plugin plain next) left (inr (inr (inr (wrapped, tells, within, goes)))) =
+  joint (wrap seat plugin plain next) left (inr (inr (inr (wrapped, within, goes)))) =
       let j = joint (next wrapped) _ goes in
-      (j.0, j.1, inr (inr (inr (wrapped, tells, within, j.2))), j.3)
+      (j.0, j.1, inr (inr (inr (wrapped, within, j.2))), j.3)
   joint (unwrap seat key next) left (inl at) = absurd (no_value at refl)
   joint (unwrap seat key next) left (inr (inl (answer, at))) = absurd (no_value at refl)
   joint (unwrap seat key next) left (inr (inr (inl at))) = absurd (no_value at refl)
-  joint (unwrap seat key next) left (inr (inr (inr (bytes, tells, inl (was, goes))))) =
-      let j = joint (next bytes) left goes in
-      (j.0, j.1, inr (inr (inr (bytes, tells, inl (was, j.2)))), j.3)
-  joint (unwrap seat key next) left (inr (inr (inr (bytes, tells, inr goes)))) =
+  joint (unwrap seat key next) left (inr (inr (inr (bytes, goes)))) =
       let j = joint (next bytes) _ goes in
-      (j.0, j.1, inr (inr (inr (bytes, tells, inr j.2))), j.3)
+      (j.0, j.1, inr (inr (inr (bytes, j.2))), j.3)
+  joint (give_back name next) left goes =
+      let j = joint next _ goes in (j.0, j.1, j.2, j.3)
   joint (note text next) left goes =
       let j = joint next _ goes in (j.0, j.1, j.2, j.3)
   joint (find D P next) left (inl at) = absurd (no_value at refl)
@@ -95,72 +93,3 @@ module _ {A B : Type 0} (others : A → Steps B) (y : B) (end : Left) where
       let j = joint (next d) left goes in (j.0, j.1, inr (d, is, j.2), j.3)
   joint (refuse why) left at = absurd (no_value at refl)
   joint (give x) left goes = (x, left, (refl, refl), goes)
-
--- ---- the plugins' truth stays
-
-module _ {A : Type 0} (point : Point A) (end : Left) where
-  at_truth : {here : Point A} {left : Left} {truth : Truth} → IsAt point end here left
-      → left.truth ≡ truth → end.truth ≡ truth
-  at_truth at same = ap (λ l. l.truth) at.1 ∙ same
-
-  pub one_truth : (steps : Steps A) (left : Left) → Goes point end steps left
-      → end.truth ≡ left.truth
-  one_truth (load name next) left (inl at) = at_truth at refl
-  one_truth (load name next) left (inr (inl at)) = at_truth at refl
-  one_truth (load name next) left (inr (inr (bytes, agrees, goes))) =
-      one_truth (next bytes) _ goes
-  one_truth (take_input limit long next) left (bytes, rest, c, inl (short, at)) =
-      at_truth at refl
-  one_truth (take_input limit long next) left (bytes, rest, c, inr (inl (more, at))) =
-      at_truth at refl
-  one_truth (take_input limit long next) left (bytes, rest, c, inr (inr (short, e, goes))) =
-      one_truth (next bytes) _ goes
-  one_truth (borrow_dice seat next) left (inl at) = at_truth at refl
-  one_truth (borrow_dice seat next) left (inr (inl at)) = at_truth at refl
-  one_truth (borrow_dice seat next) left (inr (inr goes)) = one_truth next _ goes
-  one_truth (borrow_tape name access absent next) left (inl at) = at_truth at refl
-  one_truth (borrow_tape name access absent next) left (inr (inl at)) = at_truth at refl
-  one_truth (borrow_tape name access absent next) left (inr (inr (inl (may, agrees, at)))) =
-      at_truth at refl
-  one_truth (borrow_tape name access absent next) left (inr (inr (inr (may, goes)))) =
-      one_truth next _ goes
-  one_truth (read_tape object name next) left (inl at) = at_truth at refl
-  one_truth (read_tape object name next) left (inr (bytes, agrees, goes)) =
-      one_truth (next bytes) left goes
-  one_truth (write_row object name store row next) left (inl (told, begins, at)) =
-      at_truth at refl
-  one_truth (write_row object name store row next) left (inr (told, holds, goes)) =
-      one_truth next _ goes
-  one_truth (keep_rows name store next) left (told, holds, goes) =
-      one_truth next _ goes
-  one_truth (settle object name next) left (inl at) = at_truth at refl
-  one_truth (settle object name next) left (inr goes) = one_truth next _ goes
-  one_truth (draw seat size next) left (inl at) = at_truth at refl
-  one_truth (draw seat size next) left (inr (bytes, rest, c, fits, goes)) =
-      one_truth (next bytes) _ goes
-  one_truth (borrow_link seat plugin program next) left (inl at) = at_truth at refl
-  one_truth (borrow_link seat plugin program next) left (inr (inl at)) = at_truth at refl
-  one_truth (borrow_link seat plugin program next) left (inr (inr goes)) =
-      one_truth next _ goes
-  one_truth (ask_status seat plugin next) left (inl at) = at_truth at refl
-  one_truth (ask_status seat plugin next) left (inr (inl (answer, at))) = at_truth at refl
-  one_truth (ask_status seat plugin next) left (inr (inr (inl at))) = at_truth at refl
-  one_truth (ask_status seat plugin next) left (inr (inr (inr (status, agrees, goes)))) =
-      one_truth (next status) _ goes
-  one_truth (wrap seat plugin plain next) left (inl at) = at_truth at refl
-  one_truth (wrap seat plugin plain next) left (inr (inl (answer, at))) = at_truth at refl
-  one_truth (wrap seat plugin plain next) left (inr (inr (inl at))) = at_truth at refl
-  one_truth (wrap seat plugin plain next) left (inr (inr (inr (wrapped, tells, within, goes)))) =
-      one_truth (next wrapped) _ goes
-  one_truth (unwrap seat key next) left (inl at) = at_truth at refl
-  one_truth (unwrap seat key next) left (inr (inl (answer, at))) = at_truth at refl
-  one_truth (unwrap seat key next) left (inr (inr (inl at))) = at_truth at refl
-  one_truth (unwrap seat key next) left (inr (inr (inr (bytes, tells, inl (was, goes))))) =
-      one_truth (next bytes) left goes
-  one_truth (unwrap seat key next) left (inr (inr (inr (bytes, tells, inr goes)))) =
-      one_truth (next bytes) _ goes
-  one_truth (note text next) left goes = one_truth next _ goes
-  one_truth (find D P next) left (inl at) = at_truth at refl
-  one_truth (find D P next) left (inr (d, is, goes)) = one_truth (next d) left goes
-  one_truth (refuse why) left at = at_truth at refl
-  one_truth (give x) left at = at_truth at refl

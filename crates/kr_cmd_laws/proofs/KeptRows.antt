@@ -7,6 +7,7 @@ use Rattle.kr_base.specs.Limits.{data_limit, store_limit}
 use Rattle.kr_base.specs.Told.{Agrees}
 use Rattle.kr_config.specs.Kept.{ConfigEntry}
 use Rattle.kr_config.specs.Lists.{list_of}
+use Rattle.kr_kms.specs.Cache.{CacheState}
 use Rattle.kr_kms.specs.Outside.{same_name}
 use Rattle.kr_kms.specs.declared.seeds.SeedRow.{SeedRow}
 use Rattle.kr_kms.specs.declared.world.Access.TheVariants.{ToWrite}
@@ -24,7 +25,7 @@ use Rattle.kr_cmd_steps.specs.Afterwards.{ArePutsOf, KeepsRows, MayEndAmidRows, 
 use Rattle.kr_cmd_steps.specs.RewriteSteps.{Progress, nothing_done, driving, one_fresh, one_left, one_rewritten, replacing, resealing, rewriting_by, rewriting_on, row_anew, row_by, row_data, row_steps, starting, within_journal}
 use Rattle.kr_cmd_steps.specs.Phases.{by_result, configuration, linking_programs, settled_for}
 use Rattle.kr_cmd_steps.specs.Commands.{rewriting}
-use Rattle.kr_cmd_steps.specs.ValueSteps.{value_read, value_sealed}
+use Rattle.kr_cmd_steps.specs.ValueSteps.{value_read, value_sealed, none_kept}
 use Rattle.kr_cmd_steps.specs.Plugins.{borrow_links, make_seeds, settings_programs}
 use Rattle.kr_cmd_steps.specs.Steps.{Steps, borrow_dice, give, settle, write_row, and_then, Point, awaits, amid, refuses, gives, Left, IsAt, Goes, with_said, with_told}
 use Rattle.kr_cmd_steps.specs.StoreFiles.{Stored, IsStored, with_row, BeginsWith, HoldsRows}
@@ -251,26 +252,38 @@ module _ (name : List ℕ) (p : Publication) (point : Point Outcome) (end : Left
     by_read (Ok opened) mid now goes = by_data opened.plain mid now opened.stale goes
     by_read (Err why) mid now goes = passed (onward (one_left at) mid goes)
 
-    by_row : (mid : Left) → Now name at.store mid
-        → Goes point end (and_then (row_steps name p row at) next) mid → Behind
-    by_row mid now goes =
-        let list = list_of p.rows row.resource in
-        let read = value_read p.seeds list row.path row.stored in
-        elim (parts (λ value. and_then (row_by name p row at value) next) point end read mid
-        (value_reads p.seeds list row.path row.stored)
-        (subst (λ s. Goes point end s mid) (regroup read (row_by name p row at) next) goes)) [
-          | inl e ↦ no_more at.store (row ∷ live) e.0 (carried now e.1)
-          | inr m ↦ by_read m.0 m.1 (carried now m.2) m.3
-        ]
+  -- the row's value is read, with the seeds that are kept
+  by_row : (row : stored.Row) (live : List stored.Row)
+      (next : CacheState → Progress → Steps Outcome)
+      (onward : (after : CacheState) → Onward (next after) live) (at : Progress) (mid : Left)
+      → Now name at.store mid → (kept : CacheState)
+      → Goes point end
+      (and_then (row_steps name p row kept at) (λ done. next done.1 done.0)) mid
+      → Grown at.store (row ∷ live)
+  by_row row live next onward at mid now kept goes =
+      let list = list_of p.rows row.resource in
+      let value = value_read p.seeds list row.path row.stored kept in
+      let others : Progress × CacheState → Steps Outcome = λ done. next done.1 done.0 in
+      let behind : Result Opened ValueNo × CacheState → Steps (Progress × CacheState) =
+      λ read. and_then (row_by name p row at read.0) (λ done. give (done, read.1)) in
+      elim (parts (λ read. and_then (behind read) others) point end value mid
+      (value_reads p.seeds list row.path row.stored kept)
+      (subst (λ s. Goes point end s mid) (regroup value behind others) goes)) [
+        | inl e ↦ no_more at.store (row ∷ live) e.0 (carried now e.1)
+        | inr m ↦ by_read row live (next m.0.1) (onward m.0.1) at m.0.0 m.1 (carried now m.2)
+            (subst (λ s. Goes point end s m.1)
+            (regroup (row_by name p row at m.0.0) (λ done. give (done, m.0.1)) others) m.3)
+      ]
 
-  drive_grows : (live : List stored.Row) → Onward (driving name p live) live
-  drive_grows [] at left (told, holds, inl e) =
+  drive_grows : (live : List stored.Row) (kept : CacheState)
+      → Onward (driving name p live kept) live
+  drive_grows [] kept at left (told, holds, inl e) =
       ends_so at.store [] _ (kept_here name at.store _ left told holds) tt e
-  drive_grows [] at left (told, holds, inr (u, v, e)) =
+  drive_grows [] kept at left (told, holds, inr (u, v, e)) =
       no_row at.store _ (kept_here name at.store _ left told holds) e.1
-  drive_grows (row ∷ live) at left (told, holds, goes) =
-      by_row row live (driving name p live) (drive_grows live) at _
-      (kept_here name at.store _ left told holds) goes
+  drive_grows (row ∷ live) kept at left (told, holds, goes) =
+      by_row row live (λ after. driving name p live after) (drive_grows live) at _
+      (kept_here name at.store _ left told holds) kept goes
 
 -- ---- all of it
 
@@ -309,20 +322,22 @@ module _ (words : Rewriting) (point : Point Outcome) (end left : Left) where
 
   -- a drive refuses at a limit alone
   limited_by : (name : List ℕ) (p : Publication) (live : List stored.Row) (at : Progress)
-      (mid : Left) (q : Point Outcome) → Goes q end (driving name p live at) mid → IsLimited q
-  limited_by name p live at mid (awaits call) goes = tt
-  limited_by name p live at mid amid goes = tt
-  limited_by name p live at mid (refuses why) goes =
+      (kept : CacheState) (mid : Left) (q : Point Outcome)
+      → Goes q end (driving name p live kept at) mid → IsLimited q
+  limited_by name p live at kept mid (awaits call) goes = tt
+  limited_by name p live at kept mid amid goes = tt
+  limited_by name p live at kept mid (refuses why) goes =
       driving_refuses (λ cause. (which : limits.Limit) × (cause ≡ Limit which))
-      (limit.Store, refl) name p live at why end mid goes
-  limited_by name p live at mid (gives x) goes = tt
+      (limit.Store, refl) name p live kept at why end mid goes
+  limited_by name p live at kept mid (gives x) goes = tt
 
   module _ (rows : List ConfigEntry) (programs : List Program) (bytes : List ℕ) (base : Stored)
       (held : Agrees (left.tapes words.store) (Some bytes)) (is : IsStored bytes (Ok base))
       (live : List stored.Row) (listing : IsListing base.rows live) where
     abbrev behind_seeds : List SeedRow → Steps Outcome
     behind_seeds seeds = and_then (starting base.rows rows) (λ u.
-        driving words.store (record { rows = rows; seeds = seeds }) live (nothing_done base))
+        driving words.store (record { rows = rows; seeds = seeds }) live none_kept
+        (nothing_done base))
 
     at_start : (seeds : List SeedRow) (mid : Left) → mid.tapes ≡ left.tapes
         → Goes point end (behind_seeds seeds) mid → Kept
@@ -336,9 +351,9 @@ module _ (words : Rewriting) (point : Point Outcome) (end left : Left) where
       read = is;
       listing = listing;
       grows = drive_grows words.store (record { rows = rows; seeds = seeds }) point end live
-          (nothing_done base) mid goes;
+          none_kept (nothing_done base) mid goes;
       limited = limited_by words.store (record { rows = rows; seeds = seeds }) live
-          (nothing_done base) mid point goes;
+          (nothing_done base) none_kept mid point goes;
     })
 
     at_seeds : (mid : Left) → mid.tapes ≡ left.tapes

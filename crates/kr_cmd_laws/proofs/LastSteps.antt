@@ -1,5 +1,5 @@
 -- The way of steps that come to their last: past each step, and what was heard only grows.
-use Rattle.std.proofs.Common.{◌≡◌, ℕ, ◌+◌, ◌≤◌, ◌⊎◌, List, [], ◌∷◌, ◌++◌, length, false, Option, None, Some, Ok, Contains, sym, ◌∙◌, ap, subst, inl, inr, append-nil, append_assoc}
+use Rattle.std.proofs.Common.{◌≡◌, ℕ, ◌+◌, ◌≤◌, ◌⊎◌, List, [], ◌∷◌, ◌++◌, length, false, Option, None, Some, Ok, sym, ◌∙◌, ap, subst, inl, inr, append-nil, append_assoc}
 use Rattle.std.specs.Io.KnownBytes.{Consumes, IsAtEnd}
 use Rattle.kr_base.specs.Told.{Agrees}
 use Rattle.kr_kms.specs.Exchanges.{Exchange, StatusCall, UnwrapCall, WrapCall}
@@ -8,11 +8,11 @@ use Rattle.kr_kms.specs.declared.plugin.Status.{Status}
 use Rattle.kr_kms.specs.declared.plugin.Wrapped.{Wrapped}
 use Rattle.kr_kms.specs.declared.seeds.SeedKey.{SeedKey}
 use Rattle.kr_kms.specs.declared.world.Access.{Access}
-use Rattle.kr_kms.specs.declared.world.WorldCall.TheVariants.{File, Link, RandomSource, Settled, Tape}
+use Rattle.kr_kms.specs.declared.world.WorldCall.TheVariants.{File, Link, RandomSource, Settled, Tape, Returned}
 use Rattle.kr_store.specs.declared.rows.LogRow.{LogRow}
 use Rattle.kr_cmd_messages.specs.declared.refusal.Object.{Object}
 use Rattle.kr_cmd_messages.specs.declared.refusal.Refusal.{Refusal}
-use Rattle.kr_cmd_steps.specs.Steps.{Steps, load, take_input, borrow_dice, borrow_tape, read_tape, write_row, keep_rows, settle, draw, borrow_link, ask_status, wrap, unwrap, note, find, refuse, give, loading, reading, opening, lending, scanning, writing, settling, drawing, linking, asking, Point, awaits, amid, refuses, gives, Left, Goes, IsAt, MayBorrow, WasUnwrapped, hearing, with_asked, with_dice, with_heard, with_input, with_said, with_tape, with_told}
+use Rattle.kr_cmd_steps.specs.Steps.{Steps, load, take_input, borrow_dice, borrow_tape, read_tape, write_row, keep_rows, settle, give_back, draw, borrow_link, ask_status, wrap, unwrap, note, find, refuse, give, loading, reading, opening, lending, scanning, writing, settling, drawing, linking, asking, Point, awaits, amid, refuses, gives, Left, Goes, IsAt, MayBorrow, hearing, with_asked, with_dice, with_heard, with_input, with_said, with_tape, with_told}
 use Rattle.kr_cmd_steps.specs.StoreFiles.{HoldsRows, Stored, with_row}
 
 -- ---- the way of steps that come to their last
@@ -117,22 +117,16 @@ module _ {A : Type 0} (p : Point A) (end : Left) (is_last : IsLast p) where
   past_wrap seat plugin plain next left (inr (inl (answer, e))) = absurd (stops amid e.0)
   past_wrap seat plugin plain next left (inr (inr (inl e))) =
       absurd (stops (awaits (asking seat plugin)) e.0)
-  past_wrap seat plugin plain next left (inr (inr (inr (wrapped, tells, within, g)))) = (wrapped, g)
+  past_wrap seat plugin plain next left (inr (inr (inr (wrapped, within, g)))) = (wrapped, g)
 
   pub past_unwrap : (seat : ℕ) (key : SeedKey) (next : List ℕ → Steps A) (left : Left)
-      (heard : List Exchange) → left.heard ≡ Some heard
       → Goes p end (unwrap seat key next) left
-      → (bytes : List ℕ) × (
-      (Contains heard (UnwrapCall key (Ok bytes)) × Goes p end (next bytes) left)
-      ⊎ Goes p end (next bytes) (with_heard (UnwrapCall key (Ok bytes)) left)
-      )
-  past_unwrap seat key next left heard is (inl e) = absurd (stops amid e.0)
-  past_unwrap seat key next left heard is (inr (inl (answer, e))) = absurd (stops amid e.0)
-  past_unwrap seat key next left heard is (inr (inr (inl e))) =
+      → (bytes : List ℕ) × Goes p end (next bytes) (with_heard (UnwrapCall key (Ok bytes)) left)
+  past_unwrap seat key next left (inl e) = absurd (stops amid e.0)
+  past_unwrap seat key next left (inr (inl (answer, e))) = absurd (stops amid e.0)
+  past_unwrap seat key next left (inr (inr (inl e))) =
       absurd (stops (awaits (asking seat key.name)) e.0)
-  past_unwrap seat key next left heard is (inr (inr (inr (bytes, tells, inl (was, g))))) =
-      (bytes, inl (subst (λ h. WasUnwrapped key bytes h) is was, g))
-  past_unwrap seat key next left heard is (inr (inr (inr (bytes, tells, inr g)))) = (bytes, inr g)
+  past_unwrap seat key next left (inr (inr (inr g))) = g
 
   pub past_find : (B : Type 0) (P : B → Type 0) (next : B → Steps A) (left : Left)
       → Goes p end (find B P next) left → (b : B) × P b × Goes p end (next b) left
@@ -203,15 +197,10 @@ module _ {A : Type 0} (p : Point A) (end : Left) (is_last : IsLast p) where
   grown (wrap seat plugin plain next) left g = let a = past_wrap seat plugin plain next left g in
       one_heard (WrapCall plugin plain (Ok a.0)) left
       (grown (next a.0) (with_heard (WrapCall plugin plain (Ok a.0)) left) a.1)
-  grown (unwrap seat key next) left (inl e) = absurd (stops amid e.0)
-  grown (unwrap seat key next) left (inr (inl (answer, e))) = absurd (stops amid e.0)
-  grown (unwrap seat key next) left (inr (inr (inl e))) =
-      absurd (stops (awaits (asking seat key.name)) e.0)
-  grown (unwrap seat key next) left (inr (inr (inr (bytes, tells, inl (was, g))))) =
-      grown (next bytes) left g
-  grown (unwrap seat key next) left (inr (inr (inr (bytes, tells, inr g)))) =
-      one_heard (UnwrapCall key (Ok bytes)) left
-      (grown (next bytes) (with_heard (UnwrapCall key (Ok bytes)) left) g)
+  grown (unwrap seat key next) left g = let a = past_unwrap seat key next left g in
+      one_heard (UnwrapCall key (Ok a.0)) left
+      (grown (next a.0) (with_heard (UnwrapCall key (Ok a.0)) left) a.1)
+  grown (give_back name next) left g = grown next (with_asked (Returned name) left) g
   grown (note text next) left g = grown next (with_said text left) g
   grown (find B P next) left g = let a = past_find B P next left g in grown (next a.0) left a.2
   grown (refuse why) left g = ended (refuses why) left g

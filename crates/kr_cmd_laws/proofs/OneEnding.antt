@@ -20,10 +20,10 @@ use Rattle.kr_cmd_steps.specs.Around.{Around, left_of, with_what_is_said}
 use Rattle.kr_cmd_steps.specs.Commands.{steps}
 use Rattle.kr_cmd_steps.specs.Ran.{Answers, Closes, ComesSaying, Did, IsUntouched, ReachesEnd, Reports, StopsAtOnce, Writes, end_at}
 use Rattle.kr_cmd_steps.specs.Steps.{Goes, Left, Point, amid, awaits, gives, refuses}
-use Rattle.kr_cmd_laws.specs.Results.{AnswersOnce, CompleteCalls, EndsAsItsSteps, Execution, HasOneResult, HoldAlike, IsDecidedBySteps, IsTold, IsToldToo, MayEnd, NoneFailed, OneResult, StopsAtWords, TellsToo, WentWell}
+use Rattle.kr_cmd_steps.specs.Telling.{AnswersOnce, IsTold, MayEnd}
+use Rattle.kr_cmd_laws.specs.Results.{CompleteCalls, EndsAsItsSteps, Execution, HasOneResult, HoldAlike, IsDecidedBySteps, IsToldToo, NoneFailed, OneResult, StopsAtWords, TellsToo, WentWell}
 use Rattle.kr_cmd_laws.proofs.LastSteps.{IsLast}
-use Rattle.kr_cmd_laws.proofs.OneThing.{each}
-use Rattle.kr_cmd_laws.proofs.OneWay.{Shared, one_way}
+use Rattle.kr_cmd_laws.proofs.OneWay.{Shared, command_way}
 use Rattle.kr_cmd_laws.proofs.Readings.{readings}
 
 -- where exchanges are told, there are none before them
@@ -199,9 +199,8 @@ module _ (words : List (List ℕ)) (exchanges : Option (List Exchange)) (command
         → (p ≡ q) × (b.end.said ≡ a.end.said)
         × ((name : List ℕ) → HoldAlike (a.end.tapes name) (b.end.tapes name))
     meet x y told too e f said p q p_last q_last a b =
-        one_way exchanges p q a.end b.end p_last q_last a.heard b.heard once (steps command)
-        (left_of x) (left_of x) (left_of y)
-        (each command) told (
+        command_way exchanges p q a.end b.end p_last q_last a.heard b.heard once command
+        (left_of x) (left_of x) (left_of y) told (
           λ name. shared_of (x.world.file name) (y.world.file name) (too.file name),
           λ name. shared_of (x.world.tapes.told name) (y.world.tapes.told name) (too.tapes name),
           shared_of x.input y.input too.input,

@@ -4,8 +4,8 @@ use Rattle.std.proofs.Common.{◌≡◌, ℕ, ◌≤◌, List, ◌++◌, length,
 use Rattle.std.specs.Prelude.{Bool, true, false, IsSome}
 use Rattle.std.specs.Io.KnownBytes.{Consumes, IsAtEnd}
 use Rattle.kr_base.specs.Told.{Agrees}
-use Rattle.kr_kms.specs.declared.world.WorldCall.TheVariants.{File, Tape, RandomSource, Link, Settled}
-use Rattle.kr_cmd_steps.specs.Steps.{Steps, load, take_input, borrow_dice, borrow_tape, read_tape, write_row, keep_rows, settle, draw, note, find, refuse, give, Point, refuses, gives, Left, with_input, with_dice, with_tape, with_told, with_asked, with_heard, with_said, Goes, borrow_link, ask_status, wrap, unwrap}
+use Rattle.kr_kms.specs.declared.world.WorldCall.TheVariants.{File, Tape, RandomSource, Link, Settled, Returned}
+use Rattle.kr_cmd_steps.specs.Steps.{Steps, load, take_input, borrow_dice, borrow_tape, read_tape, write_row, keep_rows, settle, give_back, draw, note, find, refuse, give, Point, refuses, gives, Left, with_input, with_dice, with_tape, with_told, with_asked, with_heard, with_said, Goes, borrow_link, ask_status, wrap, unwrap}
 use Rattle.kr_kms.specs.Exchanges.{Exchange, StatusCall}
 use Rattle.kr_kms.specs.Limits.{IsWithinLimits}
 use Rattle.kr_kms.specs.declared.plugin.Status.{Status}
@@ -77,6 +77,8 @@ IsSettled (wrap seat plugin plain next) (wrap other name bytes more) left right 
 IsSettled (unwrap seat key next) (unwrap other name more) left right =
     (a b : List ℕ) (h k : Option (List Exchange))
     → IsSettled (next a) (more b) (record left { heard = h }) (record right { heard = k })
+IsSettled (give_back name next) (give_back other more) left right =
+    IsSettled next more (with_asked (Returned name) left) (with_asked (Returned other) right)
 IsSettled (note text next) (note other more) left right =
     IsSettled next more (with_said text left) (with_said other right)
 IsSettled (find B P next) (find C Q more) left right =
@@ -297,7 +299,7 @@ module _ (p q : Point Outcome) (end last : Left) where
       (inr (inr (inr g))) (inr (inr (inl f))) =
       no_second p q _ refl f.0
   one_point (wrap seat plugin plain next) (wrap other name bytes more) left right s
-      (inr (inr (inr (a, x, within, g)))) (inr (inr (inr (b, y, short, k)))) =
+      (inr (inr (inr (a, within, g)))) (inr (inr (inr (b, short, k)))) =
       one_point (next a) (more b) _ _ (s a b within short _ _) g k
   one_point (unwrap seat key next) (unwrap other name more) left right s (inl e) k =
       no_first p q _ refl e.0
@@ -316,17 +318,10 @@ module _ (p q : Point Outcome) (end last : Left) where
       (inr (inr (inl f))) =
       no_second p q _ refl f.0
   one_point (unwrap seat key next) (unwrap other name more) left right s
-      (inr (inr (inr (a, x, inl (was, g))))) (inr (inr (inr (b, y, inl (held, k))))) =
+      (inr (inr (inr (a, g)))) (inr (inr (inr (b, k)))) =
       one_point (next a) (more b) _ _ (s a b _ _) g k
-  one_point (unwrap seat key next) (unwrap other name more) left right s
-      (inr (inr (inr (a, x, inl (was, g))))) (inr (inr (inr (b, y, inr k)))) =
-      one_point (next a) (more b) _ _ (s a b _ _) g k
-  one_point (unwrap seat key next) (unwrap other name more) left right s
-      (inr (inr (inr (a, x, inr g)))) (inr (inr (inr (b, y, inl (held, k))))) =
-      one_point (next a) (more b) _ _ (s a b _ _) g k
-  one_point (unwrap seat key next) (unwrap other name more) left right s
-      (inr (inr (inr (a, x, inr g)))) (inr (inr (inr (b, y, inr k)))) =
-      one_point (next a) (more b) _ _ (s a b _ _) g k
+  one_point (give_back name next) (give_back other more) left right s g k =
+      one_point next more _ _ s g k
   one_point (note text next) (note other more) left right s g k = one_point next more _ _ s g k
   one_point (find B P next) (find C Q more) left right s (inl e) k = no_first p q _ refl e.0
   one_point (find B P next) (find C Q more) left right s (inr g) (inl f) =

@@ -1,6 +1,7 @@
 -- The steps of a rewrite write one tape alone.
 use Rattle.std.proofs.Common.{◌≡◌, ℕ, List, [], ◌∷◌, Bool, true, false, Option, None, Some, Result, Ok, Err, refl}
 use Rattle.std.specs.Prelude.{nat_lt, length}
+use Rattle.kr_kms.specs.Cache.{CacheState}
 use Rattle.kr_kms.specs.declared.world.Access.TheVariants.{ToWrite}
 use Rattle.kr_base.specs.Limits.{data_limit}
 use Rattle.kr_config.specs.Kept.{ConfigEntry}
@@ -16,7 +17,7 @@ use Rattle.kr_store.specs.declared.rows.Row as stored
 use Rattle.kr_cmd_steps.specs.RewriteSteps.{Progress, nothing_done, driving, one_rewritten, replacing, resealing, rewriting_by, rewriting_live, rewriting_on, row_anew, row_by, row_data, row_steps, starting, within_journal}
 use Rattle.kr_cmd_steps.specs.Phases.{adding, by_result, configuration, linking_programs, settled_for, within_limit}
 use Rattle.kr_cmd_steps.specs.Commands.{rewriting}
-use Rattle.kr_cmd_steps.specs.ValueSteps.{value_read, value_sealed}
+use Rattle.kr_cmd_steps.specs.ValueSteps.{value_read, value_sealed, none_kept}
 use Rattle.kr_cmd_steps.specs.Plugins.{borrow_links, make_seeds, settings_programs}
 use Rattle.kr_cmd_steps.specs.Steps.{borrow_dice, write_row, find, give, settle, and_then}
 use Rattle.kr_cmd_steps.specs.StoreFiles.{Stored, with_row}
@@ -65,28 +66,35 @@ module _ (name : List ℕ) (p : Publication) where
   by_is_on row at (Ok opened) = data_is_on row at opened.plain opened.stale
   by_is_on row at (Err why) = tt
 
-  row_is_on : (row : stored.Row) (at : Progress) → IsOnTape name (row_steps name p row at)
-  row_is_on row at =
+  row_is_on : (row : stored.Row) (kept : CacheState) (at : Progress)
+      → IsOnTape name (row_steps name p row kept at)
+  row_is_on row kept at =
       let list = list_of p.rows row.resource in
-      read_then name (row_by name p row at) (by_is_on row at)
-      (value_read p.seeds list row.path row.stored) (value_reads p.seeds list row.path row.stored)
+      read_then name (λ read. and_then (row_by name p row at read.0) (λ done. give (done, read.1)))
+      (λ read. on_then name (λ done. give (done, read.1)) (λ done. tt)
+      (row_by name p row at read.0) (by_is_on row at read.0))
+      (value_read p.seeds list row.path row.stored kept)
+      (value_reads p.seeds list row.path row.stored kept)
 
-  driving_is_on : (live : List stored.Row) (at : Progress) → IsOnTape name (driving name p live at)
-  driving_is_on [] at = (refl, λ u. tt)
-  driving_is_on (row ∷ live) at = (
+  driving_is_on : (live : List stored.Row) (kept : CacheState) (at : Progress)
+      → IsOnTape name (driving name p live kept at)
+  driving_is_on [] kept at = (refl, λ u. tt)
+  driving_is_on (row ∷ live) kept at = (
     refl,
-    on_then name (driving name p live) (driving_is_on live) (row_steps name p row at)
-        (row_is_on row at),
+    on_then name (λ done. driving name p live done.1 done.0)
+        (λ done. driving_is_on live done.1 done.0) (row_steps name p row kept at)
+        (row_is_on row kept at),
   )
 
 rewriting_by_is_on : (name : List ℕ) (rows : List ConfigEntry) (store : Stored) (live : List stored.Row)
     → IsOnTape name (rewriting_by name rows store live)
 rewriting_by_is_on name rows store live u =
     read_then name (λ seeds. and_then (starting store.rows rows) (λ u.
-    driving name (record { rows = rows; seeds = seeds }) live (nothing_done store)))
+    driving name (record { rows = rows; seeds = seeds }) live none_kept (nothing_done store)))
     (λ seeds. read_then name (λ u.
-    driving name (record { rows = rows; seeds = seeds }) live (nothing_done store))
-    (λ u. driving_is_on name (record { rows = rows; seeds = seeds }) live (nothing_done store))
+    driving name (record { rows = rows; seeds = seeds }) live none_kept (nothing_done store))
+    (λ u. driving_is_on name (record { rows = rows; seeds = seeds }) live none_kept
+    (nothing_done store))
     (starting store.rows rows) (λ started. result_reads started))
     (make_seeds (plugin_order rows)) (seeds_read (plugin_order rows))
 

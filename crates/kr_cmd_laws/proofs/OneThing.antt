@@ -1,6 +1,17 @@
 -- What each command's steps find is one thing, or they go on alike from whatever they find.
-use Rattle.std.proofs.Common.{◌≡◌, ℕ, zero, suc, List, [], ◌∷◌, ◌++◌, length, map, Bool, true, false, Option, None, Some, Result, Ok, Err, refl, sym, ◌∙◌, ap, subst}
-use Rattle.std.specs.Prelude.{◌||◌, cond, nat_lt, not, find as first_of}
+use Rattle.std.specs.Prelude.{⊤, ◌||◌, cond, nat_lt, not, find as first_of}
+use Rattle.kr_kms.specs.Cache.{CacheState, KeepsAnswer, seed_at, with_used}
+use Rattle.kr_kms.specs.Exchanges.{Exchange, UnwrapCall}
+use Rattle.kr_base.specs.Visible.{visible}
+use Rattle.kr_cmd_messages.specs.Reports.{report_text, report_outcome}
+use Rattle.kr_cmd_messages.specs.declared.refusal.Refusal.TheVariants.{Absent}
+use Rattle.kr_cmd_steps.specs.Phases.{read_for, input_limit, long_input, adding, by_result, configuration, input_of, linking_programs, settled_for, silently, stored_on, tape_for, with_memory, within_limit}
+use Rattle.kr_cmd_steps.specs.ValueSteps.{fetching, none_kept, sealing, bench_steps, data_steps, draw_some, opening, published_source, reading_given, source_steps, value_read, value_sealed, value_steps, value_with, working, working_by}
+use Rattle.kr_cmd_steps.specs.Telling.{AnswersOnce, IsAmong}
+use Rattle.kr_cmd_laws.proofs.GoAlike.{GoAlike, IsOne, plain_finds, Same, alike_then, borrows_dice, borrows_link, borrows_tape, first_finds, first_unwraps, give_both, itself, keeps_rows, notes, second_finds, second_unwraps, takes}
+use Rattle.kr_cmd_laws.proofs.Kept.{AreHeld, answer_held, none_held, seed_held, used_held}
+use Rattle.kr_cmd_laws.proofs.Once.{one_configuration, one_source, one_started, one_target}
+use Rattle.std.proofs.Common.{◌≡◌, ℕ, zero, suc, List, [], ◌∷◌, length, map, Bool, true, false, Option, None, Some, Result, Ok, Err, refl, sym, ap, subst}
 use Rattle.kr_base.specs.Limits.{data_limit}
 use Rattle.kr_config.specs.Kept.{ConfigEntry}
 use Rattle.kr_config.specs.Lists.{list_of}
@@ -11,8 +22,6 @@ use Rattle.kr_envelope.specs.declared.object.EncryptedObject.{EncryptedObject}
 use Rattle.kr_envelope.specs.declared.object.ObjectNo.{ObjectNo}
 use Rattle.kr_kms.specs.Health.{breach_in}
 use Rattle.kr_kms.specs.declared.health.Field.{Field}
-use Rattle.kr_kms.specs.declared.plugin.Status.{Status}
-use Rattle.kr_kms.specs.declared.plugin.Wrapped.{Wrapped}
 use Rattle.kr_kms.specs.declared.seeds.SeedKey.{SeedKey}
 use Rattle.kr_kms.specs.declared.seeds.SeedRow.{SeedRow}
 use Rattle.kr_kms.specs.declared.world.Access.{Access}
@@ -31,58 +40,25 @@ use Rattle.kr_store.specs.Rows.{live}
 use Rattle.kr_store.specs.Stores.{IsListing}
 use Rattle.kr_store.specs.declared.rows.LogRow.{LogRow}
 use Rattle.kr_store.specs.declared.rows.Row as stored
-use Rattle.kr_cmd_messages.specs.Command.{reload_file, reload_in, reload_number, replica_names}
 use Rattle.kr_cmd_messages.specs.declared.command.Command.{Command}
-use Rattle.kr_cmd_messages.specs.declared.command.Command.TheVariants.{Check, Convert, Get, Inspect, Judge, Migrate, Plan, Put, Rewrite, Rows, Verify}
+use Rattle.kr_cmd_messages.specs.declared.command.Command.TheVariants.{Convert, Get, Migrate, Put, Rewrite, Verify}
 use Rattle.kr_cmd_messages.specs.declared.command.Direction.{Direction}
 use Rattle.kr_cmd_messages.specs.declared.command.Direction.TheVariants.{Decrypt, Encrypt}
+use Rattle.kr_cmd_messages.specs.declared.command.Migration.{Migration}
 use Rattle.kr_cmd_messages.specs.declared.refusal.Object.{Object}
 use Rattle.kr_cmd_messages.specs.declared.refusal.Object.TheVariants.{Store, Target}
 use Rattle.kr_cmd_messages.specs.declared.refusal.Refusal.{Refusal}
-use Rattle.kr_cmd_steps.proofs.OneVerdict.{one_judged}
-use Rattle.kr_cmd_messages.specs.Reports.{report_outcome}
-use Rattle.kr_cmd_steps.specs.Check.{listing}
 use Rattle.kr_cmd_steps.specs.Commands.{steps}
 use Rattle.kr_cmd_steps.specs.Configuration.{IsConfiguration}
-use Rattle.kr_cmd_steps.specs.Inspect.{Inspects}
-use Rattle.kr_cmd_steps.specs.Judgements.{IsJudged}
-use Rattle.kr_cmd_steps.specs.Phases.{adding, by_result, configuration, input_of, linking_programs, settled_for, show, silently, stored_on, tape_for, with_memory, within_limit}
-use Rattle.kr_cmd_steps.specs.PlanLines.{ShowsPlan}
 use Rattle.kr_cmd_steps.specs.Plugins.{borrow_links, make_seed, make_seeds, settings_programs, unless_breach, wrap_seed}
 use Rattle.kr_cmd_steps.specs.RewriteSteps.{IsStarted, Progress, driving, nothing_done, one_rewritten, replacing, resealing, rewriting_by, rewriting_live, rewriting_on, row_anew, row_by, row_data, row_steps, starting, within_journal}
 use Rattle.kr_cmd_steps.specs.RowFindings.{finding_of}
-use Rattle.kr_cmd_steps.specs.RowLines.{ShowsRows}
-use Rattle.kr_cmd_steps.specs.Steps.{Steps, load, take_input, borrow_dice, borrow_tape, read_tape, write_row, keep_rows, settle, draw, borrow_link, ask_status, wrap, unwrap, note, find, refuse, give, and_then}
+use Rattle.kr_cmd_steps.specs.Steps.{Steps, load, take_input, borrow_dice, borrow_tape, read_tape, write_row, keep_rows, settle, give_back, draw, borrow_link, ask_status, wrap, unwrap, note, find, refuse, give, and_then}
 use Rattle.kr_cmd_steps.specs.StoreFiles.{IsSource, IsStored, IsTarget, Stored, none_there, with_row}
-use Rattle.kr_cmd_steps.specs.StoreSteps.{configurations, copied_into, copying, judgement_on, judging_at, judging_by, live_on, migrated_line, migrated_row, migrating_into, new_row, revision_line, row_finding, row_findings, row_found, row_on, sealed_into, source_on, stored_into, target_on, target_read, telling, telling_findings, verifying_by, verifying_with}
-use Rattle.kr_cmd_steps.specs.ValueSteps.{bench_steps, data_steps, draw_some, opening, published_source, reading_given, source_steps, value_read, value_sealed, value_steps, value_with, working, working_by}
+use Rattle.kr_cmd_steps.specs.StoreSteps.{copied_into, copying, live_on, migrated_line, migrated_row, migrating_into, new_row, revision_line, row_finding, row_findings, row_found, row_on, sealed_into, source_on, stored_into, target_on, target_read, telling_findings, verifying_by, verifying_with}
 use Rattle.kr_cmd_steps.specs.declared.programs.Program.{Program}
-use Rattle.kr_cmd_laws.proofs.Listed.{one_shown, one_stored}
-use Rattle.kr_cmd_laws.proofs.Planned.{one_plan}
-use Rattle.kr_cmd_laws.proofs.Settled.{one_configuration, one_inspection}
-use Rattle.kr_cmd_laws.proofs.SettledMigrations.{one_source, one_target}
-use Rattle.kr_cmd_laws.proofs.SettledRewrites.{one_started}
-
--- from whatever is found, steps go on alike
-abbrev pub IsOne : {A : Type 0} → Steps A → Type 1
-IsOne (load name next) = (bytes : Option (List ℕ)) → IsOne (next bytes)
-IsOne (take_input limit long next) = (bytes : List ℕ) → IsOne (next bytes)
-IsOne (borrow_dice seat next) = IsOne next
-IsOne (borrow_tape name access absent next) = IsOne next
-IsOne (read_tape object name next) = (bytes : List ℕ) → IsOne (next bytes)
-IsOne (write_row object name store row next) = IsOne next
-IsOne (keep_rows name store next) = IsOne next
-IsOne (settle object name next) = IsOne next
-IsOne (draw seat size next) = (bytes : List ℕ) → IsOne (next bytes)
-IsOne (borrow_link seat plugin program next) = IsOne next
-IsOne (ask_status seat plugin next) = (status : Status) → IsOne (next status)
-IsOne (wrap seat plugin plain next) = (wrapped : Wrapped) → IsOne (next wrapped)
-IsOne (unwrap seat key next) = (bytes : List ℕ) → IsOne (next bytes)
-IsOne (note text next) = IsOne next
-IsOne (find B P next) =
-    ((b c : B) → P b → P c → next b ≡ next c) × ((b : B) → P b → IsOne (next b))
-IsOne (refuse why) = Unit {1}
-IsOne (give x) = Unit {1}
+use Rattle.kr_cmd_laws.proofs.Listed.{one_stored}
+use Rattle.kr_cmd_laws.proofs.Plain.{plain}
 
 one_then : {A B : Type 0} (others : A → Steps B) → ((x : A) → IsOne (others x))
     → (first : Steps A) → IsOne first → IsOne (and_then first others)
@@ -105,6 +81,7 @@ one_then others on (wrap seat plugin plain next) one =
     λ wrapped. one_then others on (next wrapped) (one wrapped)
 one_then others on (unwrap seat key next) one =
     λ bytes. one_then others on (next bytes) (one bytes)
+one_then others on (give_back name next) one = one_then others on next one
 one_then others on (note text next) one = one_then others on next one
 one_then others on (find D P next) one = (
   λ b c x y. ap (λ s. and_then s others) (one.0 b c x y),
@@ -126,22 +103,12 @@ result (Err why) = tt
 remembered : {A : Type 0} (next : Steps A) → IsOne next → IsOne (with_memory next)
 remembered next one = (λ a b x y. refl, λ b x. one)
 
-shown : (Is : Result (List ℕ) Refusal → Type 0)
-    → ((a b : Result (List ℕ) Refusal) → Is a → Is b → a ≡ b) → IsOne (show Is)
-shown Is once = found Is (λ r. and_then (by_result r) (λ text. give (silently text))) once
-    (λ r. one_then (λ text. give (silently text)) (λ text. tt) (by_result r) (result r))
-
 configured : (name : List ℕ) → IsOne (configuration name)
 configured name = λ bytes. found (IsConfiguration name bytes) by_result
     (one_configuration name bytes) result
 
 read_stored : (object : Object) (name : List ℕ) → IsOne (stored_on object name)
 read_stored object name = λ bytes. found (IsStored bytes) by_result (one_stored bytes) result
-
-closed : {A : Type 0} (object : Object) (name : List ℕ) (access : Access) (next : Steps A)
-    → IsOne next → IsOne (settled_for object name access next)
-closed object name access next one =
-    one_then (λ made. settle object name (give made)) (λ made. tt) next one
 
 linking : (options : List (List ℕ × List ℕ)) (rows : List ConfigEntry)
     → IsOne (linking_programs options rows)
@@ -155,11 +122,6 @@ added object name store row =
     (λ grown. write_row object name store row (give grown)))
     (one_then (λ grown. write_row object name store row (give grown)) (λ grown. tt)
     (by_result (within_limit (with_row row store))) (result (within_limit (with_row row store))))
-
-linked : {A : Type 0} (programs : List Program) (next : Steps A) → IsOne next
-    → IsOne (borrow_links programs next)
-linked [] next one = one
-linked (program ∷ programs) next one = linked programs next one
 
 -- ---- seeds
 
@@ -198,24 +160,6 @@ given (data_of plain) stale = tt
 given (refused why) stale = tt
 given unopened stale = (λ a b x y. absurd a, λ a x. absurd a)
 
-sourced : {A : Type 0} (known : Option (List ℕ)) (key : SeedKey)
-    (next : Option (List ℕ) → Steps A) → ((source : Option (List ℕ)) → IsOne (next source))
-    → IsOne (source_steps known key next)
-sourced (Some seed) key next one = one (Some seed)
-sourced None key next one = λ source. one (Some source)
-
-opened : {A : Type 0} (seeds : List SeedRow) (reader : Option Who)
-    (object : Result EncryptedObject ObjectNo) (next : Option (List ℕ) → Steps A)
-    → ((source : Option (List ℕ)) → IsOne (next source)) → IsOne (opening seeds reader object next)
-opened seeds None object next one = one None
-opened seeds (Some Identity) object next one = one None
-opened seeds (Some (Aescbc name secret)) object next one = one None
-opened seeds (Some (Aesgcm name secret)) object next one = one None
-opened seeds (Some (Kms name)) (Err why) next one = one None
-opened seeds (Some (Kms name)) (Ok object) next one =
-    sourced (published_source (seed_of name seeds) (seed_key name object)) (seed_key name object)
-    next one
-
 -- a value that no plugin reads is as stale, whatever is taken for its envelope
 stale_alike : (list : List Who) (bytes : List ℕ) (seeds : List SeedRow) (a b : Envelope)
     → IsNoPlugin (reader_in list bytes) → is_stale a seeds list bytes ≡ is_stale b seeds list bytes
@@ -232,108 +176,14 @@ stale_alike (Kms name ∷ rest) bytes seeds a b without =
     by_first true others x y without = absurd (cc)
     by_first false others x y without = refl
 
--- a value goes on alike with any object that it has
-module _ (seeds : List SeedRow) (list : List Who) (path bytes : List ℕ) where
-  abbrev OpensAlike : Option Who → Type 1
-  OpensAlike reader = (a b : Result EncryptedObject ObjectNo) → HasObject reader bytes a
-      → HasObject reader bytes b → reader_in list bytes ≡ reader
-      → opening seeds reader a (value_with seeds list path bytes a)
-      ≡ opening seeds reader b (value_with seeds list path bytes b)
-
-  plainly : (reader : Option Who) → IsNoPlugin reader → (a b : Result EncryptedObject ObjectNo)
-      → reader_in list bytes ≡ reader
-      → value_with seeds list path bytes a None ≡ value_with seeds list path bytes b None
-  plainly reader without a b is =
-      let x : Envelope = record { object = a; source = None } in
-      let y : Envelope = record { object = b; source = None } in
-      let none : IsNoPlugin (reader_in list bytes) = subst IsNoPlugin (sym is) without in
-      λ i. reading_given (any_envelope (reader_in list bytes) path bytes x y none i)
-      (stale_alike list bytes seeds x y none i)
-
-  opens_alike : (reader : Option Who) → OpensAlike reader
-  opens_alike None a b h k is = plainly None tt a b is
-  opens_alike (Some Identity) a b h k is = plainly (Some Identity) refl a b is
-  opens_alike (Some (Aescbc name secret)) a b h k is =
-      plainly (Some (Aescbc name secret)) refl a b is
-  opens_alike (Some (Aesgcm name secret)) a b h k is =
-      plainly (Some (Aesgcm name secret)) refl a b is
-  opens_alike (Some (Kms name)) a b h k is =
-      ap (λ o. opening seeds (Some (Kms name)) o (value_with seeds list path bytes o))
-      (both_answered a b h.1 k.1 (one_reading (body_by (Kms name) bytes) a b h.0 k.0))
-
-  read : IsOne (value_read seeds list path bytes)
-  read = (
-    λ a b h k. opens_alike (reader_in list bytes) a b h k refl,
-    λ object h. opened seeds (reader_in list bytes) object (value_with seeds list path bytes object)
-        (λ source. given
-        (value_reading (record { object = object; source = source }) list path bytes)
-        (is_stale (record { object = object; source = source }) seeds list bytes)),
-  )
-
 answered : (read : Result Opened ValueNo) → IsOne (data_steps read)
 answered (Ok opened) = tt
 answered (Err why) = tt
-
-worked : (direction : Direction) (resource path : List ℕ) (rows : List ConfigEntry)
-    (bytes : List ℕ) (seeds : List SeedRow)
-    → IsOne (working_by direction resource path rows bytes seeds)
-worked Encrypt resource path rows bytes seeds = one_then value_steps valued
-    (value_sealed seeds (writer_of (list_of rows resource)) path bytes)
-    (sealed seeds (writer_of (list_of rows resource)) path bytes)
-worked Decrypt resource path rows bytes seeds = one_then data_steps answered
-    (value_read seeds (list_of rows resource) path bytes)
-    (read seeds (list_of rows resource) path bytes)
-
--- what stands behind the seeds of these entries' plugins
-with_seeds : {A : Type 0} (rows : List ConfigEntry) (next : List SeedRow → Steps A)
-    → ((seeds : List SeedRow) → IsOne (next seeds))
-    → IsOne (with_memory (and_then (make_seeds (plugin_order rows)) next))
-with_seeds rows next one = remembered (and_then (make_seeds (plugin_order rows)) next)
-    (one_then next one (make_seeds (plugin_order rows)) (seeded (plugin_order rows)))
-
-benched : (programs : List Program) (direction : Direction) (resource path : List ℕ)
-    (rows : List ConfigEntry) (bytes : List ℕ)
-    → IsOne (bench_steps programs direction resource path rows bytes)
-benched programs direction resource path rows bytes =
-    linked programs (working direction resource path rows bytes)
-    (with_seeds rows (working_by direction resource path rows bytes)
-    (worked direction resource path rows bytes))
-
--- ---- rows
-
--- steps over the programs of a configuration in a file
-behind : {A : Type 0} (config : List ℕ) (options : List (List ℕ × List ℕ))
-    (next : List ConfigEntry → List Program → Steps A)
-    → ((rows : List ConfigEntry) (programs : List Program) → IsOne (next rows programs))
-    → IsOne (and_then (configuration config) (λ rows.
-    and_then (linking_programs options rows) (next rows)))
-behind config options next one =
-    one_then (λ rows. and_then (linking_programs options rows) (next rows))
-    (λ rows. one_then (next rows) (one rows) (linking_programs options rows) (linking options rows))
-    (configuration config) (configured config)
-
-findings : (p : Publication) (live : List stored.Row) → IsOne (row_findings p live)
-findings p [] = tt
-findings p (row ∷ live) = one_then (λ finding. with_memory
-    (and_then (row_findings p live) (λ findings. give (finding ∷ findings))))
-    (λ finding. remembered (and_then (row_findings p live) (λ findings. give (finding ∷ findings)))
-    (one_then (λ findings. give (finding ∷ findings)) (λ findings. tt) (row_findings p live)
-    (findings p live)))
-    (row_finding p row)
-    (one_then (λ read. give (finding_of read)) (λ read. tt)
-    (value_read p.seeds (list_of p.rows row.resource) row.path row.stored)
-    (read p.seeds (list_of p.rows row.resource) row.path row.stored))
 
 copied : (name : List ℕ) (rows : List LogRow) (store : Stored) → IsOne (copying name store rows)
 copied name [] store = tt
 copied name (row ∷ rows) store = one_then (λ grown. copying name grown rows)
     (λ grown. copied name rows grown) (adding Target name store row) (added Target name store row)
-
-loaded : (names : List (List ℕ)) (read : List (Option (List ConfigEntry)))
-    → IsOne (configurations read names)
-loaded [] read = remembered (give read) tt
-loaded (name ∷ names) read = one_then (λ rows. configurations (read ++ Some rows ∷ []) names)
-    (λ rows. loaded names (read ++ Some rows ∷ [])) (configuration name) (configured name)
 
 -- ---- a rewrite
 
@@ -365,80 +215,20 @@ module _ (name : List ℕ) (p : Publication) where
   by_reading row at (Ok opened) = renewed row at opened.plain opened.stale
   by_reading row at (Err why) = tt
 
-  driven : (live : List stored.Row) (at : Progress) → IsOne (driving name p live at)
-  driven [] at = remembered (give (report_outcome at.counts)) tt
-  driven (row ∷ live) at = one_then (driving name p live) (driven live) (row_steps name p row at)
-      (one_then (row_by name p row at) (by_reading row at)
-      (value_read p.seeds (list_of p.rows row.resource) row.path row.stored)
-      (read p.seeds (list_of p.rows row.resource) row.path row.stored))
+-- ---- commands that ask no plugin
 
-rewritten : (name : List ℕ) (rows : List ConfigEntry) (store : Stored) (live : List stored.Row)
-    → IsOne (rewriting_by name rows store live)
-rewritten name rows store live = with_seeds rows
-    (λ seeds. and_then (starting store.rows rows) (λ u.
-    driving name (record { rows = rows; seeds = seeds }) live (nothing_done store)))
-    (λ seeds. one_then
-    (λ u. driving name (record { rows = rows; seeds = seeds }) live (nothing_done store))
-    (λ u. driven name (record { rows = rows; seeds = seeds }) live (nothing_done store))
-    (starting store.rows rows)
-    (found (IsStarted store.rows rows) by_result (one_started store.rows rows) result))
+-- a tape for these steps, settled behind them
+closed_one : {A : Type 0} (object : Object) (name : List ℕ) (access : Access) (next : Steps A)
+    → IsOne next → IsOne (settled_for object name access next)
+closed_one object name access next one =
+    one_then (λ made. settle object name (give made)) (λ made. tt) next one
 
--- ---- commands
-
-pub each : (command : Command) → IsOne (steps command)
-each (Convert words) = behind words.config words.options
-    (λ rows programs. and_then (input_of words.direction) (λ bytes.
-    bench_steps programs words.direction words.resource words.path rows bytes))
-    (λ rows programs. λ bytes.
-    benched programs words.direction words.resource words.path rows bytes)
-each (Check config resource) = one_then
-    (λ rows. show (λ shown. shown ≡ Ok (listing rows resource)))
-    (λ rows. shown (λ shown. shown ≡ Ok (listing rows resource)) (λ a b x y. x ∙ sym y))
-    (configuration config) (configured config)
-each (Put words store) = behind words.config words.options
-    (λ rows programs. and_then (input_of Encrypt) (stored_into words store rows programs))
-    (λ rows programs. λ bytes. closed Store store ToMake
-    (and_then (stored_on Store store) (sealed_into words store rows programs bytes))
-    (one_then (sealed_into words store rows programs bytes)
-    (λ held. one_then (λ made. and_then
-    (adding Store store held (new_row held.format words rows made.bytes))
-    (λ grown. give (silently (revision_line grown))))
-    (λ made. one_then (λ grown. give (silently (revision_line grown))) (λ grown. tt)
-    (adding Store store held (new_row held.format words rows made.bytes))
-    (added Store store held (new_row held.format words rows made.bytes)))
-    (bench_steps programs Encrypt words.resource words.path rows bytes)
-    (benched programs Encrypt words.resource words.path rows bytes))
-    (stored_on Store store) (read_stored Store store)))
-each (Get words) = behind words.config words.options
-    (λ rows programs. and_then (tape_for words.store ToRead (row_on words.store words.path))
-    (λ row. bench_steps programs Decrypt row.resource words.path rows row.stored))
-    (λ rows programs. one_then
-    (λ row. bench_steps programs Decrypt row.resource words.path rows row.stored)
-    (λ row. benched programs Decrypt row.resource words.path rows row.stored)
-    (tape_for words.store ToRead (row_on words.store words.path))
-    (one_then (λ held. with_memory (by_result (row_found words.path (live held.rows words.path))))
-    (λ held. remembered (by_result (row_found words.path (live held.rows words.path)))
-    (result (row_found words.path (live held.rows words.path))))
-    (stored_on Store words.store) (read_stored Store words.store)))
-each (Verify words) = behind words.config words.options
-    (λ rows programs. and_then (tape_for words.store ToRead (live_on words.store))
-    (verifying_with programs rows))
-    (λ rows programs. one_then (verifying_with programs rows)
-    (λ live. linked programs (verifying_by rows live) (with_seeds rows
-    (λ seeds. and_then (row_findings (record { rows = rows; seeds = seeds }) live)
-    (telling_findings live))
-    (λ seeds. one_then (telling_findings live) (λ those. remembered _ tt)
-    (row_findings (record { rows = rows; seeds = seeds }) live)
-    (findings (record { rows = rows; seeds = seeds }) live))))
-    (tape_for words.store ToRead (live_on words.store))
-    (one_then (λ held. find (List stored.Row) (IsListing held.rows) give)
-    (λ held. found (IsListing held.rows) give (listing_once held.rows) (λ live. tt))
-    (stored_on Store words.store) (read_stored Store words.store)))
-each (Migrate words) = one_then
+migrated : (words : Migration) → IsOne (steps (Migrate words))
+migrated words = one_then
     (λ rows. tape_for words.store ToRead
     (and_then (source_on words.store) (migrating_into words.to rows)))
     (λ rows. one_then (migrating_into words.to rows)
-    (λ source. closed Target words.to ToMake
+    (λ source. closed_one Target words.to ToMake
     (and_then (target_on words.to) (copied_into words.to rows source))
     (one_then (copied_into words.to rows source)
     (λ target. remembered
@@ -454,38 +244,383 @@ each (Migrate words) = one_then
     (source_on words.store)
     (λ bytes. found (IsSource bytes) by_result (one_source bytes) result))
     (configuration words.config) (configured words.config)
-each (Rows store) = one_then (λ held. show (ShowsRows held.rows))
-    (λ held. shown (ShowsRows held.rows) (one_shown held.rows)) (stored_on Store store)
-    (read_stored Store store)
-each (Judge words) = one_then (λ held. judging_by words.options held.rows)
-    (λ held. one_then (λ replicas. and_then (configuration (reload_file (reload_in words.options)))
-    (judging_at held.rows replicas (reload_number (reload_in words.options))))
-    (λ replicas. one_then (judging_at held.rows replicas (reload_number (reload_in words.options)))
-    (λ rows. one_then telling (λ verdict. remembered _ tt)
-    (judgement_on held.rows replicas (reload_number (reload_in words.options)) rows)
-    (found (IsJudged held.rows replicas (reload_number (reload_in words.options)) rows) by_result
-    (one_judged held.rows replicas (reload_number (reload_in words.options)) rows) result))
-    (configuration (reload_file (reload_in words.options)))
-    (configured (reload_file (reload_in words.options))))
-    (configurations [] (replica_names words.options)) (loaded (replica_names words.options) []))
-    (stored_on Store words.store) (read_stored Store words.store)
-each (Plan words) = one_then
-    (λ from. and_then (configuration words.to) (λ to. show (ShowsPlan words from to)))
-    (λ from. one_then (λ to. show (ShowsPlan words from to))
-    (λ to. shown (ShowsPlan words from to) (one_plan words from to)) (configuration words.to)
-    (configured words.to)) (configuration words.from) (configured words.from)
-each (Rewrite words) = behind words.config words.options
-    (λ rows programs. settled_for Store words.store ToWrite
-    (rewriting_on words.store rows programs))
-    (λ rows programs. closed Store words.store ToWrite (rewriting_on words.store rows programs)
-    (one_then (λ store. find (List stored.Row) (IsListing store.rows)
-    (rewriting_live words.store rows programs store))
-    (λ store. found (IsListing store.rows) (rewriting_live words.store rows programs store)
-    (listing_once store.rows)
-    (λ live. one_then
-    (λ u. borrow_dice 0 (borrow_links programs (rewriting_by words.store rows store live)))
-    (λ u. linked programs (rewriting_by words.store rows store live)
-    (rewritten words.store rows store live)) (by_result (within_journal live))
-    (result (within_journal live))))
-    (stored_on Store words.store) (read_stored Store words.store)))
-each Inspect = λ bytes. shown (Inspects bytes) (one_inspection bytes)
+
+-- ---- values that are read, by what plugins answered
+
+module _ (exchanges : Option (List Exchange)) (once : AnswersOnce exchanges) where
+  abbrev Alike : {A : Type 0} → Steps A → Type 1
+  Alike s = GoAlike exchanges Same s s
+
+  alone : {A : Type 0} (s : Steps A) → IsOne s → Alike s
+  alone s one = itself exchanges once s one
+
+  -- such steps, and what follows them
+  behind : {A B : Type 0} (others : A → Steps B) → ((x : A) → Alike (others x))
+      → (first : Steps A) → Alike first → Alike (and_then first others)
+  behind others on first a = alike_then exchanges Same Same others others
+      (λ x y e. subst (λ z. GoAlike exchanges Same (others x) (others z)) e (on x)) first first a
+
+  -- where there is memory for them
+  memory : {A B : Type 0} (R : A → B → Type 0) (s : Steps A) (t : Steps B)
+      → GoAlike exchanges R s t → GoAlike exchanges R (with_memory s) (with_memory t)
+  memory R s t a = first_finds ⊤ (λ u. ⊤) (λ u. s) (with_memory t)
+      (λ u v. second_finds ⊤ (λ w. ⊤) s (λ w. t) (λ w z. a))
+
+  closed : {A : Type 0} (object : Object) (name : List ℕ) (access : Access) (next : Steps A)
+      → Alike next → Alike (settled_for object name access next)
+  closed object name access next a = borrows_tape name access (Absent (visible name)) _ _
+      (behind (λ made. settle object name (give made))
+      (λ made. alone (settle object name (give made)) tt) next a)
+
+  back : {A : Type 0} (name : List ℕ) (next : Steps A) → Alike next → Alike (read_for name next)
+  back name next a = borrows_tape name ToRead (Absent (visible name)) _ _
+      (behind (λ made. give_back name (give made))
+      (λ made. alone (give_back name (give made)) tt) next a)
+
+  linked : {A : Type 0} (programs : List Program) (next : Steps A) → Alike next
+      → Alike (borrow_links programs next)
+  linked [] next a = a
+  linked (program ∷ programs) next a =
+      borrows_link 0 program.plugin program.file _ _ (linked programs next a)
+
+  -- ---- what is kept was answered
+
+  abbrev Answered : SeedKey → List ℕ → Type 0
+  Answered key seed = IsAmong exchanges (UnwrapCall key (Ok seed))
+
+  abbrev AreAnswered : CacheState → Type 0
+  AreAnswered kept = AreHeld Answered kept
+
+  -- the same, and all that is kept behind either was answered
+  abbrev KeptAlike : {T : Type 0} → T × CacheState → T × CacheState → Type 0
+  KeptAlike x y = (x.0 ≡ y.0) × AreAnswered x.1 × AreAnswered y.1
+
+  -- a source that both go on with
+  module _ {T : Type 0} (key : SeedKey) (kept other : CacheState)
+      (held : AreAnswered kept) (also : AreAnswered other)
+      (next more : Option (List ℕ) → CacheState → Steps (T × CacheState))
+      (each : (source : Option (List ℕ)) (k l : CacheState) → AreAnswered k → AreAnswered l
+      → GoAlike exchanges KeptAlike (next source k) (more source l)) where
+    two : (s r : List ℕ) (k l : CacheState) → Answered key s → Answered key r → AreAnswered k
+        → AreAnswered l → GoAlike exchanges KeptAlike (next (Some s) k) (more (Some r) l)
+    two s r k l is so h m = subst
+        (λ v. GoAlike exchanges KeptAlike (next (Some s) k) (more (Some v) l)) (once key r s so is)
+        (each (Some s) k l h m)
+
+    -- the second has it
+    had : (s r : List ℕ) (k : CacheState) → Answered key s → AreAnswered k
+        → seed_at other.rows key ≡ Some r
+        → GoAlike exchanges KeptAlike (next (Some s) k) (fetching (Some r) other key more)
+    had s r k is h there = two s r k (with_used other key) is
+        (seed_held Answered other key r there also) h (used_held Answered other key r there also)
+
+    -- the second unwraps it
+    got : (s : List ℕ) (k : CacheState) → Answered key s → AreAnswered k
+        → seed_at other.rows key ≡ None
+        → GoAlike exchanges KeptAlike (next (Some s) k) (fetching None other key more)
+    got s k is h none = second_unwraps 0 key _ _ (λ r so. second_finds CacheState
+        (KeepsAnswer other key (Ok r)) _ _ (λ l keeps. two s r k l is so h
+        (answer_held Answered other l key r none keeps so also)))
+
+    second : (y : Option (List ℕ)) → seed_at other.rows key ≡ y → (s : List ℕ) (k : CacheState)
+        → Answered key s → AreAnswered k
+        → GoAlike exchanges KeptAlike (next (Some s) k) (fetching y other key more)
+    second (Some r) there s k is h = had s r k is h there
+    second None none s k is h = got s k is h none
+
+    fetched : (x : Option (List ℕ)) → seed_at kept.rows key ≡ x → GoAlike exchanges KeptAlike
+        (fetching x kept key next) (fetching (seed_at other.rows key) other key more)
+    fetched (Some s) there = second (seed_at other.rows key) refl s (with_used kept key)
+        (seed_held Answered kept key s there held) (used_held Answered kept key s there held)
+    fetched None none = first_unwraps 0 key _ _ (λ s is. first_finds CacheState
+        (KeepsAnswer kept key (Ok s)) _ _ (λ k keeps. second (seed_at other.rows key) refl s k is
+        (answer_held Answered kept k key s none keeps is held)))
+
+    sourced : (known : Option (List ℕ)) → GoAlike exchanges KeptAlike
+        (source_steps known kept key next) (source_steps known other key more)
+    sourced (Some seed) = each (Some seed) kept other held also
+    sourced None = fetched (seed_at kept.rows key) refl
+
+  opened : {T : Type 0} (seeds : List SeedRow) (reader : Option Who)
+      (object : Result EncryptedObject ObjectNo) (kept other : CacheState)
+      (held : AreAnswered kept) (also : AreAnswered other)
+      (next more : Option (List ℕ) → CacheState → Steps (T × CacheState))
+      → ((source : Option (List ℕ)) (k l : CacheState) → AreAnswered k → AreAnswered l
+      → GoAlike exchanges KeptAlike (next source k) (more source l))
+      → GoAlike exchanges KeptAlike (opening seeds reader object kept next)
+      (opening seeds reader object other more)
+  opened seeds None object kept other held also next more each = each None kept other held also
+  opened seeds (Some Identity) object kept other held also next more each =
+      each None kept other held also
+  opened seeds (Some (Aescbc name secret)) object kept other held also next more each =
+      each None kept other held also
+  opened seeds (Some (Aesgcm name secret)) object kept other held also next more each =
+      each None kept other held also
+  opened seeds (Some (Kms name)) (Err why) kept other held also next more each =
+      each None kept other held also
+  opened seeds (Some (Kms name)) (Ok object) kept other held also next more each =
+      sourced (seed_key name object) kept other held also next more each
+      (published_source (seed_of name seeds) (seed_key name object))
+
+  -- ---- a value, with any object that it has
+
+  module _ (seeds : List SeedRow) (list : List Who) (path bytes : List ℕ) where
+    abbrev Opening : Result EncryptedObject ObjectNo → CacheState
+        → Steps (Result Opened ValueNo × CacheState)
+    Opening object kept = opening seeds (reader_in list bytes) object kept
+        (value_with seeds list path bytes object)
+
+    abbrev OpensAlike : Option Who → CacheState → Type 1
+    OpensAlike reader kept = (a b : Result EncryptedObject ObjectNo) → HasObject reader bytes a
+        → HasObject reader bytes b → reader_in list bytes ≡ reader
+        → opening seeds reader a kept (value_with seeds list path bytes a)
+        ≡ opening seeds reader b kept (value_with seeds list path bytes b)
+
+    plainly : (reader : Option Who) → IsNoPlugin reader → (a b : Result EncryptedObject ObjectNo)
+        (kept : CacheState) → reader_in list bytes ≡ reader
+        → value_with seeds list path bytes a None kept ≡ value_with seeds list path bytes b None kept
+    plainly reader without a b kept is =
+        let x : Envelope = record { object = a; source = None } in
+        let y : Envelope = record { object = b; source = None } in
+        let none : IsNoPlugin (reader_in list bytes) = subst IsNoPlugin (sym is) without in
+        λ i. and_then (reading_given (any_envelope (reader_in list bytes) path bytes x y none i)
+        (stale_alike list bytes seeds x y none i)) (λ read. give (read, kept))
+
+    opens_alike : (reader : Option Who) (kept : CacheState) → OpensAlike reader kept
+    opens_alike None kept a b h k is = plainly None tt a b kept is
+    opens_alike (Some Identity) kept a b h k is = plainly (Some Identity) refl a b kept is
+    opens_alike (Some (Aescbc name secret)) kept a b h k is =
+        plainly (Some (Aescbc name secret)) refl a b kept is
+    opens_alike (Some (Aesgcm name secret)) kept a b h k is =
+        plainly (Some (Aesgcm name secret)) refl a b kept is
+    opens_alike (Some (Kms name)) kept a b h k is =
+        ap (λ o. opening seeds (Some (Kms name)) o kept (value_with seeds list path bytes o))
+        (both_answered a b h.1 k.1 (one_reading (body_by (Kms name) bytes) a b h.0 k.0))
+
+    read_with : (object : Result EncryptedObject ObjectNo) (source : Option (List ℕ))
+        (k l : CacheState) → AreAnswered k → AreAnswered l
+        → GoAlike exchanges KeptAlike (value_with seeds list path bytes object source k)
+        (value_with seeds list path bytes object source l)
+    read_with object source k l h m =
+        let envelope : Envelope = record { object = object; source = source } in
+        let reading : Reading = value_reading envelope list path bytes in
+        let stale : Bool = is_stale envelope seeds list bytes in
+        alike_then exchanges Same KeptAlike (λ read. give (read, k)) (λ read. give (read, l))
+        (λ x y e. give_both (x, k) (y, l) (e, h, m)) (reading_given reading stale)
+        (reading_given reading stale) (alone (reading_given reading stale) (given reading stale))
+
+    read : (kept other : CacheState) → AreAnswered kept → AreAnswered other
+        → GoAlike exchanges KeptAlike (value_read seeds list path bytes kept)
+        (value_read seeds list path bytes other)
+    read kept other held also = first_finds (Result EncryptedObject ObjectNo)
+        (HasObject (reader_in list bytes) bytes) _ _ (λ a h.
+        second_finds (Result EncryptedObject ObjectNo)
+        (HasObject (reader_in list bytes) bytes) _ _ (λ b k.
+        subst (λ (v : Steps (Result Opened ValueNo × CacheState)).
+        GoAlike exchanges KeptAlike (Opening a kept) v)
+        (opens_alike (reader_in list bytes) other a b h k refl)
+        (opened seeds (reader_in list bytes) a kept other held also
+        (value_with seeds list path bytes a) (value_with seeds list path bytes a)
+        (read_with a))))
+
+  -- what follows a reading goes on alike, whatever is kept
+  read_then : {T : Type 0} (next : Result Opened ValueNo → Steps T)
+      → ((read : Result Opened ValueNo) → Alike (next read)) → (seeds : List SeedRow)
+      (list : List Who) (path bytes : List ℕ)
+      → Alike (and_then (value_read seeds list path bytes none_kept) (λ read. next read.0))
+  read_then next on seeds list path bytes = alike_then exchanges KeptAlike Same
+      (λ read. next read.0) (λ read. next read.0)
+      (λ x y r. subst (λ z. GoAlike exchanges Same (next x.0) (next z)) r.0 (on x.0))
+      (value_read seeds list path bytes none_kept) (value_read seeds list path bytes none_kept)
+      (read seeds list path bytes none_kept none_kept (none_held Answered) (none_held Answered))
+
+  worked : (direction : Direction) (resource path : List ℕ) (rows : List ConfigEntry)
+      (bytes : List ℕ) (seeds : List SeedRow)
+      → Alike (working_by direction resource path rows bytes seeds)
+  worked Encrypt resource path rows bytes seeds = alone
+      (sealing seeds (writer_of (list_of rows resource)) path bytes)
+      (one_then value_steps valued
+      (value_sealed seeds (writer_of (list_of rows resource)) path bytes)
+      (sealed seeds (writer_of (list_of rows resource)) path bytes))
+  worked Decrypt resource path rows bytes seeds =
+      read_then data_steps (λ read. alone (data_steps read) (answered read)) seeds
+      (list_of rows resource) path bytes
+
+  -- what stands behind the seeds of these entries' plugins
+  with_seeds : {A : Type 0} (rows : List ConfigEntry) (next : List SeedRow → Steps A)
+      → ((seeds : List SeedRow) → Alike (next seeds))
+      → Alike (with_memory (and_then (make_seeds (plugin_order rows)) next))
+  with_seeds rows next on = memory Same (and_then (make_seeds (plugin_order rows)) next)
+      (and_then (make_seeds (plugin_order rows)) next)
+      (behind next on (make_seeds (plugin_order rows))
+      (alone (make_seeds (plugin_order rows)) (seeded (plugin_order rows))))
+
+  benched : (programs : List Program) (direction : Direction) (resource path : List ℕ)
+      (rows : List ConfigEntry) (bytes : List ℕ)
+      → Alike (bench_steps programs direction resource path rows bytes)
+  benched programs direction resource path rows bytes = borrows_dice 0 _ _
+      (linked programs (working direction resource path rows bytes)
+      (with_seeds rows (working_by direction resource path rows bytes)
+      (worked direction resource path rows bytes)))
+
+  -- ---- rows
+
+  -- steps over the programs of a configuration in a file
+  over : {A : Type 0} (config : List ℕ) (options : List (List ℕ × List ℕ))
+      (next : List ConfigEntry → List Program → Steps A)
+      → ((rows : List ConfigEntry) (programs : List Program) → Alike (next rows programs))
+      → Alike (and_then (configuration config) (λ rows.
+      and_then (linking_programs options rows) (next rows)))
+  over config options next on =
+      behind (λ rows. and_then (linking_programs options rows) (next rows))
+      (λ rows. behind (next rows) (on rows) (linking_programs options rows)
+      (alone (linking_programs options rows) (linking options rows)))
+      (configuration config) (alone (configuration config) (configured config))
+
+  found_alike : (p : Publication) (row : stored.Row) (kept other : CacheState)
+      → AreAnswered kept → AreAnswered other
+      → GoAlike exchanges KeptAlike (row_finding p row kept) (row_finding p row other)
+  found_alike p row kept other held also = alike_then exchanges KeptAlike KeptAlike
+      (λ read. give (finding_of read.0, read.1)) (λ read. give (finding_of read.0, read.1))
+      (λ x y r. give_both (finding_of x.0, x.1) (finding_of y.0, y.1)
+      (ap finding_of r.0, r.1, r.2))
+      (value_read p.seeds (list_of p.rows row.resource) row.path row.stored kept)
+      (value_read p.seeds (list_of p.rows row.resource) row.path row.stored other)
+      (read p.seeds (list_of p.rows row.resource) row.path row.stored kept other held also)
+
+  findings : (p : Publication) (live : List stored.Row) (kept other : CacheState)
+      → AreAnswered kept → AreAnswered other
+      → GoAlike exchanges Same (row_findings p live kept) (row_findings p live other)
+  findings p [] kept other held also = give_both [] [] refl
+  findings p (row ∷ live) kept other held also = alike_then exchanges KeptAlike Same
+      (λ found. with_memory (and_then (row_findings p live found.1)
+      (λ findings. give (found.0 ∷ findings))))
+      (λ found. with_memory (and_then (row_findings p live found.1)
+      (λ findings. give (found.0 ∷ findings))))
+      (λ x y r. memory Same
+      (and_then (row_findings p live x.1) (λ findings. give (x.0 ∷ findings)))
+      (and_then (row_findings p live y.1) (λ findings. give (y.0 ∷ findings)))
+      (alike_then exchanges Same Same (λ findings. give (x.0 ∷ findings))
+      (λ findings. give (y.0 ∷ findings))
+      (λ a b e. give_both (x.0 ∷ a) (y.0 ∷ b) (λ i. r.0 i ∷ e i))
+      (row_findings p live x.1) (row_findings p live y.1) (findings p live x.1 y.1 r.1 r.2)))
+      (row_finding p row kept) (row_finding p row other)
+      (found_alike p row kept other held also)
+
+  -- ---- a rewrite
+
+  row_alike : (name : List ℕ) (p : Publication) (row : stored.Row) (kept other : CacheState)
+      (at : Progress) → AreAnswered kept → AreAnswered other
+      → GoAlike exchanges KeptAlike (row_steps name p row kept at) (row_steps name p row other at)
+  row_alike name p row kept other at held also = alike_then exchanges KeptAlike KeptAlike
+      (λ read. and_then (row_by name p row at read.0) (λ done. give (done, read.1)))
+      (λ read. and_then (row_by name p row at read.0) (λ done. give (done, read.1)))
+      (λ x y r. alike_then exchanges Same KeptAlike (λ done. give (done, x.1))
+      (λ done. give (done, y.1)) (λ d f e. give_both (d, x.1) (f, y.1) (e, r.1, r.2))
+      (row_by name p row at x.0) (row_by name p row at y.0)
+      (subst (λ z. GoAlike exchanges Same (row_by name p row at x.0) (row_by name p row at z)) r.0
+      (alone (row_by name p row at x.0) (by_reading name p row at x.0))))
+      (value_read p.seeds (list_of p.rows row.resource) row.path row.stored kept)
+      (value_read p.seeds (list_of p.rows row.resource) row.path row.stored other)
+      (read p.seeds (list_of p.rows row.resource) row.path row.stored kept other held also)
+
+  driven : (name : List ℕ) (p : Publication) (live : List stored.Row) (kept other : CacheState)
+      (at : Progress) → AreAnswered kept → AreAnswered other
+      → GoAlike exchanges Same (driving name p live kept at) (driving name p live other at)
+  driven name p [] kept other at held also = keeps_rows name at.store _ _
+      (notes (report_text at.counts) _ _ (alone (with_memory (give (report_outcome at.counts)))
+      (remembered (give (report_outcome at.counts)) tt)))
+  driven name p (row ∷ live) kept other at held also = keeps_rows name at.store _ _
+      (notes (report_text at.counts) _ _ (alike_then exchanges KeptAlike Same
+      (λ done. driving name p live done.1 done.0) (λ done. driving name p live done.1 done.0)
+      (λ x y r. subst
+      (λ z. GoAlike exchanges Same (driving name p live x.1 x.0) (driving name p live y.1 z)) r.0
+      (driven name p live x.1 y.1 x.0 r.1 r.2)) (row_steps name p row kept at)
+      (row_steps name p row other at) (row_alike name p row kept other at held also)))
+
+  rewritten : (name : List ℕ) (rows : List ConfigEntry) (store : Stored) (live : List stored.Row)
+      → Alike (rewriting_by name rows store live)
+  rewritten name rows store live = with_seeds rows
+      (λ seeds. and_then (starting store.rows rows) (λ u.
+      driving name (record { rows = rows; seeds = seeds }) live none_kept (nothing_done store)))
+      (λ seeds. behind
+      (λ u. driving name (record { rows = rows; seeds = seeds }) live none_kept
+      (nothing_done store))
+      (λ u. driven name (record { rows = rows; seeds = seeds }) live none_kept none_kept
+      (nothing_done store) (none_held Answered) (none_held Answered))
+      (starting store.rows rows) (alone (starting store.rows rows)
+      (found (IsStarted store.rows rows) by_result (one_started store.rows rows) result)))
+
+  -- ---- commands
+
+  pub each : (command : Command) → Alike (steps command)
+  each (Convert words) = over words.config words.options
+      (λ rows programs. and_then (input_of words.direction) (λ bytes.
+      bench_steps programs words.direction words.resource words.path rows bytes))
+      (λ rows programs. takes (input_limit words.direction) (long_input words.direction) _ _
+      (λ bytes. benched programs words.direction words.resource words.path rows bytes))
+  each (Put words store) = over words.config words.options
+      (λ rows programs. and_then (input_of Encrypt) (stored_into words store rows programs))
+      (λ rows programs. takes (input_limit Encrypt) (long_input Encrypt) _ _ (λ bytes.
+      closed Store store ToMake
+      (and_then (stored_on Store store) (sealed_into words store rows programs bytes))
+      (behind (sealed_into words store rows programs bytes)
+      (λ held. behind (λ made. and_then
+      (adding Store store held (new_row held.format words rows made.bytes))
+      (λ grown. give (silently (revision_line grown))))
+      (λ made. alone (and_then (adding Store store held (new_row held.format words rows made.bytes))
+      (λ grown. give (silently (revision_line grown))))
+      (one_then (λ grown. give (silently (revision_line grown))) (λ grown. tt)
+      (adding Store store held (new_row held.format words rows made.bytes))
+      (added Store store held (new_row held.format words rows made.bytes))))
+      (bench_steps programs Encrypt words.resource words.path rows bytes)
+      (benched programs Encrypt words.resource words.path rows bytes))
+      (stored_on Store store) (alone (stored_on Store store) (read_stored Store store)))))
+  each (Get words) = over words.config words.options
+      (λ rows programs. and_then (read_for words.store (row_on words.store words.path))
+      (λ row. bench_steps programs Decrypt row.resource words.path rows row.stored))
+      (λ rows programs. behind
+      (λ row. bench_steps programs Decrypt row.resource words.path rows row.stored)
+      (λ row. benched programs Decrypt row.resource words.path rows row.stored)
+      (read_for words.store (row_on words.store words.path))
+      (back words.store (row_on words.store words.path)
+      (alone (row_on words.store words.path)
+      (one_then (λ held. with_memory (by_result (row_found words.path (live held.rows words.path))))
+      (λ held. remembered (by_result (row_found words.path (live held.rows words.path)))
+      (result (row_found words.path (live held.rows words.path))))
+      (stored_on Store words.store) (read_stored Store words.store)))))
+  each (Verify words) = over words.config words.options
+      (λ rows programs. and_then (read_for words.store (live_on words.store))
+      (verifying_with programs rows))
+      (λ rows programs. behind (verifying_with programs rows)
+      (λ live. borrows_dice 0 _ _ (linked programs (verifying_by rows live) (with_seeds rows
+      (λ seeds. and_then (row_findings (record { rows = rows; seeds = seeds }) live none_kept)
+      (telling_findings live))
+      (λ seeds. behind (telling_findings live)
+      (λ those. alone (telling_findings live those) (remembered _ tt))
+      (row_findings (record { rows = rows; seeds = seeds }) live none_kept)
+      (findings (record { rows = rows; seeds = seeds }) live none_kept none_kept
+      (none_held Answered) (none_held Answered))))))
+      (read_for words.store (live_on words.store))
+      (back words.store (live_on words.store) (alone (live_on words.store)
+      (one_then (λ held. find (List stored.Row) (IsListing held.rows) give)
+      (λ held. found (IsListing held.rows) give (listing_once held.rows) (λ live. tt))
+      (stored_on Store words.store) (read_stored Store words.store)))))
+  each (Migrate words) = alone (steps (Migrate words)) (migrated words)
+  each (Rewrite words) = over words.config words.options
+      (λ rows programs. settled_for Store words.store ToWrite
+      (rewriting_on words.store rows programs))
+      (λ rows programs. closed Store words.store ToWrite (rewriting_on words.store rows programs)
+      (behind (λ store. find (List stored.Row) (IsListing store.rows)
+      (rewriting_live words.store rows programs store))
+      (λ store. first_finds (List stored.Row) (IsListing store.rows) _ _ (λ a h.
+      second_finds (List stored.Row) (IsListing store.rows) _ _ (λ b k. subst (λ v.
+      GoAlike exchanges Same (rewriting_live words.store rows programs store a)
+      (rewriting_live words.store rows programs store v)) (listing_once store.rows a b h k)
+      (behind (λ u. borrow_dice 0 (borrow_links programs (rewriting_by words.store rows store a)))
+      (λ u. borrows_dice 0 _ _ (linked programs (rewriting_by words.store rows store a)
+      (rewritten words.store rows store a))) (by_result (within_journal a))
+      (alone (by_result (within_journal a)) (result (within_journal a)))))))
+      (stored_on Store words.store) (alone (stored_on Store words.store)
+      (read_stored Store words.store))))
+  each command = alone (steps command) (plain_finds (steps command) (plain command tt))

@@ -1,4 +1,8 @@
 -- Over what they touch and is told, steps go one way.
+use Rattle.kr_cmd_messages.specs.declared.command.Command.{Command}
+use Rattle.kr_cmd_messages.specs.declared.refusal.Outcome.{Outcome}
+use Rattle.kr_cmd_steps.specs.Commands.{steps}
+use Rattle.kr_cmd_laws.proofs.GoAlike.{GoAlike, Same, asks, borrows_dice, borrows_link, borrows_tape, draws, first_finds, first_unwraps, give_both, gives_back, keeps_rows, loads, notes, reads_tape, refuse_both, second_finds, second_unwraps, settles, takes, wraps, writes_row}
 use Rattle.std.proofs.Common.{◌≡◌, ℕ, ◌+◌, ◌≤◌, ◌⊎◌, List, [], ◌∷◌, ◌++◌, length, Bool, true, false, Option, None, Some, Ok, Contains, refl, sym, ◌∙◌, ap, subst, inl, inr, append-nil, append_assoc, length-append, arith}
 use Rattle.std.specs.Prelude.{◌==◌, IsSome, if◌then◌else◌}
 use Rattle.std.specs.Io.KnownBytes.{Consumes, IsAtEnd}
@@ -9,13 +13,14 @@ use Rattle.kr_base.specs.Told.{Agrees}
 use Rattle.kr_kms.specs.Exchanges.{Exchange, StatusCall, UnwrapCall, WrapCall}
 use Rattle.kr_kms.specs.Outside.{makes, same_name}
 use Rattle.kr_kms.specs.declared.seeds.SeedKey.{SeedKey}
-use Rattle.kr_kms.specs.declared.world.WorldCall.TheVariants.{File, Link, RandomSource, Settled, Tape}
+use Rattle.kr_kms.specs.declared.world.WorldCall.TheVariants.{File, Link, RandomSource, Settled, Tape, Returned}
 use Rattle.kr_cmd_messages.specs.declared.refusal.Refusal.{Refusal}
-use Rattle.kr_cmd_steps.specs.Steps.{Steps, load, take_input, borrow_dice, borrow_tape, read_tape, write_row, keep_rows, settle, draw, borrow_link, ask_status, wrap, unwrap, note, find, refuse, give, Point, refuses, gives, Left, Goes, IsAt, MayBorrow, hearing, or_empty, with_asked, with_dice, with_heard, with_input, with_said, with_tape, with_told}
+use Rattle.kr_cmd_steps.specs.Steps.{Steps, unwrap, Point, refuses, gives, Left, Goes, IsAt, MayBorrow, hearing, or_empty, with_asked, with_dice, with_heard, with_input, with_said, with_tape, with_told}
 use Rattle.kr_cmd_steps.specs.StoreFiles.{HoldsRows, Stored, with_row}
-use Rattle.kr_cmd_laws.specs.Results.{AnswersOnce, HoldAlike, IsAmong, IsTold}
+use Rattle.kr_cmd_steps.specs.Telling.{AnswersOnce, IsAmong, IsTold}
+use Rattle.kr_cmd_laws.specs.Results.{HoldAlike}
 use Rattle.kr_cmd_laws.proofs.LastSteps.{Grows, IsLast, grown, past_borrow, past_dice, past_draw, past_find, past_input, past_link, past_load, past_read, past_settle, past_status, past_unwrap, past_wrap, past_write}
-use Rattle.kr_cmd_laws.proofs.OneThing.{IsOne}
+use Rattle.kr_cmd_laws.proofs.OneThing.{each}
 
 -- ---- what is told to both
 
@@ -172,44 +177,23 @@ module _ {A : Type 0} (exchanges : Option (List Exchange)) (p : Point A) (end : 
       among exchanges es x is_told (subst (λ told. Contains told x) (sym m.1)
       (Contains-append_left (h ++ x ∷ []) m.0 x (Contains-push h x)))
 
-  -- a source was unwrapped to these bytes, now or before
+  -- a source was unwrapped to these bytes
   unwrapped : (seat : ℕ) (key : SeedKey) (next : List ℕ → Steps A) (left : Left)
       (h : List Exchange) → left.heard ≡ Some h → Goes p end (unwrap seat key next) left
       → (bytes : List ℕ) × IsAmong exchanges (UnwrapCall key (Ok bytes))
       × (k : List Exchange) × (asking k ≡ asking h)
       × Goes p end (next bytes) (record left { heard = Some k })
   unwrapped seat key next left h is g =
-      by_case (past_unwrap p end is_last seat key next left h is g)
-    where
-      by_case : (bytes : List ℕ) × (
-          (Contains h (UnwrapCall key (Ok bytes)) × Goes p end (next bytes) left)
-          ⊎ Goes p end (next bytes) (with_heard (UnwrapCall key (Ok bytes)) left)
-          )
-          → (bytes : List ℕ) × IsAmong exchanges (UnwrapCall key (Ok bytes))
-          × (k : List Exchange) × (asking k ≡ asking h)
-          × Goes p end (next bytes) (record left { heard = Some k })
-      by_case (bytes, inl (held, goes)) =
-          let m = in_front h left is (grown p end is_last (next bytes) left goes) in (
-            bytes,
-            among exchanges es (UnwrapCall key (Ok bytes)) is_told
-                (subst (λ told. Contains told (UnwrapCall key (Ok bytes))) (sym m.1)
-                (Contains-append_left h m.0 (UnwrapCall key (Ok bytes)) held)),
-            h,
-            refl,
-            subst (λ (l : Left). Goes p end (next bytes) l) (λ i. record left { heard = is i })
-                goes,
-          )
-      by_case (bytes, inr goes) =
-          let x = UnwrapCall key (Ok bytes) in
-          let now = ap (hearing (x ∷ [])) is in (
-            bytes,
-            was_heard x h (with_heard x left) now
-                (grown p end is_last (next bytes) (with_heard x left) goes),
-            h ++ x ∷ [],
-            asking_both h (x ∷ []) ∙ append-nil (asking h),
-            subst (λ (l : Left). Goes p end (next bytes) l) (λ i. record left { heard = now i })
-                goes,
-          )
+      let a = past_unwrap p end is_last seat key next left g in
+      let x = UnwrapCall key (Ok a.0) in
+      let now = ap (hearing (x ∷ [])) is in (
+        a.0,
+        was_heard x h (with_heard x left) now
+            (grown p end is_last (next a.0) (with_heard x left) a.1),
+        h ++ x ∷ [],
+        asking_both h (x ∷ []) ∙ append-nil (asking h),
+        subst (λ (l : Left). Goes p end (next a.0) l) (λ i. record left { heard = now i }) a.1,
+      )
 
 -- ---- both
 
@@ -274,7 +258,7 @@ module _ {A : Type 0} (exchanges : Option (List Exchange)) (p q : Point A) (end 
             (t.1 ∙ ap (λ r. Some r) none) g),
       )
 
-  by_input : (limit : ℕ) (long : Refusal) (next : List ℕ → Steps A) (left right : Left)
+  by_input : (limit : ℕ) (long : Refusal) (next more : List ℕ → Steps A) (left right : Left)
       (xs : List ℕ) → right.said ≡ left.said
       → ((name : List ℕ) → HoldAlike (left.tapes name) (right.tapes name))
       → ((rest : Option (List ℕ)) × (limit + 1 ≤ length xs)
@@ -282,17 +266,17 @@ module _ {A : Type 0} (exchanges : Option (List Exchange)) (p q : Point A) (end 
       ⊎ ((length xs ≤ limit) × Goes p end (next xs) (with_input (Some []) left))
       → ((rest : Option (List ℕ)) × (limit + 1 ≤ length xs)
       × IsAt q last (refuses long) (with_input rest right))
-      ⊎ ((length xs ≤ limit) × Goes q last (next xs) (with_input (Some []) right))
+      ⊎ ((length xs ≤ limit) × Goes q last (more xs) (with_input (Some []) right))
       → (length xs ≤ limit → Goes p end (next xs) (with_input (Some []) left)
-      → Goes q last (next xs) (with_input (Some []) right) → Meet)
+      → Goes q last (more xs) (with_input (Some []) right) → Meet)
       → Meet
-  by_input limit long next left right xs said alike (inl (a, x, e)) (inl (b, y, f)) go =
+  by_input limit long next more left right xs said alike (inl (a, x, e)) (inl (b, y, f)) go =
       meet (refuses long) (with_input a left) (with_input b right) said alike e f
-  by_input limit long next left right xs said alike (inl (a, x, e)) (inr (y, k)) go =
+  by_input limit long next more left right xs said alike (inl (a, x, e)) (inr (y, k)) go =
       absurd (omega (arith, x, y))
-  by_input limit long next left right xs said alike (inr (x, g)) (inl (b, y, f)) go =
+  by_input limit long next more left right xs said alike (inr (x, g)) (inl (b, y, f)) go =
       absurd (omega (arith, x, y))
-  by_input limit long next left right xs said alike (inr (x, g)) (inr (y, k)) go = go x g k
+  by_input limit long next more left right xs said alike (inr (x, g)) (inr (y, k)) go = go x g k
 
   -- ---- a tape that is borrowed
 
@@ -317,27 +301,27 @@ module _ {A : Type 0} (exchanges : Option (List Exchange)) (p q : Point A) (end 
   )
 
   by_tape : (make : Bool) (absent : Refusal) (one other : Option (Option (List ℕ)))
-      (x : Option (List ℕ)) → one ≡ Some x → other ≡ Some x → (next : Steps A)
+      (x : Option (List ℕ)) → one ≡ Some x → other ≡ Some x → (next more : Steps A)
       (left right here there : Left) → right.said ≡ left.said
       → ((name : List ℕ) → HoldAlike (left.tapes name) (right.tapes name))
       → ((make ≡ false) × Agrees one None × IsAt p end (refuses absent) left)
       ⊎ (MayBorrow one make × Goes p end next here)
       → ((make ≡ false) × Agrees other None × IsAt q last (refuses absent) right)
-      ⊎ (MayBorrow other make × Goes q last next there)
-      → (MayBorrow one make → Goes p end next here → Goes q last next there → Meet)
+      ⊎ (MayBorrow other make × Goes q last more there)
+      → (MayBorrow one make → Goes p end next here → Goes q last more there → Meet)
       → Meet
-  by_tape make absent one other x is also next left right here there said alike (inl (unmade, a, e))
+  by_tape make absent one other x is also next more left right here there said alike (inl (unmade, a, e))
       (inl (none, b, f)) go =
       meet (refuses absent) left right said alike e f
-  by_tape make absent one other x is also next left right here there said alike (inl (unmade, a, e))
+  by_tape make absent one other x is also next more left right here there said alike (inl (unmade, a, e))
       (inr (may, k)) go =
       absurd (let y : true ≡ false =
       sym (may (also ∙ ap (λ t. Some t) (agreed one x None is a))) ∙ unmade in cc)
-  by_tape make absent one other x is also next left right here there said alike (inr (may, g))
+  by_tape make absent one other x is also next more left right here there said alike (inr (may, g))
       (inl (unmade, b, f)) go =
       absurd (let y : true ≡ false =
       sym (may (is ∙ ap (λ t. Some t) (agreed other x None also b))) ∙ unmade in cc)
-  by_tape make absent one other x is also next left right here there said alike (inr (may, g))
+  by_tape make absent one other x is also next more left right here there said alike (inr (may, g))
       (inr (can, k)) go = go may g k
 
   -- ---- a tape that is written
@@ -360,72 +344,82 @@ module _ {A : Type 0} (exchanges : Option (List Exchange)) (p q : Point A) (end 
 
   -- ---- all steps
 
-  pub one_way : (s : Steps A) (told left right : Left) → IsOne s → IsTold exchanges s told
-      → AreAbreast told left right → Goes p end s left → Goes q last s right → Meet
-  one_way (load name next) told left right one t s g k =
+  pub one_way : (s t : Steps A) → GoAlike exchanges Same s t → (told left right : Left)
+      → IsTold exchanges s told → IsTold exchanges t told → AreAbreast told left right
+      → Goes p end s left → Goes q last t right → Meet
+  one_way _ _ (loads name next more each) told left right t w s g k =
       let a = past_load p end p_last name next left g in
-      let b = past_load q last q_last name next right k in
+      let b = past_load q last q_last name more right k in
       let f = shared_there (told.file name) (left.file name) (right.file name) t.0 (s.0 name) in
-      one_way (next f.0) told (with_asked (File name) left) (with_asked (File name) right) (one f.0)
-      (t.1 f.0 f.1) s
+      one_way (next f.0) (more f.0) (each f.0) told (with_asked (File name) left)
+      (with_asked (File name) right) (t.1 f.0 f.1) (w.1 f.0 f.1) s
       (subst (λ (v : Option (List ℕ)). Goes p end (next v) (with_asked (File name) left))
       (sym (agreed (left.file name) f.0 a.0 f.2 a.1)) a.2)
-      (subst (λ (v : Option (List ℕ)). Goes q last (next v) (with_asked (File name) right))
+      (subst (λ (v : Option (List ℕ)). Goes q last (more v) (with_asked (File name) right))
       (sym (agreed (right.file name) f.0 b.0 f.3 b.1)) b.2)
-  one_way (take_input limit long next) told left right one t s g k =
+  one_way _ _ (takes limit long next more each) told left right t w s g k =
       let f = shared_there told.input left.input right.input t.0 s.2 in
-      by_input limit long next left right f.0 s.5 s.4
+      by_input limit long next more left right f.0 s.5 s.4
       (whole_of p end limit long next left f.0 f.2 (past_input p end p_last limit long next left g))
-      (whole_of q last limit long next right f.0 f.3
-      (past_input q last q_last limit long next right k))
-      (λ short x y. one_way (next f.0) (with_input (Some []) told) (with_input (Some []) left)
-      (with_input (Some []) right) (one f.0) (t.1 f.0 f.1 short)
-      (s.0, s.1, (refl, refl), s.3, s.4, s.5, s.6) x y)
-  one_way (borrow_dice seat next) told left right one t s g k =
-      one_way next told (with_asked (RandomSource seat) left) (with_asked (RandomSource seat) right)
-      one t s (past_dice p end p_last seat next left g) (past_dice q last q_last seat next right k)
-  one_way (borrow_tape name access absent next) told left right one t s g k =
+      (whole_of q last limit long more right f.0 f.3
+      (past_input q last q_last limit long more right k))
+      (λ short x y. one_way (next f.0) (more f.0) (each f.0) (with_input (Some []) told)
+      (with_input (Some []) left) (with_input (Some []) right) (t.1 f.0 f.1 short)
+      (w.1 f.0 f.1 short) (s.0, s.1, (refl, refl), s.3, s.4, s.5, s.6) x y)
+  one_way _ _ (borrows_dice seat next more each) told left right t w s g k =
+      one_way next more each told (with_asked (RandomSource seat) left)
+      (with_asked (RandomSource seat) right) t w s (past_dice p end p_last seat next left g)
+      (past_dice q last q_last seat more right k)
+  one_way _ _ (borrows_tape name access absent next more each) told left right t w s g k =
       let f = shared_there (told.tapes name) (left.tapes name) (right.tapes name) t.0 (s.1 name) in
       let lent = with_asked (Tape name access) left in
       let lent_too = with_asked (Tape name access) right in
-      by_tape (makes access) absent (left.tapes name) (right.tapes name) f.0 f.2 f.3 next lent
+      by_tape (makes access) absent (left.tapes name) (right.tapes name) f.0 f.2 f.3 next more lent
       lent_too
       (with_tape (makes access) name lent) (with_tape (makes access) name lent_too) s.5 s.4
       (past_borrow p end p_last name access absent next left g)
-      (past_borrow q last q_last name access absent next right k)
-      (λ may x y. one_way next (with_tape (makes access) name told)
-      (with_tape (makes access) name lent) (with_tape (makes access) name lent_too) one
-      (t.1 (λ none. may (f.2 ∙ sym f.1 ∙ none)))
+      (past_borrow q last q_last name access absent more right k)
+      (λ may x y. one_way next more each (with_tape (makes access) name told)
+      (with_tape (makes access) name lent) (with_tape (makes access) name lent_too)
+      (t.1 (λ none. may (f.2 ∙ sym f.1 ∙ none))) (w.1 (λ none. may (f.2 ∙ sym f.1 ∙ none)))
       (lent_alike (makes access) name told lent lent_too s) x y)
-  one_way (read_tape object name next) told left right one t s g k =
+  one_way _ _ (reads_tape object name next more each) told left right t w s g k =
       let a = past_read p end p_last object name next left g in
-      let b = past_read q last q_last object name next right k in
+      let b = past_read q last q_last object name more right k in
       let f = shared_there (told.tapes name) (left.tapes name) (right.tapes name) t.0 (s.1 name) in
       let is : f.0 ≡ Some a.0 = agreed (left.tapes name) f.0 (Some a.0) f.2 a.1 in
       let also : f.0 ≡ Some b.0 = agreed (right.tapes name) f.0 (Some b.0) f.3 b.1 in
-      one_way (next a.0) told left right (one a.0) (t.1 a.0 (f.1 ∙ ap (λ o. Some o) is)) s a.2
-      (subst (λ (v : List ℕ). Goes q last (next v) right) (one_end f.0 b.0 a.0 also is) b.2)
-  one_way (write_row object name store row next) told left right one t s g k =
+      let there : told.tapes name ≡ Some (Some a.0) = f.1 ∙ ap (λ o. Some o) is in
+      one_way (next a.0) (more a.0) (each a.0) told left right (t.1 a.0 there) (w.1 a.0 there) s
+      a.2
+      (subst (λ (v : List ℕ). Goes q last (more v) right) (one_end f.0 b.0 a.0 also is) b.2)
+  one_way _ _ (writes_row object name store row next more each) told left right t w s g k =
       let a = past_write p end p_last object name store row next left g in
-      let b = past_write q last q_last object name store row next right k in
-      one_way next (with_told name None told) (with_told name a.0 left) (with_told name b.0 right)
-      one t (written_alike name (with_row row store) a.0 b.0 told left right a.1 b.1 s) a.2 b.2
-  one_way (keep_rows name store next) told left right one t s (a, x, g) (b, y, k) =
-      one_way next (with_told name None told) (with_told name a left) (with_told name b right) one t
-      (written_alike name store a b told left right x y s) g k
-  one_way (settle object name next) told left right one t s g k =
-      one_way next told (with_asked (Settled name) left) (with_asked (Settled name) right) one t s
-      (past_settle p end p_last object name next left g)
-      (past_settle q last q_last object name next right k)
-  one_way (draw seat size next) told left right one t s g k =
+      let b = past_write q last q_last object name store row more right k in
+      one_way next more each (with_told name None told) (with_told name a.0 left)
+      (with_told name b.0 right) t w
+      (written_alike name (with_row row store) a.0 b.0 told left right a.1 b.1 s) a.2 b.2
+  one_way _ _ (keeps_rows name store next more each) told left right t w s (a, x, g) (b, y, k) =
+      one_way next more each (with_told name None told) (with_told name a left)
+      (with_told name b right) t w (written_alike name store a b told left right x y s) g k
+  one_way _ _ (settles object name next more each) told left right t w s g k =
+      one_way next more each told (with_asked (Settled name) left) (with_asked (Settled name) right)
+      t w s (past_settle p end p_last object name next left g)
+      (past_settle q last q_last object name more right k)
+  one_way _ _ (gives_back name next more each) told left right t w s g k =
+      one_way next more each told (with_asked (Returned name) left)
+      (with_asked (Returned name) right) t w s g k
+  one_way _ _ (draws seat size next more each) told left right t w s g k =
       let a = past_draw p end p_last seat size next left g in
-      let b = past_draw q last q_last seat size next right k in
+      let b = past_draw q last q_last seat size more right k in
       let f = shared_there (told.dice seat) (left.dice seat) (right.dice seat) t.0 (s.3 seat) in
       let u = taken_of (left.dice seat) a.1 f.0 a.0 f.2 a.2 in
       let v = taken_of (right.dice seat) b.1 f.0 b.0 f.3 b.2 in
       let same = same_front a.0 b.0 u.0 v.0 (a.3 ∙ sym b.3) (sym u.2 ∙ v.2) in
-      one_way (next a.0) (with_dice seat (Some u.0) told) (with_dice seat a.1 left)
-      (with_dice seat a.1 right) (one a.0) (t.1 a.0 u.0 (f.1 ∙ ap (λ o. Some o) u.2) a.3) (
+      let drawn : told.dice seat ≡ Some (a.0 ++ u.0) = f.1 ∙ ap (λ o. Some o) u.2 in
+      one_way (next a.0) (more a.0) (each a.0) (with_dice seat (Some u.0) told)
+      (with_dice seat a.1 left) (with_dice seat a.1 right) (t.1 a.0 u.0 drawn a.3)
+      (w.1 a.0 u.0 drawn a.3) (
         s.0,
         s.1,
         s.2,
@@ -436,17 +430,17 @@ module _ {A : Type 0} (exchanges : Option (List Exchange)) (p q : Point A) (end 
         s.6,
       )
       a.4
-      (subst (λ (x : List ℕ). Goes q last (next x) (with_dice seat a.1 right)) same.0
-      (subst (λ o. Goes q last (next b.0) (with_dice seat o right))
+      (subst (λ (x : List ℕ). Goes q last (more x) (with_dice seat a.1 right)) same.0
+      (subst (λ o. Goes q last (more b.0) (with_dice seat o right))
       (v.1 ∙ ap (λ o. Some o) same.1 ∙ sym u.1) b.4))
-  one_way (borrow_link seat plugin program next) told left right one t s g k =
-      one_way next told (with_asked (Link seat plugin program) left)
-      (with_asked (Link seat plugin program) right) one t s
+  one_way _ _ (borrows_link seat plugin program next more each) told left right t w s g k =
+      one_way next more each told (with_asked (Link seat plugin program) left)
+      (with_asked (Link seat plugin program) right) t w s
       (past_link p end p_last seat plugin program next left g)
-      (past_link q last q_last seat plugin program next right k)
-  one_way (ask_status seat plugin next) told left right one t s g k =
+      (past_link q last q_last seat plugin program more right k)
+  one_way _ _ (asks seat plugin next more each) told left right t w s g k =
       let a = past_status p end p_last seat plugin next left g in
-      let b = past_status q last q_last seat plugin next right k in
+      let b = past_status q last q_last seat plugin more right k in
       let x = StatusCall plugin (Ok a.0) in
       let y = StatusCall plugin (Ok b.0) in
       let es = those exchanges t.0 in
@@ -454,7 +448,7 @@ module _ {A : Type 0} (exchanges : Option (List Exchange)) (p q : Point A) (end 
       let now = ap (hearing (x ∷ [])) h.2 in
       let too = ap (hearing (y ∷ [])) h.3 in
       let m = grown p end p_last (next a.0) (with_heard x left) a.1 in
-      let n = grown q last q_last (next b.0) (with_heard y right) b.1 in
+      let n = grown q last q_last (more b.0) (with_heard y right) b.1 in
       let c = in_front exchanges p end p_last heard es.0 es.1 (h.0 ++ x ∷ []) (with_heard x left)
       now m in
       let d = in_front exchanges q last q_last heard_too es.0 es.1 (h.1 ++ y ∷ [])
@@ -462,13 +456,14 @@ module _ {A : Type 0} (exchanges : Option (List Exchange)) (p q : Point A) (end 
       let e : x ≡ y = next_asked x y h.0 h.1 c.0 d.0 (λ es. refl) (λ es. refl) h.4
       (sym c.1 ∙ d.1) in
       let same : b.0 ≡ a.0 = cc in
-      one_way (next a.0) told (with_heard x left) (with_heard x right) (one a.0)
-      (t.1 a.0 (was_heard exchanges p end p_last heard es.0 es.1 x h.0 (with_heard x left) now m))
+      let among = was_heard exchanges p end p_last heard es.0 es.1 x h.0 (with_heard x left) now m in
+      one_way (next a.0) (more a.0) (each a.0) told (with_heard x left) (with_heard x right)
+      (t.1 a.0 among) (w.1 a.0 among)
       (s.0, s.1, s.2, s.3, s.4, s.5, asked_more x exchanges left.heard right.heard s.6) a.1
-      (subst (λ v. Goes q last (next v) (with_heard (StatusCall plugin (Ok v)) right)) same b.1)
-  one_way (wrap seat plugin plain next) told left right one t s g k =
+      (subst (λ v. Goes q last (more v) (with_heard (StatusCall plugin (Ok v)) right)) same b.1)
+  one_way _ _ (wraps seat plugin plain next more each) told left right t w s g k =
       let a = past_wrap p end p_last seat plugin plain next left g in
-      let b = past_wrap q last q_last seat plugin plain next right k in
+      let b = past_wrap q last q_last seat plugin plain more right k in
       let x = WrapCall plugin plain (Ok a.0) in
       let y = WrapCall plugin plain (Ok b.0) in
       let es = those exchanges t.0 in
@@ -476,7 +471,7 @@ module _ {A : Type 0} (exchanges : Option (List Exchange)) (p q : Point A) (end 
       let now = ap (hearing (x ∷ [])) h.2 in
       let too = ap (hearing (y ∷ [])) h.3 in
       let m = grown p end p_last (next a.0) (with_heard x left) a.1 in
-      let n = grown q last q_last (next b.0) (with_heard y right) b.1 in
+      let n = grown q last q_last (more b.0) (with_heard y right) b.1 in
       let c = in_front exchanges p end p_last heard es.0 es.1 (h.0 ++ x ∷ []) (with_heard x left)
       now m in
       let d = in_front exchanges q last q_last heard_too es.0 es.1 (h.1 ++ y ∷ [])
@@ -484,36 +479,65 @@ module _ {A : Type 0} (exchanges : Option (List Exchange)) (p q : Point A) (end 
       let e : x ≡ y = next_asked x y h.0 h.1 c.0 d.0 (λ es. refl) (λ es. refl) h.4
       (sym c.1 ∙ d.1) in
       let same : b.0 ≡ a.0 = cc in
-      one_way (next a.0) told (with_heard x left) (with_heard x right) (one a.0)
-      (t.1 a.0 (was_heard exchanges p end p_last heard es.0 es.1 x h.0 (with_heard x left) now m))
+      let among = was_heard exchanges p end p_last heard es.0 es.1 x h.0 (with_heard x left) now m in
+      one_way (next a.0) (more a.0) (each a.0) told (with_heard x left) (with_heard x right)
+      (t.1 a.0 among) (w.1 a.0 among)
       (s.0, s.1, s.2, s.3, s.4, s.5, asked_more x exchanges left.heard right.heard s.6) a.1
-      (subst (λ v. Goes q last (next v) (with_heard (WrapCall plugin plain (Ok v)) right)) same
-      b.1)
-  one_way (unwrap seat key next) told left right one t s g k =
+      (subst (λ v. Goes q last (more v) (with_heard (WrapCall plugin plain (Ok v)) right)) same b.1)
+  one_way _ _ (first_unwraps seat key next other each) told left right t w s g k =
       let es = those exchanges t.0 in
       let h = s.6 t.0 in
       let a = unwrapped exchanges p end p_last heard es.0 es.1 seat key next left h.0 h.2 g in
-      let b = unwrapped exchanges q last q_last heard_too es.0 es.1 seat key next right h.1 h.3 k in
-      one_way (next a.0) told (record left { heard = Some a.2 }) (record right { heard = Some b.2 })
-      (one a.0) (t.1 a.0 a.1) (
+      one_way (next a.0) other (each a.0 a.1) told (record left { heard = Some a.2 }) right
+      (t.1 a.0 a.1) w (
         s.0,
         s.1,
         s.2,
         s.3,
         s.4,
         s.5,
-        λ some. (a.2, b.2, refl, refl, a.3 ∙ h.4 ∙ sym b.3),
+        λ some. (a.2, h.1, refl, h.3, a.3 ∙ h.4),
       )
-      a.4
-      (subst (λ (v : List ℕ). Goes q last (next v) (record right { heard = Some b.2 }))
-      (once key a.0 b.0 a.1 b.1) b.4)
-  one_way (note text next) told left right one t s g k =
-      one_way next told (with_said text left) (with_said text right) one t
+      a.4 k
+  one_way _ _ (second_unwraps seat key other more each) told left right t w s g k =
+      let es = those exchanges w.0 in
+      let h = s.6 w.0 in
+      let b = unwrapped exchanges q last q_last heard_too es.0 es.1 seat key more right h.1 h.3 k in
+      one_way other (more b.0) (each b.0 b.1) told left (record right { heard = Some b.2 }) t
+      (w.1 b.0 b.1) (
+        s.0,
+        s.1,
+        s.2,
+        s.3,
+        s.4,
+        s.5,
+        λ some. (h.0, b.2, h.2, refl, h.4 ∙ sym b.3),
+      )
+      g b.4
+  one_way _ _ (notes text next more each) told left right t w s g k =
+      one_way next more each told (with_said text left) (with_said text right) t w
       (s.0, s.1, s.2, s.3, s.4, refl, s.6) g k
-  one_way (find B P next) told left right one t s g k =
-      let a = past_find p end p_last B P next left g in
-      let b = past_find q last q_last B P next right k in
-      one_way (next a.0) told left right (one.1 a.0 a.1) (t a.0 a.1) s a.2
-      (subst (λ (v : Steps A). Goes q last v right) (one.0 b.0 a.0 b.1 a.1) b.2)
-  one_way (refuse why) told left right one t s g k = meet (refuses why) left right s.5 s.4 g k
-  one_way (give x) told left right one t s g k = meet (gives x) left right s.5 s.4 g k
+  one_way _ _ (first_finds C P next other each) told left right t w s g k =
+      let a = past_find p end p_last C P next left g in
+      one_way (next a.0) other (each a.0 a.1) told left right (t a.0 a.1) w s a.2 k
+  one_way _ _ (second_finds C P other more each) told left right t w s g k =
+      let b = past_find q last q_last C P more right k in
+      one_way other (more b.0) (each b.0 b.1) told left right t (w b.0 b.1) s g b.2
+  one_way _ _ (refuse_both why) told left right t w s g k =
+      meet (refuses why) left right s.5 s.4 g k
+  one_way _ _ (give_both x y same) told left right t w s g k = meet (gives x) left right s.5 s.4 g
+      (subst (λ z. IsAt q last (gives z) right) (sym same) k)
+
+-- ---- a command
+
+module _ (exchanges : Option (List Exchange)) (p q : Point Outcome) (end last : Left)
+    (p_last : IsLast p) (q_last : IsLast q) (heard : end.heard ≡ exchanges)
+    (heard_too : last.heard ≡ exchanges) (once : AnswersOnce exchanges) where
+  pub command_way : (command : Command) (told left right : Left)
+      → IsTold exchanges (steps command) told
+      → AreAbreast exchanges p q end last p_last q_last heard heard_too once told left right
+      → Goes p end (steps command) left → Goes q last (steps command) right
+      → Meet exchanges p q end last p_last q_last heard heard_too once
+  command_way command told left right t s g k =
+      one_way exchanges p q end last p_last q_last heard heard_too once (steps command)
+      (steps command) (each exchanges once command) told left right t t s g k

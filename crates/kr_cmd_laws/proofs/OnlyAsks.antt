@@ -9,8 +9,9 @@ use Rattle.kr_kms.specs.declared.plugin.KmsNo.{KmsNo}
 use Rattle.kr_kms.specs.declared.plugin.KmsNo.TheVariants.{Failed}
 use Rattle.kr_kms.specs.declared.plugin.Status.{Status}
 use Rattle.kr_kms.specs.declared.plugin.Wrapped.{Wrapped}
-use Rattle.kr_kms.specs.declared.world.WorldCall.TheVariants.{File, Link, RandomSource, Settled, Tape}
-use Rattle.kr_cmd_steps.specs.Steps.{Steps, load, take_input, borrow_dice, borrow_tape, read_tape, write_row, keep_rows, settle, draw, borrow_link, ask_status, wrap, unwrap, note, find, refuse, give, and_then, Point, Left, Goes, hearing, with_asked, with_dice, with_input, with_said, with_tape, with_told}
+use Rattle.kr_kms.specs.declared.world.WorldCall.TheVariants.{File, Link, RandomSource, Settled, Tape, Returned}
+use Rattle.kr_cmd_steps.specs.Steps.{Steps, load, take_input, borrow_dice, borrow_tape, read_tape, write_row, keep_rows, settle, give_back, draw, borrow_link, ask_status, wrap, unwrap, note, find, refuse, give, and_then, Point, Left, Goes, hearing, with_asked, with_dice, with_input, with_said, with_tape, with_told}
+use Rattle.kr_cmd_laws.proofs.Plain.{IsPlain}
 
 -- from what is left on, whatever is drawn, found and answered, they ask plugins only this
 abbrev pub OnlyAsks : {A : Type 0} → (Exchange → Type 0) → Steps A → Left → Type 0
@@ -44,6 +45,7 @@ OnlyAsks P (unwrap seat key next) left =
     ((answer : Result (List ℕ) KmsNo) → P (UnwrapCall key answer))
     × ((bytes : List ℕ) (h : Option (List Exchange))
     → OnlyAsks P (next bytes) (record left { heard = h }))
+OnlyAsks P (give_back name next) left = OnlyAsks P next (with_asked (Returned name) left)
 OnlyAsks P (note text next) left = OnlyAsks P next (with_said text left)
 OnlyAsks P (find B Is next) left = (b : B) → Is b → OnlyAsks P (next b) left
 OnlyAsks P (refuse why) left = Unit {0}
@@ -130,7 +132,7 @@ module _ {A : Type 0} (P : Exchange → Type 0) (point : Point A) (end : Left) w
       at (record left { heard = hearing (WrapCall plugin plain (Err Failed) ∷ []) left.heard })
       (one_more P (WrapCall plugin plain (Err Failed)) left.heard (g.0 (Err Failed)) a) e
   only_asked (wrap seat plugin plain next) left g a
-      (inr (inr (inr (wrapped, tells, within, goes)))) = only_asked (next wrapped) _
+      (inr (inr (inr (wrapped, within, goes)))) = only_asked (next wrapped) _
       (g.1 wrapped (hearing (WrapCall plugin plain (Ok wrapped) ∷ []) left.heard))
       (one_more P (WrapCall plugin plain (Ok wrapped)) left.heard (g.0 (Ok wrapped)) a) goes
   only_asked (unwrap seat key next) left g a (inl e) = at left a e
@@ -140,11 +142,10 @@ module _ {A : Type 0} (P : Exchange → Type 0) (point : Point A) (end : Left) w
   only_asked (unwrap seat key next) left g a (inr (inr (inl e))) =
       at (record left { heard = hearing (UnwrapCall key (Err Failed) ∷ []) left.heard })
       (one_more P (UnwrapCall key (Err Failed)) left.heard (g.0 (Err Failed)) a) e
-  only_asked (unwrap seat key next) left g a (inr (inr (inr (bytes, tells, inl (was, goes))))) =
-      only_asked (next bytes) left (g.1 bytes left.heard) a goes
-  only_asked (unwrap seat key next) left g a (inr (inr (inr (bytes, tells, inr goes)))) =
+  only_asked (unwrap seat key next) left g a (inr (inr (inr (bytes, goes)))) =
       only_asked (next bytes) _ (g.1 bytes (hearing (UnwrapCall key (Ok bytes) ∷ []) left.heard))
       (one_more P (UnwrapCall key (Ok bytes)) left.heard (g.0 (Ok bytes)) a) goes
+  only_asked (give_back name next) left g a goes = only_asked next _ g a goes
   only_asked (note text next) left g a goes = only_asked next _ g a goes
   only_asked (find B Is next) left g a (inl e) = at left a e
   only_asked (find B Is next) left g a (inr (b, is, goes)) =
@@ -177,7 +178,24 @@ module _ {A B : Type 0} (P : Exchange → Type 0) (others : A → Steps B)
       (g.0, λ wrapped h. only_then (next wrapped) _ (g.1 wrapped h))
   only_then (unwrap seat key next) left g =
       (g.0, λ bytes h. only_then (next bytes) _ (g.1 bytes h))
+  only_then (give_back name next) left g = only_then next _ g
   only_then (note text next) left g = only_then next _ g
   only_then (find D Is next) left g = λ d is. only_then (next d) left (g d is)
   only_then (refuse why) left g = tt
   only_then (give x) left g = go_on x left
+
+-- ---- steps that read alone
+
+pub plain_asks : {A : Type 0} (P : Exchange → Type 0) (s : Steps A) (left : Left) → IsPlain s
+    → OnlyAsks P s left
+plain_asks P (load name next) left p = λ bytes. plain_asks P (next bytes) _ (p bytes)
+plain_asks P (take_input limit long next) left p =
+    λ bytes rest c e. plain_asks P (next bytes) _ (p bytes)
+plain_asks P (borrow_tape name access absent next) left p = plain_asks P next _ p.1
+plain_asks P (read_tape object name next) left p =
+    λ bytes agrees. plain_asks P (next bytes) left (p bytes)
+plain_asks P (give_back name next) left p = plain_asks P next _ p
+plain_asks P (find B Q next) left p = λ b is. plain_asks P (next b) left (p.1 b)
+plain_asks P (refuse why) left p = tt
+plain_asks P (give x) left p = tt
+plain_asks P next left p = absurd (p tt)

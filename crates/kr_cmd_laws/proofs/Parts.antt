@@ -1,7 +1,7 @@
 -- Steps behind others that only read: the first end them, or the others go on over the same tapes.
 use Rattle.std.proofs.Common.{◌≡◌, ◌⊎◌, refl, sym, ap, subst, inl, inr}
 use Rattle.kr_kms.specs.declared.world.Access.TheVariants.{ToRead, ToWrite, ToMake}
-use Rattle.kr_cmd_steps.specs.Steps.{Steps, load, take_input, borrow_dice, borrow_tape, read_tape, write_row, keep_rows, settle, draw, borrow_link, ask_status, wrap, unwrap, note, find, refuse, give, and_then, Point, Left, IsAt, Goes}
+use Rattle.kr_cmd_steps.specs.Steps.{Steps, load, take_input, borrow_dice, borrow_tape, read_tape, write_row, keep_rows, settle, give_back, draw, borrow_link, ask_status, wrap, unwrap, note, find, refuse, give, and_then, Point, Left, IsAt, Goes}
 use Rattle.kr_cmd_steps.proofs.Points.{IsShort}
 use Rattle.kr_cmd_laws.proofs.ReadOnly.{IsReadOnly}
 
@@ -60,15 +60,14 @@ module _ {A B : Type 0} (others : A → Steps B) (p : Point B) (end : Left) wher
   parts (wrap seat plugin plain next) left r (inl at) = inl (ends_at at tt)
   parts (wrap seat plugin plain next) left r (inr (inl (answer, at))) = inl (ends_at at tt)
   parts (wrap seat plugin plain next) left r (inr (inr (inl at))) = inl (ends_at at tt)
-  parts (wrap seat plugin plain next) left r (inr (inr (inr (wrapped, tells, within, goes)))) =
+  parts (wrap seat plugin plain next) left r (inr (inr (inr (wrapped, within, goes)))) =
       parts (next wrapped) _ (r wrapped) goes
   parts (unwrap seat key next) left r (inl at) = inl (ends_at at tt)
   parts (unwrap seat key next) left r (inr (inl (answer, at))) = inl (ends_at at tt)
   parts (unwrap seat key next) left r (inr (inr (inl at))) = inl (ends_at at tt)
-  parts (unwrap seat key next) left r (inr (inr (inr (bytes, tells, inl (was, goes))))) =
-      parts (next bytes) left (r bytes) goes
-  parts (unwrap seat key next) left r (inr (inr (inr (bytes, tells, inr goes)))) =
+  parts (unwrap seat key next) left r (inr (inr (inr (bytes, goes)))) =
       parts (next bytes) _ (r bytes) goes
+  parts (give_back name next) left r goes = parts next _ r goes
   parts (note text next) left r goes = parts next _ r goes
   parts (find D P next) left r (inl at) = inl (ends_at at tt)
   parts (find D P next) left r (inr (d, is, goes)) = parts (next d) _ (r d) goes

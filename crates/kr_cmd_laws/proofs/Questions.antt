@@ -11,6 +11,7 @@ use Rattle.kr_config.specs.declared.who.Who.{Who}
 use Rattle.kr_config.specs.declared.who.Who.TheVariants.{Identity, Aescbc, Aesgcm, Kms}
 use Rattle.kr_envelope.specs.declared.object.EncryptedObject.{EncryptedObject}
 use Rattle.kr_envelope.specs.declared.object.ObjectNo.{ObjectNo}
+use Rattle.kr_kms.specs.Cache.{CacheState, seed_at, with_used}
 use Rattle.kr_kms.specs.Exchanges.{Exchange, UnwrapCall}
 use Rattle.kr_kms.specs.Health.{breach_in}
 use Rattle.kr_kms.specs.declared.health.Field.{Field}
@@ -18,8 +19,8 @@ use Rattle.kr_kms.specs.declared.plugin.KmsNo.{KmsNo}
 use Rattle.kr_kms.specs.declared.seeds.SeedKey.{SeedKey}
 use Rattle.kr_kms.specs.declared.seeds.SeedRow.{SeedRow}
 use Rattle.kr_kms.specs.declared.world.Access.TheVariants.{ToMake, ToRead, ToWrite}
-use Rattle.kr_kms.specs.declared.world.WorldCall.TheVariants.{Tape}
-use Rattle.kr_provider.specs.Envelopes.{HasObject, seed_key}
+use Rattle.kr_kms.specs.declared.world.WorldCall.TheVariants.{Tape, Returned}
+use Rattle.kr_provider.specs.Envelopes.{HasObject, seed_key, Envelope}
 use Rattle.kr_provider.specs.PluginOrder.{plugin_order}
 use Rattle.kr_provider.specs.Publication.{Publication, seed_of}
 use Rattle.kr_provider.specs.Reading.{Reading, data_of, refused, unopened, value_reading, is_stale}
@@ -36,9 +37,9 @@ use Rattle.kr_cmd_messages.specs.Receipts.{Receipt}
 use Rattle.kr_cmd_messages.specs.declared.refusal.Done.{Done}
 use Rattle.kr_cmd_messages.specs.declared.refusal.Stop.{Stop}
 use Rattle.kr_cmd_messages.specs.declared.refusal.Stop.TheVariants.{Fault, NoMemory, Refused, Words}
-use Rattle.kr_cmd_messages.specs.Command.{Asks, replica_names, reload_in, reload_number, reload_file}
+use Rattle.kr_cmd_messages.specs.Command.{Asks}
 use Rattle.kr_cmd_messages.specs.declared.command.Command.{Command}
-use Rattle.kr_cmd_messages.specs.declared.command.Command.TheVariants.{Convert, Check, Inspect, Put, Get, Verify, Migrate, Rows, Judge, Plan, Rewrite}
+use Rattle.kr_cmd_messages.specs.declared.command.Command.TheVariants.{Convert, Put, Get, Verify, Migrate, Rewrite}
 use Rattle.kr_cmd_messages.specs.declared.command.Conversion.{Conversion}
 use Rattle.kr_cmd_messages.specs.declared.command.Direction.{Direction}
 use Rattle.kr_cmd_messages.specs.declared.command.Direction.TheVariants.{Encrypt, Decrypt}
@@ -52,22 +53,20 @@ use Rattle.kr_cmd_messages.specs.declared.refusal.Outcome.{Outcome}
 use Rattle.kr_cmd_messages.specs.declared.refusal.Refusal.{Refusal}
 use Rattle.kr_cmd_steps.specs.Around.{Around, left_of, with_what_is_said}
 use Rattle.kr_cmd_steps.specs.Check.{listing}
-use Rattle.kr_cmd_steps.specs.Phases.{adding, by_result, configuration, input_of, linking_programs, settled_for, show, silently, stored_on, tape_for, with_memory, within_limit}
-use Rattle.kr_cmd_steps.specs.ValueSteps.{bench_steps, data_steps, draw_some, opening, published_source, reading_given, source_steps, value_read, value_sealed, value_steps, value_with, working, working_by}
-use Rattle.kr_cmd_steps.specs.StoreSteps.{configurations, copied_into, copying, judging_at, judging_by, live_on, migrated_line, migrated_row, migrating_into, new_row, revision_line, row_finding, row_findings, row_found, row_on, sealed_into, source_on, stored_into, target_on, target_read, telling, telling_findings, verifying_by, verifying_with}
+use Rattle.kr_cmd_steps.specs.Phases.{adding, by_result, configuration, input_of, linking_programs, settled_for, silently, stored_on, tape_for, with_memory, within_limit, read_for}
+use Rattle.kr_cmd_steps.specs.ValueSteps.{bench_steps, data_steps, draw_some, opening, published_source, reading_given, source_steps, value_read, value_sealed, value_steps, value_with, working, working_by, fetching, none_kept}
+use Rattle.kr_cmd_steps.specs.StoreSteps.{copied_into, copying, live_on, migrated_line, migrated_row, migrating_into, new_row, revision_line, row_finding, row_findings, row_found, row_on, sealed_into, source_on, stored_into, target_on, target_read, telling_findings, verifying_by, verifying_with}
 use Rattle.kr_cmd_steps.specs.Commands.{steps}
 use Rattle.kr_cmd_steps.specs.RewriteSteps.{Progress, driving, nothing_done, one_rewritten, replacing, resealing, rewriting_by, rewriting_live, rewriting_on, row_anew, row_by, row_data, row_steps, starting, within_journal}
-use Rattle.kr_cmd_steps.specs.Inspect.{Inspects}
-use Rattle.kr_cmd_steps.specs.PlanLines.{ShowsPlan}
 use Rattle.kr_cmd_steps.specs.Plugins.{borrow_links, make_seed, make_seeds, settings_programs, unless_breach, wrap_seed}
 use Rattle.kr_cmd_steps.specs.RowFindings.{finding_of}
-use Rattle.kr_cmd_steps.specs.RowLines.{ShowsRows}
 use Rattle.kr_cmd_steps.specs.Ran.{Answers, Closes, EndsAll, ReachesEnd}
-use Rattle.kr_cmd_steps.specs.Steps.{Steps, borrow_dice, settle, find, give, and_then, with_asked, with_tape, Left, Goes, Point, amid, awaits, gives, refuses}
+use Rattle.kr_cmd_steps.specs.Steps.{Steps, borrow_dice, settle, find, give, and_then, with_asked, with_tape, Left, Goes, Point, amid, awaits, gives, refuses, give_back}
 use Rattle.kr_cmd_steps.specs.StoreFiles.{IsStored, Stored, none_there, with_row}
 use Rattle.kr_cmd_steps.specs.declared.programs.Program.{Program}
 use Rattle.kr_cmd_laws.specs.PluginLaws.{IsInput, IsLiveOf, IsQuestion, IsRowOf, PluginsSee, Sees, verified_as}
-use Rattle.kr_cmd_laws.proofs.OnlyAsks.{AllHeard, OnlyAsks, only_asked, only_then}
+use Rattle.kr_cmd_laws.proofs.OnlyAsks.{plain_asks, AllHeard, OnlyAsks, only_asked, only_then}
+use Rattle.kr_cmd_laws.proofs.Plain.{plain}
 
 -- ---- phases that ask nothing
 
@@ -120,9 +119,6 @@ module _ (P : Exchange → Type 0) where
   given_only (refused why) stale left = tt
   given_only unopened stale left = λ none u. absurd none
 
-  show_only : (Is : Result (List ℕ) Refusal → Type 0) (left : Left) → OnlyAsks P (show Is) left
-  show_only Is left = λ shown is. results_only shown (λ text. give (silently text)) left (λ text. tt)
-
   stored_only : {B : Type 0} (object : Object) (name : List ℕ) (others : Stored → Steps B)
       → ((held : Stored) (l : Left) → OnlyAsks P (others held) l) → (left : Left)
       → OnlyAsks P (and_then (stored_on object name) others) left
@@ -135,29 +131,6 @@ module _ (P : Exchange → Type 0) where
   adding_only object name store row others o left = only_then P others o
       (adding object name store row) left (λ u v. results_only (within_limit (with_row row store)) _
       left (λ grown told. tt))
-
-  configurations_only : (read : List (Option (List ConfigEntry))) (names : List (List ℕ)) (left : Left)
-      → OnlyAsks P (configurations read names) left
-  configurations_only read [] left = λ u v. tt
-  configurations_only read (name ∷ names) left = configured name
-      (λ rows. configurations (read ++ Some rows ∷ []) names) left
-      (λ rows l i t. configurations_only (read ++ Some rows ∷ []) names l)
-
-  judged_only : (stored : List LogRow) (replicas : List (Option (List ConfigEntry))) (replica : ℕ)
-      (rows : List ConfigEntry) (left : Left) → OnlyAsks P (judging_at stored replicas replica rows) left
-  judged_only stored replicas replica rows left = λ r is.
-      results_only r telling left (λ verdict u v. tt)
-
-  judging_only : (options : List (List ℕ × List ℕ)) (held : List LogRow) (left : Left)
-      → OnlyAsks P (judging_by options held) left
-  judging_only options held left =
-      let file = reload_file (reload_in options) in
-      let replica = reload_number (reload_in options) in
-      only_then P (λ replicas. and_then (configuration file) (judging_at held replicas replica))
-      (λ replicas l. configured file (judging_at held replicas replica) l
-      (λ rows m i t. judged_only held replicas replica rows m))
-      (configurations [] (replica_names options)) left
-      (configurations_only [] (replica_names options) left)
 
   copying_only : (name : List ℕ) (store : Stored) (rows : List LogRow) (left : Left)
       → OnlyAsks P (copying name store rows) left
@@ -220,35 +193,58 @@ module _ (IsHeld : List ℕ → Type 0) where
   sealed_only seeds who path plain left = λ u v. draws_only P (draw_size who)
       (λ drawn. give (sealed_by seeds who path plain drawn)) (λ drawn l. tt) left
 
-  source_only : {A : Type 0} (source : Option (List ℕ)) (key : SeedKey)
-      (next : Option (List ℕ) → Steps A) (left : Left)
+  fetched_only : {A : Type 0} (seed : Option (List ℕ)) (kept : CacheState) (key : SeedKey)
+      (next : Option (List ℕ) → CacheState → Steps A) (left : Left)
       → ((answer : Result (List ℕ) KmsNo) → P (UnwrapCall key answer))
-      → ((o : Option (List ℕ)) (l : Left) → OnlyAsks P (next o) l)
-      → OnlyAsks P (source_steps source key next) left
-  source_only (Some seed) key next left asks o = o (Some seed) left
-  source_only None key next left asks o = (asks, λ bytes h. o (Some bytes) _)
+      → ((o : Option (List ℕ)) (after : CacheState) (l : Left) → OnlyAsks P (next o after) l)
+      → OnlyAsks P (fetching seed kept key next) left
+  fetched_only (Some seed) kept key next left asks o = o (Some seed) (with_used kept key) left
+  fetched_only None kept key next left asks o =
+      (asks, λ bytes h. λ after keeps. o (Some bytes) after _)
+
+  source_only : {A : Type 0} (source : Option (List ℕ)) (kept : CacheState) (key : SeedKey)
+      (next : Option (List ℕ) → CacheState → Steps A) (left : Left)
+      → ((answer : Result (List ℕ) KmsNo) → P (UnwrapCall key answer))
+      → ((o : Option (List ℕ)) (after : CacheState) (l : Left) → OnlyAsks P (next o after) l)
+      → OnlyAsks P (source_steps source kept key next) left
+  source_only (Some seed) kept key next left asks o = o (Some seed) kept left
+  source_only None kept key next left asks o =
+      fetched_only (seed_at kept.rows key) kept key next left asks o
 
   opened_only : {A : Type 0} (seeds : List SeedRow) (reader : Option Who) (bytes : List ℕ)
-      (object : Result EncryptedObject ObjectNo) (next : Option (List ℕ) → Steps A) (left : Left)
+      (object : Result EncryptedObject ObjectNo) (kept : CacheState)
+      (next : Option (List ℕ) → CacheState → Steps A) (left : Left)
       → IsHeld bytes → HasObject reader bytes object
-      → ((o : Option (List ℕ)) (l : Left) → OnlyAsks P (next o) l)
-      → OnlyAsks P (opening seeds reader object next) left
-  opened_only seeds None bytes object next left held has o = o None left
-  opened_only seeds (Some Identity) bytes object next left held has o = o None left
-  opened_only seeds (Some (Aescbc name secret)) bytes object next left held has o = o None left
-  opened_only seeds (Some (Aesgcm name secret)) bytes object next left held has o = o None left
-  opened_only seeds (Some (Kms name)) bytes (Err why) next left held has o = o None left
-  opened_only seeds (Some (Kms name)) bytes (Ok object) next left held has o =
-      source_only (published_source (seed_of name seeds) (seed_key name object))
+      → ((o : Option (List ℕ)) (after : CacheState) (l : Left) → OnlyAsks P (next o after) l)
+      → OnlyAsks P (opening seeds reader object kept next) left
+  opened_only seeds None bytes object kept next left held has o = o None kept left
+  opened_only seeds (Some Identity) bytes object kept next left held has o = o None kept left
+  opened_only seeds (Some (Aescbc name secret)) bytes object kept next left held has o =
+      o None kept left
+  opened_only seeds (Some (Aesgcm name secret)) bytes object kept next left held has o =
+      o None kept left
+  opened_only seeds (Some (Kms name)) bytes (Err why) kept next left held has o =
+      o None kept left
+  opened_only seeds (Some (Kms name)) bytes (Ok object) kept next left held has o =
+      source_only (published_source (seed_of name seeds) (seed_key name object)) kept
       (seed_key name object) next left (λ answer. (bytes, name, object, held, has, refl)) o
 
-  value_only : (seeds : List SeedRow) (list : List Who) (path bytes : List ℕ) (left : Left)
-      → IsHeld bytes → OnlyAsks P (value_read seeds list path bytes) left
-  value_only seeds list path bytes left held = λ object has.
-      opened_only seeds (reader_in list bytes) bytes object
-      (value_with seeds list path bytes object) left held has (λ source l. given_only P
-      (value_reading (record { object = object; source = source }) list path bytes)
-      (is_stale (record { object = object; source = source }) seeds list bytes) l)
+  with_only : (seeds : List SeedRow) (list : List Who) (path bytes : List ℕ)
+      (object : Result EncryptedObject ObjectNo) (source : Option (List ℕ)) (kept : CacheState)
+      (left : Left) → OnlyAsks P (value_with seeds list path bytes object source kept) left
+  with_only seeds list path bytes object source kept left =
+      let envelope : Envelope = record { object = object; source = source } in
+      only_then P (λ read. give (read, kept)) (λ read l. tt)
+      (reading_given (value_reading envelope list path bytes) (is_stale envelope seeds list bytes))
+      left (given_only P (value_reading envelope list path bytes)
+      (is_stale envelope seeds list bytes) left)
+
+  value_only : (seeds : List SeedRow) (list : List Who) (path bytes : List ℕ) (kept : CacheState)
+      (left : Left) → IsHeld bytes → OnlyAsks P (value_read seeds list path bytes kept) left
+  value_only seeds list path bytes kept left held = λ object has.
+      opened_only seeds (reader_in list bytes) bytes object kept
+      (value_with seeds list path bytes object) left held has
+      (with_only seeds list path bytes object)
 
   work_only : (direction : Direction) (resource path : List ℕ) (rows : List ConfigEntry) (bytes : List ℕ)
       (seeds : List SeedRow) (left : Left) → (direction ≡ Decrypt → IsHeld bytes)
@@ -259,8 +255,9 @@ module _ (IsHeld : List ℕ → Type 0) where
       (sealed_only seeds writer path bytes left)
   work_only Decrypt resource path rows bytes seeds left held =
       let list = list_of rows resource in
-      only_then P data_steps (data_only P) (value_read seeds list path bytes) left
-      (value_only seeds list path bytes left (held refl))
+      only_then P (λ read. data_steps read.0) (λ read. data_only P read.0)
+      (value_read seeds list path bytes none_kept) left
+      (value_only seeds list path bytes none_kept left (held refl))
 
   bench_only : (programs : List Program) (direction : Direction) (resource path : List ℕ)
       (rows : List ConfigEntry) (bytes : List ℕ) (left : Left) → (direction ≡ Decrypt → IsHeld bytes)
@@ -271,20 +268,20 @@ module _ (IsHeld : List ℕ → Type 0) where
       (λ seeds m. work_only direction resource path rows bytes seeds m held)
       (make_seeds (plugin_order rows)) l (seeds_only (plugin_order rows) l)) _
 
-  findings_only : (p : Publication) (rows : List stored.Row) (left : Left)
+  findings_only : (p : Publication) (rows : List stored.Row) (kept : CacheState) (left : Left)
       → ((row : stored.Row) → Contains rows row → IsHeld row.stored)
-      → OnlyAsks P (row_findings p rows) left
-  findings_only p [] left held = tt
-  findings_only p (row ∷ rows) left held =
-      only_then P (λ finding. with_memory
-      (and_then (row_findings p rows) (λ findings. give (finding ∷ findings))))
-      (λ finding l. λ u v. only_then P (λ findings. give (finding ∷ findings)) (λ findings m. tt)
-      (row_findings p rows) l (findings_only p rows l
+      → OnlyAsks P (row_findings p rows kept) left
+  findings_only p [] kept left held = tt
+  findings_only p (row ∷ rows) kept left held =
+      only_then P (λ found. with_memory
+      (and_then (row_findings p rows found.1) (λ findings. give (found.0 ∷ findings))))
+      (λ found l. λ u v. only_then P (λ findings. give (found.0 ∷ findings)) (λ findings m. tt)
+      (row_findings p rows found.1) l (findings_only p rows found.1 l
       (λ other c. held other (suc c.0, omega (arith, c.1), c.2))))
-      (row_finding p row) left
-      (only_then P (λ read. give (finding_of read)) (λ read l. tt)
-      (value_read p.seeds (list_of p.rows row.resource) row.path row.stored) left
-      (value_only p.seeds (list_of p.rows row.resource) row.path row.stored left
+      (row_finding p row kept) left
+      (only_then P (λ read. give (finding_of read.0, read.1)) (λ read l. tt)
+      (value_read p.seeds (list_of p.rows row.resource) row.path row.stored kept) left
+      (value_only p.seeds (list_of p.rows row.resource) row.path row.stored kept left
       (held row (0, omega arith, refl))))
 
   verified_only : (programs : List Program) (rows : List ConfigEntry) (found : List stored.Row) (left : Left)
@@ -292,11 +289,11 @@ module _ (IsHeld : List ℕ → Type 0) where
       → OnlyAsks P (verifying_with programs rows found) left
   verified_only programs rows found left held =
       links_only P programs (verifying_by rows found) (λ l u v. only_then P
-      (λ seeds. and_then (row_findings (record { rows = rows; seeds = seeds }) found)
+      (λ seeds. and_then (row_findings (record { rows = rows; seeds = seeds }) found none_kept)
       (telling_findings found))
       (λ seeds m. only_then P (telling_findings found) (λ findings n a b. tt)
-      (row_findings (record { rows = rows; seeds = seeds }) found) m
-      (findings_only (record { rows = rows; seeds = seeds }) found m held))
+      (row_findings (record { rows = rows; seeds = seeds }) found none_kept) m
+      (findings_only (record { rows = rows; seeds = seeds }) found none_kept m held))
       (make_seeds (plugin_order rows)) l (seeds_only (plugin_order rows) l)) _
 
   -- ---- the rows of a rewrite
@@ -331,19 +328,22 @@ module _ (IsHeld : List ℕ → Type 0) where
       row_data_only name p row at opened.plain opened.stale left
   row_by_only name p row at (Err why) left = tt
 
-  driving_only : (name : List ℕ) (p : Publication) (rows : List stored.Row) (at : Progress)
-      (left : Left) → ((row : stored.Row) → Contains rows row → IsHeld row.stored)
-      → OnlyAsks P (driving name p rows at) left
-  driving_only name p [] at left held = λ told u v. tt
-  driving_only name p (row ∷ rows) at left held = λ told.
+  driving_only : (name : List ℕ) (p : Publication) (rows : List stored.Row) (kept : CacheState)
+      (at : Progress) (left : Left)
+      → ((row : stored.Row) → Contains rows row → IsHeld row.stored)
+      → OnlyAsks P (driving name p rows kept at) left
+  driving_only name p [] kept at left held = λ told u v. tt
+  driving_only name p (row ∷ rows) kept at left held = λ told.
       let list = list_of p.rows row.resource in
-      only_then P (driving name p rows)
-      (λ next l. driving_only name p rows next l
+      only_then P (λ done. driving name p rows done.1 done.0)
+      (λ done l. driving_only name p rows done.1 done.0 l
       (λ other c. held other (suc c.0, omega (arith, c.1), c.2)))
-      (row_steps name p row at) _
-      (only_then P (row_by name p row at) (row_by_only name p row at)
-      (value_read p.seeds list row.path row.stored) _
-      (value_only p.seeds list row.path row.stored _ (held row (0, omega arith, refl))))
+      (row_steps name p row kept at) _
+      (only_then P (λ read. and_then (row_by name p row at read.0) (λ done. give (done, read.1)))
+      (λ read l. only_then P (λ done. give (done, read.1)) (λ done m. tt)
+      (row_by name p row at read.0) l (row_by_only name p row at read.0 l))
+      (value_read p.seeds list row.path row.stored kept) _
+      (value_only p.seeds list row.path row.stored kept _ (held row (0, omega arith, refl))))
 
   rewritten_only : (name : List ℕ) (programs : List Program) (rows : List ConfigEntry)
       (store : Stored) (found : List stored.Row) (left : Left)
@@ -354,11 +354,11 @@ module _ (IsHeld : List ℕ → Type 0) where
       (λ u. borrow_dice 0 (borrow_links programs (rewriting_by name rows store found))) left
       (λ u. links_only P programs (rewriting_by name rows store found) (λ l a b. only_then P
       (λ seeds. and_then (starting store.rows rows) (λ v.
-      driving name (record { rows = rows; seeds = seeds }) found (nothing_done store)))
+      driving name (record { rows = rows; seeds = seeds }) found none_kept (nothing_done store)))
       (λ seeds m r is. results_only P r (λ v.
-      driving name (record { rows = rows; seeds = seeds }) found (nothing_done store)) m
-      (λ v. driving_only name (record { rows = rows; seeds = seeds }) found (nothing_done store) m
-      held))
+      driving name (record { rows = rows; seeds = seeds }) found none_kept (nothing_done store)) m
+      (λ v. driving_only name (record { rows = rows; seeds = seeds }) found none_kept
+      (nothing_done store) m held))
       (make_seeds (plugin_order rows)) l (seeds_only (plugin_order rows) l)) _)
 
 -- ---- commands
@@ -422,10 +422,10 @@ module _ (old : Around) where
   gets words =
       let P = IsQuestion (IsRowOf words old) in
       configured P words.config (λ rows. and_then (linking_programs words.options rows) (λ programs.
-      and_then (tape_for words.store ToRead (row_on words.store words.path)) (λ row.
+      and_then (read_for words.store (row_on words.store words.path)) (λ row.
       bench_steps programs Decrypt row.resource words.path rows row.stored))) begin
       (λ rows l i t. linked P words.options rows (λ programs.
-      and_then (tape_for words.store ToRead (row_on words.store words.path)) (λ row.
+      and_then (read_for words.store (row_on words.store words.path)) (λ row.
       bench_steps programs Decrypt row.resource words.path rows row.stored)) l
       (λ programs. λ bytes agrees r is. on_store programs rows _ bytes
       (subst (λ tapes. Agrees (tapes words.store) (Some bytes)) t agrees) r is))
@@ -435,12 +435,13 @@ module _ (old : Around) where
           → IsStored bytes (Ok held) → (found : Option stored.Row)
           → live held.rows words.path ≡ found
           → OnlyAsks (IsQuestion (IsRowOf words old))
-          (and_then (by_result (row_found words.path found)) (λ row.
+          (and_then (and_then (by_result (row_found words.path found)) (λ made.
+          give_back words.store (give made))) (λ row.
           bench_steps programs Decrypt row.resource words.path rows row.stored)) left
       at programs rows left bytes agrees held read None is = tt
       at programs rows left bytes agrees held read (Some row) is =
-          bench_only (IsRowOf words old) programs Decrypt row.resource words.path rows row.stored left
-          (λ d. record {
+          bench_only (IsRowOf words old) programs Decrypt row.resource words.path rows row.stored
+          (with_asked (Returned words.store) left) (λ d. record {
             bytes = bytes;
             store = held;
             row = row;
@@ -453,8 +454,9 @@ module _ (old : Around) where
       on_store : (programs : List Program) (rows : List ConfigEntry) (left : Left) (bytes : List ℕ)
           → Agrees (old.world.tapes.told words.store) (Some bytes) → (r : Result Stored Refusal)
           → IsStored bytes r → OnlyAsks (IsQuestion (IsRowOf words old))
-          (and_then (and_then (by_result r)
+          (and_then (and_then (and_then (by_result r)
           (λ read. with_memory (by_result (row_found words.path (live read.rows words.path)))))
+          (λ made. give_back words.store (give made)))
           (λ row. bench_steps programs Decrypt row.resource words.path rows row.stored)) left
       on_store programs rows left bytes agrees (Err why) is = tt
       on_store programs rows left bytes agrees (Ok held) is = λ u v.
@@ -465,22 +467,24 @@ module _ (old : Around) where
   verifies words =
       let P = IsQuestion (IsLiveOf words old) in
       configured P words.config (λ rows. and_then (linking_programs words.options rows) (λ programs.
-      and_then (tape_for words.store ToRead (live_on words.store)) (verifying_with programs rows)))
+      and_then (read_for words.store (live_on words.store)) (verifying_with programs rows)))
       begin
       (λ rows l i t. linked P words.options rows (λ programs.
-      and_then (tape_for words.store ToRead (live_on words.store)) (verifying_with programs rows)) l
+      and_then (read_for words.store (live_on words.store)) (verifying_with programs rows)) l
       (λ programs. λ bytes agrees r is. on_store programs rows _ bytes
       (subst (λ tapes. Agrees (tapes words.store) (Some bytes)) t agrees) r is))
     where
       on_store : (programs : List Program) (rows : List ConfigEntry) (left : Left) (bytes : List ℕ)
           → Agrees (old.world.tapes.told words.store) (Some bytes) → (r : Result Stored Refusal)
           → IsStored bytes r → OnlyAsks (IsQuestion (IsLiveOf words old))
-          (and_then (and_then (by_result r)
+          (and_then (and_then (and_then (by_result r)
           (λ read. find (List stored.Row) (IsListing read.rows) give))
+          (λ made. give_back words.store (give made)))
           (verifying_with programs rows)) left
       on_store programs rows left bytes agrees (Err why) is = tt
       on_store programs rows left bytes agrees (Ok held) is = λ found listed.
-          verified_only (IsLiveOf words old) programs rows found left (λ row among. record {
+          verified_only (IsLiveOf words old) programs rows found
+          (with_asked (Returned words.store) left) (λ row among. record {
             live = found;
             row = row;
             are = record {
@@ -536,23 +540,9 @@ module _ (old : Around) where
   command_asks (Get words) = gets words
   command_asks (Verify words) = verifies words
   command_asks (Rewrite words) = rewrites words
-  command_asks (Check config resource) =
-      configured (Sees (Check config resource) old) config
-      (λ rows. show (λ shown. shown ≡ Ok (listing rows resource))) begin (λ rows l i t.
-      show_only (Sees (Check config resource) old) (λ shown. shown ≡ Ok (listing rows resource)) l)
-  command_asks (Plan words) = configured (Sees (Plan words) old) words.from
-      (λ from. and_then (configuration words.to) (λ to. show (ShowsPlan words from to)))
-      begin (λ from l i t. configured (Sees (Plan words) old) words.to
-      (λ to. show (ShowsPlan words from to)) l
-      (λ to m j u. show_only (Sees (Plan words) old) (ShowsPlan words from to) m))
-  command_asks Inspect = λ bytes rest c e. show_only (Sees Inspect old) (Inspects bytes) _
   command_asks (Migrate words) = migrating_only (Sees (Migrate words) old) words begin
-  command_asks (Rows store) = stored_only (Sees (Rows store) old) Store store
-      (λ held. show (ShowsRows held.rows))
-      (λ held l. show_only (Sees (Rows store) old) (ShowsRows held.rows) l) _
-  command_asks (Judge words) = stored_only (Sees (Judge words) old) Store words.store
-      (λ held. judging_by words.options held.rows)
-      (λ held l. judging_only (Sees (Judge words) old) words.options held.rows l) _
+  command_asks command =
+      plain_asks (Sees command old) (steps command) begin (plain command tt)
 
 -- ---- a run
 

@@ -1,20 +1,20 @@
 -- Steps that write no tape leave all tapes, and steps that write one leave every other.
-use Rattle.std.proofs.Common.{◌≡◌, ℕ, zero, suc, List, [], ◌∷◌, ◌++◌, Bool, false, Option, None, Some, Result, Ok, Err, ◌∙◌, ap, inl, inr, refl}
+use Rattle.std.proofs.Common.{◌≡◌, ℕ, zero, suc, List, [], ◌∷◌, Bool, false, Option, None, Some, Result, Ok, Err, ◌∙◌, ap, inl, inr, refl}
 use Rattle.kr_config.specs.Kept.{ConfigEntry}
 use Rattle.kr_config.specs.Lists.{list_of}
 use Rattle.kr_store.specs.Rows.{live}
-use Rattle.kr_store.specs.declared.rows.LogRow.{LogRow}
 use Rattle.kr_config.specs.declared.who.Who.{Who}
 use Rattle.kr_envelope.specs.declared.object.EncryptedObject.{EncryptedObject}
 use Rattle.kr_envelope.specs.declared.object.ObjectNo.{ObjectNo}
 use Rattle.kr_config.specs.declared.who.Who.TheVariants.{Identity, Aescbc, Aesgcm, Kms}
+use Rattle.kr_kms.specs.Cache.{CacheState, seed_at, with_used}
 use Rattle.kr_kms.specs.Health.{breach_in}
 use Rattle.kr_kms.specs.declared.health.Field.{Field}
 use Rattle.kr_kms.specs.declared.plugin.Status.{Status}
 use Rattle.kr_kms.specs.declared.plugin.Wrapped.{Wrapped}
 use Rattle.kr_kms.specs.declared.seeds.SeedKey.{SeedKey}
 use Rattle.kr_kms.specs.declared.seeds.SeedRow.{SeedRow}
-use Rattle.kr_provider.specs.Envelopes.{seed_key}
+use Rattle.kr_provider.specs.Envelopes.{seed_key, Envelope}
 use Rattle.kr_provider.specs.PluginOrder.{plugin_order}
 use Rattle.kr_provider.specs.Publication.{Publication, seed_of}
 use Rattle.kr_store.specs.Stores.{IsListing}
@@ -30,28 +30,21 @@ use Rattle.kr_kms.specs.Outside.{same_name}
 use Rattle.kr_kms.specs.declared.world.Access.{Access}
 use Rattle.kr_kms.specs.declared.world.Access.TheVariants.{ToRead, ToWrite, ToMake}
 use Rattle.kr_cmd_steps.specs.Afterwards.{OthersStay}
-use Rattle.kr_cmd_steps.specs.Check.{listing}
-use Rattle.kr_cmd_steps.specs.Phases.{by_result, configuration, input_of, linking_programs, show, silently, stored_on, tape_for, with_memory}
-use Rattle.kr_cmd_steps.specs.StoreSteps.{configurations, judgement_on, judging_at, judging_by, telling, live_on, row_finding, row_findings, telling_findings, verifying_by, verifying_with, row_found, row_on}
-use Rattle.kr_cmd_steps.specs.ValueSteps.{bench_steps, draw_some, opening, published_source, reading_given, data_steps, value_read, value_sealed, value_with, source_steps, value_steps, working, working_by}
+use Rattle.kr_cmd_steps.specs.Phases.{by_result, configuration, input_of, linking_programs, with_memory, read_for}
+use Rattle.kr_cmd_steps.specs.StoreSteps.{live_on, row_finding, row_findings, telling_findings, verifying_by, verifying_with, row_found, row_on}
+use Rattle.kr_cmd_steps.specs.ValueSteps.{bench_steps, draw_some, opening, published_source, reading_given, data_steps, value_read, value_sealed, value_with, source_steps, value_steps, working, working_by, fetching, none_kept}
 use Rattle.kr_cmd_steps.specs.Commands.{steps}
-use Rattle.kr_cmd_messages.specs.Command.{replica_names, reload_in, reload_number, reload_file}
-use Rattle.kr_cmd_steps.specs.Inspect.{Inspects}
-use Rattle.kr_cmd_steps.specs.PlanLines.{ShowsPlan}
 use Rattle.kr_cmd_steps.specs.RowFindings.{finding_of}
-use Rattle.kr_cmd_steps.specs.RowLines.{ShowsRows}
 use Rattle.kr_cmd_steps.specs.Plugins.{borrow_links, make_seed, make_seeds, settings_programs, unless_breach, wrap_seed}
-use Rattle.kr_cmd_steps.specs.Steps.{Steps, load, take_input, borrow_dice, borrow_tape, read_tape, write_row, keep_rows, settle, draw, borrow_link, ask_status, wrap, unwrap, note, find, refuse, give, and_then, Point, Left, Goes}
-use Rattle.kr_cmd_steps.specs.StoreFiles.{Stored}
-use Rattle.kr_cmd_messages.specs.declared.refusal.Object.TheVariants.{Store}
+use Rattle.kr_cmd_steps.specs.Steps.{Steps, load, take_input, borrow_dice, borrow_tape, read_tape, write_row, keep_rows, settle, give_back, draw, borrow_link, ask_status, wrap, unwrap, note, find, refuse, give, and_then, Point, Left, Goes}
 use Rattle.kr_cmd_messages.specs.declared.command.Command.TheVariants.{Verify}
 use Rattle.kr_cmd_messages.specs.declared.command.Command.{Command}
-use Rattle.kr_cmd_messages.specs.declared.command.Command.TheVariants.{Convert, Check, Inspect, Put, Get, Migrate, Rows, Judge, Plan, Rewrite}
+use Rattle.kr_cmd_messages.specs.declared.command.Command.TheVariants.{Convert, Put, Get, Migrate, Rewrite}
 use Rattle.kr_cmd_messages.specs.declared.command.Direction.{Direction}
 use Rattle.kr_cmd_messages.specs.declared.command.Direction.TheVariants.{Encrypt, Decrypt}
 use Rattle.kr_cmd_steps.specs.declared.programs.Program.{Program}
-use Rattle.kr_cmd_messages.specs.declared.refusal.Outcome.{Outcome}
 use Rattle.kr_cmd_messages.specs.declared.refusal.Refusal.{Refusal}
+use Rattle.kr_cmd_laws.proofs.Plain.{IsPlain, IsRead, plain}
 
 -- no tape is asked to be made, and only those of these names to be written
 abbrev pub MayAsk : (May : List ℕ → Type 0) → (name : List ℕ) → Access → Type 0
@@ -75,6 +68,7 @@ Writes May (borrow_link seat plugin program next) = Writes May next
 Writes May (ask_status seat plugin next) = (status : Status) → Writes May (next status)
 Writes May (wrap seat plugin plain next) = (wrapped : Wrapped) → Writes May (next wrapped)
 Writes May (unwrap seat key next) = (bytes : List ℕ) → Writes May (next bytes)
+Writes May (give_back name next) = Writes May next
 Writes May (note text next) = Writes May next
 Writes May (find B P next) = (b : B) → Writes May (next b)
 Writes May (refuse why) = Unit {0}
@@ -149,15 +143,14 @@ module _ {A : Type 0} (May : List ℕ → Type 0) (p : Point A) (end : Left) (ot
   stays (wrap seat plugin plain next) left r (inl at) = at_end at
   stays (wrap seat plugin plain next) left r (inr (inl (answer, at))) = at_end at
   stays (wrap seat plugin plain next) left r (inr (inr (inl at))) = at_end at
-  stays (wrap seat plugin plain next) left r (inr (inr (inr (wrapped, tells, within, goes)))) =
+  stays (wrap seat plugin plain next) left r (inr (inr (inr (wrapped, within, goes)))) =
       stays (next wrapped) _ (r wrapped) goes
   stays (unwrap seat key next) left r (inl at) = at_end at
   stays (unwrap seat key next) left r (inr (inl (answer, at))) = at_end at
   stays (unwrap seat key next) left r (inr (inr (inl at))) = at_end at
-  stays (unwrap seat key next) left r (inr (inr (inr (bytes, tells, inl (was, goes))))) =
-      stays (next bytes) left (r bytes) goes
-  stays (unwrap seat key next) left r (inr (inr (inr (bytes, tells, inr goes)))) =
+  stays (unwrap seat key next) left r (inr (inr (inr (bytes, goes)))) =
       stays (next bytes) _ (r bytes) goes
+  stays (give_back name next) left r goes = stays next _ r goes
   stays (note text next) left r goes = stays next _ r goes
   stays (find B P next) left r (inl at) = at_end at
   stays (find B P next) left r (inr (b, is, goes)) = stays (next b) _ (r b) goes
@@ -195,6 +188,7 @@ module _ (May More : List ℕ → Type 0) (wider : (name : List ℕ) → May nam
   both_write (ask_status seat plugin next) r = λ status. both_write (next status) (r status)
   both_write (wrap seat plugin plain next) r = λ wrapped. both_write (next wrapped) (r wrapped)
   both_write (unwrap seat key next) r = λ bytes. both_write (next bytes) (r bytes)
+  both_write (give_back name next) r = both_write next r
   both_write (note text next) r = both_write next r
   both_write (find D P next) r = λ d. both_write (next d) (r d)
   both_write (refuse why) r = tt
@@ -223,10 +217,6 @@ result_reads (Err why) = tt
 pub configuration_reads : (name : List ℕ) → IsReadOnly (configuration name)
 configuration_reads name = λ bytes read. result_reads read
 
-shows_read : (Is : Result (List ℕ) Refusal → Type 0) → IsReadOnly (show Is)
-shows_read Is = λ shown. both_read (λ text. give (silently text)) (λ text. tt) (by_result shown)
-    (result_reads shown)
-
 pub draws_read : {A : Type 0} (size : ℕ) (next : List ℕ → Steps A)
     → ((drawn : List ℕ) → IsReadOnly (next drawn)) → IsReadOnly (draw_some size next)
 draws_read zero next r = r []
@@ -246,29 +236,48 @@ given_reads (data_of plain) stale = tt
 given_reads (refused why) stale = tt
 given_reads unopened stale = λ none. absurd none
 
-source_reads : {A : Type 0} (source : Option (List ℕ)) (key : SeedKey)
-    (next : Option (List ℕ) → Steps A) → ((o : Option (List ℕ)) → IsReadOnly (next o))
-    → IsReadOnly (source_steps source key next)
-source_reads (Some seed) key next r = r (Some seed)
-source_reads None key next r = λ bytes. r (Some bytes)
+fetching_reads : {A : Type 0} (seed : Option (List ℕ)) (kept : CacheState) (key : SeedKey)
+    (next : Option (List ℕ) → CacheState → Steps A)
+    → ((o : Option (List ℕ)) (after : CacheState) → IsReadOnly (next o after))
+    → IsReadOnly (fetching seed kept key next)
+fetching_reads (Some seed) kept key next r = r (Some seed) (with_used kept key)
+fetching_reads None kept key next r = λ bytes after. r (Some bytes) after
+
+source_reads : {A : Type 0} (source : Option (List ℕ)) (kept : CacheState) (key : SeedKey)
+    (next : Option (List ℕ) → CacheState → Steps A)
+    → ((o : Option (List ℕ)) (after : CacheState) → IsReadOnly (next o after))
+    → IsReadOnly (source_steps source kept key next)
+source_reads (Some seed) kept key next r = r (Some seed) kept
+source_reads None kept key next r = fetching_reads (seed_at kept.rows key) kept key next r
 
 opening_reads : {A : Type 0} (seeds : List SeedRow) (reader : Option Who)
-    (object : Result EncryptedObject ObjectNo) (next : Option (List ℕ) → Steps A)
-    → ((o : Option (List ℕ)) → IsReadOnly (next o)) → IsReadOnly (opening seeds reader object next)
-opening_reads seeds None object next r = r None
-opening_reads seeds (Some Identity) object next r = r None
-opening_reads seeds (Some (Aescbc name secret)) object next r = r None
-opening_reads seeds (Some (Aesgcm name secret)) object next r = r None
-opening_reads seeds (Some (Kms name)) (Err why) next r = r None
-opening_reads seeds (Some (Kms name)) (Ok object) next r = source_reads
-    (published_source (seed_of name seeds) (seed_key name object)) (seed_key name object) next r
+    (object : Result EncryptedObject ObjectNo) (kept : CacheState)
+    (next : Option (List ℕ) → CacheState → Steps A)
+    → ((o : Option (List ℕ)) (after : CacheState) → IsReadOnly (next o after))
+    → IsReadOnly (opening seeds reader object kept next)
+opening_reads seeds None object kept next r = r None kept
+opening_reads seeds (Some Identity) object kept next r = r None kept
+opening_reads seeds (Some (Aescbc name secret)) object kept next r = r None kept
+opening_reads seeds (Some (Aesgcm name secret)) object kept next r = r None kept
+opening_reads seeds (Some (Kms name)) (Err why) kept next r = r None kept
+opening_reads seeds (Some (Kms name)) (Ok object) kept next r = source_reads
+    (published_source (seed_of name seeds) (seed_key name object)) kept (seed_key name object)
+    next r
+
+with_reads : (seeds : List SeedRow) (list : List Who) (path bytes : List ℕ)
+    (object : Result EncryptedObject ObjectNo) (source : Option (List ℕ)) (kept : CacheState)
+    → IsReadOnly (value_with seeds list path bytes object source kept)
+with_reads seeds list path bytes object source kept =
+    let envelope : Envelope = record { object = object; source = source } in
+    both_read (λ read. give (read, kept)) (λ read. tt)
+    (reading_given (value_reading envelope list path bytes) (is_stale envelope seeds list bytes))
+    (given_reads (value_reading envelope list path bytes) (is_stale envelope seeds list bytes))
 
 pub value_reads : (seeds : List SeedRow) (list : List Who) (path bytes : List ℕ)
-    → IsReadOnly (value_read seeds list path bytes)
-value_reads seeds list path bytes = λ object. opening_reads seeds (reader_in list bytes) object
-    (value_with seeds list path bytes object) (λ source. given_reads
-    (value_reading (record { object = object; source = source }) list path bytes)
-    (is_stale (record { object = object; source = source }) seeds list bytes))
+    (kept : CacheState) → IsReadOnly (value_read seeds list path bytes kept)
+value_reads seeds list path bytes kept = λ object.
+    opening_reads seeds (reader_in list bytes) object kept
+    (value_with seeds list path bytes object) (with_reads seeds list path bytes object)
 
 data_reads : (read : Result Opened ValueNo) → IsReadOnly (data_steps read)
 data_reads (Ok opened) = tt
@@ -295,8 +304,8 @@ bench_reads Encrypt resource path rows bytes seeds =
     (sealed_reads seeds writer path bytes)
 bench_reads Decrypt resource path rows bytes seeds =
     let list = list_of rows resource in
-    both_read data_steps data_reads (value_read seeds list path bytes)
-    (value_reads seeds list path bytes)
+    both_read (λ read. data_steps read.0) (λ read. data_reads read.0)
+    (value_read seeds list path bytes none_kept) (value_reads seeds list path bytes none_kept)
 
 pub links_write : {A : Type 0} (May : List ℕ → Type 0) (programs : List Program) (next : Steps A)
     → Writes May next → Writes May (borrow_links programs next)
@@ -314,29 +323,50 @@ work_reads programs direction resource path rows bytes =
 
 -- ---- the values of a store
 
-rows_read : (p : Publication) (live : List stored.Row) → IsReadOnly (row_findings p live)
-rows_read p [] = tt
-rows_read p (row ∷ live) =
+rows_read : (p : Publication) (live : List stored.Row) (kept : CacheState)
+    → IsReadOnly (row_findings p live kept)
+rows_read p [] kept = tt
+rows_read p (row ∷ live) kept =
     let list = list_of p.rows row.resource in
-    let value = value_read p.seeds list row.path row.stored in
-    both_read (λ finding. with_memory (and_then (row_findings p live)
-    (λ findings. give (finding ∷ findings))))
-    (λ finding u. both_read (λ findings. give (finding ∷ findings)) (λ findings. tt)
-    (row_findings p live) (rows_read p live))
-    (row_finding p row)
-    (both_read (λ read. give (finding_of read)) (λ read. tt) value
-    (value_reads p.seeds list row.path row.stored))
+    both_read (λ found. with_memory (and_then (row_findings p live found.1)
+    (λ findings. give (found.0 ∷ findings))))
+    (λ found u. both_read (λ findings. give (found.0 ∷ findings)) (λ findings. tt)
+    (row_findings p live found.1) (rows_read p live found.1))
+    (row_finding p row kept)
+    (both_read (λ read. give (finding_of read.0, read.1)) (λ read. tt)
+    (value_read p.seeds list row.path row.stored kept)
+    (value_reads p.seeds list row.path row.stored kept))
 
 findings_read : (programs : List Program) (rows : List ConfigEntry) (live : List stored.Row)
     → IsReadOnly (verifying_with programs rows live)
 findings_read programs rows live =
     links_write (λ name. ⊥) programs (verifying_by rows live)
     (λ u. both_read (λ seeds. and_then
-    (row_findings (record { rows = rows; seeds = seeds }) live) (telling_findings live))
+    (row_findings (record { rows = rows; seeds = seeds }) live none_kept) (telling_findings live))
     (λ seeds. both_read (telling_findings live) (λ findings u. tt)
-    (row_findings (record { rows = rows; seeds = seeds }) live)
-    (rows_read (record { rows = rows; seeds = seeds }) live))
+    (row_findings (record { rows = rows; seeds = seeds }) live none_kept)
+    (rows_read (record { rows = rows; seeds = seeds }) live none_kept))
     (make_seeds (plugin_order rows)) (seeds_read (plugin_order rows)))
+
+-- ---- steps that read alone
+
+module _ (name : List ℕ) where
+  none_asked : (access : Access) → IsRead access → MayAsk (λ other. ⊥) name access
+  none_asked ToRead r = tt
+  none_asked ToWrite r = absurd (r tt)
+  none_asked ToMake r = absurd (r tt)
+
+pub plain_reads : {A : Type 0} (s : Steps A) → IsPlain s → IsReadOnly s
+plain_reads (load name next) p = λ bytes. plain_reads (next bytes) (p bytes)
+plain_reads (take_input limit long next) p = λ bytes. plain_reads (next bytes) (p bytes)
+plain_reads (borrow_tape name access absent next) p =
+    (none_asked name access p.0, plain_reads next p.1)
+plain_reads (read_tape object name next) p = λ bytes. plain_reads (next bytes) (p bytes)
+plain_reads (give_back name next) p = plain_reads next p
+plain_reads (find B P next) p = λ b. plain_reads (next b) (p.1 b)
+plain_reads (refuse why) p = tt
+plain_reads (give x) p = tt
+plain_reads next p = absurd (p tt)
 
 -- ---- commands
 
@@ -357,36 +387,6 @@ row_reads store path = λ bytes read. both_read
     (λ held. λ u. result_reads (row_found path (live held.rows path))) (by_result read)
     (result_reads read)
 
-configurations_read : (read : List (Option (List ConfigEntry))) (names : List (List ℕ))
-    → IsReadOnly (configurations read names)
-configurations_read read [] = λ u. tt
-configurations_read read (name ∷ names) = both_read
-    (λ rows. configurations (read ++ Some rows ∷ []) names)
-    (λ rows. configurations_read (read ++ Some rows ∷ []) names)
-    (configuration name) (configuration_reads name)
-
-judgement_reads : (stored : List LogRow) (replicas : List (Option (List ConfigEntry))) (replica : ℕ)
-    (rows : List ConfigEntry) → IsReadOnly (judging_at stored replicas replica rows)
-judgement_reads stored replicas replica rows = both_read telling (λ verdict u. tt)
-    (judgement_on stored replicas replica rows) (λ read. result_reads read)
-
-judging_reads : (options : List (List ℕ × List ℕ)) (stored : List LogRow)
-    → IsReadOnly (judging_by options stored)
-judging_reads options stored =
-    let file = reload_file (reload_in options) in
-    let replica = reload_number (reload_in options) in
-    both_read (λ replicas. and_then (configuration file) (judging_at stored replicas replica))
-    (λ replicas. both_read (judging_at stored replicas replica)
-    (judgement_reads stored replicas replica) (configuration file) (configuration_reads file))
-    (configurations [] (replica_names options))
-    (configurations_read [] (replica_names options))
-
-store_reads : (store : List ℕ) (next : Stored → Steps Outcome)
-    → ((held : Stored) → IsReadOnly (next held))
-    → IsReadOnly (tape_for store ToRead (and_then (stored_on Store store) next))
-store_reads store next r =
-    (tt, λ bytes read. both_read next r (by_result read) (result_reads read))
-
 pub command_reads : (command : Command) → IsReader command → IsReadOnly (steps command)
 command_reads (Convert words) r = both_read
     (λ rows. and_then (linking_programs words.options rows) (λ programs.
@@ -397,48 +397,38 @@ command_reads (Convert words) r = both_read
     (λ programs. λ bytes. work_reads programs words.direction words.resource words.path rows bytes)
     (linking_programs words.options rows) (programs_read words.options rows))
     (configuration words.config) (configuration_reads words.config)
-command_reads (Check config resource) r = both_read
-    (λ rows. show (λ shown. shown ≡ Ok (listing rows resource)))
-    (λ rows. shows_read (λ shown. shown ≡ Ok (listing rows resource))) (configuration config)
-    (configuration_reads config)
-command_reads (Plan words) r = both_read
-    (λ from. and_then (configuration words.to) (λ to. show (ShowsPlan words from to)))
-    (λ from. both_read (λ to. show (ShowsPlan words from to))
-    (λ to. shows_read (ShowsPlan words from to)) (configuration words.to)
-    (configuration_reads words.to))
-    (configuration words.from) (configuration_reads words.from)
-command_reads Inspect r = λ bytes. shows_read (Inspects bytes)
 command_reads (Put words store) r = absurd r
 command_reads (Migrate words) r = absurd r
 command_reads (Rewrite words) r = absurd r
 command_reads (Get words) r = both_read
     (λ rows. and_then (linking_programs words.options rows) (λ programs.
-    and_then (tape_for words.store ToRead (row_on words.store words.path)) (λ row.
+    and_then (read_for words.store (row_on words.store words.path)) (λ row.
     bench_steps programs Decrypt row.resource words.path rows row.stored)))
     (λ rows. both_read (λ programs.
-    and_then (tape_for words.store ToRead (row_on words.store words.path)) (λ row.
+    and_then (read_for words.store (row_on words.store words.path)) (λ row.
     bench_steps programs Decrypt row.resource words.path rows row.stored))
     (λ programs. both_read (λ row.
     bench_steps programs Decrypt row.resource words.path rows row.stored)
     (λ row. work_reads programs Decrypt row.resource words.path rows row.stored)
-    (tape_for words.store ToRead (row_on words.store words.path))
-    (tt, row_reads words.store words.path))
+    (read_for words.store (row_on words.store words.path)) (
+      tt,
+      both_read (λ made. give_back words.store (give made)) (λ made. tt)
+          (row_on words.store words.path) (row_reads words.store words.path),
+    ))
     (linking_programs words.options rows) (programs_read words.options rows))
     (configuration words.config) (configuration_reads words.config)
 command_reads (Verify words) r = both_read
     (λ rows. and_then (linking_programs words.options rows) (λ programs.
-    and_then (tape_for words.store ToRead (live_on words.store)) (verifying_with programs rows)))
+    and_then (read_for words.store (live_on words.store)) (verifying_with programs rows)))
     (λ rows. both_read (λ programs.
-    and_then (tape_for words.store ToRead (live_on words.store)) (verifying_with programs rows))
+    and_then (read_for words.store (live_on words.store)) (verifying_with programs rows))
     (λ programs. both_read (verifying_with programs rows) (findings_read programs rows)
-    (tape_for words.store ToRead (live_on words.store)) (
+    (read_for words.store (live_on words.store)) (
       tt,
-      λ bytes read. both_read (λ held. find (List stored.Row) (IsListing held.rows) give)
-          (λ held live. tt) (by_result read) (result_reads read),
+      both_read (λ made. give_back words.store (give made)) (λ made. tt) (live_on words.store)
+          (λ bytes read. both_read (λ held. find (List stored.Row) (IsListing held.rows) give)
+          (λ held live. tt) (by_result read) (result_reads read)),
     ))
     (linking_programs words.options rows) (programs_read words.options rows))
     (configuration words.config) (configuration_reads words.config)
-command_reads (Rows store) r = store_reads store (λ held. show (ShowsRows held.rows))
-    (λ held. shows_read (ShowsRows held.rows))
-command_reads (Judge words) r = store_reads words.store
-    (λ held. judging_by words.options held.rows) (λ held. judging_reads words.options held.rows)
+command_reads command r = plain_reads (steps command) (plain command tt)

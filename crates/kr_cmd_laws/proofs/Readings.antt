@@ -156,7 +156,7 @@ module _ (words : List (List ℕ)) (old new : Around) (output errors : Receipt) 
     usage = (λ two. bad, λ none. inl t.0);
     caused = λ four. absurd (omega (arith, t.0, four));
     refused = λ which. absurd (omega (arith, t.0, which));
-    decided = λ command point end asks tells would at. absurd (no_stop Usage asks bad);
+    decided = λ command point end asks unasked once told may at. absurd (no_stop Usage asks bad);
     done = λ zero_is. absurd (omega (arith, t.0, zero_is));
     written = record { front = inl same.1; usage = λ two. same };
   }
@@ -164,7 +164,7 @@ module _ (words : List (List ℕ)) (old new : Around) (output errors : Receipt) 
     usage = (λ two. absurd (omega (arith, t.0, two)), λ none. inr (inr (inl (t.0, inl bad))));
     caused = λ four. absurd (omega (arith, t.0, four));
     refused = λ which. inr (inr (t.0, inl bad, same));
-    decided = λ command point end asks tells would at. absurd (no_stop Replicas asks bad);
+    decided = λ command point end asks unasked once told may at. absurd (no_stop Replicas asks bad);
     done = λ zero_is. absurd (omega (arith, t.0, zero_is));
     written = record { front = inl same.1; usage = λ two. same };
   }
@@ -175,7 +175,7 @@ module _ (words : List (List ℕ)) (old new : Around) (output errors : Receipt) 
     );
     caused = λ four. absurd (omega (arith, t.0, four));
     refused = λ which. inr (inr (t.0, inr (inl bad), same));
-    decided = λ command point end asks tells would at. absurd (no_stop Size asks bad);
+    decided = λ command point end asks unasked once told may at. absurd (no_stop Size asks bad);
     done = λ zero_is. absurd (omega (arith, t.0, zero_is));
     written = record { front = inl same.1; usage = λ two. same };
   }
@@ -186,7 +186,7 @@ module _ (words : List (List ℕ)) (old new : Around) (output errors : Receipt) 
     );
     caused = λ four. absurd (omega (arith, t.0, four));
     refused = λ which. inr (inr (t.0, inr (inr bad), same));
-    decided = λ command point end asks tells would at. absurd (no_stop Page asks bad);
+    decided = λ command point end asks unasked once told may at. absurd (no_stop Page asks bad);
     done = λ zero_is. absurd (omega (arith, t.0, zero_is));
     written = record { front = inl same.1; usage = λ two. same };
   }
@@ -196,7 +196,7 @@ module _ (words : List (List ℕ)) (old new : Around) (output errors : Receipt) 
     usage = (λ two. absurd (omega (arith, t.0, two)), λ none. inr (inl t.0));
     caused = λ four. absurd (omega (arith, t.0, four));
     refused = λ which. absurd (omega (arith, t.0, which));
-    decided = λ command point end asks tells would at. inr (inr t.0);
+    decided = λ command point end asks unasked once told may at. inr (inr t.0);
     done = λ zero_is. absurd (omega (arith, t.0, zero_is));
     written = record { front = front; usage = λ two. absurd (omega (arith, t.0, two)) };
   }
@@ -207,8 +207,9 @@ module _ (words : List (List ℕ)) (old new : Around) (output errors : Receipt) 
     usage = (λ two. absurd (omega (arith, t.0, two, z)), λ none. absurd (asks_something comes.1.asks none));
     caused = λ four. absurd (omega (arith, t.0, four, z));
     refused = λ which. inr (inl (made, comes, sym t.0, whole, t.1));
-    decided = λ command point end asks tells would at.
-        inl (subst Told (sym (same_end point end (Ok made.done) asks tells would comes at refl)) t);
+    decided = λ command point end asks unasked once told may at.
+        inl (subst Told (sym (same_end point end (Ok made.done) asks unasked once told may
+        comes at refl)) t);
     done = λ zero_is. (made, comes, sym t.0 ∙ zero_is, whole, t.1);
     written = record {
       front = inr (inr (made, comes, whole_front output.old output.new made.bytes whole));
@@ -222,9 +223,9 @@ module _ (words : List (List ℕ)) (old new : Around) (output errors : Receipt) 
     usage = (λ two. absurd (omega (arith, t.0, two, s)), λ none. absurd (asks_something comes.1.asks none));
     caused = λ four. absurd (omega (arith, t.0, four, s));
     refused = λ which. inl (why, comes, sym t.0, t.1);
-    decided = λ command point end asks tells would at.
-        inl (subst Told (sym (same_end point end (Err (Refused why)) asks tells would
-        (comes.0, comes.1) at refl)) t);
+    decided = λ command point end asks unasked once told may at.
+        inl (subst Told (sym (same_end point end (Err (Refused why)) asks unasked once told
+        may (comes.0, comes.1) at refl)) t);
     done = λ zero_is. absurd (omega (arith, t.0, zero_is, s));
     written = record {
       front = inr (inl (refuses why, comes));
@@ -241,7 +242,7 @@ module _ (words : List (List ℕ)) (old new : Around) (output errors : Receipt) 
     usage = (λ two. absurd (omega (arith, t.0, two)), λ none. absurd (asks_something asks none));
     caused = λ four. elim why [ inl c ↦ inl c | inr c ↦ inr (inl c) ];
     refused = λ which. absurd (omega (arith, t.0, which));
-    decided = λ command point end asks tells would at. inr (inl t.0);
+    decided = λ command point end asks unasked once told may at. inr (inl t.0);
     done = λ zero_is. absurd (omega (arith, t.0, zero_is));
     written = record { front = front; usage = λ two. absurd (omega (arith, t.0, two)) };
   }
@@ -370,7 +371,7 @@ readings words old new output errors status r a (inr t) = record {
   usage = (λ two. absurd (omega (arith, t.0, two)), λ none. inr (inr (inr (t.0, t.1))));
   caused = λ four. inr (inr t.1);
   refused = λ which. absurd (omega (arith, t.0, which));
-  decided = λ command point end asks tells would at. inr (inl t.0);
+  decided = λ command point end asks unasked once told may at. inr (inl t.0);
   done = λ zero_is. absurd (omega (arith, t.0, zero_is));
   written = record {
     front = front_of words old new output errors status r a;

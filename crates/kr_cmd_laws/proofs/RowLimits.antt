@@ -7,9 +7,10 @@ use Rattle.kr_config.specs.declared.who.Who.{Who}
 use Rattle.kr_config.specs.declared.who.Who.TheVariants.{Identity, Aescbc, Aesgcm, Kms}
 use Rattle.kr_envelope.specs.declared.object.EncryptedObject.{EncryptedObject}
 use Rattle.kr_envelope.specs.declared.object.ObjectNo.{ObjectNo}
+use Rattle.kr_kms.specs.Cache.{CacheState, seed_at, with_used}
 use Rattle.kr_kms.specs.declared.seeds.SeedKey.{SeedKey}
 use Rattle.kr_kms.specs.declared.seeds.SeedRow.{SeedRow}
-use Rattle.kr_provider.specs.Envelopes.{seed_key}
+use Rattle.kr_provider.specs.Envelopes.{seed_key, Envelope}
 use Rattle.kr_provider.specs.Publication.{Publication, seed_of}
 use Rattle.kr_provider.specs.Reading.{Reading, data_of, refused, unopened, value_reading, is_stale}
 use Rattle.kr_provider.specs.Readers.{reader_in, writer_of}
@@ -26,7 +27,7 @@ use Rattle.kr_cmd_messages.specs.declared.refusal.Refusal.TheVariants.{Limit}
 use Rattle.kr_cmd_steps.specs.Phases.{adding, by_result}
 use Rattle.kr_cmd_steps.specs.RewriteSteps.{Progress, driving, one_fresh, one_rewritten, replacing, resealing, row_anew, row_by, row_data, row_steps}
 use Rattle.kr_cmd_steps.specs.StoreFiles.{Stored, with_row}
-use Rattle.kr_cmd_steps.specs.ValueSteps.{draw_some, opening, published_source, reading_given, source_steps, value_read, value_sealed, value_with}
+use Rattle.kr_cmd_steps.specs.ValueSteps.{draw_some, opening, published_source, reading_given, source_steps, value_read, value_sealed, value_with, fetching}
 use Rattle.kr_cmd_steps.specs.Steps.{Steps, write_row, give, and_then, Point, awaits, amid, refuses, gives, Left, Goes}
 use Rattle.kr_cmd_steps.proofs.Goes.{Further}
 use Rattle.kr_cmd_laws.proofs.Behind.{parted}
@@ -79,38 +80,58 @@ module _ (P : Refusal → Type 0) where
   given_refuses unopened stale why end left (inl at) = none_refused at.0 tt
   given_refuses unopened stale why end left (inr (none, u, goes)) = absurd none
 
-  source_refuses : {A : Type 0} (source : Option (List ℕ)) (key : SeedKey)
-      (next : Option (List ℕ) → Steps A) → ((o : Option (List ℕ)) → RefusesOnly (next o))
-      → RefusesOnly (source_steps source key next)
-  source_refuses (Some seed) key next r why end left goes = r (Some seed) why end left goes
-  source_refuses None key next r why end left (inl at) = none_refused at.0 tt
-  source_refuses None key next r why end left (inr (inl (answer, at))) = none_refused at.0 tt
-  source_refuses None key next r why end left (inr (inr (inl at))) = none_refused at.0 tt
-  source_refuses None key next r why end left
-      (inr (inr (inr (bytes, tells, inl (was, goes))))) = r (Some bytes) why end left goes
-  source_refuses None key next r why end left (inr (inr (inr (bytes, tells, inr goes)))) =
-      r (Some bytes) why end _ goes
+  fetching_refuses : {A : Type 0} (seed : Option (List ℕ)) (kept : CacheState) (key : SeedKey)
+      (next : Option (List ℕ) → CacheState → Steps A)
+      → ((o : Option (List ℕ)) (after : CacheState) → RefusesOnly (next o after))
+      → RefusesOnly (fetching seed kept key next)
+  fetching_refuses (Some seed) kept key next r why end left goes =
+      r (Some seed) (with_used kept key) why end left goes
+  fetching_refuses None kept key next r why end left (inl at) = none_refused at.0 tt
+  fetching_refuses None kept key next r why end left (inr (inl (answer, at))) =
+      none_refused at.0 tt
+  fetching_refuses None kept key next r why end left (inr (inr (inl at))) = none_refused at.0 tt
+  fetching_refuses None kept key next r why end left (inr (inr (inr (bytes, inl at)))) =
+      none_refused at.0 tt
+  fetching_refuses None kept key next r why end left
+      (inr (inr (inr (bytes, inr (after, keeps, goes))))) = r (Some bytes) after why end _ goes
+
+  source_refuses : {A : Type 0} (source : Option (List ℕ)) (kept : CacheState) (key : SeedKey)
+      (next : Option (List ℕ) → CacheState → Steps A)
+      → ((o : Option (List ℕ)) (after : CacheState) → RefusesOnly (next o after))
+      → RefusesOnly (source_steps source kept key next)
+  source_refuses (Some seed) kept key next r = r (Some seed) kept
+  source_refuses None kept key next r = fetching_refuses (seed_at kept.rows key) kept key next r
 
   opening_refuses : {A : Type 0} (seeds : List SeedRow) (reader : Option Who)
-      (object : Result EncryptedObject ObjectNo) (next : Option (List ℕ) → Steps A)
-      → ((o : Option (List ℕ)) → RefusesOnly (next o))
-      → RefusesOnly (opening seeds reader object next)
-  opening_refuses seeds None object next r = r None
-  opening_refuses seeds (Some Identity) object next r = r None
-  opening_refuses seeds (Some (Aescbc name secret)) object next r = r None
-  opening_refuses seeds (Some (Aesgcm name secret)) object next r = r None
-  opening_refuses seeds (Some (Kms name)) (Err why) next r = r None
-  opening_refuses seeds (Some (Kms name)) (Ok object) next r = source_refuses
-      (published_source (seed_of name seeds) (seed_key name object)) (seed_key name object) next r
+      (object : Result EncryptedObject ObjectNo) (kept : CacheState)
+      (next : Option (List ℕ) → CacheState → Steps A)
+      → ((o : Option (List ℕ)) (after : CacheState) → RefusesOnly (next o after))
+      → RefusesOnly (opening seeds reader object kept next)
+  opening_refuses seeds None object kept next r = r None kept
+  opening_refuses seeds (Some Identity) object kept next r = r None kept
+  opening_refuses seeds (Some (Aescbc name secret)) object kept next r = r None kept
+  opening_refuses seeds (Some (Aesgcm name secret)) object kept next r = r None kept
+  opening_refuses seeds (Some (Kms name)) (Err why) kept next r = r None kept
+  opening_refuses seeds (Some (Kms name)) (Ok object) kept next r = source_refuses
+      (published_source (seed_of name seeds) (seed_key name object)) kept (seed_key name object)
+      next r
+
+  with_refuses : (seeds : List SeedRow) (list : List Who) (path bytes : List ℕ)
+      (object : Result EncryptedObject ObjectNo) (source : Option (List ℕ)) (kept : CacheState)
+      → RefusesOnly (value_with seeds list path bytes object source kept)
+  with_refuses seeds list path bytes object source kept =
+      let envelope : Envelope = record { object = object; source = source } in
+      refuses_then (λ read. give (read, kept)) (λ read. give_refuses (read, kept))
+      (reading_given (value_reading envelope list path bytes) (is_stale envelope seeds list bytes))
+      (given_refuses (value_reading envelope list path bytes) (is_stale envelope seeds list bytes))
 
   read_refuses : (seeds : List SeedRow) (list : List Who) (path bytes : List ℕ)
-      → RefusesOnly (value_read seeds list path bytes)
-  read_refuses seeds list path bytes why end left (inl at) = none_refused at.0 tt
-  read_refuses seeds list path bytes why end left (inr (object, has, goes)) =
-      opening_refuses seeds (reader_in list bytes) object (value_with seeds list path bytes object)
-      (λ source. given_refuses
-      (value_reading (record { object = object; source = source }) list path bytes)
-      (is_stale (record { object = object; source = source }) seeds list bytes)) why end left goes
+      (kept : CacheState) → RefusesOnly (value_read seeds list path bytes kept)
+  read_refuses seeds list path bytes kept why end left (inl at) = none_refused at.0 tt
+  read_refuses seeds list path bytes kept why end left (inr (object, has, goes)) =
+      opening_refuses seeds (reader_in list bytes) object kept
+      (value_with seeds list path bytes object) (with_refuses seeds list path bytes object) why end
+      left goes
 
   draws_refuse : {A : Type 0} (size : ℕ) (next : List ℕ → Steps A)
       → ((drawn : List ℕ) → RefusesOnly (next drawn)) → RefusesOnly (draw_some size next)
@@ -171,17 +192,21 @@ module _ (P : Refusal → Type 0) where
       by_refuses row at (Ok opened) = data_refuses row at opened.plain opened.stale
       by_refuses row at (Err cause) = give_refuses _
 
-      row_refuses : (row : stored.Row) (at : Progress) → RefusesOnly (row_steps name p row at)
-      row_refuses row at =
+      row_refuses : (row : stored.Row) (kept : CacheState) (at : Progress)
+          → RefusesOnly (row_steps name p row kept at)
+      row_refuses row kept at =
           let list = list_of p.rows row.resource in
-          refuses_then (row_by name p row at) (by_refuses row at)
-          (value_read p.seeds list row.path row.stored)
-          (read_refuses p.seeds list row.path row.stored)
+          refuses_then (λ read. and_then (row_by name p row at read.0) (λ done. give (done, read.1)))
+          (λ read. refuses_then (λ done. give (done, read.1)) (λ done. give_refuses (done, read.1))
+          (row_by name p row at read.0) (by_refuses row at read.0))
+          (value_read p.seeds list row.path row.stored kept)
+          (read_refuses p.seeds list row.path row.stored kept)
 
-      pub driving_refuses : (live : List stored.Row) (at : Progress)
-          → RefusesOnly (driving name p live at)
-      driving_refuses [] at why end left (told, holds, inl e) = none_refused e.0 tt
-      driving_refuses [] at why end left (told, holds, inr (u, v, e)) = none_refused e.0 tt
-      driving_refuses (row ∷ live) at why end left (told, holds, goes) =
-          refuses_then (driving name p live) (driving_refuses live) (row_steps name p row at)
-          (row_refuses row at) why end _ goes
+      pub driving_refuses : (live : List stored.Row) (kept : CacheState) (at : Progress)
+          → RefusesOnly (driving name p live kept at)
+      driving_refuses [] kept at why end left (told, holds, inl e) = none_refused e.0 tt
+      driving_refuses [] kept at why end left (told, holds, inr (u, v, e)) = none_refused e.0 tt
+      driving_refuses (row ∷ live) kept at why end left (told, holds, goes) =
+          refuses_then (λ done. driving name p live done.1 done.0)
+          (λ done. driving_refuses live done.1 done.0) (row_steps name p row kept at)
+          (row_refuses row kept at) why end _ goes

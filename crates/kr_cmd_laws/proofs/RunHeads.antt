@@ -1,12 +1,14 @@
 -- The headline of a call, from the relation of a fleet.
-use Rattle.std.specs.Prelude.{◌⊎◌, true, All, IfSome, map}
-use Rattle.std.proofs.Common.{◌≡◌, ℕ, ◌<◌, ◌≤◌, List, [], length, get_or, Option, Result, Ok, Err, inl, inr, ap, refl, sym, subst, ◌∙◌, arith}
+use Rattle.kr_base.specs.Walks.{Walk}
+use Rattle.kr_provider.specs.AskedLinks.{Among}
+use Rattle.std.proofs.Common.{◌∷◌, ◌≡◌, ℕ, ◌<◌, ◌≤◌, List, [], length, get_or, Option, Result, Ok, Err, inl, inr, ap, refl, sym, subst, ◌∙◌, arith}
+use Rattle.std.specs.Prelude.{◌⊎◌, All, IfSome, map}
 use Rattle.std.proofs.lemmas.Bool.{cases_lt}
 use Rattle.std.proofs.lemmas.Option.{slice_get-get_or}
 use Rattle.kr_kms.specs.Calls.{Link}
 use Rattle.kr_kms.specs.Cache.{AreOpenBy}
 use Rattle.kr_kms.specs.Exchanges.{AgreeAll, Exchange}
-use Rattle.kr_kms.specs.Truth.{Opens, Truth}
+use Rattle.kr_kms.specs.Opens.{Opens}
 use Rattle.kr_history.specs.Honesty.{SeedsOpen}
 use Rattle.kr_rollout.specs.Histories.{state_of}
 use Rattle.kr_rollout.specs.Openings.{start_of}
@@ -40,13 +42,25 @@ use Rattle.kr_cmd_laws.specs.HeadlineLaws.{RunsHaveHeadlines}
 use Rattle.kr_cmd_laws.proofs.Starts.{starts_make_seeds}
 use Rattle.kr_cmd_laws.specs.RunHeadlines.{LeavesStore, Prints, StartsNobody, StartsWorkers, TellsStop, WorkersHeadline, WorkersPage}
 
+-- ---- links whose steps agree
+
+-- what some of these links answered agrees
+walk_agrees : {L : Type 0} {step : L → Exchange → L → Type 0} (opens : Opens)
+    (es : List Exchange) (old new : List L) → LinksAgree step opens
+    → Walk (Among step) old es new → AgreeAll opens es
+walk_agrees opens [] old new agree walk = tt
+walk_agrees opens (e ∷ es) old new agree walk = (
+  agree walk.1.old e walk.1.new walk.1.steps,
+  walk_agrees opens es walk.0 new agree walk.2,
+)
+
 -- ---- the workers
 
-module _ {T L D : Type 0} (truth : Truth) (link : L → Link) (step : L → Exchange → L → Type 0)
+module _ {T L D : Type 0} (link : L → Link) (step : L → Exchange → L → Type 0)
     (left : D → Option (List ℕ))
     (count : D → ℕ) (store : List ℕ) (begun : Begun) (mid new : Around) (history : List Entry)
     (ended : List (fleet_worker.Worker T L D))
-    (r : RunsFleet truth link step left count store begun mid new history ended) where
+    (r : RunsFleet link step left count store begun mid new history ended) where
   left_so : LeavesStore store begun mid new history
   left_so = let o = opening_of store begun mid in record {
     rows = (state_of o history).rows;
@@ -60,9 +74,9 @@ module _ {T L D : Type 0} (truth : Truth) (link : L → Link) (step : L → Exch
 
   both : (h : FleetHeadline sealed_values link step count r.workers ended r.files
       (opening_of store begun mid) r.parts history)
-      × IsTied truth link step left count r.files (opening_of store begun mid) r.parts begun.budgets
+      × IsTied link step left count r.files (opening_of store begun mid) r.parts begun.budgets
       history r.workers ended h
-  both = fleet_headline T truth link step left count r.files history
+  both = fleet_headline T link step left count r.files history
       (opening_of store begun mid) r.parts begun.budgets r.workers ended r.one
 
   abbrev headline : FleetHeadline sealed_values link step count r.workers ended r.files
@@ -100,15 +114,16 @@ module _ {T L D : Type 0} (truth : Truth) (link : L → Link) (step : L → Exch
     seeds,
   )
 
-  told_known : truth.told ≡ true → LinksAgree step truth.opens
-      → AreKnown headline.heard truth.opens (opening_of store begun mid)
-  told_known told agree = inr (
+  linked_known : (opens : Opens) → LinksAgree step opens
+      → AreKnown headline.heard opens (opening_of store begun mid)
+  linked_known opens agree = inr (
     all_agree link step count r.workers ended r.files (opening_of store begun mid) r.parts history
-        headline truth.opens agree (none_open truth.opens),
-    (r.opens told).opening,
+        headline opens agree (none_open opens),
+    r.made.opens opens (walk_agrees opens r.made.exchanges r.made.asks.old r.made.asks.new agree
+        r.made.asks.walk),
   )
 
-  abbrev page : WorkersPage sealed_values truth link step left count store begun mid new history
+  abbrev page : WorkersPage sealed_values link step left count store begun mid new history
       ended
   page = record {
     parts = r.parts;
@@ -121,12 +136,12 @@ module _ {T L D : Type 0} (truth : Truth) (link : L → Link) (step : L → Exch
     after = r.after;
     headline = headline;
     known = known;
-    told = told_known;
+    linked = linked_known;
     stored = left_so;
     rest = r.rest;
   }
 
-  pub workers_headline : WorkersHeadline truth link step left count store begun mid new history
+  pub workers_headline : WorkersHeadline link step left count store begun mid new history
       ended
   workers_headline = record { page = page; tied = both.1 }
 
@@ -153,15 +168,15 @@ prints text ending output errors status (Err NoMemory) w t = inr (inr (w, t))
 prints text ending output errors status (Err (Words why)) w t = absurd w
 prints text ending output errors status (Err (Refused why)) w t = absurd w
 
-module _ (T : Type 0) {L D : Type 0} (truth : Truth) (link : L → Link)
+module _ (T : Type 0) {L D : Type 0} (link : L → Link)
     (step : L → Exchange → L → Type 0) (lent took : ℕ → L → Type 0)
     (left : D → Option (List ℕ)) (count : D → ℕ) (words : FleetWords) (old new : Around)
     (output errors : Receipt) (status : ℕ) where
   started : (exchanges : List Exchange) → new.heard ≡ hearing exchanges old.heard
       → (result : Result Ending Stop)
-      → (s : Starts T truth link step lent took left count words old new output result)
+      → (s : Starts T link step lent took left count words old new output result)
       → s.exchanges ≡ exchanges → TellsFleet result errors status
-      → StartsWorkers T truth link step lent took left count words old new output errors status
+      → StartsWorkers T link step lent took left count words old new output errors status
   unfolding workers_headline
   started exchanges heard result s same tells = record {
     begun = s.begun;
@@ -170,17 +185,17 @@ module _ (T : Type 0) {L D : Type 0} (truth : Truth) (link : L → Link)
     since = s.since;
     history = s.history;
     ended = s.ended;
-    has = workers_headline truth link step left count words.store s.begun
+    has = workers_headline link step left count words.store s.begun
         (settled_behind words.store s.mid) new s.history s.ended s.runs;
     exchanges = s.exchanges;
     heard = s.heard;
     no_more = heard ∙ ap (λ es. hearing es old.heard) (sym same);
     began = s.began;
-    agreed = λ listens opens agree all. known truth link step left count words.store s.begun
+    agreed = λ opens agree all. known link step left count words.store s.begun
         (settled_behind words.store s.mid) new s.history s.ended s.runs opens (inr (
           all,
-          starts_make_seeds T truth link step lent took left count words old new output result
-              listens s opens agree,
+          starts_make_seeds T link step lent took left count words old new output result
+              s opens agree,
         ));
     prints = prints (text_of s.begun.plan.fleet s.history s.ended)
         (gravest_ending (map (λ (w : fleet_worker.Worker T L D). w.told) s.ended)) output errors
@@ -190,26 +205,26 @@ module _ (T : Type 0) {L D : Type 0} (truth : Truth) (link : L → Link)
 
   either : (exchanges : List Exchange) → new.heard ≡ hearing exchanges old.heard
       → (result : Result Ending Stop)
-      → StopsBefore T truth link step left count (fleet_steps words) words.store old new output
+      → StopsBefore T link step left count (fleet_steps words) words.store old new output
       result
-      ⊎ ((s : Starts T truth link step lent took left count words old new output result)
+      ⊎ ((s : Starts T link step lent took left count words old new output result)
       × (s.exchanges ≡ exchanges))
       → TellsFleet result errors status
-      → StartsNobody T truth link step left count (fleet_steps words) words.store old new output
+      → StartsNobody T link step left count (fleet_steps words) words.store old new output
       errors status
-      ⊎ StartsWorkers T truth link step lent took left count words old new output errors status
+      ⊎ StartsWorkers T link step lent took left count words old new output errors status
   either exchanges heard (Ok ending) (inl stops) tells = absurd stops
   either exchanges heard (Err stop) (inl stops) tells =
       inl (record { stop = stop; stops = stops; tells = tells })
   either exchanges heard result (inr (s, same)) tells =
       inr (started exchanges heard result s same tells)
 
-pub runs_have_headlines : (T : Type 0) → {L D : Type 0} → (truth : Truth) (link : L → Link)
+pub runs_have_headlines : (T : Type 0) → {L D : Type 0} → (link : L → Link)
     (step : L → Exchange → L → Type 0) (lent took : ℕ → L → Type 0)
     (left : D → Option (List ℕ)) (count : D → ℕ)
-    → RunsHaveHeadlines T truth link step lent took left count
-runs_have_headlines T truth link step lent took left count words old new output errors status ran = (
+    → RunsHaveHeadlines T link step lent took left count
+runs_have_headlines T link step lent took left count words old new output errors status ran = (
   ran.did.home,
-  either T truth link step lent took left count words old new output errors status
+  either T link step lent took left count words old new output errors status
       ran.did.exchanges ran.did.heard ran.result ran.did.did ran.tells,
 )

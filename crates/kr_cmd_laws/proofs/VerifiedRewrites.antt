@@ -1,4 +1,12 @@
 -- Where `verify` finds no value refused, a rewrite leaves none.
+use Rattle.kr_kms.specs.Cache.{CacheState}
+use Rattle.kr_kms.specs.Exchanges.{AgreeAll, AgreesWith, Exchange, UnwrapCall}
+use Rattle.kr_kms.specs.Opens.{OpenAll, Opens}
+use Rattle.kr_cmd_steps.specs.ValueSteps.{none_kept, draw_some, freshness, value_read, value_sealed}
+use Rattle.kr_cmd_laws.specs.VerifyLaws.{listening, AreSealable, InPairs, IsSealable, RewriteLeavesNone, lookup_as, rewriting_as}
+use Rattle.kr_cmd_laws.proofs.HeardBefore.{AllTold, seeds_open, told_before}
+use Rattle.kr_cmd_laws.proofs.Kept.{AreHeld, none_held}
+use Rattle.kr_cmd_laws.proofs.TrueReadings.{seeds_named, value_again, IsTrueReading, read_again, seed_there}
 use Rattle.std.proofs.Common.{◌≡◌, ℕ, ◌+◌, ◌≤◌, zero, suc, Bool, true, false, List, [], ◌∷◌, length, map, Option, None, Some, Result, Ok, Err, Contains, refl, sym, ◌∙◌, ap, subst, inl, inr, arith}
 use Rattle.std.specs.Prelude.{All, ⊤, IsSome, ◌==◌, ◌++◌, cond, nat_lt, if◌then◌else◌}
 use Rattle.std.specs.List.{count_by}
@@ -12,7 +20,6 @@ use Rattle.kr_config.specs.Kept.{ConfigEntry, plugins_in}
 use Rattle.kr_config.specs.Lists.{list_of}
 use Rattle.kr_config.specs.declared.who.Who.{Who}
 use Rattle.kr_config.specs.declared.who.Who.TheVariants as who
-use Rattle.kr_kms.specs.Truth.{Truth, OpenAll}
 use Rattle.kr_kms.specs.declared.seeds.SeedRow.{SeedRow}
 use Rattle.kr_kms.specs.declared.world.WorldCall.TheVariants.{Tape}
 use Rattle.kr_kms.specs.declared.world.Access.TheVariants.{ToWrite}
@@ -40,10 +47,9 @@ use Rattle.kr_cmd_messages.specs.declared.refusal.Outcome.{Outcome}
 use Rattle.kr_cmd_messages.specs.declared.refusal.Refusal.{Refusal}
 use Rattle.kr_cmd_messages.specs.declared.refusal.Refusal.TheVariants.{Limit}
 use Rattle.kr_cmd_messages.specs.declared.report.RewriteCounts.{RewriteCounts}
-use Rattle.kr_cmd_steps.specs.Around.{Around, left_of, unheard}
+use Rattle.kr_cmd_steps.specs.Around.{Around, left_of}
 use Rattle.kr_cmd_steps.specs.RewriteSteps.{Progress, driving, nothing_done, one_rewritten, replacing, resealing, rewriting_by, rewriting_live, rewriting_on, row_anew, row_by, row_data, row_steps, starting, within_journal}
 use Rattle.kr_cmd_steps.specs.Phases.{by_result, configuration, linking_programs, settled_for}
-use Rattle.kr_cmd_steps.specs.ValueSteps.{draw_some, freshness, value_read, value_sealed}
 use Rattle.kr_cmd_steps.specs.Commands.{getting, rewriting}
 use Rattle.kr_cmd_steps.specs.Configuration.{IsConfiguration}
 use Rattle.kr_cmd_steps.specs.Plugins.{borrow_links, make_seeds}
@@ -52,12 +58,10 @@ use Rattle.kr_cmd_steps.specs.Steps.{Goes, Left, Steps, amid, and_then, awaits, 
 use Rattle.kr_cmd_steps.specs.StoreFiles.{IsStored, Stored, with_row}
 use Rattle.kr_cmd_steps.specs.declared.finding.Finding.{Finding}
 use Rattle.kr_cmd_steps.specs.declared.programs.Program.{Program}
-use Rattle.kr_cmd_laws.specs.VerifyLaws.{AreSealable, InPairs, IsSealable, RewriteLeavesNone, lookup_as, rewriting_as}
-use Rattle.kr_cmd_laws.proofs.Joints.{joint, no_value, one_truth, one_value}
+use Rattle.kr_cmd_laws.proofs.Joints.{joint, no_value, one_value}
 use Rattle.kr_cmd_laws.proofs.Listed.{one_stored}
 use Rattle.kr_cmd_laws.proofs.OnePoint.{one_file, one_tape}
-use Rattle.kr_cmd_laws.proofs.Settled.{one_configuration}
-use Rattle.kr_cmd_laws.proofs.TrueReadings.{AreMade, IsTrueReading, read_again, seed_there, seeds_made, value_true}
+use Rattle.kr_cmd_laws.proofs.Once.{one_configuration}
 use Rattle.kr_cmd_laws.proofs.VerifiedGets.{Comes, Found, IsConfigured, configured, found, linked, said_of}
 
 -- ---- data that a provider seals
@@ -103,14 +107,26 @@ value_some seeds w path plain value end left has may (inr (u, v, goes)) =
 -- ---- a row
 
 -- its value reads as data that are sealed, whatever was published
-pub record IsKept (truth : Truth) (p : Publication) (row : stored.Row) : Type 0 where
+pub record IsKept (opens : Opens) (p : Publication) (row : stored.Row) : Type 0 where
   pub opened : Opened
-  pub truly : IsTrueReading truth.opens (list_of p.rows row.resource) row.path row.stored
-      (Ok opened)
+  pub truly : IsTrueReading opens (list_of p.rows row.resource) row.path row.stored (Ok opened)
   pub may : IsSealable (writer_of (list_of p.rows row.resource)) opened.plain
 
-module _ (truth : Truth) (told : truth.told ≡ true) (name : List ℕ) (p : Publication)
-    (open_all : OpenAll truth.opens p.seeds)
+-- all exchanges agree, one by one or together
+each_agrees : (opens : Opens) (es : List Exchange) → AgreeAll opens es → All (AgreesWith opens) es
+each_agrees opens [] agree = All-nil (AgreesWith opens)
+each_agrees opens (e ∷ es) agree =
+    All-cons (AgreesWith opens) e es agree.0 (each_agrees opens es agree.1)
+
+all_agree : (opens : Opens) (es : List Exchange) → All (AgreesWith opens) es → AgreeAll opens es
+all_agree opens [] all = tt
+all_agree opens (e ∷ es) all = (
+  All-head (AgreesWith opens) e es all,
+  all_agree opens es (All-tail (AgreesWith opens) e es all),
+)
+
+module _ (opens : Opens) (name : List ℕ) (p : Publication)
+    (open_all : OpenAll opens p.seeds)
     (seeded : (resource : List ℕ) → HasSeed p.seeds (writer_of (list_of p.rows resource)))
   where
     module _ (row : stored.Row) (at : Progress) (done : Progress) (end : Left) where
@@ -168,22 +184,36 @@ module _ (truth : Truth) (told : truth.told ≡ true) (name : List ℕ) (p : Pub
       by_again read left again is may goes = by_data again.plain again.stale left may
           (subst (λ r. Goes (gives done) end (row_by name p row at r) left) is goes)
 
-      row_leaves : (left : Left) → left.truth ≡ truth → IsKept truth p row
-          → Goes (gives done) end (row_steps name p row at) left → Leaves
-      row_leaves left same k goes = so (joint (row_by name p row at) done end
-          (value_read p.seeds (list_of p.rows row.resource) row.path row.stored) left goes)
-        where
-          so : (read : Result Opened ValueNo) × (mid : Left) × Goes (gives read) mid
-              (value_read p.seeds (list_of p.rows row.resource) row.path row.stored) left
-              × Goes (gives done) end (row_by name p row at read) mid → Leaves
-          so (read, mid, value, goes) =
-              let r = read_again truth.opens (list_of p.rows row.resource) row.path row.stored
-              k.opened
-              read k.truly (value_true truth told p.seeds open_all mid left same read
-              (list_of p.rows row.resource) row.path row.stored value) in
-              by_again read mid r.0 r.1
-              (subst (IsSealable (writer_of (list_of p.rows row.resource)))
-              (sym r.2) k.may) goes
+    -- what plugins answered agrees
+    abbrev Told : Left → Type 0
+    Told left = AllTold (AgreesWith opens) left.heard
+
+    abbrev Held : CacheState → Type 0
+    Held kept = AreHeld (λ key seed. AgreesWith opens (UnwrapCall key (Ok seed))) kept
+
+    row_leaves : (row : stored.Row) (at : Progress) (done : Progress × CacheState)
+        (end left : Left) (kept : CacheState) → Held kept → Told end → IsKept opens p row
+        → Goes (gives done) end (row_steps name p row kept at) left
+        → (done.0.counts.left ≡ at.counts.left) × Held done.1
+    row_leaves row at done end left kept held told k goes =
+        let behind : Result Opened ValueNo × CacheState → Steps (Progress × CacheState) =
+        λ read. and_then (row_by name p row at read.0) (λ d. give (d, read.1)) in
+        let value = value_read p.seeds (list_of p.rows row.resource) row.path row.stored kept in
+        let j = joint behind done end value left goes in
+        let i = joint (λ d. give (d, j.0.1)) done end (row_by name p row at j.0.0) j.1 j.3 in
+        let same : done ≡ (i.0, j.0.1) = one_value i.3 in
+        let late : Told i.1 = subst (λ (l : Left). Told l) i.3.1 told in
+        let before : Told j.1 = told_before (AgreesWith opens) (gives i.0) i.1 late
+        (row_by name p row at j.0.0) j.1 i.2 in
+        let v = value_again (AgreesWith opens) p.seeds (list_of p.rows row.resource) row.path
+        row.stored j.0.0 kept j.0.1 j.1 left held before j.2 in
+        let r = read_again opens (list_of p.rows row.resource) row.path row.stored k.opened j.0.0
+        k.truly (v.truly opens (λ e agrees. agrees) open_all) in (
+          ap (λ (x : Progress × CacheState). x.0.counts.left) same
+              ∙ by_again row at i.0 i.1 j.0.0 j.1 r.0 r.1
+              (subst (IsSealable (writer_of (list_of p.rows row.resource))) (sym r.2) k.may) i.2,
+          subst Held (sym (ap (λ (x : Progress × CacheState). x.1) same)) v.held,
+        )
 
     -- ---- all rows
 
@@ -192,32 +222,35 @@ module _ (truth : Truth) (told : truth.told ≡ true) (name : List ℕ) (p : Pub
     IsReported made before =
         (counts : RewriteCounts) × (made ≡ report_outcome counts) × (counts.left ≡ before)
 
-    row_behind : (row : stored.Row) (live : List stored.Row) (at : Progress) (made : Outcome)
-        (end : Left)
-        → ((done : Progress) (next : Left) → next.truth ≡ truth
-        → Goes (gives made) end (driving name p live done) next → IsReported made done.counts.left)
-        → IsKept truth p row → (mid : Left) → mid.truth ≡ truth
-        → (done : Progress) × (next : Left) × Goes (gives done) next (row_steps name p row at) mid
-        × Goes (gives made) end (driving name p live done) next
+    row_behind : (row : stored.Row) (live : List stored.Row) (kept : CacheState) (at : Progress)
+        (made : Outcome) (end : Left) → Held kept → Told end
+        → ((after : CacheState) (done : Progress) (next : Left) → Held after
+        → Goes (gives made) end (driving name p live after done) next
+        → IsReported made done.counts.left)
+        → IsKept opens p row → (mid : Left)
+        → (done : Progress × CacheState) × (next : Left)
+        × Goes (gives done) next (row_steps name p row kept at) mid
+        × Goes (gives made) end (driving name p live done.1 done.0) next
         → IsReported made at.counts.left
-    row_behind row live at made end onward kept mid there (done, next, first, goes) =
-        let r = onward done next
-        (one_truth (gives done) next (row_steps name p row at) mid first ∙ there) goes in
-        (r.0, r.1, r.2 ∙ row_leaves row at done next mid there kept first)
+    row_behind row live kept at made end held told onward is mid (done, next, first, goes) =
+        let l = row_leaves row at done next mid kept held (told_before (AgreesWith opens)
+        (gives made) end told (driving name p live done.1 done.0) next goes) is first in
+        let r = onward done.1 done.0 next l.1 goes in (r.0, r.1, r.2 ∙ l.0)
 
-    pub drive_leaves : (live : List stored.Row) → All (IsKept truth p) live → (at : Progress)
-        (made : Outcome) (end left : Left) → left.truth ≡ truth
-        → Goes (gives made) end (driving name p live at) left → IsReported made at.counts.left
-    drive_leaves [] all at made end left same (told, holds, inl e) =
+    pub drive_leaves : (live : List stored.Row) → All (IsKept opens p) live
+        → (kept : CacheState) (at : Progress) (made : Outcome) (end left : Left) → Held kept
+        → Told end → Goes (gives made) end (driving name p live kept at) left
+        → IsReported made at.counts.left
+    drive_leaves [] all kept at made end left held told (u, holds, inl e) =
         absurd (no_value e refl)
-    drive_leaves [] all at made end left same (told, holds, inr (u, v, e)) =
+    drive_leaves [] all kept at made end left held told (u, holds, inr (v, w, e)) =
         (at.counts, one_value e, refl)
-    drive_leaves (row ∷ live) all at made end left same (told, holds, goes) =
-        row_behind row live at made end
-        (λ done next there g. drive_leaves live (All-tail (IsKept truth p) row live all) done made
-        end
-        next there g) (All-head (IsKept truth p) row live all) _ same
-        (joint (driving name p live) made end (row_steps name p row at) _ goes)
+    drive_leaves (row ∷ live) all kept at made end left held told (u, holds, goes) =
+        row_behind row live kept at made end held told
+        (λ after done next h g. drive_leaves live (All-tail (IsKept opens p) row live all) after done
+        made end next h told g) (All-head (IsKept opens p) row live all) _
+        (joint (λ done. driving name p live done.1 done.0) made end (row_steps name p row kept at)
+        _ goes)
 
 -- ---- what the drive begins with
 
@@ -259,18 +292,18 @@ none_first finding findings none = by_test (is_refused finding)
     by_test true e = absurd (omega (arith, e))
     by_test false e = (refl, omega (arith, e))
 
-module _ (words : Verification) (old : Around) (made : Outcome) (f : Found words old made)
-    (told : old.truth.told ≡ true) (sealable : AreSealable words old) (seeds : List SeedRow) where
+module _ (opens : Opens) (words : Verification) (old : Around) (made : Outcome)
+    (f : Found (AgreesWith opens) words old made) (sealable : AreSealable opens words old)
+    (seeds : List SeedRow) where
   abbrev published : Publication
   published = record { rows = f.rows; seeds = seeds }
 
   abbrev Kept : stored.Row → Type 0
-  Kept row = IsKept old.truth published row
+  Kept row = IsKept opens published row
 
   abbrev Come : stored.Row → Finding → Type 0
-  Come row finding = Comes old.truth f.rows (λ row. getting (lookup_as words row.path))
-      (left_of (unheard old))
-      row finding
+  Come row finding = Comes (AgreesWith opens) f.rows
+      (λ row. getting (lookup_as words row.path)) (left_of (listening old)) row finding
 
   kept_row : (row : stored.Row) (finding : Finding) → Contains f.live row
       → (c : Come row finding) → (read : Result Opened ValueNo) → c.read ≡ read
@@ -279,15 +312,19 @@ module _ (words : Verification) (old : Around) (made : Outcome) (f : Found words
       absurd (let e : true ≡ false = ap is_refused (sym (c.is ∙ ap finding_of is)) ∙ some in cc)
   kept_row row finding there c (Ok opened) is some = record {
     opened = opened;
-    truly = subst
-        (IsTrueReading old.truth.opens (list_of f.rows row.resource) row.path row.stored) is
-        (c.truly told);
+    truly = subst (IsTrueReading opens (list_of f.rows row.resource) row.path row.stored) is
+        (c.truly opens (λ e agrees. agrees));
     may = sealable f.file f.rows f.live row
         (record { bytes = opened.plain; done = freshness opened.stale }) f.told f.means f.are_live
         there (
-          c.other,
-          subst (λ r. Goes (said_of r) c.other (getting (lookup_as words row.path))
-              (left_of (unheard old))) is c.goes,
+          c.told.0,
+          all_agree opens c.told.0 c.told.2,
+          record {
+            end = c.other;
+            goes = subst (λ r. Goes (said_of r) c.other (getting (lookup_as words row.path))
+                (left_of (listening old))) is c.goes;
+            heard = c.told.1;
+          },
         );
   }
 
@@ -305,10 +342,13 @@ module _ (words : Verification) (old : Around) (made : Outcome) (f : Found words
 
 -- ---- from the beginning
 
-module _ (words : Verification) (old : Around) (made : Outcome) (f : Found words old made)
-    (told : old.truth.told ≡ true) (file_told : IsSome (old.world.file words.config))
-    (tape_told : IsSome (old.world.tapes.told words.store)) (sealable : AreSealable words old)
-    (silent : made.done ≡ Silent) (done : Outcome) (end : Left) where
+module _ (opens : Opens) (words : Verification) (old : Around) (made : Outcome)
+    (f : Found (AgreesWith opens) words old made)
+    (file_told : IsSome (old.world.file words.config))
+    (tape_told : IsSome (old.world.tapes.told words.store))
+    (sealable : AreSealable opens words old)
+    (silent : made.done ≡ Silent) (done : Outcome) (end : Left)
+    (told : AllTold (AgreesWith opens) end.heard) where
   abbrev IsNoneLeft : Type 0
   IsNoneLeft = (counts : RewriteCounts) × (done ≡ report_outcome counts) × (counts.left ≡ 0)
 
@@ -319,50 +359,48 @@ module _ (words : Verification) (old : Around) (made : Outcome) (f : Found words
   module _ (programs : List Program) (base : Stored) where
     abbrev behind_seeds : List SeedRow → Steps Outcome
     behind_seeds seeds = and_then (starting base.rows f.rows) (λ u.
-        driving words.store (record { rows = f.rows; seeds = seeds }) f.live (nothing_done base))
+        driving words.store (record { rows = f.rows; seeds = seeds }) f.live none_kept
+        (nothing_done base))
 
-    at_start : (seeds : List SeedRow) (mid : Left) → mid.truth ≡ old.truth
-        → AreMade old.truth (plugin_order f.rows) seeds
+    at_start : (seeds : List SeedRow) (mid : Left)
+        → map (λ row. row.name) seeds ≡ plugin_order f.rows → OpenAll opens seeds
         → Goes (gives done) end (behind_seeds seeds) mid → IsNoneLeft
-    at_start seeds mid same are (inl e) = absurd (no_value e refl)
-    at_start seeds mid same are (inr (Err why, none, e)) = absurd (no_value e refl)
-    at_start seeds mid same are (inr (Ok u, may, goes)) = drive_leaves old.truth told words.store
-        (record { rows = f.rows; seeds = seeds }) (are.open_all told)
-        (λ resource. has_seeds f.rows seeds (list_of f.rows resource) are.names
+    at_start seeds mid names all (inl e) = absurd (no_value e refl)
+    at_start seeds mid names all (inr (Err why, none, e)) = absurd (no_value e refl)
+    at_start seeds mid names all (inr (Ok u, may, goes)) = drive_leaves opens words.store
+        (record { rows = f.rows; seeds = seeds }) all
+        (λ resource. has_seeds f.rows seeds (list_of f.rows resource) names
         (list_named f.rows resource)) f.live
-        (all_kept words old made f told sealable seeds f.live f.findings (λ row c. c) no_refusal
-        f.comes) (nothing_done base) done end mid same goes
+        (all_kept opens words old made f sealable seeds f.live f.findings (λ row c. c) no_refusal
+        f.comes) none_kept (nothing_done base) done end mid
+        (none_held (λ key seed. AgreesWith opens (UnwrapCall key (Ok seed)))) told goes
 
-    at_seeds : (left : Left) → left.truth ≡ old.truth
+    at_seeds : (left : Left)
         → Goes (gives done) end (rewriting_by words.store f.rows base f.live) left → IsNoneLeft
-    at_seeds left same (inl e) = absurd (no_value e refl)
-    at_seeds left same (inr (u, v, goes)) =
-        so (joint behind_seeds done end (make_seeds (plugin_order f.rows)) left goes)
-      where
-        so : (seeds : List SeedRow) × (mid : Left)
-            × Goes (gives seeds) mid (make_seeds (plugin_order f.rows)) left
-            × Goes (gives done) end (behind_seeds seeds) mid → IsNoneLeft
-        so (seeds, mid, first, goes) = at_start seeds mid
-            (one_truth (gives seeds) mid (make_seeds (plugin_order f.rows)) left first ∙ same)
-            (seeds_made old.truth (plugin_order f.rows) seeds mid left same first) goes
+    at_seeds left (inl e) = absurd (no_value e refl)
+    at_seeds left (inr (u, v, goes)) =
+        let j = joint behind_seeds done end (make_seeds (plugin_order f.rows)) left goes in
+        at_start j.0 j.1 (seeds_named (plugin_order f.rows) j.0 j.1 left j.2)
+        (seeds_open (AgreesWith opens) opens (λ e agrees. agrees) (plugin_order f.rows) j.0 j.1 left
+        (told_before (AgreesWith opens) (gives done) end told (behind_seeds j.0) j.1 j.3) j.2) j.3
 
-    at_links : (links : List Program) (left : Left) → left.truth ≡ old.truth
+    at_links : (links : List Program) (left : Left)
         → Goes (gives done) end (borrow_links links (rewriting_by words.store f.rows base f.live))
         left
         → IsNoneLeft
-    at_links [] left same goes = at_seeds left same goes
-    at_links (program ∷ links) left same (inl e) = absurd (no_value e refl)
-    at_links (program ∷ links) left same (inr (inl e)) = absurd (no_value e refl)
-    at_links (program ∷ links) left same (inr (inr goes)) = at_links links _ same goes
+    at_links [] left goes = at_seeds left goes
+    at_links (program ∷ links) left (inl e) = absurd (no_value e refl)
+    at_links (program ∷ links) left (inr (inl e)) = absurd (no_value e refl)
+    at_links (program ∷ links) left (inr (inr goes)) = at_links links _ goes
 
-    at_room : (room : Result ⊤ Refusal) (left : Left) → left.truth ≡ old.truth
+    at_room : (room : Result ⊤ Refusal) (left : Left)
         → Goes (gives done) end (and_then (by_result room) (λ u.
         borrow_dice 0 (borrow_links programs (rewriting_by words.store f.rows base f.live)))) left
         → IsNoneLeft
-    at_room (Err why) left same e = absurd (no_value e refl)
-    at_room (Ok u) left same (inl e) = absurd (no_value e refl)
-    at_room (Ok u) left same (inr (inl e)) = absurd (no_value e refl)
-    at_room (Ok u) left same (inr (inr goes)) = at_links programs _ same goes
+    at_room (Err why) left e = absurd (no_value e refl)
+    at_room (Ok u) left (inl e) = absurd (no_value e refl)
+    at_room (Ok u) left (inr (inl e)) = absurd (no_value e refl)
+    at_room (Ok u) left (inr (inr goes)) = at_links programs _ goes
 
   -- the live rows are those that were verified
   same_rows : (bytes : List ℕ) (base : Stored) (listing : List stored.Row)
@@ -378,53 +416,53 @@ module _ (words : Verification) (old : Around) (made : Outcome) (f : Found words
       listing_once l.store.rows listing f.live
       (subst (λ (s : Stored). IsListing s.rows listing) base_is are) l.listing
 
-  on_tape : (programs : List Program) (lent : Left) → lent.truth ≡ old.truth
-      → lent.tapes ≡ old.world.tapes.told
+  on_tape : (programs : List Program) (lent : Left) → lent.tapes ≡ old.world.tapes.told
       → Goes (gives done) end (rewriting_on words.store f.rows programs) lent → IsNoneLeft
-  on_tape programs lent same tapes (inl e) = absurd (no_value e refl)
-  on_tape programs lent same tapes (inr (bytes, agrees, inl e)) = absurd (no_value e refl)
-  on_tape programs lent same tapes (inr (bytes, agrees, inr (Err why, is, e))) =
+  on_tape programs lent tapes (inl e) = absurd (no_value e refl)
+  on_tape programs lent tapes (inr (bytes, agrees, inl e)) = absurd (no_value e refl)
+  on_tape programs lent tapes (inr (bytes, agrees, inr (Err why, is, e))) =
       absurd (no_value e refl)
-  on_tape programs lent same tapes (inr (bytes, agrees, inr (Ok base, is, inl e))) =
+  on_tape programs lent tapes (inr (bytes, agrees, inr (Ok base, is, inl e))) =
       absurd (no_value e refl)
-  on_tape programs lent same tapes
+  on_tape programs lent tapes
       (inr (bytes, agrees, inr (Ok base, is, inr (listing, are, goes)))) =
-      at_room programs base (within_journal f.live) lent same
+      at_room programs base (within_journal f.live) lent
       (subst (λ l. Goes (gives done) end (rewriting_live words.store f.rows programs base l) lent)
       (same_rows bytes base listing
       (subst (λ (t : List ℕ → Option (Option (List ℕ))). Agrees (t words.store) (Some bytes)) tapes
       agrees) is are) goes)
 
-module _ (words : Verification) (old : Around) (made : Outcome) (f : Found words old made)
-    (told : old.truth.told ≡ true) (file_told : IsSome (old.world.file words.config))
-    (tape_told : IsSome (old.world.tapes.told words.store)) (sealable : AreSealable words old)
-    (silent : made.done ≡ Silent) (done : Outcome) (end : Left) where
+module _ (opens : Opens) (words : Verification) (old : Around) (made : Outcome)
+    (f : Found (AgreesWith opens) words old made)
+    (file_told : IsSome (old.world.file words.config))
+    (tape_told : IsSome (old.world.tapes.told words.store))
+    (sealable : AreSealable opens words old)
+    (silent : made.done ≡ Silent) (done : Outcome) (end : Left)
+    (told : AllTold (AgreesWith opens) end.heard) where
   abbrev LeftNone : Outcome → Type 0
   LeftNone x = (counts : RewriteCounts) × (x ≡ report_outcome counts) × (counts.left ≡ 0)
 
   -- the tape is settled behind it
-  settled_so : (programs : List Program) (lent : Left) → lent.truth ≡ old.truth
-      → lent.tapes ≡ old.world.tapes.told
+  settled_so : (programs : List Program) (lent : Left) → lent.tapes ≡ old.world.tapes.told
       → (x : Outcome) × (mid : Left)
       × Goes (gives x) mid (rewriting_on words.store f.rows programs) lent
       × Goes (gives done) end (settle Store words.store (give x)) mid
       → LeftNone done
-  settled_so programs lent same tapes (x, mid, goes, inl e) = absurd (no_value e refl)
-  settled_so programs lent same tapes (x, mid, goes, inr e) = subst LeftNone (sym (one_value e))
-      (on_tape words old made f told file_told tape_told sealable silent x mid programs lent same
-      tapes goes)
+  settled_so programs lent tapes (x, mid, goes, inl e) = absurd (no_value e refl)
+  settled_so programs lent tapes (x, mid, goes, inr e) = subst LeftNone (sym (one_value e))
+      (on_tape opens words old made f file_told tape_told sealable silent x mid
+      (subst (λ (l : Left). AllTold (AgreesWith opens) l.heard) e.1 told) programs lent tapes goes)
 
-  at_tape : (programs : List Program) (mid : Left) → mid.truth ≡ old.truth
-      → mid.tapes ≡ old.world.tapes.told
+  at_tape : (programs : List Program) (mid : Left) → mid.tapes ≡ old.world.tapes.told
       → Goes (gives done) end
       (settled_for Store words.store ToWrite (rewriting_on words.store f.rows programs)) mid
       → LeftNone done
-  at_tape programs mid same tapes (inl e) = absurd (no_value e refl)
-  at_tape programs mid same tapes (inr (inl e)) = absurd (no_value e refl)
-  at_tape programs mid same tapes (inr (inr (inl (never, agrees, e)))) = absurd (no_value e refl)
-  at_tape programs mid same tapes (inr (inr (inr (may, goes)))) =
+  at_tape programs mid tapes (inl e) = absurd (no_value e refl)
+  at_tape programs mid tapes (inr (inl e)) = absurd (no_value e refl)
+  at_tape programs mid tapes (inr (inr (inl (never, agrees, e)))) = absurd (no_value e refl)
+  at_tape programs mid tapes (inr (inr (inr (may, goes)))) =
       let lent : Left = with_tape false words.store (with_asked (Tape words.store ToWrite) mid) in
-      settled_so programs lent same tapes
+      settled_so programs lent tapes
       (joint (λ x. settle Store words.store (give x)) done end
       (rewriting_on words.store f.rows programs) lent goes)
 
@@ -444,12 +482,12 @@ module _ (words : Verification) (old : Around) (made : Outcome) (f : Found words
       read.means (subst (λ x. IsConfiguration words.config x (Ok f.rows)) file_is f.means) in
       let rows_are : rows ≡ f.rows = cc in
       let same : second ≡ first = linked words old rows programs first second is_linked in
-      at_tape programs second (ap (λ (l : Left). l.truth) same ∙ read.truth)
+      at_tape programs second
       (ap (λ (l : Left). l.tapes) same ∙ read.tapes)
       (subst (λ r. Goes (gives done) end (behind_files r programs) second) rows_are goes)
 
   with_rows : (rows : List ConfigEntry) × (first : Left)
-      × Goes (gives rows) first (configuration words.config) (left_of (unheard old))
+      × Goes (gives rows) first (configuration words.config) (left_of (listening old))
       × Goes (gives done) end (and_then (linking_programs words.options rows) (behind_files rows))
       first
       → LeftNone done
@@ -457,15 +495,18 @@ module _ (words : Verification) (old : Around) (made : Outcome) (f : Found words
       (configured words old rows first is_read)
       (joint (behind_files rows) done end (linking_programs words.options rows) first goes)
 
-  pub leaves_none : Goes (gives done) end (rewriting (rewriting_as words)) (left_of (unheard old))
+  pub leaves_none : Goes (gives done) end (rewriting (rewriting_as words)) (left_of (listening old))
       → LeftNone done
   leaves_none goes = with_rows (joint (λ rows. and_then (linking_programs words.options rows)
-      (behind_files rows)) done end (configuration words.config) (left_of (unheard old)) goes)
+      (behind_files rows)) done end (configuration words.config) (left_of (listening old)) goes)
 
 pub none_left : RewriteLeavesNone
-none_left words old made (gives done) told file tape sealable (first, verify) silent (end, goes) =
-    leaves_none words old made (found words old made first verify) told file tape sealable silent
-    done end goes
-none_left words old made (refuses why) told file tape sealable verify silent come = tt
-none_left words old made (awaits call) told file tape sealable verify silent come = tt
-none_left words old made amid told file tape sealable verify silent come = tt
+none_left words old made (gives done) opens file tape sealable (es, all, verify) silent
+    (own, agree, rewrite) =
+    leaves_none opens words old made
+    (found (AgreesWith opens) words old made verify.end
+    (es, verify.heard, each_agrees opens es all) verify.goes) file tape sealable silent done
+    rewrite.end (own, rewrite.heard, each_agrees opens own agree) rewrite.goes
+none_left words old made (refuses why) opens file tape sealable verify silent come = tt
+none_left words old made (awaits call) opens file tape sealable verify silent come = tt
+none_left words old made amid opens file tape sealable verify silent come = tt

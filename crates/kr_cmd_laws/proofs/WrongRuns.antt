@@ -7,7 +7,6 @@ use Rattle.std.proofs.lemmas.Option.{none-some, same_Some}
 use Rattle.kr_base.specs.Faults.{Rose}
 use Rattle.kr_kms.specs.Calls.{Link}
 use Rattle.kr_kms.specs.Exchanges.{Exchange}
-use Rattle.kr_kms.specs.Truth.{Truth}
 use Rattle.kr_script.specs.declared.told.Told.{Told}
 use Rattle.kr_store.specs.File.{IsFile}
 use Rattle.kr_store.specs.Rows.{live}
@@ -114,11 +113,11 @@ is_the_file begun rows before now bytes h well = by h.4
         (sym (append-nil h.0) ∙ ap (λ (l : List ℕ). h.0 ++ l) (sym none) ∙ sym h.3) h.2
     by (inr rose) = absurd (well rose)
 
-pub each_run_is_wrong : (T : Type 0) → {L D : Type 0} → (truth : Truth) (link : L → Link)
+pub each_run_is_wrong : (T : Type 0) → {L D : Type 0} → (link : L → Link)
     (step : L → Exchange → L → Type 0) (lent took : ℕ → L → Type 0)
     (left : D → Option (List ℕ)) (count : D → ℕ)
-    → EachRunIsWrong T truth link step lent took left count
-each_run_is_wrong T {L} {D} truth link step lent took left count words old new output errors status
+    → EachRunIsWrong T link step lent took left count
+each_run_is_wrong T {L} {D} link step lent took left count words old new output errors status
     s =
     let text : List ℕ = text_of s.begun.plan.fleet s.history s.ended in
     let told : List (List Told × ℕ) =

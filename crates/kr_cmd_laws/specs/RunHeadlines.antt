@@ -1,14 +1,14 @@
 -- What a call of `run` says of a fleet, for its operator: the headline, over just what was printed.
 -- Begin at `RunHeadline`, the last definition of this page; the sentence itself is `Headline` of
 -- kr_headline.
-use Rattle.std.specs.Prelude.{◌≡◌, ◌⊎◌, ℕ, true, List, [], fold, length, map, All, Option, None, Some, IfSome, Err}
+use Rattle.std.specs.Prelude.{◌≡◌, ◌⊎◌, ℕ, List, [], fold, length, map, All, Option, None, IfSome, Err}
 use Rattle.std.specs.Io.KnownBytes.{Appends}
 use Rattle.std.specs.Option.{option_map}
 use Rattle.kr_base.specs.Faults.{Rose}
 use Rattle.kr_base.specs.Streams.{AppendsFront}
 use Rattle.kr_kms.specs.Calls.{Link}
 use Rattle.kr_kms.specs.Exchanges.{AgreeAll, Exchange}
-use Rattle.kr_kms.specs.Truth.{Opens, Truth}
+use Rattle.kr_kms.specs.Opens.{Opens}
 use Rattle.kr_history.specs.Honesty.{SeedsOpen}
 use Rattle.kr_rollout.specs.Histories.{state_of}
 use Rattle.kr_rollout.specs.declared.opening.Entry.{Entry}
@@ -70,11 +70,11 @@ pub record LeavesStore (store : List ℕ) (begun : Begun) (mid new : Around) (hi
 -- Their run has the headline, from the store's rows and the replicas' configurations on. Each
 -- worker had the random source and the links of its seat, and these are back: so a count that rose
 -- while a line was done is the world's. No bench had kept a seed before. Of plugins nothing is
--- supposed where none has a program. Else it holds by each truth that agrees with all that they
--- answered the workers, and by which the seeds that the replicas published open; by the truth that
--- links tell, where each of their steps is answered as it has it, that is so. The store is left so,
--- and beside it and what the workers had all is as it was when they started
-pub record WorkersPage {T L D : Type 0} (values : Values) (truth : Truth) (link : L → Link)
+-- supposed where none has a program. Else it holds by all openings that agree with all that they
+-- answered the workers, and by which the seeds that the replicas published open; and by all with
+-- which each step agrees that these links can take. The store is left so, and beside it and what
+-- the workers had all is as it was when they started
+pub record WorkersPage {T L D : Type 0} (values : Values) (link : L → Link)
     (step : L → Exchange → L → Type 0)
     (left : D → Option (List ℕ)) (count : D → ℕ) (store : List ℕ) (begun : Begun)
     (mid new : Around) (history : List Entry) (ended : List (fleet_worker.Worker T L D))
@@ -93,20 +93,20 @@ pub record WorkersPage {T L D : Type 0} (values : Values) (truth : Truth) (link 
       ⊎ (((worker : ℕ) → AgreeAll opens (headline.heard worker).exchanges)
       × All (λ replica. IfSome replica (SeedsOpen opens)) begun.replicas)
       → AreKnown headline.heard opens (opening_of store begun mid)
-  pub told : truth.told ≡ true → LinksAgree step truth.opens
-      → AreKnown headline.heard truth.opens (opening_of store begun mid)
+  pub linked : (opens : Opens) → LinksAgree step opens
+      → AreKnown headline.heard opens (opening_of store begun mid)
   pub stored : LeavesStore store begun mid new history
   pub rest : LeavesRest store (length begun.plan.fleet.workers) mid new
 
 -- it is that over the values that providers seal, and it is tied to the lines that the workers did
-pub record WorkersHeadline {T L D : Type 0} (truth : Truth) (link : L → Link)
+pub record WorkersHeadline {T L D : Type 0} (link : L → Link)
     (step : L → Exchange → L → Type 0)
     (left : D → Option (List ℕ)) (count : D → ℕ) (store : List ℕ) (begun : Begun)
     (mid new : Around) (history : List Entry) (ended : List (fleet_worker.Worker T L D))
     : Type 0 where
-  pub page : WorkersPage sealed_values truth link step left count store begun mid new history
+  pub page : WorkersPage sealed_values link step left count store begun mid new history
       ended
-  pub tied : IsTied truth link step left count page.files (opening_of store begun mid) page.parts
+  pub tied : IsTied link step left count page.files (opening_of store begun mid) page.parts
       begun.budgets history page.workers ended page.headline
 
 -- ---- the call
@@ -126,15 +126,15 @@ Prints text ending output errors status =
 
 -- nothing was printed, and the line on standard error tells why: no worker was started, since the
 -- steps up to them or want of memory ended the call, or what they stored couldn't be settled
-pub record StartsNobody (T : Type 0) {L D : Type 0} (truth : Truth) (link : L → Link)
+pub record StartsNobody (T : Type 0) {L D : Type 0} (link : L → Link)
     (step : L → Exchange → L → Type 0)
     (left : D → Option (List ℕ)) (count : D → ℕ) (steps : Steps Begun) (store : List ℕ)
     (old new : Around) (output errors : Receipt) (status : ℕ) : Type 0 where
   pub stop : Stop
-  pub stops : StopsBefore T truth link step left count steps store old new output (Err stop)
+  pub stops : StopsBefore T link step left count steps store old new output (Err stop)
   pub tells : TellsStop stop errors status
 
-module _ (T : Type 0) {L D : Type 0} (truth : Truth) (link : L → Link)
+module _ (T : Type 0) {L D : Type 0} (link : L → Link)
     (step : L → Exchange → L → Type 0) (lent took : ℕ → L → Type 0)
     (left : D → Option (List ℕ)) (count : D → ℕ) (words : FleetWords) (old new : Around)
     (output errors : Receipt) (status : ℕ) where
@@ -142,9 +142,9 @@ module _ (T : Type 0) {L D : Type 0} (truth : Truth) (link : L → Link)
   -- settled: that the store is back so is the last that the world was told. The journal and the
   -- replies that were printed are theirs. What these steps asked of plugins is just what the first
   -- seat's links answered before the first worker had them, and the list of the call is that one
-  -- (`no_more`). Where that is told (and nothing was asked before), of plugins no more is supposed
-  -- than that a truth agrees with all that they answered in this call, then and to the workers: the
-  -- seeds that the replicas published open by it
+  -- (`no_more`). Of plugins no more is supposed than that the openings agree with all that they
+  -- answered in this call, then and to the workers: the seeds that the replicas published open by
+  -- them
   pub record StartsWorkers : Type 0 where
     pub begun : Begun
     pub mid : Around
@@ -152,13 +152,13 @@ module _ (T : Type 0) {L D : Type 0} (truth : Truth) (link : L → Link)
     pub since : IsHome old mid
     pub history : List Entry
     pub ended : List (fleet_worker.Worker T L D)
-    pub has : WorkersHeadline truth link step left count words.store begun
+    pub has : WorkersHeadline link step left count words.store begun
         (settled_behind words.store mid) new history ended
     pub exchanges : List Exchange
     pub heard : mid.heard ≡ hearing exchanges old.heard
     pub no_more : new.heard ≡ hearing exchanges old.heard
     pub began : BeganWith lent took step exchanges has.page.workers ended
-    pub agreed : old.heard ≡ Some [] → (opens : Opens) → AgreeAll opens exchanges
+    pub agreed : (opens : Opens) → AgreeAll opens exchanges
         → ((worker : ℕ) → AgreeAll opens (has.page.headline.heard worker).exchanges)
         → AreKnown has.page.headline.heard opens
         (opening_of words.store begun (settled_behind words.store mid))
@@ -170,6 +170,6 @@ module _ (T : Type 0) {L D : Type 0} (truth : Truth) (link : L → Link)
   -- out is back, and no count fell
   abbrev pub RunHeadline : Type 0
   RunHeadline = IsHome old new
-      × (StartsNobody T truth link step left count (fleet_steps words) words.store old new
+      × (StartsNobody T link step left count (fleet_steps words) words.store old new
       output errors status
       ⊎ StartsWorkers)

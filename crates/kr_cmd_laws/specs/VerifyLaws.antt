@@ -1,5 +1,9 @@
 -- What `verify` tells of a store, by what `get` and `rewrite` do with it.
-use Rattle.std.specs.Prelude.{◌≡◌, ℕ, ◌≤◌, true, false, List, [], ◌∷◌, Contains, Option, Some, IsSome, Ok, length, ⊤}
+use Rattle.std.specs.Prelude.{All, ◌≡◌, ℕ, ◌≤◌, false, List, [], ◌∷◌, Contains, Option, Some, IsSome, Ok, length, ⊤}
+use Rattle.kr_kms.specs.Exchanges.{AgreeAll, Exchange}
+use Rattle.kr_kms.specs.Opens.{Opens}
+use Rattle.kr_cmd_messages.specs.declared.command.Command.{Command}
+use Rattle.kr_cmd_steps.specs.Telling.{MayEnd}
 use Rattle.std.specs.Io.KnownBytes.{Appends}
 use Rattle.kr_base.specs.Limits.{data_limit}
 use Rattle.kr_base.specs.Told.{Agrees}
@@ -25,7 +29,7 @@ use Rattle.kr_cmd_messages.specs.declared.refusal.Refusal.TheVariants.{Value}
 use Rattle.kr_cmd_messages.specs.declared.report.RewriteCounts.{RewriteCounts}
 use Rattle.kr_cmd_steps.specs.Around.{Around}
 use Rattle.kr_cmd_steps.specs.Configuration.{IsConfiguration}
-use Rattle.kr_cmd_steps.specs.Ran.{GivesWith, WouldCome}
+use Rattle.kr_cmd_steps.specs.Ran.{GivesWith}
 use Rattle.kr_cmd_steps.specs.RowFindings.{findings_outcome}
 use Rattle.kr_cmd_steps.specs.Steps.{Point, gives, refuses}
 use Rattle.kr_cmd_steps.specs.StoreFiles.{Stored, IsStored}
@@ -56,6 +60,19 @@ pub record AreLive (words : Verification) (old : Around) (live : List stored.Row
   pub read : IsStored bytes (Ok store)
   pub listing : IsListing store.rows live
 
+-- ---- what plugins answer
+
+-- no plugin was asked before, and what they are asked is told
+abbrev pub listening : Around → Around
+listening a = record a { heard = Some [] }
+
+-- the steps of a command over the told files, tapes and input, some drawn bytes, and plugins whose
+-- exchanges are such, come to this point
+abbrev pub WouldComeWhere : (Are : List Exchange → Type 0) → Command → Around → Point Outcome
+    → Type 0
+WouldComeWhere Are command old point = (own : List Exchange) × Are own
+    × MayEnd (Some own) command (listening old) point
+
 -- ---- get
 
 -- what a value is found to be is what `get` says: it gives data, fresh or stale, or refuses so
@@ -64,10 +81,11 @@ IsGot Fresh point = (plain : List ℕ) × (point ≡ gives (record { bytes = pla
 IsGot Stale point = (plain : List ℕ) × (point ≡ gives (record { bytes = plain; done = done.Stale }))
 IsGot (Refused why) point = point ≡ refuses (Value why)
 
--- from the same beginning `get` of the row's path would come to that
-abbrev pub WouldGet : Verification → Around → stored.Row → Finding → Type 0
-WouldGet words old row finding = (point : Point Outcome) × IsGot finding point
-    × WouldCome (Get (lookup_as words row.path)) old point
+-- from the same beginning, with plugins that answer as they did in these exchanges, `get` of the
+-- row's path would come to that
+abbrev pub WouldGet : Verification → Around → List Exchange → stored.Row → Finding → Type 0
+WouldGet words old exchanges row finding = (point : Point Outcome) × IsGot finding point
+    × WouldComeWhere (All (Contains exchanges)) (Get (lookup_as words row.path)) old point
 
 -- one by one
 abbrev pub InPairs : {A B : Type 0} → (A → B → Type 0) → List A → List B → Type 0
@@ -76,23 +94,25 @@ InPairs P (x ∷ xs) (y ∷ ys) = P x y × InPairs P xs ys
 InPairs P xs ys = ⊥
 
 -- each live row has a line, with what `get` of its path says
-pub record IsVerified (words : Verification) (old : Around) (made : Outcome) : Type 0 where
+pub record IsVerified (words : Verification) (old : Around) (exchanges : List Exchange)
+    (made : Outcome) : Type 0 where
   pub live : List stored.Row
   pub findings : List Finding
   pub are_live : AreLive words old live
   pub made_is : made ≡ findings_outcome live findings
-  pub got : InPairs (WouldGet words old) live findings
+  pub got : InPairs (WouldGet words old exchanges) live findings
 
 abbrev pub VerifyTellsGets : Type 0
-VerifyTellsGets = (words : Verification) (old : Around) (made : Outcome)
-    → WouldCome (Verify words) old (gives made) → IsVerified words old made
+VerifyTellsGets = (words : Verification) (old : Around) (exchanges : List Exchange)
+    (made : Outcome) → MayEnd (Some exchanges) (Verify words) (listening old) (gives made)
+    → IsVerified words old exchanges made
 
--- a call of `verify` whose value was written wrote just that
+-- a call of `verify` with these exchanges whose value was written wrote just that
 abbrev pub VerifiedRuns : Type 0
 VerifiedRuns = (words : List (List ℕ)) (asked : Verification) (old new : Around)
-    (output errors : Receipt) (status : ℕ) → Asks words (Verify asked)
-    → GivesWith words old new output errors status
-    → (made : Outcome) × IsVerified asked old made × (status_of_done made.done ≡ status)
+    (exchanges : List Exchange) (output errors : Receipt) (status : ℕ) → Asks words (Verify asked)
+    → GivesWith words (listening old) (record new { heard = Some exchanges }) output errors status
+    → (made : Outcome) × IsVerified asked old exchanges made × (status_of_done made.done ≡ status)
     × Appends output.old output.new made.bytes
 
 -- ---- rewrite
@@ -102,12 +122,14 @@ VerifiedRuns = (words : List (List ℕ)) (asked : Verification) (old new : Aroun
 abbrev pub IsSealable : Who → (plain : List ℕ) → Type 0
 IsSealable who plain = (length plain ≤ data_limit) × (who ≡ Identity → is_marked plain ≡ false)
 
--- what `get` gives of each live row is sealed by the writer of its resource
-abbrev pub AreSealable : Verification → Around → Type 0
-AreSealable words old = (file : Option (List ℕ)) (rows : List ConfigEntry) (live : List stored.Row)
+-- what `get` gives of each live row, where plugins answer by these openings, is sealed by the
+-- writer of its resource
+abbrev pub AreSealable : Opens → Verification → Around → Type 0
+AreSealable opens words old = (file : Option (List ℕ)) (rows : List ConfigEntry)
+    (live : List stored.Row)
     (row : stored.Row) (made : Outcome) → Agrees (old.world.file words.config) file
     → IsConfiguration words.config file (Ok rows) → AreLive words old live → Contains live row
-    → WouldCome (Get (lookup_as words row.path)) old (gives made)
+    → WouldComeWhere (AgreeAll opens) (Get (lookup_as words row.path)) old (gives made)
     → IsSealable (writer_of (list_of rows row.resource)) made.bytes
 
 -- a rewrite that comes to its end leaves no row as it is
@@ -116,11 +138,11 @@ LeavesNone (gives made) =
     (counts : RewriteCounts) × (made ≡ report_outcome counts) × (counts.left ≡ 0)
 LeavesNone point = ⊤
 
--- where the plugins' answers are told and `verify` would refuse no value, a rewrite from the same
--- beginning would leave none
+-- for any openings with which all agrees that plugins answer to the two: where `verify` would
+-- refuse no value, a rewrite from the same beginning would leave none
 abbrev pub RewriteLeavesNone : Type 0
 RewriteLeavesNone = (words : Verification) (old : Around) (made : Outcome) (point : Point Outcome)
-    → old.truth.told ≡ true → IsSome (old.world.file words.config)
-    → IsSome (old.world.tapes.told words.store) → AreSealable words old
-    → WouldCome (Verify words) old (gives made) → made.done ≡ done.Silent
-    → WouldCome (Rewrite (rewriting_as words)) old point → LeavesNone point
+    (opens : Opens) → IsSome (old.world.file words.config)
+    → IsSome (old.world.tapes.told words.store) → AreSealable opens words old
+    → WouldComeWhere (AgreeAll opens) (Verify words) old (gives made) → made.done ≡ done.Silent
+    → WouldComeWhere (AgreeAll opens) (Rewrite (rewriting_as words)) old point → LeavesNone point

@@ -5,7 +5,6 @@ use Rattle.std.specs.Io.KnownBytes.{Appends}
 use Rattle.kr_base.specs.Faults.{Rose}
 use Rattle.kr_kms.specs.Calls.{Link}
 use Rattle.kr_kms.specs.Exchanges.{Exchange}
-use Rattle.kr_kms.specs.Truth.{Truth}
 use Rattle.kr_rollout.specs.declared.opening.Entry.{Entry}
 use Rattle.kr_script.specs.declared.told.Told.{Told}
 use Rattle.kr_store.specs.File.{IsFile}
@@ -23,11 +22,11 @@ use Rattle.kr_cmd_steps.specs.Around.{Around}
 use Rattle.kr_cmd_fleet.specs.Fleets.{settled_behind, text_of}
 use Rattle.kr_cmd_laws.specs.RunHeadlines.{StartsWorkers, revision_behind}
 
-module _ (T : Type 0) {L D : Type 0} (truth : Truth) (link : L → Link)
+module _ (T : Type 0) {L D : Type 0} (link : L → Link)
     (step : L → Exchange → L → Type 0) (lent took : ℕ → L → Type 0)
     (left : D → Option (List ℕ)) (count : D → ℕ) (words : FleetWords) (old new : Around)
     (output errors : Receipt) (status : ℕ) where
-  module _ (s : StartsWorkers T truth link step lent took left count words old new output errors
+  module _ (s : StartsWorkers T link step lent took left count words old new output errors
       status) where
     -- the printed text, and the replies in it
     abbrev pub printed : List ℕ
@@ -74,12 +73,12 @@ module _ (T : Type 0) {L D : Type 0} (truth : Truth) (link : L → Link)
 
   -- so it is with each call
   abbrev pub IsNeverWrong : Type 0
-  IsNeverWrong = (s : StartsWorkers T truth link step lent took left count words old new output
+  IsNeverWrong = (s : StartsWorkers T link step lent took left count words old new output
       errors status) → WrongRuns s
 
-abbrev pub EachRunIsWrong : (T : Type 0) → {L D : Type 0} → Truth → (L → Link)
+abbrev pub EachRunIsWrong : (T : Type 0) → {L D : Type 0} → (L → Link)
     → (L → Exchange → L → Type 0) → (lent took : ℕ → L → Type 0) → (D → Option (List ℕ))
     → (D → ℕ) → Type 0
-EachRunIsWrong T truth link step lent took left count = (words : FleetWords) (old new : Around)
+EachRunIsWrong T link step lent took left count = (words : FleetWords) (old new : Around)
     (output errors : Receipt) (status : ℕ)
-    → IsNeverWrong T truth link step lent took left count words old new output errors status
+    → IsNeverWrong T link step lent took left count words old new output errors status

@@ -1,17 +1,29 @@
-//! What plugins see of a fleet up to its workers, and that they made its seeds. The functions do
-//! nothing.
+//! What plugins see of a fleet, up to its workers and of their lines, and that they made its seeds.
+//! The functions do nothing.
 ghost use Rattle.kr_cmd_laws.specs.FleetPlugins.{StartsAskSeeds, StartsMakeSeeds};
+ghost use Rattle.kr_cmd_laws.specs.LineQuestions.{LinesAsk, LinesWrapDrawn};
 
 use kr_kms::World;
 
 /// Up to its workers a fleet asks a plugin nothing but its status, and to wrap 32 bytes.
 pub fn starts_ask_seeds<W: World>()
-    ensures { StartsAskSeeds W.Tap W.Link.truth W.Link.link W.Link.step W.lent W.took W.Rand.left
+    ensures { StartsAskSeeds W.Tap W.Link.link W.Link.step W.lent W.took W.Rand.left
         W.Rand.count }
 {}
 
 /// The seeds at the start are what plugins wrapped, each with the key that its plugin answered.
 pub fn starts_make_seeds<W: World>()
-    ensures { StartsMakeSeeds W.Tap W.Link.truth W.Link.link W.Link.step W.lent W.took W.Rand.left
+    ensures { StartsMakeSeeds W.Tap W.Link.link W.Link.step W.lent W.took W.Rand.left
         W.Rand.count }
+{}
+
+/// A worker's line asks a plugin its status, to wrap 32 bytes, or to unwrap the source of a value
+/// that the line itself found.
+pub fn lines_ask<W: World>()
+    ensures { LinesAsk W.Tap W.Link.link W.Link.step W.Rand.left W.Rand.count }
+{}
+
+/// What a worker's line gives plugins to wrap it drew itself.
+pub fn lines_wrap_drawn<W: World>()
+    ensures { LinesWrapDrawn W.Link.link W.Link.step W.Rand.left W.Rand.count }
 {}

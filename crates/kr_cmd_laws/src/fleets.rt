@@ -5,6 +5,6 @@ use kr_kms::World;
 
 /// What readers take from the relation of a fleet.
 pub fn fleets_are_read<W: World>()
-    ensures { FleetsAreRead W.Tap W.Link.truth W.Link.link W.Link.step W.lent W.took W.Rand.left
+    ensures { FleetsAreRead W.Tap W.Link.link W.Link.step W.lent W.took W.Rand.left
         W.Rand.count }
 {}

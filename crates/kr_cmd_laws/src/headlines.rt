@@ -6,7 +6,7 @@ use kr_kms::World;
 
 /// What a fleet printed has the headline.
 pub fn runs_have_headlines<W: World>()
-    ensures { RunsHaveHeadlines W.Tap W.Link.truth W.Link.link W.Link.step W.lent W.took
+    ensures { RunsHaveHeadlines W.Tap W.Link.link W.Link.step W.lent W.took
         W.Rand.left W.Rand.count }
 {}
 
@@ -14,6 +14,6 @@ pub fn runs_have_headlines<W: World>()
 /// text cut short in silence, a row that the journal deleted, or another revision than a write
 /// told.
 pub fn each_run_is_wrong<W: World>()
-    ensures { EachRunIsWrong W.Tap W.Link.truth W.Link.link W.Link.step W.lent W.took W.Rand.left
+    ensures { EachRunIsWrong W.Tap W.Link.link W.Link.step W.lent W.took W.Rand.left
         W.Rand.count }
 {}

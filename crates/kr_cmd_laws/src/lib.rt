@@ -4,6 +4,7 @@
 #![tactic(auto)]
 
 mod commands;
+mod draws;
 mod fleet_plugins;
 mod fleets;
 mod headlines;
@@ -12,7 +13,8 @@ mod results;
 mod verifications;
 
 pub use commands::{commands_are_read, tapes_are_left};
-pub use fleet_plugins::{starts_ask_seeds, starts_make_seeds};
+pub use draws::told_draws;
+pub use fleet_plugins::{lines_ask, lines_wrap_drawn, starts_ask_seeds, starts_make_seeds};
 pub use fleets::fleets_are_read;
 pub use headlines::{each_run_is_wrong, runs_have_headlines};
 pub use plugins::plugins_see;

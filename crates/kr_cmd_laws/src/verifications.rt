@@ -12,8 +12,9 @@ pub fn verified_runs()
     ensures { VerifiedRuns }
 {}
 
-/// Where the plugins' truth is told, `verify` finds no value refused and writers can seal the data,
-/// a rewrite from the same beginning that comes to its end leaves none.
+/// For any openings with which all agrees that plugins answer to the two: where `verify` finds no
+/// value refused and writers can seal the data, a rewrite from the same beginning that comes to its
+/// end leaves none.
 pub fn rewrites_leave_none()
     ensures { RewriteLeavesNone }
 {}

@@ -4,7 +4,6 @@ use Rattle.std.specs.Prelude.{Contains, ◌⊎◌}
 use Rattle.kr_base.specs.Limits.{store_limit}
 use Rattle.kr_kms.specs.Calls.{Link}
 use Rattle.kr_kms.specs.Exchanges.{Exchange}
-use Rattle.kr_kms.specs.Truth.{Truth}
 use Rattle.kr_provider.specs.Names.{AreDistinct}
 use Rattle.kr_provider.specs.Publication.{Publication}
 use Rattle.kr_provider.specs.declared.refusal.Opened.{Opened}
@@ -31,7 +30,6 @@ use Rattle.kr_rewrite.specs.Rewrites.{FindsNextOver, FindsNone, IsStepOver, Repl
 use Rattle.kr_rewrite.specs.declared.outcome.Step.{Step}
 use Rattle.kr_rewrite.specs.declared.outcome.Step.TheVariants as step
 use Rattle.kr_cmd_steps.specs.Around.{Around}
-use Rattle.kr_cmd_steps.proofs.Telling.{TellAll, status_in}
 use Rattle.kr_cmd_steps.specs.RewriteSteps.{Progress}
 use Rattle.kr_cmd_rewrite.specs.inner.Rewriting.{MayCutShort}
 use Rattle.kr_cmd_rewrite.proofs.DriveSteps.{Acts_so, IsDriven, acted_left, acted_lone, acts_so, adopted_count, adopted_lone, adopted_rows, found_count, found_holds, found_lone, found_rows, is_first, is_it, is_next, none_left, passes_by, rows_same}
@@ -183,10 +181,10 @@ none_leaves above adopted acted (Err (no.StoreFull needed)) l n = absurd n
 none_leaves above adopted acted (Err (no.Unhealthy plugin field text)) l n = absurd n
 none_leaves above adopted acted (Err no.Gone) l n = absurd n
 
-module _ {D : Type 0} (truth : Truth) (all : List Exchange) (left : D → Option (List ℕ))
+module _ {D : Type 0} (all : List Exchange) (left : D → Option (List ℕ))
     (count : D → ℕ) (o : Opening) (p : Publication) (one : o.reloads ≡ 0 ∷ []) (above : List ℕ)
     (rows : List Row) (at : Progress) (old new : Caller) (olds news : Ahead) (dice after : D)
-    (driven : IsDriven truth all o p above rows at old olds)
+    (driven : IsDriven all o p above rows at old olds)
     (room : 4 * length rows + 3 ≤ old.left) where
   -- memory lacked between two calls
   pub record LacksAmid (why : CallNo) : Type 0 where
@@ -248,16 +246,16 @@ module _ {D : Type 0} (truth : Truth) (all : List Exchange) (left : D → Option
     enough = let e = adopts.left_is in omega (arith, e, room)
 
     alone : IsLone o p adopted
-    alone = adopted_lone truth all o p one above rows at old olds driven number q adopted adopts
+    alone = adopted_lone all o p one above rows at old olds driven number q adopted adopts
 
     rows_now : (state_of o adopted.seen).rows ≡ at.store.rows
-    rows_now = adopted_rows truth all o p one above rows at old olds driven number q adopted adopts
+    rows_now = adopted_rows all o p one above rows at old olds driven number q adopted adopts
 
     count_now : (state_of o adopted.seen).count ≡ o.count
-    count_now = adopted_count truth all o p one above rows at old olds driven number q adopted adopts
+    count_now = adopted_count all o p one above rows at old olds driven number q adopted adopts
 
     it_is : p ≡ q
-    it_is = is_it truth all o p one above rows at old olds driven number q adopted adopts
+    it_is = is_it all o p one above rows at old olds driven number q adopted adopts
 
     let_rows : (acted : Caller) → IsLone o p acted
         → (state_of o acted.seen).rows ≡ at.store.rows
@@ -303,7 +301,7 @@ module _ {D : Type 0} (truth : Truth) (all : List Exchange) (left : D → Option
     found_left : (row : Row) (found : Caller)
         → AddsEntry adopted (event.After above) (answer.Found row) found → 5 ≤ found.left
     found_left row found finds =
-        let first = is_first truth all o p one above rows at old olds driven number q adopted adopts row
+        let first = is_first all o p one above rows at old olds driven number q adopted adopts row
         found finds in
         let n = ap length first.1 in
         let e = finds.left_is in omega (arith, e, n, enough)
@@ -312,7 +310,7 @@ module _ {D : Type 0} (truth : Truth) (all : List Exchange) (left : D → Option
         → FindsNextOver ReadsRow left count p above adopted olds dice (Err why) acted news after
         → AddsEntry acted event.LetGo answer.Released new → Cuts why
     cut_row why acted f lets =
-        let first = is_first truth all o p one above rows at old olds driven number q adopted adopts
+        let first = is_first all o p one above rows at old olds driven number q adopted adopts
         f.row f.found f.finds in
         let some = found_left f.row f.found f.finds in
         inr (record {
@@ -322,15 +320,15 @@ module _ {D : Type 0} (truth : Truth) (all : List Exchange) (left : D → Option
           found = f.found;
           acted = acted;
           rows_are = first.1;
-          lone = found_lone truth all o p one above rows at old olds driven number q adopted adopts f.row
+          lone = found_lone all o p one above rows at old olds driven number q adopted adopts f.row
               f.found f.finds;
-          holds = found_holds truth all o p one above rows at old olds driven number q adopted adopts
+          holds = found_holds all o p one above rows at old olds driven number q adopted adopts
               f.row f.found f.finds;
-          same_rows = found_rows truth all o p one above rows at old olds driven number q adopted adopts
+          same_rows = found_rows all o p one above rows at old olds driven number q adopted adopts
               f.row f.found f.finds;
-          same_count = found_count truth all o p one above rows at old olds driven number q adopted
+          same_count = found_count all o p one above rows at old olds driven number q adopted
               adopts f.row f.found f.finds;
-          is_next = is_next truth all o p one above rows at old olds driven number q adopted adopts f.row
+          is_next = is_next all o p one above rows at old olds driven number q adopted adopts f.row
               f.found f.finds;
           unspent = omega (arith, some);
           rewrites = f.rewrites;
@@ -412,15 +410,14 @@ module _ {D : Type 0} (truth : Truth) (all : List Exchange) (left : D → Option
     pub count_stays : (state_of o new.seen).count ≡ o.count
 
   module _ {L : Type 0} (link : L → Link) (links : List L) (distinct : AreDistinct link links)
-      (limit_is : o.limit ≡ store_limit) (a : Around) (truth_is : a.truth ≡ truth)
-      (tells : TellAll truth (status_in link links a.world.links) all) where
+      (limit_is : o.limit ≡ store_limit) (a : Around) where
     close_by : (number : ℕ) (q : Publication) (adopted acted : Caller)
         → AddsEntry old (event.Adopt 0) (answer.Adopted number q) adopted
         → StepsOver ReadsRow left count q above adopted olds dice (Ok step.End) acted news after
         → AddsEntry acted event.LetGo answer.Released new → Closes
     close_by number q adopted acted adopts (inl n) lets =
         let lone = alone number q adopted adopts in record {
-          none = none_left truth all o p one above rows at old olds driven number q adopted adopts acted
+          none = none_left all o p one above rows at old olds driven number q adopted adopts acted
               n.0;
           news_are = n.1;
           after_is = n.2;
@@ -434,7 +431,7 @@ module _ {D : Type 0} (truth : Truth) (all : List Exchange) (left : D → Option
               ∙ count_now number q adopted adopts) lets;
         }
     close_by number q adopted acted adopts (inr f) lets = absurd
-        ((passes_by truth link links distinct all left count o p one limit_is [] a truth_is tells 0
+        ((passes_by link links distinct all left count o p one limit_is [] a 0
         0 above rows at old new olds news dice after driven step.End number q adopted acted adopts
         (as_it number q adopted adopts (Ok step.End) acted f) lets).becomes)
 

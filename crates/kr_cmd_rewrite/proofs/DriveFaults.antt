@@ -2,7 +2,6 @@
 use Rattle.std.proofs.Common.{◌≡◌, ℕ, List, Bool, true, false, Option, Result, Ok, Err, sym, ◌∙◌, ap, subst, inl, inr, Contains}
 use Rattle.kr_base.proofs.Counting.{Rose-later}
 use Rattle.kr_kms.specs.Calls.{Link}
-use Rattle.kr_kms.specs.Truth.{Truth}
 use Rattle.kr_provider.specs.AskedLinks.{AskedOnly, FaultRose}
 use Rattle.kr_provider.specs.Names.{names_of}
 use Rattle.kr_provider.specs.Publication.{Publication, list_at}
@@ -35,7 +34,7 @@ abbrev plugin_in : List ℕ → Result Step CallNo → List ℕ
 plugin_in other (Err (no.PluginFailed plugin)) = plugin
 plugin_in other result = other
 
-module _ {L D : Type 0} (truth : Truth) (link : L → Link) (left : D → Option (List ℕ))
+module _ {L D : Type 0} (link : L → Link) (left : D → Option (List ℕ))
     (count : D → ℕ) (n : List ℕ) where
   abbrev Failed : Result Step CallNo
   Failed = Err (no.PluginFailed n)
@@ -76,7 +75,7 @@ module _ {L D : Type 0} (truth : Truth) (link : L → Link) (left : D → Option
     data_fault plain true (inr r) = no_fault _ r.0 (λ is. is)
 
     open_fault : (opened : Result Opened UnsealNo)
-        → UnsealsBy truth link p.seeds (list_at p row.resource) row.path row.stored olds opened
+        → UnsealsBy link p.seeds (list_at p row.resource) row.path row.stored olds opened
         news → RewritesBy left count p row opened found dice Failed acted after
         → FaultRose link n olds news
     open_fault (Ok opened) u r = data_fault opened.plain opened.stale r
@@ -85,30 +84,30 @@ module _ {L D : Type 0} (truth : Truth) (link : L → Link) (left : D → Option
         subst (λ q. FaultRose link q olds news) (sym (ap (plugin_in n) r.0)) u.rose
     open_fault (Err unseal.NoMemory) u r = no_fault _ r.0 (λ is. is)
 
-    rewrite_fault : Rewrites truth link left count p row found olds dice Failed acted news after
+    rewrite_fault : Rewrites link left count p row found olds dice Failed acted news after
         → FaultRose link n olds news
     rewrite_fault (inl r) = open_fault r.opened r.unseals r.rewrites
     rewrite_fault (inr c) = no_fault _ c.0.0 (λ is. is)
 
   steps_fault : (p : Publication) (above : List ℕ) (adopted acted : Caller) (olds news : List L)
       (dice after : D)
-      → Steps truth link left count p above adopted olds dice Failed acted news after
+      → Steps link left count p above adopted olds dice Failed acted news after
       → FaultRose link n olds news
   steps_fault p above adopted acted olds news dice after (inl none) = absurd none.0
   steps_fault p above adopted acted olds news dice after (inr f) =
       rewrite_fault p f.row f.found acted olds news dice after f.rewrites
 
   step_fault : (above : List ℕ) (old new : Caller) (olds news : List L) (dice after : D)
-      → IsStep truth link left count 0 above old olds dice Failed new news after
+      → IsStep link left count 0 above old olds dice Failed new news after
       → FaultRose link n olds news
   step_fault above old new olds news dice after (inl early) = absurd early.0
   step_fault above old new olds news dice after (inr h) = by h.done h.does h.lets_go
     where
       by : (done : Result Step CallNo)
-          → Steps truth link left count h.p above h.adopted olds dice done h.acted news after
+          → Steps link left count h.p above h.adopted olds dice done h.acted news after
           → LetsGo h.acted done Failed new → FaultRose link n olds news
       by done d (inl g) = steps_fault h.p above h.adopted h.acted olds news dice after
-          (subst (λ r. Steps truth link left count h.p above h.adopted olds dice r h.acted news
+          (subst (λ r. Steps link left count h.p above h.adopted olds dice r h.acted news
           after) (sym g.1) d)
       by done d (inr s) = no_fault _ s.1 (λ is. is)
 
@@ -129,7 +128,7 @@ module _ {L D : Type 0} (truth : Truth) (link : L → Link) (left : D → Option
 
   pub drive_fault : (above : List ℕ) (old new : Caller) (olds news : List L) (dice after : D)
       (report : Report)
-      → IsDrive truth link left count 0 above old olds dice (Err (report, no.PluginFailed n)) new
+      → IsDrive link left count 0 above old olds dice (Err (report, no.PluginFailed n)) new
       news after → FaultRose link n olds news
   drive_fault above old new olds news dice after report (inl d) =
       let e = d.ends in
@@ -139,14 +138,14 @@ module _ {L D : Type 0} (truth : Truth) (link : L → Link) (left : D → Option
       absurd (let e : no.PluginFailed n ≡ no.NoMemory = c.why_is in cc)
 
 -- of any drive that was cut short so
-pub fault_of : {L D : Type 0} (truth : Truth) (link : L → Link) (left : D → Option (List ℕ))
+pub fault_of : {L D : Type 0} (link : L → Link) (left : D → Option (List ℕ))
     (count : D → ℕ) (above : List ℕ) (old new : Caller) (olds news : List L) (dice after : D)
     (report : Report) (why : CallNo)
-    → IsDrive truth link left count 0 above old olds dice (Err (report, why)) new news after
+    → IsDrive link left count 0 above old olds dice (Err (report, why)) new news after
     → (plugin : List ℕ) → why ≡ no.PluginFailed plugin → FaultRose link plugin olds news
-fault_of truth link left count above old new olds news dice after report why d plugin is =
-    drive_fault truth link left count plugin above old new olds news dice after report
-    (subst (λ w. IsDrive truth link left count 0 above old olds dice (Err (report, w)) new news
+fault_of link left count above old new olds news dice after report why d plugin is =
+    drive_fault link left count plugin above old new olds news dice after report
+    (subst (λ w. IsDrive link left count 0 above old olds dice (Err (report, w)) new news
     after) is d)
 
 -- so there is a link to it

@@ -4,8 +4,6 @@ use Rattle.std.specs.Prelude.{◌⊎◌}
 use Rattle.kr_base.specs.Limits.{store_limit}
 use Rattle.kr_kms.specs.Calls.{Link}
 use Rattle.kr_kms.specs.Exchanges.{Exchange}
-use Rattle.kr_kms.specs.Truth.{Truth}
-use Rattle.kr_kms.specs.declared.plugin.Status.{Status}
 use Rattle.kr_provider.specs.Names.{AreDistinct}
 use Rattle.kr_provider.specs.Publication.{Publication}
 use Rattle.kr_provider.specs.declared.refusal.Opened.{Opened}
@@ -40,7 +38,6 @@ use Rattle.kr_cmd_rewrite.proofs.LiveRows.{none_next, one_next, still_follows}
 use Rattle.kr_cmd_rewrite.proofs.LoneCallers.{IsLone, adopts_it, faults_next, finds_next, finds_none, lone_next, rows_stay}
 use Rattle.kr_cmd_rewrite.proofs.RowDrives.{Becomes, not_err, row_done}
 use Rattle.kr_cmd_rewrite.proofs.Said.{All_lent}
-use Rattle.kr_cmd_steps.proofs.Telling.{TellAll, status_in}
 use Rattle.kr_cmd_rewrite.proofs.HeardRows.{Follows, follows_next, past}
 
 -- an event that writes no row leaves the rows of a caller that is alone
@@ -85,13 +82,11 @@ module _ {D : Type 0} (left : D → Option (List ℕ)) (count : D → ℕ) (p : 
   acts_so (inl r) = opened_so r.opened r.rewrites
   acts_so (inr n) = inl n.0.1
 
-  pub follows_on : (truth : Truth) (all : List Exchange) (status : List ℕ → Option Status)
-      → TellAll truth status all → Follows truth all olds
+  pub follows_on : (all : List Exchange) → Follows all olds
       → RewritesOver ReadsRow left count p row found olds dice done acted news after
-      → Follows truth all news
-  follows_on truth all status told f (inl r) =
-      follows_next truth all status told p row olds r.opened news f r.unseals
-  follows_on truth all status told f (inr n) = subst (Follows truth all) (sym n.1) f
+      → Follows all news
+  follows_on all f (inl r) = follows_next all p row olds r.opened news f r.unseals
+  follows_on all f (inr n) = subst (Follows all) (sym n.1) f
 
 pub acted_left : (row : Row) (found acted : Caller) (done : Result Step CallNo)
     → Acts_so row found done acted
@@ -126,19 +121,19 @@ acted_lone o p one row found acted done lone (inr (stored, given, a, by)) =
 -- ---- where a drive is
 
 -- behind the rows up to this path; no write failed so far
-pub record IsDriven (truth : Truth) (all : List Exchange) (o : Opening) (p : Publication)
+pub record IsDriven (all : List Exchange) (o : Opening) (p : Publication)
     (above : List ℕ) (rows : List Row) (at : Progress) (c : Caller) (s : Ahead) : Type 0 where
   pub lone : IsLone o p c
   pub rows_are : (state_of o c.seen).rows ≡ at.store.rows
   pub format_is : at.store.format ≡ o.format
   pub follow : FollowEachOther at.store.rows above rows
-  pub follows : Follows truth all s
+  pub follows : Follows all s
   pub unfailed : (state_of o c.seen).count ≡ o.count
 
 -- the configuration was adopted there
-module _ (truth : Truth) (all : List Exchange) (o : Opening) (p : Publication)
+module _ (all : List Exchange) (o : Opening) (p : Publication)
     (one : o.reloads ≡ 0 ∷ []) (above : List ℕ) (rows : List Row) (at : Progress) (old : Caller)
-    (s : Ahead) (driven : IsDriven truth all o p above rows at old s) (number : ℕ) (q : Publication)
+    (s : Ahead) (driven : IsDriven all o p above rows at old s) (number : ℕ) (q : Publication)
     (adopted : Caller)
     (adopts : AddsEntry old (event.Adopt 0) (answer.Adopted number q) adopted) where
   pub is_it : p ≡ q
@@ -247,25 +242,25 @@ module _ (p : Publication) (row : Row) (at next : Progress) where
 
 -- ---- a step that found a row
 
-module _ {L D : Type 0} (truth : Truth) (link : L → Link) (links : List L)
+module _ {L D : Type 0} (link : L → Link) (links : List L)
     (distinct : AreDistinct link links) (all : List Exchange) (left : D → Option (List ℕ))
     (count : D → ℕ) (o : Opening) (p : Publication) (one : o.reloads ≡ 0 ∷ [])
-    (limit_is : o.limit ≡ store_limit) (name : List ℕ) (a : Around) (truth_is : a.truth ≡ truth)
-    (tells : TellAll truth (status_in link links a.world.links) all) (drawn m : ℕ)
+    (limit_is : o.limit ≡ store_limit) (name : List ℕ) (a : Around) (drawn m : ℕ)
     (above : List ℕ) (rows : List Row) (at : Progress) (old new : Caller) (olds news : Ahead)
-    (dice after : D) (driven : IsDriven truth all o p above rows at old olds) where
+    (dice after : D) (driven : IsDriven all o p above rows at old olds) where
   abbrev Lent : Ahead → D → Around
   Lent s from =
-      All_lent link links (left from) drawn name None m (with_exchanges (past truth all s) a)
+      All_lent link links (left from) drawn name None m (with_exchanges (past all s) a)
 
   pub record Passes (taken : Step) : Type 0 where
     pub row : Row
     pub rest : List Row
     pub next : Progress
     pub rows_are : rows ≡ row ∷ rest
-    pub does : Does (row_steps name p row at) (Lent olds dice) (Lent news after) (Ok next)
+    pub does : Does (row_steps name p row olds.cache at) (Lent olds dice) (Lent news after)
+        (Ok (next, news.cache))
     pub becomes : Becomes p row at next taken
-    pub onward : IsDriven truth all o p (path_of above taken) rest next new news
+    pub onward : IsDriven all o p (path_of above taken) rest next new news
 
   pub passes_by : (taken : Step) (number : ℕ) (q : Publication) (adopted acted : Caller)
       → AddsEntry old (event.Adopt 0) (answer.Adopted number q) adopted
@@ -274,23 +269,23 @@ module _ {L D : Type 0} (truth : Truth) (link : L → Link) (links : List L)
   passes_by taken number q adopted acted adopts f lets =
       let row = f.row in
       let found = f.found in
-      let lone = found_lone truth all o p one above rows at old olds driven number q adopted adopts row
+      let lone = found_lone all o p one above rows at old olds driven number q adopted adopts row
       found f.finds in
-      let same_rows = found_rows truth all o p one above rows at old olds driven number q adopted adopts
+      let same_rows = found_rows all o p one above rows at old olds driven number q adopted adopts
       row found f.finds in
-      let holds = found_holds truth all o p one above rows at old olds driven number q adopted adopts
+      let holds = found_holds all o p one above rows at old olds driven number q adopted adopts
       row found f.finds in
-      let next_is = is_next truth all o p one above rows at old olds driven number q adopted adopts row
+      let next_is = is_next all o p one above rows at old olds driven number q adopted adopts row
       found f.finds in
-      let first = is_first truth all o p one above rows at old olds driven number q adopted adopts row
+      let first = is_first all o p one above rows at old olds driven number q adopted adopts row
       found f.finds in
-      let done = row_done truth link links distinct all left count o p one limit_is name a truth_is
-      tells drawn row at found number lone holds same_rows next_is.1 driven.format_is olds news dice
+      let done = row_done link links distinct all left count o p one limit_is name a
+      drawn row at found number lone holds same_rows next_is.1 driven.format_is olds news dice
       after acted driven.follows m taken f.rewrites in
       let so = acts_so left count p row found acted olds news dice after (Ok taken)
       f.rewrites in
       let acted_is = acted_lone o p one row found acted (Ok taken) lone so in
-      let same_count = found_count truth all o p one above rows at old olds driven number q adopted
+      let same_count = found_count all o p one above rows at old olds driven number q adopted
       adopts row found f.finds in record {
         row = row;
         rest = first.0;
@@ -307,7 +302,7 @@ module _ {L D : Type 0} (truth : Truth) (link : L → Link) (links : List L)
               (sym (path_is p row at done.0 above taken done.1))
               (next_follow p row at done.0 first.0 taken done.1 first.2);
           follows = follows_on left count p row found acted olds news dice after (Ok taken)
-              truth all (status_in link links a.world.links) tells driven.follows f.rewrites;
+              all driven.follows f.rewrites;
           unfailed = faults_next o p one acted new event.LetGo answer.Released acted_is lets
               ∙ acted_count o p one row found acted taken lone so ∙ same_count;
         };
@@ -331,7 +326,7 @@ module _ {L D : Type 0} (truth : Truth) (link : L → Link) (links : List L)
   goes_by taken number q adopted acted finds adopts (inr f) lets =
       passes_by taken number q adopted acted adopts
       (subst (λ x. FindsNextOver ReadsRow left count x above adopted olds dice (Ok taken) acted news
-      after) (sym (is_it truth all o p one above rows at old olds driven number q adopted adopts)) f)
+      after) (sym (is_it all o p one above rows at old olds driven number q adopted adopts)) f)
       lets
 
   let_go : (taken : Step) (done : Result Step CallNo) (number : ℕ) (q : Publication)

@@ -9,7 +9,6 @@ use Rattle.kr_base.specs.Faults.{Rose}
 use Rattle.kr_base.specs.Limits.{store_limit}
 use Rattle.kr_kms.specs.Calls.{Link}
 use Rattle.kr_kms.specs.Exchanges.{Exchange}
-use Rattle.kr_kms.specs.Truth.{Truth}
 use Rattle.kr_provider.specs.AskedLinks.{AskedOnly, FaultRose}
 use Rattle.kr_provider.specs.Names.{AreDistinct, names_of}
 use Rattle.kr_provider.specs.Publication.{Publication}
@@ -33,7 +32,6 @@ use Rattle.kr_rewrite.specs.declared.outcome.Report.{Report}
 use Rattle.kr_rewrite.specs.declared.outcome.Step.{Step}
 use Rattle.kr_rewrite.specs.declared.outcome.Step.TheVariants as step
 use Rattle.kr_cmd_steps.specs.Around.{Around, with_exchanges, with_what_is_said}
-use Rattle.kr_cmd_steps.proofs.Telling.{TellAll, status_in}
 use Rattle.kr_cmd_rewrite.proofs.HeardRows.{past}
 use Rattle.kr_cmd_steps.specs.RewriteSteps.{Progress, driving, row_steps}
 use Rattle.kr_cmd_steps.specs.Phases.{with_memory}
@@ -188,16 +186,14 @@ since_opening o p c lone = counted_on o (start_of o) c.seen
 
 -- ---- the walk
 
-module _ {L D : Type 0} (truth : Truth) (link : L → Link) (first last : List L)
+module _ {L D : Type 0} (link : L → Link) (first last : List L)
     (asked : AskedOnly link (names_of link first) first last)
     (distinct : (why : CallNo) → AreDistinct link (links_by first last why))
     (all : List Exchange) (left : D → Option (List ℕ)) (count : D → ℕ) (o : Opening)
     (p : Publication) (one : o.reloads ≡ 0 ∷ []) (limit_is : o.limit ≡ store_limit)
-    (name : List ℕ) (a : Around) (truth_is : a.truth ≡ truth)
-    (tells : (why : CallNo)
-    → TellAll truth (status_in link (links_by first last why) a.world.links) all) where
+    (name : List ℕ) (a : Around) where
   abbrev Now : Ahead → Around
-  Now s = with_exchanges (past truth all s) a
+  Now s = with_exchanges (past all s) a
 
   abbrev pub At : (said : List ℕ) → List L → Ahead → D → (drawn : ℕ) → Option (List ℕ) → ℕ
       → Around
@@ -211,37 +207,41 @@ module _ {L D : Type 0} (truth : Truth) (link : L → Link) (first last : List L
     -- from here the rest ends so, whatever the tape tells and was said
     abbrev Ends_from : List Row → Progress → Ahead → D → Type 0
     Ends_from rest at s dice = (said : List ℕ) (told : Option (List ℕ))
-        → Does (driving name p rest at) (At said K s dice drawn told m) final made
+        → Does (driving name p rest s.cache at) (At said K s dice drawn told m) final made
 
     abbrev Behind : List ℕ → List Step → List Row → RewriteCounts → Caller → Ahead → D → Type 0
     Behind above steps rows counts mid mids between = (rest : List Row) (at : Progress)
-        → IsDriven truth all o p (last_of above steps) rest at mid mids
+        → IsDriven all o p (last_of above steps) rest at mid mids
         → length rows ≡ length steps + length rest → at.counts ≡ tallied counts steps
         → Ends_from rest at mids between
 
     walks_on : (steps : List Step) (above : List ℕ) (rows : List Row) (at : Progress)
         (old mid : Caller) (olds mids : Ahead) (dice between : D)
-        → IsDriven truth all o p above rows at old olds
+        → IsDriven all o p above rows at old olds
         → WalksOver ReadsRow left count 0 above steps old olds dice mid mids between
         → Behind above steps rows at.counts mid mids between → Ends_from rows at olds dice
     walks_on [] above rows at old mid olds mids dice between driven w behind said told =
-        let last = subst (λ c. IsDriven truth all o p above rows at c mids) (sym w.0)
-        (subst (λ l. IsDriven truth all o p above rows at old l) (sym w.1) driven) in
-        subst (λ s. Does (driving name p rows at) (At said K s dice drawn told m) final made) w.1
-        (subst (λ d. Does (driving name p rows at) (At said K mids d drawn told m) final made) w.2
+        let last = subst (λ c. IsDriven all o p above rows at c mids) (sym w.0)
+        (subst (λ l. IsDriven all o p above rows at old l) (sym w.1) driven) in
+        subst (λ (s : Ahead). Does (driving name p rows s.cache at) (At said K s dice drawn told m)
+        final made) w.1
+        (subst (λ d. Does (driving name p rows mids.cache at) (At said K mids d drawn told m) final
+        made) w.2
         (behind rows at last (omega arith) refl said told))
     walks_on (taken ∷ steps) above rows at old mid olds mids dice between driven w behind said told
         =
         let text = report_text at.counts in
-        let s = passes truth link K (distinct why) all left count o p one limit_is name
-        (with_what_is_said text a) truth_is (tells why) drawn m above rows at old w.middle olds
+        let s = passes link K (distinct why) all left count o p one limit_is name
+        (with_what_is_said text a) drawn m above rows at old w.middle olds
         w.mids dice w.between driven taken w.finds w.goes in
         let more = ap length s.rows_are in
-        subst (λ r. Does (driving name p r at) (At said K olds dice drawn told m) final made)
+        subst (λ r. Does (driving name p r olds.cache at) (At said K olds dice drawn told m) final
+        made)
         (sym s.rows_are)
         (reported link K (left dice) drawn name at told None m m (omega arith) tt
         (with_what_is_said said (Now olds))
-        (goes_on (row_steps name p s.row at) (driving name p s.rest) s.next s.does
+        (goes_on (row_steps name p s.row olds.cache at)
+        (λ done. driving name p s.rest done.1 done.0) (s.next, w.mids.cache) s.does
         (walks_on steps (path_of above taken) s.rest s.next w.middle mid w.mids mids w.between
         between s.onward w.behind
         (λ rest then d many counts. behind rest then d (omega (arith, many, more))
@@ -278,7 +278,7 @@ module _ {L D : Type 0} (truth : Truth) (link : L → Link) (first last : List L
     -- no row is left
     last_report : (made : Result Outcome Stop)
         → (made ≡ Ok (report_outcome at.counts)) ⊎ (made ≡ Err NoMemory)
-        → Does (driving name p [] at) (At said last s dice drawn told m) Last made
+        → Does (driving name p [] s.cache at) (At said last s dice drawn told m) Last made
     last_report made is = reported link last (left dice) drawn name at told store.told m
         store.count later holds (with_what_is_said said (Now s)) (by is)
       where
@@ -291,11 +291,12 @@ module _ {L D : Type 0} (truth : Truth) (link : L → Link) (first last : List L
 
     -- memory lacked before the next row was looked at
     amid : (rest : List Row)
-        → Does (driving name p rest at) (At said last s dice drawn told m) Last (Err NoMemory)
+        → Does (driving name p rest s.cache at) (At said last s dice drawn told m) Last
+        (Err NoMemory)
     amid [] = last_report (Err NoMemory) (inr refl)
     amid (row ∷ more) = reported link last (left dice) drawn name at told store.told m store.count
-        later holds (with_what_is_said said (Now s)) {next = and_then (row_steps name p row at)
-        (driving name p more)} (record {
+        later holds (with_what_is_said said (Now s)) {next = and_then
+        (row_steps name p row s.cache at) (λ done. driving name p more done.1 done.0)} (record {
           home = home_refl Last;
           ends = λ l stay. inr (reach l (inl (refl, refl)) stay);
         })
@@ -308,7 +309,7 @@ module _ {L D : Type 0} (truth : Truth) (link : L → Link) (first last : List L
       (later : o.count ≤ store.count) (bounded : store.count < 2 ^ 64)
       (rose : store.torn ≡ true → Rose o.count store.count) (rising : o.count < 2 ^ 64 - 1)
       (store_holds : Holds store)
-      (driven : IsDriven truth all o p [] rows at old olds) (few : length rows ≤ 1000000)
+      (driven : IsDriven all o p [] rows at old olds) (few : length rows ≤ 1000000)
       (room : 4 * length rows + 3 ≤ old.left) (told : Option (List ℕ)) where
     abbrev Begin : Around
     Begin = At a.said first olds dice (count dice) told o.count
@@ -348,7 +349,7 @@ module _ {L D : Type 0} (truth : Truth) (link : L → Link) (first last : List L
     pub drives_all : (made : Result Outcome Stop) → count dice ≤ count after
         → DrivesOver ReadsRow (λ from to. ⊤) left count 0 [] old olds dice report new news after
         → (made ≡ Ok (report_outcome (report_counts report))) ⊎ (made ≡ Err NoMemory)
-        → Does (driving name p rows at) Begin End made
+        → Does (driving name p rows olds.cache at) Begin End made
     drives_all made drawn d is = raises a.said last asked olds dice (count dice) (count after) told
         o.count drawn (walks_on no.NoMemory (count after) o.count End made d.steps [] rows at old e.middle olds e.mids
         dice e.between driven e.walks behind a.said told)
@@ -360,22 +361,22 @@ module _ {L D : Type 0} (truth : Truth) (link : L → Link) (first last : List L
         behind : Behind no.NoMemory (count after) o.count End made [] d.steps rows at.counts e.middle e.mids
             e.between
         behind rest then there many counts said last_told =
-            let c = closes truth all left count o p one (last_of [] d.steps) rest then e.middle
+            let c = closes all left count o p one (last_of [] d.steps) rest then e.middle
             new e.mids news e.between after there (room_then d.steps e.middle rest e.walks_few many)
-            link last (distinct no.NoMemory) limit_is a truth_is (tells no.NoMemory) e.ends in
+            link last (distinct no.NoMemory) limit_is a e.ends in
             let same = counts_then d.steps rest then e.counts many counts in
             let may = subst (λ n. (made ≡ Ok (report_outcome n)) ⊎ (made ≡ Err NoMemory))
             (sym same) is in
-            subst (λ r. Does (driving name p r then)
+            subst (λ r. Does (driving name p r e.mids.cache then)
             (At said last e.mids e.between (count after) last_told o.count) End made) (sym c.none)
-            (subst (λ n. Does (driving name p [] then)
+            (subst (λ n. Does (driving name p [] e.mids.cache then)
             (At said last e.mids e.between (count after) last_told o.count)
             (At (report_text n) last news after (count after) store.told store.count) made) same
-            (subst (λ (l : Ahead). Does (driving name p [] then)
+            (subst (λ (l : Ahead). Does (driving name p [] e.mids.cache then)
             (At said last e.mids e.between (count after) last_told o.count)
             (At (report_text then.counts) last l after (count after) store.told store.count) made)
             (sym c.news_are)
-            (subst (λ x. Does (driving name p [] then)
+            (subst (λ x. Does (driving name p [] e.mids.cache then)
             (At said last e.mids e.between (count after) last_told o.count)
             (At (report_text then.counts) last e.mids x (count after) store.told store.count) made)
             (sym c.after_is)
@@ -392,40 +393,40 @@ module _ {L D : Type 0} (truth : Truth) (link : L → Link) (first last : List L
       cut_amid : (then : Progress) (rest : List Row) (mids : Ahead) (between : D)
           (said : List ℕ) (last_told : Option (List ℕ)) → why ≡ no.NoMemory → news ≡ mids
           → after ≡ between → HoldsRows then.store store.told
-          → Does (driving name p rest then)
+          → Does (driving name p rest mids.cache then)
           (At said (links_by first last why) mids between (drawn_by (count between) (count after) why)
           last_told o.count)
           (At (report_text then.counts) last news after (count after) store.told store.count) (Err stop)
       cut_amid then rest mids between said last_told is l d holds =
           let stop_is : stop ≡ NoMemory =
           subst (λ w. IsDriveStop link store last (count after) w stop) is stops_so in
-          subst (λ w. Does (driving name p rest then)
+          subst (λ w. Does (driving name p rest mids.cache then)
           (At said (links_by first last w) mids between (drawn_by (count between) (count after) w)
           last_told o.count)
           (At (report_text then.counts) last news after (count after) store.told store.count) (Err stop))
           (sym is)
-          (subst (λ x. Does (driving name p rest then)
+          (subst (λ x. Does (driving name p rest mids.cache then)
           (At said last mids between (count after) last_told o.count)
           (At (report_text then.counts) last news after (count after) store.told store.count) (Err x))
           (sym stop_is)
-          (subst (λ n. Does (driving name p rest then)
+          (subst (λ n. Does (driving name p rest mids.cache then)
           (At said last mids between (count after) last_told o.count)
           (At (report_text then.counts) last n after (count after) store.told store.count)
           (Err NoMemory)) (sym l)
-          (subst (λ x. Does (driving name p rest then)
+          (subst (λ x. Does (driving name p rest mids.cache then)
           (At said last mids between (count after) last_told o.count)
           (At (report_text then.counts) last mids x (count after) store.told store.count)
           (Err NoMemory)) (sym d)
           (amid store o.count later then holds mids between (count after) said last_told rest))))
 
       module _ (above : List ℕ) (then : Progress) (rest : List Row) (mid : Caller)
-          (mids : Ahead) (between : D) (there : IsDriven truth all o p above rest then mid mids)
+          (mids : Ahead) (between : D) (there : IsDriven all o p above rest then mid mids)
           (enough : 4 * length rest + 3 ≤ mid.left) where
         cut_at_row : (said : List ℕ) (last_told : Option (List ℕ))
             → BeginsWith then.store store.told → Unfailed why (HoldsRows then.store store.told)
-            → CutsRow truth all left count o p one above rest then mid new mids news between after
+            → CutsRow all left count o p one above rest then mid new mids news between after
             there enough why
-            → Does (driving name p rest then)
+            → Does (driving name p rest mids.cache then)
             (At said (links_by first last why) mids between (drawn_by (count between) (count after) why)
             last_told o.count)
             (At (report_text then.counts) last news after (count after) store.told store.count)
@@ -438,13 +439,13 @@ module _ {L D : Type 0} (truth : Truth) (link : L → Link) (first last : List L
             let further = count_later o p one r.acted new event.LetGo answer.Released acted r.lets
             in
             let h = held_by then.store store.told o.count store.count why later holds in
-            let cut = row_cut truth link first last asked distinct all left count o p one limit_is
-            name (with_what_is_said text a) truth_is tells r.row then r.found r.number r.lone r.holds
+            let cut = row_cut link first last asked distinct all left count o p one limit_is
+            name (with_what_is_said text a) r.row then r.found r.number r.lone r.holds
             r.same_rows r.is_next.1 there.format_is mids news between after r.acted there.follows
             store o.count (since_opening o p r.found r.lone) (omega (arith, further, count_is))
             bounded begun r.unspent why stop
             stops_so fails r.rewrites in
-            subst (λ l. Does (driving name p l then)
+            subst (λ l. Does (driving name p l mids.cache then)
             (At said (links_by first last why) mids between (drawn_by (count between) (count after) why)
             last_told o.count)
             (At text last news after (count after) store.told store.count) (Err stop)) (sym r.rows_are)
@@ -452,12 +453,13 @@ module _ {L D : Type 0} (truth : Truth) (link : L → Link) (first last : List L
             (drawn_by (count between) (count after) why) name then last_told
             (told_by store.told why) o.count (tape_by o.count store.count why) h.0 h.1
             (with_what_is_said said (Now mids))
-            (stops (row_steps name p r.row then) (driving name p r.rest) stop cut))
+            (stops (row_steps name p r.row mids.cache then)
+            (λ done. driving name p r.rest done.1 done.0) stop cut))
 
         cut_at : (said : List ℕ) (last_told : Option (List ℕ))
-            → Cuts truth all left count o p one above rest then mid new mids news between after
+            → Cuts all left count o p one above rest then mid new mids news between after
             there enough why
-            → Does (driving name p rest then)
+            → Does (driving name p rest mids.cache then)
             (At said (links_by first last why) mids between (drawn_by (count between) (count after) why)
             last_told o.count)
             (At (report_text then.counts) last news after (count after) store.told store.count)
@@ -466,11 +468,11 @@ module _ {L D : Type 0} (truth : Truth) (link : L → Link) (first last : List L
             n.news_are n.after_is
             (holds_now then n.rows_stay there.format_is n.count_stays)
         cut_at said last_told (inr r) =
-            let same = cut_keeps truth all left count o p one above rest then mid new mids news
+            let same = cut_keeps all left count o p one above rest then mid new mids news
             between after there enough why (inr r) in
             cut_at_row said last_told (begins_now then same there.format_is)
             (unfailed_so why (holds_now then same there.format_is)
-            (cut_counts truth all left count o p one above rest then mid new mids news between
+            (cut_counts all left count o p one above rest then mid new mids news between
             after there enough why (inr r))) r
 
       -- what the count was along the way is no less than at the begin
@@ -488,7 +490,7 @@ module _ {L D : Type 0} (truth : Truth) (link : L → Link) (first last : List L
 
       pub cut_short : count dice ≤ count after
           → IsCutOver ReadsRow (λ from to. ⊤) left count 0 [] old olds dice why report new news after
-          → Does (driving name p rows at) Begin End (Err stop)
+          → Does (driving name p rows olds.cache at) Begin End (Err stop)
       cut_short more d = raises a.said (links_by first last why) (asked_by why) olds dice
           (count dice) drawn told o.count (drawn_later e.between e.walks_later more why)
           (walks_on why drawn o.count End (Err stop) d.steps [] rows at old e.middle olds e.mids dice
@@ -506,16 +508,16 @@ module _ {L D : Type 0} (truth : Truth) (link : L → Link) (first last : List L
           behind rest then there many counts said last_told =
               let enough = room_then d.steps e.middle rest e.walks_few many in
               let same = counts_then d.steps rest then e.counts many counts in
-              subst (λ n. Does (driving name p rest then)
+              subst (λ n. Does (driving name p rest e.mids.cache then)
               (At said (links_by first last why) e.mids e.between drawn last_told o.count)
               (At (report_text n) last news after (count after) store.told store.count) (Err stop)) same
               (cut_at (last_of [] d.steps) then rest e.middle e.mids e.between there enough said
               last_told
-              (cuts truth all left count o p one (last_of [] d.steps) rest then e.middle new e.mids
+              (cuts all left count o p one (last_of [] d.steps) rest then e.middle new e.mids
               news e.between after there enough why e.ends))
 
       pub copied_none : CopiesNoPath old olds dice why report new news after
-          → Does (driving name p rows at) Begin End (Err stop)
+          → Does (driving name p rows olds.cache at) Begin End (Err stop)
       copied_none n =
           let same : at.counts ≡ report_counts report =
           none ∙ sym (ap report_counts n.report_is) in
@@ -528,7 +530,7 @@ module _ {L D : Type 0} (truth : Truth) (link : L → Link) (first last : List L
           raises a.said (links_by first last why) (asked_by why) olds dice (count dice)
           (drawn_by (count dice) (count after) why) told o.count
           (drawn_later dice (omega arith) more why)
-          (subst (λ c. Does (driving name p rows at)
+          (subst (λ c. Does (driving name p rows olds.cache at)
           (At a.said (links_by first last why) olds dice (drawn_by (count dice) (count after) why)
           told o.count)
           (At (report_text c) last news after (count after) store.told store.count) (Err stop)) same

@@ -4,7 +4,6 @@ use Rattle.std.specs.Prelude.{◌⊎◌, ⊤}
 use Rattle.kr_base.specs.Faults.{Rose}
 use Rattle.kr_kms.specs.Calls.{Link}
 use Rattle.kr_kms.specs.Exchanges.{Exchange}
-use Rattle.kr_kms.specs.Truth.{Truth}
 use Rattle.kr_provider.specs.AskedLinks.{AskedOnly, FaultRose}
 use Rattle.kr_provider.specs.Names.{AreDistinct, names_of}
 use Rattle.kr_provider.specs.Publication.{Publication}
@@ -22,7 +21,6 @@ use Rattle.kr_rewrite.specs.DriveExchanges.{Ahead, ReadsRow}
 use Rattle.kr_rewrite.specs.Drives.{CopiesNoPath, DrivesOver, IsCutOver, IsDrive}
 use Rattle.kr_rewrite.specs.declared.outcome.Report.{Report}
 use Rattle.kr_cmd_steps.specs.Around.{Around, with_exchanges}
-use Rattle.kr_cmd_steps.proofs.Telling.{TellAll, status_in}
 use Rattle.kr_cmd_rewrite.proofs.HeardRows.{Follows, past}
 use Rattle.kr_cmd_rewrite.proofs.RowCuts.{links_by}
 use Rattle.kr_history.specs.declared.call.CallNo.TheVariants as no
@@ -47,33 +45,33 @@ cut_with ended stop said counts is same =
     subst (λ n. ended ≡ record { made = Err stop; said = Some n }) same is
 
 -- a drive over the core, with the links and the random source as they come back
-pub over_core : {L D : Type 0} (truth : Truth) (link : L → Link) (left : D → Option (List ℕ))
+pub over_core : {L D : Type 0} (link : L → Link) (left : D → Option (List ℕ))
     (count : D → ℕ) (solo old new : Caller) (olds mids news : List L) (dice between after : D)
     (result ended : Result Report (Report × CallNo)) → solo ≡ old → news ≡ mids → after ≡ between
-    → result ≡ ended → IsDrive truth link left count 0 [] solo olds dice result new mids between
-    → IsDrive truth link left count 0 [] old olds dice ended new news after
-over_core truth link left count solo old new olds mids news dice between after result ended same
+    → result ≡ ended → IsDrive link left count 0 [] solo olds dice result new mids between
+    → IsDrive link left count 0 [] old olds dice ended new news after
+over_core link left count solo old new olds mids news dice between after result ended same
     links_are dice_is is d =
-    subst (λ r. IsDrive truth link left count 0 [] old olds dice r new news after) is
-    (subst (λ c. IsDrive truth link left count 0 [] c olds dice result new news after) same
-    (subst (λ l. IsDrive truth link left count 0 [] solo olds dice result new l after)
+    subst (λ r. IsDrive link left count 0 [] old olds dice r new news after) is
+    (subst (λ c. IsDrive link left count 0 [] c olds dice result new news after) same
+    (subst (λ l. IsDrive link left count 0 [] solo olds dice result new l after)
     (sym links_are)
-    (subst (λ x. IsDrive truth link left count 0 [] solo olds dice result new mids x)
+    (subst (λ x. IsDrive link left count 0 [] solo olds dice result new mids x)
     (sym dice_is) d)))
 
 whole_then : (torn : Bool) {P : Type 0} → torn ≡ false → (torn ≡ true) ⊎ P → P
 whole_then torn whole (inl t) = absurd (let e : true ≡ false = sym t ∙ whole in cc)
 whole_then torn whole (inr p) = p
 
-module _ (truth : Truth) (all : List Exchange) (core : CoreState) (alone : IsAlone core)
-    (known : IsCaller (only_caller core)) (s : Ahead) (follows : Follows truth all s)
+module _ (all : List Exchange) (core : CoreState) (alone : IsAlone core)
+    (known : IsCaller (only_caller core)) (s : Ahead) (follows : Follows all s)
     (live : List Row) (p : Publication) (is : IsListing core.opening.rows live)
     (replicas_are : core.opening.replicas ≡ Some p ∷ []) where
   abbrev o : Opening
   o = core.opening
 
   -- a drive begins there
-  pub begins : IsDriven truth all o p [] live (nothing_done (opened_store core))
+  pub begins : IsDriven all o p [] live (nothing_done (opened_store core))
       (only_caller core) s
   begins = record {
     lone = record {
@@ -109,13 +107,13 @@ module _ (truth : Truth) (all : List Exchange) (core : CoreState) (alone : IsAlo
 
 -- ---- once it is closed
 
-module _ {L D : Type 0} (truth : Truth) (link : L → Link) (first last : List L)
+module _ {L D : Type 0} (link : L → Link) (first last : List L)
     (asked : AskedOnly link (names_of link first) first last)
     (distinct : (why : CallNo) → AreDistinct link (links_by first last why))
     (all : List Exchange) (left : D → Option (List ℕ)) (count : D → ℕ) (core closed : CoreState)
     (alone : IsAlone core) (known : IsCaller (only_caller core)) (new : Caller)
     (known_now : IsCaller new) (back : only_caller closed ≡ new) (olds news : Ahead)
-    (dice after : D) (follows : Follows truth all olds)
+    (dice after : D) (follows : Follows all olds)
     (store : Kept) (rows_are : store.rows ≡ (state_of closed.opening closed.history).rows)
     (count_is : store.count ≡ (state_of closed.opening closed.history).count)
     (format_is : store.format ≡ closed.opening.format)
@@ -123,18 +121,15 @@ module _ {L D : Type 0} (truth : Truth) (link : L → Link) (first last : List L
     ⊎ Rose closed.opening.count store.count)
     (store_holds : Holds store) (bounded : store.count < 2 ^ 64) (drawn : count dice ≤ count after)
     (name : List ℕ) (a : Around) (live : List Row) (told : Option (List ℕ)) (p : Publication)
-    (truth_is : a.truth ≡ truth)
-    (tells : (why : CallNo)
-    → TellAll truth (status_in link (links_by first last why) a.world.links) all)
     (is : IsListing core.opening.rows live)
     (replicas_are : core.opening.replicas ≡ Some p ∷ []) (report : Report) (ended : Ended) where
   abbrev Old : Around
   Old = All_lent link first (left dice) (count dice) name told core.opening.count
-      (with_exchanges (past truth all olds) a)
+      (with_exchanges (past all olds) a)
 
   abbrev New : Around
   New = All_lent link last (left after) (count after) name store.told store.count
-      (with_exchanges (past truth all news) a)
+      (with_exchanges (past all news) a)
 
   -- a plugin that failed has a link whose count rose
   abbrev Fails : CallNo → Type 0
@@ -142,8 +137,8 @@ module _ {L D : Type 0} (truth : Truth) (link : L → Link) (first last : List L
       (plugin : List ℕ) → why ≡ no.PluginFailed plugin → FaultRose link plugin first last
 
   abbrev Whole : Type 0
-  Whole = Does (driving name p live (nothing_done (opened_store core))) Old (saying ended.said New)
-      ended.made
+  Whole = Does (driving name p live olds.cache (nothing_done (opened_store core))) Old
+      (saying ended.said New) ended.made
 
   module _ (stays : new.opening ≡ core.opening) where
     opening_is : closed.opening ≡ core.opening
@@ -171,15 +166,16 @@ module _ {L D : Type 0} (truth : Truth) (link : L → Link) (first last : List L
     reported_all : DrivesOver ReadsRow (λ from to. ⊤) left count 0 [] (only_caller core) olds dice report new news
         after
         → IsReported (report_counts report) ended → Whole
-    reported_all d r = subst (λ said. Does (driving name p live (nothing_done (opened_store core))) Old
+    reported_all d r = subst (λ said. Does
+        (driving name p live olds.cache (nothing_done (opened_store core))) Old
         (saying said New) ended.made) (sym r.0)
-        (drives_all truth link first last asked distinct all left count core.opening p alone.reloads
-        alone.within name a truth_is tells store live (nothing_done (opened_store core)) (only_caller core) new olds news dice after
+        (drives_all link first last asked distinct all left count core.opening p alone.reloads
+        alone.within name a store live (nothing_done (opened_store core)) (only_caller core) new olds news dice after
         report refl (format_is ∙ ap (λ (x : Opening). x.format) opening_is) rows_now count_now later
         bounded rose alone.counts store_holds
-        (begins truth all core alone known olds follows live p is replicas_are)
-        (are_few truth all core alone known olds follows live p is replicas_are)
-        (has_room truth all core alone known olds follows live p is replicas_are) told ended.made
+        (begins all core alone known olds follows live p is replicas_are)
+        (are_few all core alone known olds follows live p is replicas_are)
+        (has_room all core alone known olds follows live p is replicas_are) told ended.made
         drawn d r.1)
 
     cut_all : (why : CallNo) (stop : Stop)
@@ -187,14 +183,15 @@ module _ {L D : Type 0} (truth : Truth) (link : L → Link) (first last : List L
         → IsDriveStop link store last (count after) why stop
         → Fails why → ended ≡ record { made = Err stop; said = Some (report_counts report) } → Whole
     cut_all why stop d h fails e = subst (λ (x : Ended). Does
-        (driving name p live (nothing_done (opened_store core))) Old (saying x.said New) x.made) (sym e)
-        (cut_short truth link first last asked distinct all left count core.opening p alone.reloads
-        alone.within name a truth_is tells store live (nothing_done (opened_store core)) (only_caller core) new olds news dice after
+        (driving name p live olds.cache (nothing_done (opened_store core))) Old (saying x.said New)
+        x.made) (sym e)
+        (cut_short link first last asked distinct all left count core.opening p alone.reloads
+        alone.within name a store live (nothing_done (opened_store core)) (only_caller core) new olds news dice after
         report refl (format_is ∙ ap (λ (x : Opening). x.format) opening_is) rows_now count_now later
         bounded rose alone.counts store_holds
-        (begins truth all core alone known olds follows live p is replicas_are)
-        (are_few truth all core alone known olds follows live p is replicas_are)
-        (has_room truth all core alone known olds follows live p is replicas_are) told why stop h
+        (begins all core alone known olds follows live p is replicas_are)
+        (are_few all core alone known olds follows live p is replicas_are)
+        (has_room all core alone known olds follows live p is replicas_are) told why stop h
         fails drawn d)
 
     none_all : (why : CallNo) (stop : Stop)
@@ -202,14 +199,15 @@ module _ {L D : Type 0} (truth : Truth) (link : L → Link) (first last : List L
         → IsDriveStop link store last (count after) why stop
         → Fails why → ended ≡ record { made = Err stop; said = Some (report_counts report) } → Whole
     none_all why stop d h fails e = subst (λ (x : Ended). Does
-        (driving name p live (nothing_done (opened_store core))) Old (saying x.said New) x.made) (sym e)
-        (copied_none truth link first last asked distinct all left count core.opening p alone.reloads
-        alone.within name a truth_is tells store live (nothing_done (opened_store core)) (only_caller core) new olds news dice after
+        (driving name p live olds.cache (nothing_done (opened_store core))) Old (saying x.said New)
+        x.made) (sym e)
+        (copied_none link first last asked distinct all left count core.opening p alone.reloads
+        alone.within name a store live (nothing_done (opened_store core)) (only_caller core) new olds news dice after
         report refl (format_is ∙ ap (λ (x : Opening). x.format) opening_is) rows_now count_now later
         bounded rose alone.counts store_holds
-        (begins truth all core alone known olds follows live p is replicas_are)
-        (are_few truth all core alone known olds follows live p is replicas_are)
-        (has_room truth all core alone known olds follows live p is replicas_are) told why stop h
+        (begins all core alone known olds follows live p is replicas_are)
+        (are_few all core alone known olds follows live p is replicas_are)
+        (has_room all core alone known olds follows live p is replicas_are) told why stop h
         fails d)
 
   pub drove_all : DrivesOver ReadsRow (λ from to. ⊤) left count 0 [] (only_caller core) olds dice report new news

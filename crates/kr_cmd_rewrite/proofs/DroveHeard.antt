@@ -1,16 +1,11 @@
 -- A core that was driven by its only caller: its exchanges are those of the links that it had.
-use Rattle.std.proofs.Common.{◌≡◌, ℕ, ◌^◌, ◌<◌, ◌≤◌, List, [], ◌∷◌, true, Option, Some, Result, Ok, Err, Contains, refl, sym, ap, subst, append-nil, arith}
+use Rattle.std.proofs.Common.{◌≡◌, ℕ, ◌^◌, ◌<◌, ◌≤◌, List, [], ◌∷◌, true, Option, Some, Result, Ok, Err, Contains, refl, sym, subst, append-nil}
 use Rattle.std.specs.Prelude.{◌⊎◌}
 use Rattle.kr_base.specs.Faults.{Rose}
-use Rattle.kr_base.specs.Walks.{Walk}
 use Rattle.kr_kms.specs.Cache.{CacheState}
 use Rattle.kr_kms.specs.Calls.{Link}
-use Rattle.kr_kms.specs.Exchanges.{Exchange, KeepsLink, TellsAnswer}
-use Rattle.kr_kms.specs.Outside.{Objects}
-use Rattle.kr_kms.specs.Truth.{Truth}
-use Rattle.kr_kms.specs.declared.plugin.Status.{Status}
-use Rattle.kr_kms.specs.declared.seeds.SeedKey.{SeedKey}
-use Rattle.kr_provider.specs.AskedLinks.{Among, AskedOnly, FaultRose}
+use Rattle.kr_kms.specs.Exchanges.{Exchange}
+use Rattle.kr_provider.specs.AskedLinks.{AskedOnly, FaultRose}
 use Rattle.kr_provider.specs.Names.{AreDistinct, names_of}
 use Rattle.kr_provider.specs.Publication.{Publication}
 use Rattle.kr_provider.proofs.AskedLists.{distinct_stay}
@@ -30,10 +25,8 @@ use Rattle.kr_cmd_steps.specs.RewriteSteps.{nothing_done, driving}
 use Rattle.kr_cmd_steps.specs.inner.Phases.{Does}
 use Rattle.kr_cmd_steps.specs.inner.Reporting.{saying}
 use Rattle.kr_cmd_steps.proofs.Hearing.{around_none}
-use Rattle.kr_cmd_steps.proofs.Links.{seen_asked}
-use Rattle.kr_cmd_steps.proofs.Telling.{TellAll, status_in, walk_tells}
 use Rattle.kr_cmd_rewrite.specs.inner.Rewriting.{IsAlone, IsDriveStop, IsReported, MayCutShort, report_counts, opened_store}
-use Rattle.kr_cmd_rewrite.proofs.CutShorts.{may_stop, nowhere}
+use Rattle.kr_cmd_rewrite.proofs.CutShorts.{may_stop}
 use Rattle.kr_cmd_rewrite.proofs.DroveAll.{begins, drove_all, drove_some, has_room}
 use Rattle.kr_cmd_rewrite.proofs.HeardRows.{Follows, past, past_is}
 use Rattle.kr_cmd_rewrite.proofs.RowCuts.{links_by}
@@ -51,53 +44,22 @@ heard_core left count solo old new cache kept dice between after result ended es
     (subst (λ x. IsDriveBy left count 0 [] old cache dice result new kept x es) (sym dice_is)
     (subst (λ c. IsDriveBy left count 0 [] c cache dice result new kept between es) same d))
 
--- where a drive begins nothing was asked, and nothing is kept
-pub first_follows : (truth : Truth) (es : List Exchange) (cache : CacheState) → cache.rows ≡ []
-    → Follows truth es (before cache es)
-first_follows truth es cache cold = record {
-  done = [];
-  are = refl;
-  opened = λ key seed there. none_kept key seed there;
-  kept = λ heard key seed there. none_kept key seed there;
-}
-  where
-    none_kept : {A : Type 0} (key : SeedKey) (seed : List ℕ) → Contains cache.rows (key, seed) → A
-    none_kept key seed there =
-        let c : Contains [] (key, seed) = subst (λ rows. Contains rows (key, seed)) cold there in
-        absurd (omega (arith, c.1))
+-- where a drive begins nothing was asked
+pub first_follows : (es : List Exchange) (cache : CacheState) → Follows es (before cache es)
+first_follows es cache = record { done = []; are = refl }
 
--- the links that a walk by these exchanges led from and to
-module _ {L : Type 0} (truth : Truth) (link : L → Link) (step : L → Exchange → L → Type 0)
-    (keeps : (old : L) (e : Exchange) (new : L) → step old e new
-    → KeepsLink (link old) e (link new))
-    (tells : (old : L) (e : Exchange) (new : L) → step old e new
-    → TellsAnswer truth (link old).status e)
-    (first last : List L) (distinct : AreDistinct link first)
-    (asked : AskedOnly link (names_of link first) first last) (es : List Exchange)
-    (walk : Walk (Among step) first es last) where
+-- the links that a walk led from and to
+module _ {L : Type 0} (link : L → Link) (first last : List L) (distinct : AreDistinct link first)
+    (asked : AskedOnly link (names_of link first) first last) (es : List Exchange) where
   pub all_distinct : (why : CallNo) → AreDistinct link (links_by first last why)
   all_distinct (no.PluginFailed plugin) = distinct
   all_distinct why = distinct_stay link (names_of link first) first last asked distinct
-
-  module _ (objects : Objects (ℕ × List ℕ) (Option Status)) where
-    first_told : TellAll truth (status_in link first objects) es
-    first_told = walk_tells truth link step keeps tells objects first es last distinct walk
-
-    last_told : TellAll truth (status_in link last objects) es
-    last_told = subst (λ (status : List ℕ → Option Status). TellAll truth status es)
-        (sym (ap (λ (told : ℕ × List ℕ → Option Status). λ name. told (0, name))
-        (seen_asked link 0 objects (names_of link first) first last asked).told)) first_told
-
-    pub all_told : (why : CallNo)
-        → TellAll truth (status_in link (links_by first last why) objects) es
-    all_told (no.PluginFailed plugin) = first_told
-    all_told why = last_told
 
   -- ---- a drive over a core
 
   module _ {D : Type 0} (left : D → Option (List ℕ)) (count : D → ℕ) (core : CoreState)
       (alone : IsAlone core) (known : IsCaller (only_caller core)) (new : Caller)
-      (cache kept : CacheState) (cold : cache.rows ≡ []) (dice after : D) where
+      (cache kept : CacheState) (dice after : D) where
     -- why it may be cut short
     pub may_end : (report : Report) (why : CallNo) (names : List (List ℕ))
         → ((plugin : List ℕ) → why ≡ no.PluginFailed plugin → Contains names plugin)
@@ -106,12 +68,12 @@ module _ {L : Type 0} (truth : Truth) (link : L → Link) (step : L → Exchange
     may_end report why names named d =
         let live = alone.room.0 in
         let is = alone.room.1 in
-        let follows = first_follows truth es cache cold in
-        may_stop truth link first distinct es left count core.opening alone.p alone.reloads
-        alone.within (first_told nowhere.links) live (nothing_done (opened_store core))
+        let follows = first_follows es cache in
+        may_stop link first distinct es left count core.opening alone.p alone.reloads
+        alone.within live (nothing_done (opened_store core))
         (only_caller core) new (before cache es) (behind kept) dice after report why names named
-        (begins truth es core alone known (before cache es) follows live alone.p is alone.replicas)
-        (has_room truth es core alone known (before cache es) follows live alone.p is
+        (begins es core alone known (before cache es) follows live alone.p is alone.replicas)
+        (has_room es core alone known (before cache es) follows live alone.p is
         alone.replicas) d
 
     module _ (closed : CoreState) (known_now : IsCaller new) (back : only_caller closed ≡ new)
@@ -122,7 +84,7 @@ module _ {L : Type 0} (truth : Truth) (link : L → Link) (step : L → Exchange
         ⊎ Rose closed.opening.count store.count)
         (store_holds : Holds store) (bounded : store.count < 2 ^ 64)
         (drawn : count dice ≤ count after) (name : List ℕ) (a : Around) (live : List Row)
-        (told : Option (List ℕ)) (p : Publication) (truth_is : a.truth ≡ truth)
+        (told : Option (List ℕ)) (p : Publication)
         (is : IsListing core.opening.rows live)
         (replicas_are : core.opening.replicas ≡ Some p ∷ []) (report : Report)
         (ended : Ended) where
@@ -133,24 +95,24 @@ module _ {L : Type 0} (truth : Truth) (link : L → Link) (step : L → Exchange
       Behind b = All_lent link last (left after) (count after) name store.told store.count b
 
       abbrev Whole : Around → Around → Type 0
-      Whole b d = Does (driving name p live (nothing_done (opened_store core))) (Before b)
+      Whole b d = Does (driving name p live cache (nothing_done (opened_store core))) (Before b)
           (saying ended.said (Behind d)) ended.made
 
       -- from nothing asked to all of it
-      in_all : Whole (with_exchanges (past truth es (before cache es)) a)
-          (with_exchanges (past truth es (behind kept)) a) → Whole a (with_exchanges es a)
+      in_all : Whole (with_exchanges (past es (before cache es)) a)
+          (with_exchanges (past es (behind kept)) a) → Whole a (with_exchanges es a)
       in_all d = subst (λ b. Whole b (with_exchanges es a)) (around_none a)
           (subst (λ l. Whole (with_exchanges l a) (with_exchanges es a))
-          (past_is truth es [] (before cache es) refl)
-          (subst (λ l. Whole (with_exchanges (past truth es (before cache es)) a)
-          (with_exchanges l a)) (past_is truth es es (behind kept) (sym (append-nil es))) d))
+          (past_is es [] (before cache es) refl)
+          (subst (λ l. Whole (with_exchanges (past es (before cache es)) a)
+          (with_exchanges l a)) (past_is es es (behind kept) (sym (append-nil es))) d))
 
       pub heard_all : IsDriveBy left count 0 [] (only_caller core) cache dice (Ok report) new kept
           after es → IsReported (report_counts report) ended → Whole a (with_exchanges es a)
-      heard_all d r = in_all (drove_all truth link first last asked all_distinct es left count core
+      heard_all d r = in_all (drove_all link first last asked all_distinct es left count core
           closed alone known new known_now back (before cache es) (behind kept) dice after
-          (first_follows truth es cache cold) store rows_are count_is format_is torn store_holds
-          bounded drawn name a live told p truth_is (all_told a.world.links) is replicas_are report
+          (first_follows es cache) store rows_are count_is format_is torn store_holds
+          bounded drawn name a live told p is replicas_are report
           ended d r)
 
       pub heard_some : (why : CallNo) (stop : Stop)
@@ -159,8 +121,8 @@ module _ {L : Type 0} (truth : Truth) (link : L → Link) (step : L → Exchange
           → ((plugin : List ℕ) → why ≡ no.PluginFailed plugin → FaultRose link plugin first last)
           → ended ≡ record { made = Err stop; said = Some (report_counts report) }
           → Whole a (with_exchanges es a)
-      heard_some why stop d h fails e = in_all (drove_some truth link first last asked all_distinct
+      heard_some why stop d h fails e = in_all (drove_some link first last asked all_distinct
           es left count core closed alone known new known_now back (before cache es) (behind kept)
-          dice after (first_follows truth es cache cold) store rows_are count_is format_is torn
-          store_holds bounded drawn name a live told p truth_is (all_told a.world.links) is
+          dice after (first_follows es cache) store rows_are count_is format_is torn
+          store_holds bounded drawn name a live told p is
           replicas_are report ended why stop d h fails e)

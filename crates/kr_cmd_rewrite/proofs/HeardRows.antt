@@ -2,11 +2,9 @@
 use Rattle.std.proofs.Common.{◌≡◌, ℕ, ◌-◌, List, ◌++◌, length, take, Option, Some, Result, Ok, Err, sym, ◌∙◌, ap, subst, append_assoc, arith, length-append}
 use Rattle.std.proofs.Math.Seq.{take-append_seam}
 use Rattle.kr_config.specs.Lists.{list_of}
-use Rattle.kr_kms.specs.Cache.{AreOpen}
+use Rattle.kr_kms.specs.Cache.{CacheState}
 use Rattle.kr_kms.specs.Calls.{Link}
 use Rattle.kr_kms.specs.Exchanges.{Exchange}
-use Rattle.kr_kms.specs.Truth.{Truth}
-use Rattle.kr_kms.specs.declared.plugin.Status.{Status}
 use Rattle.kr_provider.specs.AskedLinks.{AskedOnly, FaultRose}
 use Rattle.kr_provider.specs.Envelopes.{HasObject}
 use Rattle.kr_provider.specs.Exchanges.{ReadsBy, fetched, no_memory, unasked}
@@ -21,15 +19,11 @@ use Rattle.kr_store.specs.declared.rows.Row.{Row}
 use Rattle.kr_rewrite.specs.DriveExchanges.{Ahead, ReadsRow}
 use Rattle.kr_cmd_messages.specs.declared.refusal.Stop.{Stop}
 use Rattle.kr_cmd_steps.specs.Around.{Around, with_exchanges}
-use Rattle.kr_cmd_steps.specs.Steps.{hearing}
 use Rattle.kr_cmd_steps.specs.ValueSteps.{value_read}
-use Rattle.kr_cmd_steps.specs.inner.KeptSeeds.{AreHeard}
 use Rattle.kr_cmd_steps.specs.inner.Phases.{Does}
 use Rattle.kr_cmd_steps.proofs.Frames.{Seen}
-use Rattle.kr_cmd_steps.proofs.Hearing.{around_more, heard_more}
-use Rattle.kr_cmd_steps.proofs.KeptSeeds.{read_heard, read_open}
-use Rattle.kr_cmd_steps.proofs.Telling.{TellAll, status_in, tell_parts}
-use Rattle.kr_cmd_steps.proofs.ValueRead.{IsValueEnd, value_goes}
+use Rattle.kr_cmd_steps.proofs.Hearing.{around_more}
+use Rattle.kr_cmd_steps.proofs.ValueRead.{IsValueEnd, keeping, value_goes}
 use Rattle.kr_kms.specs.declared.plugin.KmsNo.TheVariants as kms
 
 -- a value that was read has a reading
@@ -56,7 +50,7 @@ some_reading p row from opened to r = by r.first r.reads
 
 -- ---- where all exchanges of a drive are these
 
-module _ (truth : Truth) (all : List Exchange) where
+module _ (all : List Exchange) where
   -- those that were made, where these are still to come
   abbrev pub past : Ahead → List Exchange
   past s = take (length all - length s.exchanges) all
@@ -69,63 +63,48 @@ module _ (truth : Truth) (all : List Exchange) where
       ap (λ k. take k all) n ∙ ap (λ l. take (length done) l) are
       ∙ take-append_seam done s.exchanges
 
-  -- a drive stands there: what its bench keeps was unwrapped
+  -- a drive stands there
   pub record Follows (s : Ahead) : Type 0 where
     pub done : List Exchange
     pub are : all ≡ done ++ s.exchanges
-    pub opened : AreOpen truth s.cache.rows
-    pub kept : (heard : Option (List Exchange)) → AreHeard s.cache.rows (hearing done heard)
 
-  module _ (status : List ℕ → Option Status) (told : TellAll truth status all) (p : Publication)
-      (row : Row) (from : Ahead) (opened : Result Opened UnsealNo) (to : Ahead)
-      (f : Follows from) (r : ReadsRow p row from opened to) where
-    pub told_next : TellAll truth status r.first
-    told_next = (tell_parts truth status r.first to.exchanges
-        (subst (TellAll truth status) r.are
-        (tell_parts truth status f.done from.exchanges
-        (subst (TellAll truth status) f.are told)).1)).0
-
-    pub follows_next : Follows to
-    follows_next = record {
-      done = f.done ++ r.first;
-      are = f.are ∙ ap (λ l. f.done ++ l) r.are ∙ sym (append_assoc f.done r.first to.exchanges);
-      opened = read_open truth status p.seeds (list_at p row.resource) row.path row.stored
-          from.cache opened to.cache r.first r.reads told_next f.opened;
-      kept = λ heard. subst (AreHeard to.cache.rows) (heard_more f.done r.first heard)
-          (read_heard p.seeds (list_at p row.resource) row.path row.stored from.cache opened
-          to.cache r.first r.reads (hearing f.done heard) (f.kept heard));
-    }
+  pub follows_next : (p : Publication) (row : Row) (from : Ahead)
+      (opened : Result Opened UnsealNo) (to : Ahead) → Follows from → ReadsRow p row from opened to
+      → Follows to
+  follows_next p row from opened to f r = record {
+    done = f.done ++ r.first;
+    are = f.are ∙ ap (λ l. f.done ++ l) r.are ∙ sym (append_assoc f.done r.first to.exchanges);
+  }
 
 -- what a row's reading does, where its links come to be these
-module _ {L : Type 0} (truth : Truth) (link : L → Link) (all : List Exchange) (links news : List L)
+module _ {L : Type 0} (link : L → Link) (all : List Exchange) (links news : List L)
     (distinct : AreDistinct link links) (dice : Option (List ℕ)) (count : ℕ) (a : Around)
-    (truth_is : a.truth ≡ truth) (told : TellAll truth (status_in link links a.world.links) all)
     (p : Publication) (row : Row) (from : Ahead) (opened : Result Opened UnsealNo) (to : Ahead)
-    (f : Follows truth all from) (r : ReadsRow p row from opened to) where
+    (f : Follows all from) (r : ReadsRow p row from opened to) where
   abbrev Here : Ahead → List L → Around
-  Here s now = Seen link (with_exchanges (past truth all s) a) now dice count
+  Here s now = Seen link (with_exchanges (past all s) a) now dice count
 
-  abbrev Value : Around → Around → Result (Result Opened ValueNo) Stop → Type 0
-  Value old new made =
-      Does (value_read p.seeds (list_of p.rows row.resource) row.path row.stored) old new made
+  abbrev Value : Around → Around → Result (Result Opened ValueNo × CacheState) Stop → Type 0
+  Value old new made = Does
+      (value_read p.seeds (list_of p.rows row.resource) row.path row.stored from.cache) old new made
 
   pub value_heard : (made : Result (Result Opened ValueNo) Stop) (names : List (List ℕ))
       → AskedOnly link names links news
       → ((name : List ℕ) → opened ≡ Err (unseal.PluginFailed name)
       → FaultRose link name links news)
-      → IsValueEnd link news opened made → Value (Here from links) (Here to news) made
+      → IsValueEnd link news opened made
+      → Value (Here from links) (Here to news) (keeping to.cache made)
   unfolding follows_next
   value_heard made names asked fails e =
-      let next = follows_next truth all (status_in link links a.world.links) told p row from opened
-      to f r in
-      let does = value_goes truth link p.seeds (list_of p.rows row.resource) row.path row.stored
-      links news distinct dice count (with_exchanges f.done a) truth_is from.cache f.opened
-      (f.kept a.heard) opened made names asked fails e to.cache r.first r.reads
-      (told_next truth all (status_in link links a.world.links) told p row from opened to f r) in
-      subst (λ es. Value (Seen link (with_exchanges es a) links dice count) (Here to news) made)
-      (sym (past_is truth all f.done from f.are))
+      let next = follows_next all p row from opened to f r in
+      let does = value_goes link p.seeds (list_of p.rows row.resource) row.path row.stored
+      links news distinct dice count (with_exchanges f.done a) from.cache opened made names asked
+      fails e to.cache r.first r.reads in
+      subst (λ es. Value (Seen link (with_exchanges es a) links dice count) (Here to news)
+      (keeping to.cache made))
+      (sym (past_is all f.done from f.are))
       (subst (λ es. Value (Seen link (with_exchanges f.done a) links dice count)
-      (Seen link (with_exchanges es a) news dice count) made)
-      (sym (past_is truth all next.done to next.are))
+      (Seen link (with_exchanges es a) news dice count) (keeping to.cache made))
+      (sym (past_is all next.done to next.are))
       (subst (λ b. Value (Seen link (with_exchanges f.done a) links dice count)
-      (Seen link b news dice count) made) (around_more f.done r.first a) does))
+      (Seen link b news dice count) (keeping to.cache made)) (around_more f.done r.first a) does))

@@ -52,7 +52,6 @@ module _ {L : Type 0} (link : L → Link) (links : List L) (left : Option (List 
 
   stays : (l : Left) → Stays l Old → Stays (then_left l) Mid
   stays l s = record {
-    truth = s.truth;
     file = s.file;
     tapes = told_so name told now a.world.tapes.told l.tapes s.tapes;
     links = s.links;

@@ -7,9 +7,9 @@ use Rattle.kr_base.specs.Limits.{data_limit, store_limit}
 use Rattle.kr_base.proofs.Counting.{Rose-kept, Rose-later}
 use Rattle.kr_config.specs.Lists.{list_of}
 use Rattle.kr_config.specs.declared.who.Who.{Who}
+use Rattle.kr_kms.specs.Cache.{CacheState}
 use Rattle.kr_kms.specs.Calls.{Link}
 use Rattle.kr_kms.specs.Exchanges.{Exchange}
-use Rattle.kr_kms.specs.Truth.{Truth}
 use Rattle.kr_provider.specs.AskedLinks.{AskedOnly, FaultRose}
 use Rattle.kr_provider.specs.Names.{AreDistinct, names_of}
 use Rattle.kr_provider.proofs.AskedLists.{asked_none}
@@ -42,7 +42,7 @@ use Rattle.kr_cmd_steps.specs.Around.{Around, with_exchanges}
 use Rattle.kr_cmd_steps.specs.RewriteSteps.{Progress, one_rewritten, replacing, resealing, row_anew, row_by, row_data, row_steps}
 use Rattle.kr_cmd_steps.specs.Phases.{adding, with_memory}
 use Rattle.kr_cmd_steps.specs.ValueSteps.{value_read, value_sealed}
-use Rattle.kr_cmd_steps.specs.Steps.{Steps, give}
+use Rattle.kr_cmd_steps.specs.Steps.{Steps, and_then, give}
 use Rattle.kr_cmd_steps.specs.StoreFiles.{BeginsWith}
 use Rattle.kr_cmd_messages.specs.declared.refusal.Object.TheVariants.{Dice, Store}
 use Rattle.kr_cmd_messages.specs.declared.refusal.Stop.{Stop}
@@ -55,8 +55,7 @@ use Rattle.kr_cmd_steps.proofs.Goes.{goes_on, home_refl, reach, stops}
 use Rattle.kr_cmd_rewrite.proofs.LoneCallers.{IsLone, replace_failed, tells}
 use Rattle.kr_cmd_steps.proofs.Made.{remembers}
 use Rattle.kr_cmd_rewrite.proofs.Said.{All_lent}
-use Rattle.kr_cmd_steps.proofs.Telling.{TellAll, status_in}
-use Rattle.kr_cmd_steps.proofs.ValueRead.{IsValueEnd, sealed_does}
+use Rattle.kr_cmd_steps.proofs.ValueRead.{IsValueEnd, keeping, sealed_does}
 use Rattle.kr_cmd_rewrite.proofs.HeardRows.{Follows, past, some_reading, value_heard}
 use Rattle.kr_cmd_steps.proofs.Works.{lacks}
 use Rattle.kr_store.specs.declared.rows.LogRow.{LogRow}
@@ -100,16 +99,14 @@ abbrev pub links_by : {L : Type 0} → (before final : List L) → CallNo → Li
 links_by before final (no.PluginFailed plugin) = before
 links_by before final why = final
 
-module _ {L D : Type 0} (truth : Truth) (link : L → Link) (first last : List L)
+module _ {L D : Type 0} (link : L → Link) (first last : List L)
     (asked : AskedOnly link (names_of link first) first last)
     (distinct : (why : CallNo) → AreDistinct link (links_by first last why))
     (all : List Exchange) (left : D → Option (List ℕ)) (count : D → ℕ) (o : Opening)
     (p : Publication) (one : o.reloads ≡ 0 ∷ []) (limit_is : o.limit ≡ store_limit)
-    (name : List ℕ) (a : Around) (truth_is : a.truth ≡ truth)
-    (told_all : (why : CallNo)
-    → TellAll truth (status_in link (links_by first last why) a.world.links) all) where
+    (name : List ℕ) (a : Around) where
   abbrev Now : Ahead → Around
-  Now s = with_exchanges (past truth all s) a
+  Now s = with_exchanges (past all s) a
 
   abbrev pub Around_at : List L → Ahead → D → (drawn : ℕ) → Option (List ℕ) → ℕ → Around
   Around_at links s dice drawn told faults =
@@ -119,7 +116,7 @@ module _ {L D : Type 0} (truth : Truth) (link : L → Link) (first last : List L
       (holds : holding found.mine ≡ Some (number, p))
       (rows_are : (state_of o found.seen).rows ≡ at.store.rows)
       (is_live : live at.store.rows row.path ≡ Some row) (format_is : at.store.format ≡ o.format)
-      (olds news : Ahead) (dice after : D) (acted : Caller) (follows : Follows truth all olds)
+      (olds news : Ahead) (dice after : D) (acted : Caller) (follows : Follows all olds)
       (store : Kept) (before : ℕ) (earlier : before ≤ (state_of o found.seen).count)
       (further : (state_of o acted.seen).count ≤ store.count) (bounded : store.count < 2 ^ 64)
       (begins : BeginsWith at.store store.told) (unspent : 0 < found.left) where
@@ -142,7 +139,7 @@ module _ {L D : Type 0} (truth : Truth) (link : L → Link) (first last : List L
     abbrev drawn : ℕ
     drawn = count after
 
-    abbrev pub Cut : Steps Progress → Ahead → D → CallNo → Stop → Type 0
+    abbrev pub Cut : {A : Type 0} → Steps A → Ahead → D → CallNo → Stop → Type 0
     Cut steps s from why stop = Does steps
         (Around_at (links_by first last why) s from (drawn_by least drawn why)
         (told_by store.told why) (count_by before store.count why))
@@ -309,8 +306,15 @@ module _ {L D : Type 0} (truth : Truth) (link : L → Link) (first last : List L
 
     -- ---- a value that isn't read
 
-    abbrev Value : Steps (Result Opened ValueNo)
-    Value = value_read p.seeds (list_of p.rows row.resource) row.path row.stored
+    abbrev Value : Steps (Result Opened ValueNo × CacheState)
+    Value = value_read p.seeds (list_of p.rows row.resource) row.path row.stored olds.cache
+
+    -- what follows what was read, with what is kept then
+    abbrev Rest : Result Opened ValueNo × CacheState → Steps (Progress × CacheState)
+    Rest read = and_then (row_by name p row at read.0) (λ done. give (done, read.1))
+
+    abbrev Row_steps : Steps (Progress × CacheState)
+    Row_steps = row_steps name p row olds.cache at
 
     -- the value's reading, over links that come to be these
     value_at : (why : CallNo) (now : List L) (told : Option (List ℕ)) (m n : ℕ)
@@ -321,26 +325,25 @@ module _ {L D : Type 0} (truth : Truth) (link : L → Link) (first last : List L
         → FaultRose link plugin (links_by first last why) now)
         → IsValueEnd link now opened made
         → Does Value (Around_at (links_by first last why) olds dice n told m)
-        (Around_at now news dice n told m) made
-    value_at why now told m n opened made u same fails e = value_heard truth link all
+        (Around_at now news dice n told m) (keeping news.cache made)
+    value_at why now told m n opened made u same fails e = value_heard link all
         (links_by first last why) now (distinct why) (left dice) n (with_lent_tape name told m a)
-        truth_is (told_all why) p row olds opened news follows u made (names_of link first) same fails
-        e
+        p row olds opened news follows u made (names_of link first) same fails e
 
     unread_cut : (reason : UnsealNo) (why : CallNo) (stop : Stop) → Stops why stop
         → ((plugin : List ℕ) → why ≡ no.PluginFailed plugin → FaultRose link plugin first last)
         → ReadsRow p row olds (Err reason) news
         → after ≡ dice → ◌≡◌ {A = Result Step CallNo} (Err why) (unread_step row.path reason)
-        → Cut (row_steps name p row at) olds dice why stop
+        → Cut Row_steps olds dice why stop
     unread_cut (unseal.Refused reason) why stop h fails u kept e = absurd (cc)
     unread_cut (unseal.PluginFailed n) why stop h fails u kept e =
         let is = same_why why (no.PluginFailed n) e in
         let at_stop = subst (λ w. Stops w stop) (sym is) h in
-        subst (λ w. Cut (row_steps name p row at) olds dice w stop) is
-        (subst (λ d. Does (row_steps name p row at)
+        subst (λ w. Cut Row_steps olds dice w stop) is
+        (subst (λ d. Does Row_steps
         (Around_at first olds dice drawn store.told store.count)
         (Around_at last news d drawn store.told store.count) (Err stop)) (sym kept)
-        (stops Value (row_by name p row at) stop
+        (stops Value Rest stop
         (value_at (no.PluginFailed n) last store.told store.count drawn
         (Err (unseal.PluginFailed n)) (Err stop) u asked
         (λ plugin f. fails plugin
@@ -353,11 +356,11 @@ module _ {L D : Type 0} (truth : Truth) (link : L → Link) (first last : List L
     unread_cut unseal.NoMemory why stop h fails u kept e =
         let is = same_why why no.NoMemory e in
         let at_stop = subst (λ w. Stops w stop) (sym is) h in
-        subst (λ w. Cut (row_steps name p row at) olds dice w stop) is
-        (subst (λ d. Does (row_steps name p row at)
+        subst (λ w. Cut Row_steps olds dice w stop) is
+        (subst (λ d. Does Row_steps
         (Around_at last olds dice drawn store.told store.count)
         (Around_at last news d drawn store.told store.count) (Err stop)) (sym kept)
-        (stops Value (row_by name p row at) stop
+        (stops Value Rest stop
         (value_at no.NoMemory last store.told store.count drawn (Err unseal.NoMemory) (Err stop) u
         (asked_none link (names_of link first) last) (λ plugin f. absurd (cc))
         (ap (λ x. Err x) at_stop))))
@@ -365,30 +368,31 @@ module _ {L D : Type 0} (truth : Truth) (link : L → Link) (first last : List L
     pub row_cut : (why : CallNo) (stop : Stop) → Stops why stop
         → ((plugin : List ℕ) → why ≡ no.PluginFailed plugin → FaultRose link plugin first last)
         → RewritesOver ReadsRow left count p row found olds dice (Err why) acted news after
-        → Cut (row_steps name p row at) olds dice why stop
+        → Cut Row_steps olds dice why stop
     row_cut why stop h fails (inl r) = by r.opened r.unseals r.rewrites
       where
         by : (opened : Result Opened UnsealNo) → ReadsRow p row olds opened news
             → RewritesBy left count p row opened found dice (Err why) acted after
-            → Cut (row_steps name p row at) olds dice why stop
-        by (Ok opened) u r = goes_on Value (row_by name p row at) (Ok opened)
+            → Cut Row_steps olds dice why stop
+        by (Ok opened) u r = goes_on Value Rest (Ok opened, news.cache)
             (value_at why (links_by first last why) (told_by store.told why)
             (count_by before store.count why) (drawn_by least drawn why) (Ok opened)
             (Ok (Ok opened)) u (asked_none link (names_of link first) (links_by first last why))
             (λ plugin f. absurd (cc)) refl)
+            (stops (row_by name p row at (Ok opened)) (λ done. give (done, news.cache)) stop
             (data_cut opened.plain (some_reading p row olds opened news u) opened.stale why stop h
-            r)
+            r))
         by (Err reason) u r = unread_cut reason why stop h fails u r.2 r.0
     row_cut why stop h fails (inr n) =
         let is = same_why why no.NoMemory n.0.0 in
         let at_stop = subst (λ w. Stops w stop) (sym is) h in
         let now = Around_at last olds dice drawn store.told store.count in
-        subst (λ w. Cut (row_steps name p row at) olds dice w stop) is
-        (subst (λ s. Does (row_steps name p row at) now
+        subst (λ w. Cut Row_steps olds dice w stop) is
+        (subst (λ s. Does Row_steps now
         (Around_at last s after drawn store.told store.count)
         (Err stop)) (sym n.1)
-        (subst (λ d. Does (row_steps name p row at) now
+        (subst (λ d. Does Row_steps now
         (Around_at last olds d drawn store.told store.count)
         (Err stop)) (sym n.0.2)
-        (subst (λ x. Does (row_steps name p row at) now now (Err x)) (sym at_stop)
+        (subst (λ x. Does Row_steps now now (Err x)) (sym at_stop)
         (record { home = home_refl now; ends = λ l s. inr (reach l (inl (refl, refl)) s) }))))

@@ -5,9 +5,9 @@ use Rattle.std.proofs.lemmas.Bool.{le-ltb, lt-ltb}
 use Rattle.kr_base.specs.Limits.{data_limit, store_limit}
 use Rattle.kr_config.specs.Lists.{list_of}
 use Rattle.kr_config.specs.declared.who.Who.{Who}
+use Rattle.kr_kms.specs.Cache.{CacheState}
 use Rattle.kr_kms.specs.Calls.{Link}
 use Rattle.kr_kms.specs.Exchanges.{Exchange}
-use Rattle.kr_kms.specs.Truth.{Truth}
 use Rattle.kr_provider.specs.AskedLinks.{FaultRose}
 use Rattle.kr_provider.specs.Names.{AreDistinct}
 use Rattle.kr_provider.specs.Publication.{Publication, list_at, writer_at}
@@ -39,7 +39,7 @@ use Rattle.kr_cmd_steps.specs.Around.{Around, with_exchanges}
 use Rattle.kr_cmd_steps.specs.RewriteSteps.{Progress, one_fresh, one_left, one_rewritten, replacing, resealing, row_anew, row_by, row_data, row_steps}
 use Rattle.kr_cmd_steps.specs.Phases.{adding, with_memory}
 use Rattle.kr_cmd_steps.specs.ValueSteps.{value_read, value_sealed}
-use Rattle.kr_cmd_steps.specs.Steps.{Steps, give}
+use Rattle.kr_cmd_steps.specs.Steps.{Steps, and_then, give}
 use Rattle.kr_cmd_steps.specs.StoreFiles.{Stored, with_row}
 use Rattle.kr_cmd_messages.specs.declared.refusal.Object.TheVariants.{Store}
 use Rattle.kr_cmd_steps.specs.inner.Lent.{with_lent_dice, with_lent_links, with_lent_tape}
@@ -49,8 +49,7 @@ use Rattle.kr_cmd_steps.proofs.Goes.{given, goes_on}
 use Rattle.kr_cmd_rewrite.proofs.LoneCallers.{IsLone, not_changed, replaces, tells}
 use Rattle.kr_cmd_steps.proofs.Made.{remembers}
 use Rattle.kr_cmd_rewrite.proofs.Said.{All_lent}
-use Rattle.kr_cmd_steps.proofs.Telling.{TellAll, status_in}
-use Rattle.kr_cmd_steps.proofs.ValueRead.{IsValueEnd, sealed_does}
+use Rattle.kr_cmd_steps.proofs.ValueRead.{IsValueEnd, keeping, sealed_does}
 use Rattle.kr_cmd_rewrite.proofs.HeardRows.{Follows, past, some_reading, value_heard}
 use Rattle.kr_provider.proofs.AskedLists.{asked_none}
 use Rattle.kr_cmd_messages.specs.declared.refusal.Stop.{Stop}
@@ -97,14 +96,14 @@ was_short true value stored e = absurd (cc)
 was_short false value stored e = refl
 
 -- the links of a command and all its exchanges, which they told; and what is around
-module _ {L D : Type 0} (truth : Truth) (link : L → Link) (links : List L)
+module _ {L D : Type 0} (link : L → Link) (links : List L)
     (distinct : AreDistinct link links) (all : List Exchange) (left : D → Option (List ℕ))
     (count : D → ℕ) (o : Opening) (p : Publication) (one : o.reloads ≡ 0 ∷ [])
-    (limit_is : o.limit ≡ store_limit) (name : List ℕ) (a : Around) (truth_is : a.truth ≡ truth)
-    (told_all : TellAll truth (status_in link links a.world.links) all) (drawn : ℕ) where
+    (limit_is : o.limit ≡ store_limit) (name : List ℕ) (a : Around)
+    (drawn : ℕ) where
   -- where these exchanges are still to come
   abbrev Now : Ahead → Around
-  Now s = with_exchanges (past truth all s) a
+  Now s = with_exchanges (past all s) a
 
   -- what is around, with this count of the random source
   abbrev pub Out : Ahead → D → Option (List ℕ) → ℕ → Around
@@ -118,7 +117,7 @@ module _ {L D : Type 0} (truth : Truth) (link : L → Link) (links : List L)
       (holds : holding found.mine ≡ Some (number, p))
       (rows_are : (state_of o found.seen).rows ≡ at.store.rows)
       (is_live : live at.store.rows row.path ≡ Some row) (format_is : at.store.format ≡ o.format)
-      (olds news : Ahead) (dice after : D) (acted : Caller) (follows : Follows truth all olds)
+      (olds news : Ahead) (dice after : D) (acted : Caller) (follows : Follows all olds)
     where
       abbrev pub lived : live (state_of o found.seen).rows row.path ≡ Some row
       lived = ap (λ rows. live rows row.path) rows_are ∙ is_live
@@ -301,52 +300,62 @@ module _ {L D : Type 0} (truth : Truth) (link : L → Link) (links : List L)
             → ((n : List ℕ) → opened ≡ Err (unseal.PluginFailed n)
             → FaultRose link n links links)
             → IsValueEnd link links opened made
-            → Does (value_read p.seeds (list_of p.rows row.resource) row.path row.stored)
-            (Out olds dice None m) (Out news dice None m) made
-        value_passed opened made u fails e = value_heard truth link all links links distinct
-            (left dice) drawn (with_lent_tape name None m a) truth_is told_all p row olds opened news
-            follows u made [] (asked_none link [] links) fails e
+            → Does (value_read p.seeds (list_of p.rows row.resource) row.path row.stored olds.cache)
+            (Out olds dice None m) (Out news dice None m) (keeping news.cache made)
+        value_passed opened made u fails e = value_heard link all links links distinct
+            (left dice) drawn (with_lent_tape name None m a) p row olds opened news follows u made
+            [] (asked_none link [] links) fails e
+
+        -- with what is kept then
+        abbrev Passed : Step → Type 0
+        Passed taken = (next : Progress) × Becomes p row at next taken
+            × Does (row_steps name p row olds.cache at) (Out olds dice None m)
+            (Out news after None m) (Ok (next, news.cache))
+            × ((state_of o acted.seen).rows ≡ next.store.rows)
+
+        passed : (opened : Result Opened UnsealNo) (read : Result Opened ValueNo) (taken : Step)
+            → ReadsRow p row olds opened news
+            → ((n : List ℕ) → opened ≡ Err (unseal.PluginFailed n)
+            → FaultRose link n links links)
+            → IsValueEnd link links opened (Ok read)
+            → Done (row_by name p row at read) news dice taken → Passed taken
+        passed opened read taken u fails e (next, becomes, does, rows) =
+            let rest : Result Opened ValueNo × CacheState → Steps (Progress × CacheState) = λ read.
+            and_then (row_by name p row at read.0) (λ done. give (done, read.1)) in (
+              next,
+              becomes,
+              goes_on (value_read p.seeds (list_of p.rows row.resource) row.path row.stored
+                  olds.cache) rest (read, news.cache) (value_passed opened (Ok read) u fails e)
+                  (goes_on (row_by name p row at read) (λ done. give (done, news.cache)) next does
+                  (given (next, news.cache) (Out news after None m))),
+              rows,
+            )
 
         -- a value that isn't read leaves the row
         unread : (why : UnsealNo) (taken : Step)
             → ReadsRow p row olds (Err why) news
             → acted ≡ found → after ≡ dice
             → ◌≡◌ {A = Result Step CallNo} (Ok taken) (unread_step row.path why)
-            → Done (row_steps name p row at) olds dice taken
+            → Passed taken
         unread (unseal.Refused why) taken u same kept e =
-            let rest = stays_so (one_left at) (step.Left row.path) refl same kept (refl, refl) in
-            subst (λ t. Done (row_steps name p row at) olds dice t)
-            (same_step taken (step.Left row.path) e) (
-              rest.0,
-              rest.1,
-              goes_on (value_read p.seeds (list_of p.rows row.resource) row.path row.stored)
-                  (row_by name p row at) (Err why)
-                  (value_passed (Err (unseal.Refused why)) (Ok (Err why)) u (λ n e. absurd (cc)) refl)
-                  rest.2,
-              rest.3,
-            )
+            subst (λ t. Passed t) (same_step taken (step.Left row.path) e)
+            (passed (Err (unseal.Refused why)) (Err why) (step.Left row.path) u
+            (λ n e. absurd (cc)) refl
+            (stays_so (one_left at) (step.Left row.path) refl same kept (refl, refl)))
         unread (unseal.PluginFailed n) taken u same kept e = not_err taken (no.PluginFailed n) e
         unread unseal.NoMemory taken u same kept e = not_err taken no.NoMemory e
 
         opened_done : (opened : Result Opened UnsealNo) (taken : Step)
             → ReadsRow p row olds opened news
             → RewritesBy left count p row opened found dice (Ok taken) acted after
-            → Done (row_steps name p row at) olds dice taken
+            → Passed taken
         opened_done (Ok opened) taken u r =
-            let rest = data_done opened.plain (some_reading p row olds opened news u) opened.stale taken r
-            in (
-              rest.0,
-              rest.1,
-              goes_on (value_read p.seeds (list_of p.rows row.resource) row.path row.stored)
-                  (row_by name p row at) (Ok opened)
-                  (value_passed (Ok opened) (Ok (Ok opened)) u (λ n e. absurd (cc)) refl)
-                  rest.2,
-              rest.3,
-            )
+            passed (Ok opened) (Ok opened) taken u (λ n e. absurd (cc)) refl
+            (data_done opened.plain (some_reading p row olds opened news u) opened.stale taken r)
         opened_done (Err why) taken u r = unread why taken u r.1 r.2 r.0
 
         pub row_done : (taken : Step)
             → RewritesOver ReadsRow left count p row found olds dice (Ok taken) acted news after
-            → Done (row_steps name p row at) olds dice taken
+            → Passed taken
         row_done taken (inl r) = opened_done r.opened taken r.unseals r.rewrites
         row_done taken (inr n) = not_err taken no.NoMemory n.0.0

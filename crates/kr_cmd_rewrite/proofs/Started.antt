@@ -4,6 +4,7 @@ use Rattle.std.specs.Prelude.{All, false}
 use Rattle.std.proofs.lemmas.List.Elements.{All-push}
 use Rattle.kr_base.specs.Limits.{store_limit}
 use Rattle.kr_config.specs.Kept.{ConfigEntry}
+use Rattle.kr_kms.specs.Cache.{CacheState}
 use Rattle.kr_kms.specs.Calls.{Link}
 use Rattle.kr_kms.specs.declared.seeds.SeedRow.{SeedRow}
 use Rattle.kr_provider.specs.PluginOrder.{plugin_order}
@@ -17,6 +18,7 @@ use Rattle.kr_store.specs.Stores.{Kept}
 use Rattle.kr_store.specs.declared.rows.Row as stored
 use Rattle.kr_cmd_steps.specs.Around.{Around}
 use Rattle.kr_cmd_steps.specs.RewriteSteps.{nothing_done, driving, rewriting_by, starting}
+use Rattle.kr_cmd_steps.specs.ValueSteps.{none_kept}
 use Rattle.kr_cmd_steps.specs.Judgements.{start_refusal}
 use Rattle.kr_cmd_steps.specs.Plugins.{make_seeds}
 use Rattle.kr_cmd_steps.specs.Steps.{Steps, and_then}
@@ -41,7 +43,7 @@ module _ (name : List ℕ) (rows : List ConfigEntry) (store : Stored) (live : Li
 
   abbrev pub from_seeds : List SeedRow → Steps Outcome
   from_seeds seeds = and_then (starting store.rows rows) (λ u.
-      driving name (record { rows = rows; seeds = seeds }) live (nothing_done store))
+      driving name (record { rows = rows; seeds = seeds }) live none_kept (nothing_done store))
 
   pub by_lacks : (a : Around) → Does By a a (Err NoMemory)
   by_lacks a = lacks (and_then (make_seeds (plugin_order rows)) from_seeds) a
@@ -80,11 +82,11 @@ module _ (name : List ℕ) (rows : List ConfigEntry) (store : Stored) (live : Li
 
     pub started : {new : Around} {result : Result Outcome Stop}
         → MayStart store.rows (Some rows ∷ [])
-        → Does (driving name (record { rows = rows; seeds = seeds }) live (nothing_done store)) a new
-        result
+        → Does (driving name (record { rows = rows; seeds = seeds }) live none_kept
+        (nothing_done store)) a new result
         → Does (from_seeds seeds) a new result
     started may d = goes_on (starting store.rows rows) (λ u.
-        driving name (record { rows = rows; seeds = seeds }) live (nothing_done store)) tt
+        driving name (record { rows = rows; seeds = seeds }) live none_kept (nothing_done store)) tt
         (record {
           home = home_refl a;
           ends = λ left s. reach left (inr (Ok tt, may, (refl, refl))) s;
@@ -134,21 +136,24 @@ module _ {L D : Type 0} (link : L → Link) (left : D → Option (List ℕ)) (co
       (subst (λ (k : Kept). Does next old (Out mids mid k) result) (sym store_is) d))
 
   pub driven_on : (rows : List ConfigEntry) (live : List stored.Row) (store : Kept) (p : Publication)
-      (core : CoreState) (benched mids : List L) (held mid : D) (names : List (List ℕ)) (room : ℕ)
+      (core : CoreState) (benched mids : List L) (held mid : D) (kept : CacheState)
+      (names : List (List ℕ)) (room : ℕ)
       {new : Around} {made : Result Outcome Stop} → core ≡ Alone store p names room
-      → benched ≡ mids → held ≡ mid → p.rows ≡ rows
-      → Does (driving name p live (nothing_done (opened_store core)))
+      → benched ≡ mids → held ≡ mid → kept ≡ none_kept → p.rows ≡ rows
+      → Does (driving name p live kept (nothing_done (opened_store core)))
       (All_lent link benched (left held) (count held) name store.told core.opening.count a) new made
-      → Does (driving name (record { rows = rows; seeds = p.seeds }) live (nothing_done (stored_of store)))
-      (Out mids mid store) new made
-  driven_on rows live store p core benched mids held mid names room {new} {made} core_is links_are
-      dice_is rows_are d =
-      subst (λ r. Does (driving name (record { rows = r; seeds = p.seeds }) live
+      → Does (driving name (record { rows = rows; seeds = p.seeds }) live none_kept
+      (nothing_done (stored_of store))) (Out mids mid store) new made
+  driven_on rows live store p core benched mids held mid kept names room {new} {made} core_is
+      links_are dice_is cold rows_are d =
+      subst (λ r. Does (driving name (record { rows = r; seeds = p.seeds }) live none_kept
       (nothing_done (stored_of store))) (Out mids mid store) new made) rows_are
-      (subst (λ x. Does (driving name p live (nothing_done (stored_of store))) (Out mids x store) new made)
-      dice_is
-      (subst (λ l. Does (driving name p live (nothing_done (stored_of store))) (Out l held store) new made)
-      links_are
-      (subst (λ (k : CoreState). Does (driving name p live (nothing_done (opened_store k)))
+      (subst (λ k. Does (driving name p live k (nothing_done (stored_of store)))
+      (Out mids mid store) new made) cold
+      (subst (λ x. Does (driving name p live kept (nothing_done (stored_of store)))
+      (Out mids x store) new made) dice_is
+      (subst (λ l. Does (driving name p live kept (nothing_done (stored_of store)))
+      (Out l held store) new made) links_are
+      (subst (λ (k : CoreState). Does (driving name p live kept (nothing_done (opened_store k)))
       (All_lent link benched (left held) (count held) name store.told k.opening.count a) new made)
-      core_is d)))
+      core_is d))))

@@ -50,8 +50,9 @@ const CACHE: u32 = 64;
 
 /// Writes the stale rows of a store anew.
 pub fn rewrite<W: World>(alloc: Global, words: &Rewriting, world: &mut W) -> Ended
-    ensures { Heard W.lent W.took W.Link.step 0 [] [] (λ es. (a : Around)
-        → a.truth ≡ W.Link.truth → a.said ≡ [] → DoesAll (Rewrite words.now)
+    ensures { Heard W.Link.link W.lent W.took W.Link.step 0
+        (W.told world.old) (W.told world.new) [] [] (λ es. (a : Around)
+        → a.said ≡ [] → DoesAll (Rewrite words.now)
         (with_world (W.told world.old) a)
         (saying result.said (with_world (W.told world.new) (with_exchanges es a)))
         result.made) }
@@ -104,8 +105,9 @@ fn rewrite_on_tape<W: World>(
 ) -> (Ended, W::Tap)
     requires programs { map (λ program. program.plugin) programs.now
         ≡ plugin_order (rows_of settings.entries.0) }
-    ensures ended { Heard W.lent W.took W.Link.step 0 [] [] (λ es. (name : Name) (a : Around)
-        → a.truth ≡ W.Link.truth → Does
+    ensures ended { Heard W.Link.link W.lent W.took W.Link.step 0
+        (W.told world.old) (W.told world.new) [] [] (λ es. (name : Name) (a : Around)
+        → Does
         (rewriting_on name (rows_of settings.entries.0) programs.now)
         (with_lent_tape name (W.Tap.told tape) (W.Tap.count tape) (with_world (W.told world.old) a))
         (saying result.0.said (with_lent_tape name (W.Tap.told result.1) (W.Tap.count result.1)
@@ -141,10 +143,12 @@ fn rewrite_on_tape<W: World>(
 /// Loads the store of a tape. Where the tape's count of faults can't rise any more, a write that
 /// failed couldn't be told, so the tape counts as failed.
 fn load_counted<T: Tape>(alloc: Global, tape: T) -> Result<Store<T>, (Stop, T)>
-    ensures ok { IfOk result (λ store. (name : Name) (a : Around) → Does (stored_on object.Store name)
+    ensures ok { IfOk result (λ store. (name : Name) (a : Around)
+        → Does (stored_on object.Store name)
         (with_lent_tape name (T.told tape) (T.count tape) a)
         (with_lent_tape name store.told store.count a) (Ok (stored_of store))) }
-    ensures err { IfErr result (λ refused. (name : Name) (a : Around) → Does (stored_on object.Store name)
+    ensures err { IfErr result (λ refused. (name : Name) (a : Around)
+        → Does (stored_on object.Store name)
         (with_lent_tape name (T.told tape) (T.count tape) a)
         (with_lent_tape name (T.told refused.1) (T.count refused.1) a) (Err refused.0)) }
     ensures limit { IfOk result (λ store. (store.limit ≡ store_limit) × (store.torn ≡ false)) }
@@ -213,9 +217,10 @@ fn rewrite_linked<W: World, T: Tape>(
     requires within { rollout.store.limit ≡ store_limit }
     requires whole { rollout.store.torn ≡ false }
     requires counts { rollout.store.count < 2 ^ 64 - 1 }
-    ensures ended { Heard W.lent W.took W.Link.step 0 links result.2 (λ es. (name : Name)
+    ensures ended { Heard W.Link.link W.lent W.took W.Link.step 0
+        (W.told world.old) (W.told world.new) links result.2 (λ es. (name : Name)
         (tapes : Tapes) (a : Around) (live : LiveRows)
-        → a.truth ≡ W.Link.truth → IsListing rollout.store.rows live → Does
+        → IsListing rollout.store.rows live → Does
         (borrow_links programs.now (rewriting_by name (rows_of settings.entries.0)
         (stored_of rollout.store) live))
         (with_lent_links W.Link.link 0 links
@@ -277,7 +282,7 @@ fn rewrite_by_settings<T: Tape, L: Kms, D: Dice>(
     requires whole { rollout.store.torn ≡ false }
     requires counts { rollout.store.count < 2 ^ 64 - 1 }
     ensures ended { Talk (Among L.step) links result.2 (λ es. (name : Name) (a : Around)
-        (live : LiveRows) → a.truth ≡ L.truth → IsListing rollout.store.rows live → Does
+        (live : LiveRows) → IsListing rollout.store.rows live → Does
         (rewriting_by name (rows_of settings.entries.0) (stored_of rollout.store) live)
         (with_lent_links L.link 0 links (with_lent_dice 0 (D.left dice) (D.count dice)
         (with_lent_tape name rollout.store.told rollout.store.count a)))
@@ -360,13 +365,12 @@ fn drive_all<T: Tape, L: Kms, D: Dice>(
     requires alone { IsAlone core }
     requires names { core.opening.names ≡ names_of L.link bench.links }
     requires distinct { AreDistinct L.link bench.links }
-    requires cold { bench.cache.rows ≡ [] }
     requires pages { 64 ≤ size_of bench.pages }
     requires unadopted { bench.published ≡ None }
     ensures ended { Talk (Among L.step) bench.links result.2 (λ es. (name : Name) (a : Around)
-        (live : LiveRows) (told : Told) (p : Publication) → a.truth ≡ L.truth
-        → IsListing core.opening.rows live → core.opening.replicas ≡ Some p ∷ [] → Does
-        (driving name p live (nothing_done (opened_store core)))
+        (live : LiveRows) (told : Told) (p : Publication) → IsListing core.opening.rows live
+        → core.opening.replicas ≡ Some p ∷ [] → Does
+        (driving name p live bench.cache (nothing_done (opened_store core)))
         (with_lent_links L.link 0 bench.links
         (with_lent_dice 0 (D.left bench.dice) (D.count bench.dice)
         (with_lent_tape name told core.opening.count a)))

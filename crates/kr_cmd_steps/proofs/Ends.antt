@@ -157,7 +157,6 @@ module _ (command : Command) (name : List ℕ) (is : ReportsOf command name)
 
     stays_settled : {l : Left} → Stays l Unsettled → Stays (with_asked (Settled name) l) IsBack
     stays_settled s = record {
-      truth = s.truth;
       file = s.file;
       tapes = s.tapes;
       links = s.links;
@@ -223,7 +222,6 @@ module _ (command : Command) (name : List ℕ) (is : ReportsOf command name)
         → Stays l (with_lent_tape name told count (with_world mid (saying said a)))
         → Stays (with_said [] l) Lost
     stays_lost None {l} s = record {
-      truth = s.truth;
       file = s.file;
       tapes = s.tapes;
       links = s.links;
@@ -234,7 +232,6 @@ module _ (command : Command) (name : List ℕ) (is : ReportsOf command name)
       said = silent;
     }
     stays_lost (Some counts) {l} s = record {
-      truth = s.truth;
       file = s.file;
       tapes = s.tapes;
       links = s.links;

@@ -57,7 +57,6 @@ module _ {L : Type 0} (link : L → Link) (a : Around) (names : List (List ℕ))
 
   pub kept : Keeps old new → (l : Left) → Stays l Before → Stays l After
   kept k l s = record {
-    truth = s.truth;
     file = s.file;
     tapes = s.tapes;
     links = (seen_asked link 0 a.world.links names olds news asked).told ∙ s.links;
@@ -70,7 +69,6 @@ module _ {L : Type 0} (link : L → Link) (a : Around) (names : List (List ℕ))
 
   pub drawn : (l : Left) → Stays l Before → Stays (with_dice 0 new l) After
   drawn l s = record {
-    truth = s.truth;
     file = s.file;
     tapes = s.tapes;
     links = (seen_asked link 0 a.world.links names olds news asked).told ∙ s.links;

@@ -5,9 +5,9 @@ use Rattle.kr_base.specs.Told.{Agrees}
 use Rattle.kr_kms.specs.Exchanges.{StatusCall, UnwrapCall, WrapCall}
 use Rattle.kr_kms.specs.declared.plugin.Status.{Status}
 use Rattle.kr_kms.specs.declared.plugin.Wrapped.{Wrapped}
-use Rattle.kr_kms.specs.declared.world.WorldCall.TheVariants.{File, Link, RandomSource, Settled, Tape}
+use Rattle.kr_kms.specs.declared.world.WorldCall.TheVariants.{File, Link, RandomSource, Returned, Settled, Tape}
 use Rattle.kr_kms.specs.Outside.{makes}
-use Rattle.kr_cmd_steps.specs.Steps.{Steps, load, take_input, borrow_dice, borrow_tape, read_tape, write_row, keep_rows, settle, draw, borrow_link, ask_status, wrap, unwrap, note, find, refuse, give, and_then, Point, awaits, amid, refuses, gives, Left, Goes, loading, opening, lending, scanning, writing, settling, drawing, linking, asking, with_asked, with_dice, with_heard, with_said, with_tape, with_told}
+use Rattle.kr_cmd_steps.specs.Steps.{Steps, load, take_input, borrow_dice, borrow_tape, read_tape, write_row, keep_rows, settle, give_back, draw, borrow_link, ask_status, wrap, unwrap, note, find, refuse, give, and_then, Point, awaits, amid, refuses, gives, Left, Goes, loading, opening, lending, scanning, writing, settling, drawing, linking, asking, with_asked, with_dice, with_heard, with_said, with_tape, with_told}
 
 -- from what is left on, whatever they draw and find, they refuse nothing, and give this; such steps
 -- take no input
@@ -25,6 +25,7 @@ GivesOnly Q (write_row object name store row next) left =
 GivesOnly Q (keep_rows name store next) left =
     (told : Option (List ℕ)) → GivesOnly Q next (with_told name told left)
 GivesOnly Q (settle object name next) left = GivesOnly Q next (with_asked (Settled name) left)
+GivesOnly Q (give_back name next) left = GivesOnly Q next (with_asked (Returned name) left)
 GivesOnly Q (draw seat size next) left = (bytes : List ℕ) (rest : Option (List ℕ))
     → GivesOnly Q (next bytes) (with_dice seat rest left)
 GivesOnly Q (borrow_link seat plugin program next) left =
@@ -34,8 +35,8 @@ GivesOnly Q (ask_status seat plugin next) left = (status : Status)
     → GivesOnly Q (next status) (with_heard (StatusCall plugin (Ok status)) left)
 GivesOnly Q (wrap seat plugin plain next) left = (wrapped : Wrapped)
     → GivesOnly Q (next wrapped) (with_heard (WrapCall plugin plain (Ok wrapped)) left)
-GivesOnly Q (unwrap seat key next) left = (bytes : List ℕ) → GivesOnly Q (next bytes) left
-    × GivesOnly Q (next bytes) (with_heard (UnwrapCall key (Ok bytes)) left)
+GivesOnly Q (unwrap seat key next) left = (bytes : List ℕ)
+    → GivesOnly Q (next bytes) (with_heard (UnwrapCall key (Ok bytes)) left)
 GivesOnly Q (note text next) left = GivesOnly Q next (with_said text left)
 GivesOnly Q (find B P next) left = (b : B) → P b → GivesOnly Q (next b) left
 GivesOnly Q (refuse why) left = ⊥
@@ -86,6 +87,7 @@ module _ {A : Type 0} (Q : A → Left → Type 0) where
     allowed (settle object name next) left g (inl e) =
         at (awaits (settling object name)) _ tt e
     allowed (settle object name next) left g (inr goes) = allowed next _ g goes
+    allowed (give_back name next) left g goes = allowed next _ g goes
     allowed (draw seat size next) left g (inl e) = at (awaits (drawing seat)) _ tt e
     allowed (draw seat size next) left g (inr (bytes, rest, c, fits, goes)) =
         allowed (next bytes) _ (g bytes rest) goes
@@ -104,16 +106,14 @@ module _ {A : Type 0} (Q : A → Left → Type 0) where
     allowed (wrap seat plugin plain next) left g (inr (inl (answer, e))) = at amid _ tt e
     allowed (wrap seat plugin plain next) left g (inr (inr (inl e))) =
         at (awaits (asking seat plugin)) _ tt e
-    allowed (wrap seat plugin plain next) left g (inr (inr (inr (wrapped, tells, within, goes)))) =
+    allowed (wrap seat plugin plain next) left g (inr (inr (inr (wrapped, within, goes)))) =
         allowed (next wrapped) _ (g wrapped) goes
     allowed (unwrap seat key next) left g (inl e) = at amid _ tt e
     allowed (unwrap seat key next) left g (inr (inl (answer, e))) = at amid _ tt e
     allowed (unwrap seat key next) left g (inr (inr (inl e))) =
         at (awaits (asking seat key.name)) _ tt e
-    allowed (unwrap seat key next) left g (inr (inr (inr (bytes, tells, inl (was, goes))))) =
-        allowed (next bytes) _ (g bytes).0 goes
-    allowed (unwrap seat key next) left g (inr (inr (inr (bytes, tells, inr goes)))) =
-        allowed (next bytes) _ (g bytes).1 goes
+    allowed (unwrap seat key next) left g (inr (inr (inr (bytes, goes)))) =
+        allowed (next bytes) _ (g bytes) goes
     allowed (note text next) left g goes = allowed next _ g goes
     allowed (find B P next) left g (inl e) = at amid _ tt e
     allowed (find B P next) left g (inr (b, is, goes)) = allowed (next b) _ (g b is) goes
@@ -135,14 +135,14 @@ module _ {A B : Type 0} (R : A → Left → Type 0) (Q : B → Left → Type 0) 
   gives_then (write_row object name store row next) left g = λ told. gives_then next _ (g told)
   gives_then (keep_rows name store next) left g = λ told. gives_then next _ (g told)
   gives_then (settle object name next) left g = gives_then next _ g
+  gives_then (give_back name next) left g = gives_then next _ g
   gives_then (draw seat size next) left g = λ bytes rest. gives_then (next bytes) _ (g bytes rest)
   gives_then (borrow_link seat plugin program next) left g = gives_then next _ g
   gives_then (ask_status seat plugin next) left g =
       λ status agrees. gives_then (next status) _ (g status agrees)
   gives_then (wrap seat plugin plain next) left g =
       λ wrapped. gives_then (next wrapped) _ (g wrapped)
-  gives_then (unwrap seat key next) left g = λ bytes.
-      (gives_then (next bytes) _ (g bytes).0, gives_then (next bytes) _ (g bytes).1)
+  gives_then (unwrap seat key next) left g = λ bytes. gives_then (next bytes) _ (g bytes)
   gives_then (note text next) left g = gives_then next _ g
   gives_then (find D P next) left g = λ d is. gives_then (next d) _ (g d is)
   gives_then (refuse why) left g = absurd g

@@ -15,7 +15,7 @@ use Rattle.kr_config.specs.declared.settings.Settings.{Settings}
 use Rattle.kr_cmd_steps.specs.Around.{Around, with_world, with_lent, left_of, faults_at, Stays, Reaches, AreHome, IsHome, Ends, MayLack, count_at}
 use Rattle.kr_cmd_steps.specs.Phases.{by_result, configuration, show, input_of, input_limit, long_input}
 use Rattle.kr_cmd_steps.specs.Configuration.{Entries}
-use Rattle.kr_cmd_steps.specs.Steps.{Steps, load, take_input, borrow_dice, borrow_tape, read_tape, write_row, keep_rows, settle, draw, note, find, refuse, give, and_then, Call, loading, reading, opening, lending, scanning, writing, settling, drawing, Point, awaits, amid, refuses, gives, Left, with_input, with_asked, IsAt, Goes, borrow_link, ask_status, wrap, unwrap, linking, asking, object_of}
+use Rattle.kr_cmd_steps.specs.Steps.{Steps, load, take_input, borrow_dice, borrow_tape, read_tape, write_row, keep_rows, settle, give_back, draw, note, find, refuse, give, and_then, Call, loading, reading, opening, lending, scanning, writing, settling, drawing, Point, awaits, amid, refuses, gives, Left, with_input, with_asked, IsAt, Goes, borrow_link, ask_status, wrap, unwrap, linking, asking, object_of}
 use Rattle.kr_cmd_steps.specs.inner.Lent.{with_told_input, with_lent_dice}
 use Rattle.kr_cmd_steps.specs.inner.Phases.{Does, AskedUnless, AskedFor, rows_in, IsFileRead, Configures, TakesInput, Yields, shown_as, DiceLoan, DiceReturn, LendsNothing}
 use Rattle.kr_cmd_messages.specs.declared.command.Direction.{Direction}
@@ -31,7 +31,6 @@ reach end goes stays = record { end = end; goes = goes; stays = stays }
 
 pub stays_refl : (a : Around) → Stays (left_of a) a
 stays_refl a = record {
-  truth = refl;
   file = refl;
   tapes = refl;
   links = refl;
@@ -99,6 +98,7 @@ module _ {A B : Type 0} (point : Point B) (last : Left) (others : A → Steps B)
   further p end f (settle object name next) left (inl at) =
       inl (land (awaits (settling object name)) at f)
   further p end f (settle object name next) left (inr goes) = inr (further p end f next _ goes)
+  further p end f (give_back name next) left goes = further p end f next _ goes
   further p end f (draw seat size next) left (inl at) = inl (land (awaits (drawing seat)) at f)
   further p end f (draw seat size next) left (inr (bytes, rest, c, fits, goes)) =
       inr (bytes, rest, c, fits, further p end f (next bytes) _ goes)
@@ -120,17 +120,15 @@ module _ {A B : Type 0} (point : Point B) (last : Left) (others : A → Steps B)
   further p end f (wrap seat plugin plain next) left (inr (inr (inl at))) =
       inr (inr (inl (land (awaits (asking seat plugin)) at f)))
   further p end f (wrap seat plugin plain next) left
-      (inr (inr (inr (wrapped, tells, within, goes)))) =
-      inr (inr (inr (wrapped, tells, within, further p end f (next wrapped) _ goes)))
+      (inr (inr (inr (wrapped, within, goes)))) =
+      inr (inr (inr (wrapped, within, further p end f (next wrapped) _ goes)))
   further p end f (unwrap seat key next) left (inl at) = inl (land amid at f)
   further p end f (unwrap seat key next) left (inr (inl (answer, at))) =
       inr (inl (answer, land amid at f))
   further p end f (unwrap seat key next) left (inr (inr (inl at))) =
       inr (inr (inl (land (awaits (asking seat key.name)) at f)))
-  further p end f (unwrap seat key next) left (inr (inr (inr (bytes, tells, inl (was, goes))))) =
-      inr (inr (inr (bytes, tells, inl (was, further p end f (next bytes) left goes))))
-  further p end f (unwrap seat key next) left (inr (inr (inr (bytes, tells, inr goes)))) =
-      inr (inr (inr (bytes, tells, inr (further p end f (next bytes) _ goes))))
+  further p end f (unwrap seat key next) left (inr (inr (inr (bytes, goes)))) =
+      inr (inr (inr (bytes, further p end f (next bytes) _ goes)))
   further p end f (note text next) left goes = further p end f next _ goes
   further p end f (find D P next) left (inl at) = inl (land amid at f)
   further p end f (find D P next) left (inr (d, is, goes)) =
@@ -299,7 +297,6 @@ module _ (limit : ℕ) (long : Refusal) (old new : Option (List ℕ)) (before co
   taken : {left : Left} → Stays left (with_told_input old before a)
       → Stays (with_input new left) (with_told_input new count a)
   taken s = record {
-    truth = s.truth;
     file = s.file;
     tapes = s.tapes;
     links = s.links;
@@ -382,7 +379,6 @@ module _ {old new : Outside} (files : KeepsFiles old new) (objects : KeepsObject
   stays_asked : {left : Left} (asked : Option (List WorldCall)) → Stays left (with_world old a)
       → new.asked ≡ asked → Stays (record left { asked = asked }) (with_world new a)
   stays_asked {left} asked s made = record {
-    truth = s.truth;
     file = files.file ∙ s.file;
     tapes = ap (λ o. o.told) objects.tapes ∙ s.tapes;
     links = ap (λ o. o.told) objects.links ∙ s.links;
@@ -513,7 +509,6 @@ seen_home seen a = record {
 pub seen_stays : {call : WorldCall} {old new : Outside} → IsSeen call old new → (a : Around)
     → (l : Left) → Stays l (with_world old a) → Stays (with_asked call l) (with_world new a)
 seen_stays {call} seen a l s = record {
-  truth = s.truth;
   file = seen.files.file ∙ s.file;
   tapes = seen.tapes.told ∙ s.tapes;
   links = seen.links.told ∙ s.links;

@@ -31,7 +31,6 @@ pub stays_heard : {left : Left} {a : Around} (es : List Exchange) (heard : Optio
     → hearing es left.heard ≡ heard → Stays left a
     → Stays (record left { heard = heard }) (with_exchanges es a)
 stays_heard es heard is s = record {
-  truth = s.truth;
   file = s.file;
   tapes = s.tapes;
   links = s.links;

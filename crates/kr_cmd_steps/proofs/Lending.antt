@@ -95,4 +95,5 @@ module _ {K V : Type 0} (same : K → K → Bool) where
         (λ n. sym (h.faults other n)) i;
     out = λ other. (let e : out.out other - at_key same key 1 other ≡ new.out other =
         omega (arith, h.out other) in e) i;
+    handed = sym h.handed i;
   }

@@ -11,7 +11,6 @@ pub mod Goes
 pub mod Halts
 pub mod HeardLinks
 pub mod Hearing
-pub mod KeptSeeds
 pub mod Lending
 pub mod Linked
 pub mod Links
@@ -21,13 +20,13 @@ pub mod NamedPrograms
 pub mod OneVerdict
 pub mod Points
 pub mod ProgramNames
+pub mod Returning
 pub mod RisingCounts
 pub mod Rooms
 pub mod SeedSteps
 pub mod Settling
 pub mod Tapes
 pub mod Telling
-pub mod UnheardReads
 pub mod Unsealed
 pub mod ValueRead
 pub mod Works

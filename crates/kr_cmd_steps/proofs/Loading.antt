@@ -72,7 +72,6 @@ module _ (name : List ℕ) (told : Option (List ℕ)) (before : ℕ) (a : Around
   pub counted_tape : {left : Left} (count : ℕ) → before ≤ count → Stays left (Lent before)
       → Stays left (Lent count)
   counted_tape count later s = record {
-    truth = s.truth;
     file = s.file;
     tapes = s.tapes;
     links = s.links;
@@ -88,7 +87,6 @@ module _ (name : List ℕ) (told : Option (List ℕ)) (before : ℕ) (a : Around
       → Stays left (Lent before)
       → Stays (with_told name now left) (with_lent_tape name now count a)
   retold {left} now count later s = record {
-    truth = s.truth;
     file = s.file;
     tapes = told_so name told now a.world.tapes.told left.tapes s.tapes;
     links = s.links;

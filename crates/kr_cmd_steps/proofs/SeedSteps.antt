@@ -10,7 +10,6 @@ use Rattle.kr_kms.specs.Calls.{Link}
 use Rattle.kr_kms.specs.Exchanges.{Exchange, StatusCall, WrapCall}
 use Rattle.kr_kms.specs.Health.{breach_in, seed_no}
 use Rattle.kr_kms.specs.Seeds.{Draws, MakesSeedBy, dice_failed, made, no_memory, no_status, not_wrapped, unhealthy}
-use Rattle.kr_kms.specs.Truth.{Truth, TellsOf}
 use Rattle.kr_kms.specs.declared.health.Field.{Field}
 use Rattle.kr_kms.specs.declared.health.SeedNo.{SeedNo}
 use Rattle.kr_kms.specs.declared.health.SeedNo.TheVariants as no_seed
@@ -18,7 +17,6 @@ use Rattle.kr_kms.specs.declared.plugin.KmsNo.{KmsNo}
 use Rattle.kr_kms.specs.declared.plugin.KmsNo.TheVariants as kms
 use Rattle.kr_kms.specs.declared.plugin.Status.{Status}
 use Rattle.kr_kms.specs.declared.plugin.Wrapped.{Wrapped}
-use Rattle.kr_kms.specs.declared.seeds.SeedKey.{SeedKey}
 use Rattle.kr_kms.specs.declared.seeds.SeedRow.{SeedRow}
 use Rattle.kr_provider.specs.AskedLinks.{AskedOnly}
 use Rattle.kr_provider.specs.Exchanges.{IsRefusalAt, MakesSeedsBy, PublishesBy, all_made, no_room, refused, went_on, with_seed_first}
@@ -89,7 +87,7 @@ same_behind (name ∷ front) behind others e = same_behind front behind others c
 
 -- ---- while these links are out; no link is told to be asked, since all that is told of them stays
 
-module _ {L D : Type 0} (truth : Truth) (link : L → Link) (left : D → Option (List ℕ))
+module _ {L D : Type 0} (link : L → Link) (left : D → Option (List ℕ))
     (count : D → ℕ) (links : List L) where
   abbrev Here : Around → D → Around
   Here a dice = Seen link a links (left dice) (count dice)
@@ -98,9 +96,9 @@ module _ {L D : Type 0} (truth : Truth) (link : L → Link) (left : D → Option
   same = asked_none link [] links
 
   abbrev Told : Around → List Exchange → Type 0
-  Told a es = TellAll truth (status_in link links a.world.links) es
+  Told a es = TellAll (status_in link links a.world.links) es
 
-  module _ (a : Around) (truth_is : a.truth ≡ truth) (name : List ℕ) (dice : D) (l : Left)
+  module _ (a : Around) (name : List ℕ) (dice : D) (l : Left)
       (s : Stays l (Here a dice)) where
     kept_so : (after : D) (es : List Exchange) (heard : Option (List Exchange))
         → Keeps (left dice) (left after) → hearing es l.heard ≡ heard
@@ -119,10 +117,6 @@ module _ {L D : Type 0} (truth : Truth) (link : L → Link) (left : D → Option
         → Agrees (l.links (0, name)) status
     agrees status h =
         subst (λ (told : ℕ × List ℕ → Option Status). Agrees (told (0, name)) status) s.links h
-
-    tells : (key : SeedKey) (bytes : List ℕ) → TellsOf truth key bytes → TellsOf l.truth key bytes
-    tells key bytes h =
-        subst (λ (t : Truth). TellsOf t key bytes) (sym truth_is ∙ s.truth) h
 
     drawn_bytes : (seed : List ℕ) (after : D) → Draws left count dice seed after
         → Consumes (l.dice 0) (left after) seed
@@ -183,8 +177,7 @@ module _ {L D : Type 0} (truth : Truth) (link : L → Link) (left : D → Option
           draws.0,
           inr (inr (inr (
             wrapped,
-            tells _ seed told.1.0.0,
-            told.1.0.1,
+            told.1.0,
             (ap (λ (r : SeedRow). gives r) cc, refl),
           ))),
         ))) (wrapped_so status seed after draws e)
@@ -318,7 +311,7 @@ module _ {L D : Type 0} (truth : Truth) (link : L → Link) (left : D → Option
   Comes names old new (Err why) = (h : Halt) → MayHalt why h → (l : Left) → Stays l old
       → Reaches (make_seeds names) l new (point_at h)
 
-  module _ (a : Around) (truth_is : a.truth ≡ truth) (name : List ℕ) (names : List (List ℕ))
+  module _ (a : Around) (name : List ℕ) (names : List (List ℕ))
       (dice after : D) (es : List Exchange) (told : Told a es) where
     -- the first makes none
     first_halts : (why : SeedNo) (refusal : PublishNo)
@@ -329,10 +322,10 @@ module _ {L D : Type 0} (truth : Truth) (link : L → Link) (left : D → Option
         (elim (by_refusal name h why refusal is may) [
           | inl e ↦ subst (λ k. Reaches (make_seed name) l (with_exchanges es (Here a after))
               (point_at k)) (sym e)
-              (one_halts a truth_is name dice l s why after es makes told)
+              (one_halts a name dice l s why after es makes told)
           | inr e ↦ subst (λ k. Reaches (make_seed name) l (with_exchanges es (Here a after))
               (point_at k)) (sym e.0)
-              (one_lacks a truth_is name dice l s (Err why) after es
+              (one_lacks a name dice l s (Err why) after es
               (λ q. e.1 cc) makes told)
         ])
 
@@ -343,7 +336,7 @@ module _ {L D : Type 0} (truth : Truth) (link : L → Link) (left : D → Option
     first_lacks row makes h is l s =
         halts_on (make_seed name) (others names) h
         (subst (λ k. Reaches (make_seed name) l (with_exchanges es (Here a after)) (point_at k))
-        (sym is) (one_lacks a truth_is name dice l s (Ok row) after es (λ q. absurd (cc)) makes
+        (sym is) (one_lacks a name dice l s (Ok row) after es (λ q. absurd (cc)) makes
         told))
 
     -- or with which the others go on
@@ -352,65 +345,65 @@ module _ {L D : Type 0} (truth : Truth) (link : L → Link) (left : D → Option
         → Comes names (with_exchanges es (Here a after)) new result
         → Comes (name ∷ names) (Here a dice) new (with_seed_first row result)
     first_made row makes new (Ok rows) more = λ l s.
-        let r = one_made a truth_is name dice l s row after es makes told in
+        let r = one_made a name dice l s row after es makes told in
         let q = more r.end r.stays in
         joins (make_seed name) (others names) r
         (joins (make_seeds names) (λ rows. give (row ∷ rows)) q
         (reach q.end (refl, refl) q.stays))
     first_made row makes new (Err why) more = λ h may l s.
-        let r = one_made a truth_is name dice l s row after es makes told in
+        let r = one_made a name dice l s row after es makes told in
         joins (make_seed name) (others names) r
         (halts_on (make_seeds names) (λ rows. give (row ∷ rows)) h (more h may r.end r.stays))
 
   module _ (rows : List ConfigEntry) where
-    pub seeds_come : (a : Around) → a.truth ≡ truth → (passed : List ℕ) (dice : D)
+    pub seeds_come : (a : Around) → (passed : List ℕ) (dice : D)
         (result : Result (List SeedRow) PublishNo) (after : D) (es : List Exchange)
         → MakesSeedsBy left count (plugins_in rows) passed dice result after es
         → (front behind : List (List ℕ)) → ArePassed rows passed front
         → plugin_order rows ≡ front ++ behind → Told a es
         → Comes behind (Here a dice) (with_exchanges es (Here a after)) result
-    seeds_come a truth_is passed dice _ _ _ (all_made none) front behind p order told =
+    seeds_come a passed dice _ _ _ (all_made none) front behind p order told =
         let empty = none_behind front behind (sym order ∙ all_passed p none) in
         subst (λ names. Comes names (Here a dice) (with_exchanges [] (Here a dice)) (Ok []))
         (sym empty) (λ l s. reach l (refl, refl)
         (stays_heard {left = l} [] l.heard (heard_none l.heard) s))
-    seeds_come a truth_is passed dice _ after es (refused name why refusal next makes is) front
+    seeds_come a passed dice _ after es (refused name why refusal next makes is) front
         behind p order told =
         let there = stands_next p next in
         let names = same_behind front behind (name ∷ there.0) (sym order ∙ there.1) in
         subst (λ n. Comes n (Here a dice) (with_exchanges es (Here a after)) (Err refusal))
         (sym names)
-        (first_halts a truth_is name there.0 dice after es told why refusal makes is)
-    seeds_come a truth_is passed dice _ after es (no_room name row next makes) front behind p order
+        (first_halts a name there.0 dice after es told why refusal makes is)
+    seeds_come a passed dice _ after es (no_room name row next makes) front behind p order
         told =
         let there = stands_next p next in
         let names = same_behind front behind (name ∷ there.0) (sym order ∙ there.1) in
         subst (λ n. Comes n (Here a dice) (with_exchanges es (Here a after))
         (Err publishing.NoMemory)) (sym names)
-        (first_lacks a truth_is name there.0 dice after es told row makes)
-    seeds_come a truth_is passed dice _ after _
+        (first_lacks a name there.0 dice after es told row makes)
+    seeds_come a passed dice _ after _
         (went_on {between = between} {exchanges = es} {others = fs} {result = result} name row next
         makes rest) front behind p order told =
         let there = stands_next p next in
         let names = same_behind front behind (name ∷ there.0) (sym order ∙ there.1) in
-        let parts = tell_parts truth (status_in link links a.world.links) es fs told in
-        let more = seeds_come (with_exchanges es a) truth_is name between result after fs rest
+        let parts = tell_parts (status_in link links a.world.links) es fs told in
+        let more = seeds_come (with_exchanges es a) name between result after fs rest
         (front ++ name ∷ []) there.0 (one_passed p next)
         (there.1 ∙ sym (append_assoc front (name ∷ []) there.0)) parts.1 in
         subst (λ n. Comes n (Here a dice) (with_exchanges (es ++ fs) (Here a after))
         (with_seed_first row result)) (sym names)
         (subst (λ new. Comes (name ∷ there.0) (Here a dice) new (with_seed_first row result))
         (around_more es fs (Here a after))
-        (first_made a truth_is name there.0 dice between es parts.0 row makes
+        (first_made a name there.0 dice between es parts.0 row makes
         (with_exchanges fs (with_exchanges es (Here a after))) result more))
 
 -- ---- publishing
 
-module _ {L D : Type 0} (truth : Truth) (link : L → Link) (left : D → Option (List ℕ))
+module _ {L D : Type 0} (link : L → Link) (left : D → Option (List ℕ))
     (count : D → ℕ) (rows : List ConfigEntry) (kept_rows : IsTrue (keeps rows)) (olds news : List L)
-    (old new : D) (a : Around) (distinct : AreDistinct link olds) (truth_is : a.truth ≡ truth)
+    (old new : D) (a : Around) (distinct : AreDistinct link olds)
     (asks : AskedOnly link (plugins_in rows) olds news) (later : count old ≤ count new)
-    (es : List Exchange) (told : TellAll truth (status_in link olds a.world.links) es) where
+    (es : List Exchange) (told : TellAll (status_in link olds a.world.links) es) where
   abbrev Before : Around
   Before = Seen link a olds (left old) (count old)
 
@@ -429,9 +422,9 @@ module _ {L D : Type 0} (truth : Truth) (link : L → Link) (left : D → Option
 
   come : (result : Result (List SeedRow) PublishNo)
       → MakesSeedsBy left count (plugins_in rows) [] old result new es
-      → Comes truth link left count olds (plugin_order rows) Before
+      → Comes link left count olds (plugin_order rows) Before
       (with_exchanges es (Seen link a olds (left new) (count new))) result
-  come result makes = seeds_come truth link left count olds rows a truth_is [] old result new es
+  come result makes = seeds_come link left count olds rows a [] old result new es
       makes [] (plugin_order rows) (none_passed rows kept_rows) refl told
 
   -- all plugins' seeds were made
@@ -450,7 +443,7 @@ module _ {L D : Type 0} (truth : Truth) (link : L → Link) (left : D → Option
       let r = come (Err why) makes h may l s in reach r.end r.goes (at_after r.end r.stays)
 
   ends_so : (why : PublishNo) (stop : Stop) → PublishesBy left count rows old (Err why) new es
-      → Publishes truth link left count rows olds old (Err why) news new
+      → Publishes link left count rows olds old (Err why) news new
       → IsPublishStop link news (count new) why stop → (l : Left) → Stays l Before
       → Ends (make_seeds (plugin_order rows)) l Before After (Err stop)
   ends_so (publishing.PluginFailed name) stop makes p h l s =
@@ -480,21 +473,21 @@ module _ {L D : Type 0} (truth : Truth) (link : L → Link) (left : D → Option
   -- a plugin ended it
   pub stopped : (why : PublishNo) (stop : Stop)
       → PublishesBy left count rows old (Err why) new es
-      → Publishes truth link left count rows olds old (Err why) news new
+      → Publishes link left count rows olds old (Err why) news new
       → IsPublishStop link news (count new) why stop
       → Does (make_seeds (plugin_order rows)) Before After (Err stop)
   stopped why stop makes p h =
       record { home = to_after; ends = λ l s. ends_so why stop makes p h l s }
 
 -- there is a link to the plugin that failed
-pub fails_named : {L D : Type 0} (truth : Truth) (link : L → Link) (left : D → Option (List ℕ))
+pub fails_named : {L D : Type 0} (link : L → Link) (left : D → Option (List ℕ))
     (count : D → ℕ) (rows : List ConfigEntry) (olds news : List L) (old new : D) (why : PublishNo)
-    → Publishes truth link left count rows olds old (Err why) news new
+    → Publishes link left count rows olds old (Err why) news new
     → NamesAFailure (names_of link news) why
-fails_named truth link left count rows olds news old new (publishing.PluginFailed name) p =
+fails_named link left count rows olds news old new (publishing.PluginFailed name) p =
     subst (Contains (names_of link news)) p.0.new_named
     (named_there link news p.0.new p.0.new_there)
-fails_named truth link left count rows olds news old new publishing.DiceFailed p = tt
-fails_named truth link left count rows olds news old new (publishing.Unhealthy name field text) p =
+fails_named link left count rows olds news old new publishing.DiceFailed p = tt
+fails_named link left count rows olds news old new (publishing.Unhealthy name field text) p =
     tt
-fails_named truth link left count rows olds news old new publishing.NoMemory p = tt
+fails_named link left count rows olds news old new publishing.NoMemory p = tt

@@ -36,7 +36,6 @@ module _ (object : Object) (name : List ℕ) (told : Option (List ℕ)) (count :
           input = same.input;
         };
         ends = λ left s. reach (with_asked (Settled name) left) (inr (refl, refl)) (record {
-          truth = s.truth;
           file = s.file;
           tapes = s.tapes;
           links = s.links;
@@ -106,3 +105,11 @@ pub returned_out : (name : List ℕ) (object : Object) (old new : Outside) (told
 returned_out name object old new told count (Ok m) (Ok x) (same, h) key = h.home.out key
 returned_out name object old new told count (Ok m) (Err stop) (later, rose, same, h) key = h.home.out key
 returned_out name object old new told count (Err why) result (same, h) key = h.home.out key
+
+-- and the links stay
+pub settled_links : (name : List ℕ) (object : Object) (old new : Outside)
+    (told : Option (List ℕ)) (count : ℕ) {A : Type 0} (made result : Result A Stop)
+    → ReturnsSettled name object old new told count made result → new.links ≡ old.links
+settled_links name object old new told count (Ok m) (Ok x) (same, h) = h.links
+settled_links name object old new told count (Ok m) (Err stop) (later, rose, same, h) = h.links
+settled_links name object old new told count (Err why) result (same, h) = h.links

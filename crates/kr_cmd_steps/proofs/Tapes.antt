@@ -141,7 +141,6 @@ lent name access absent {old} {out} {held} {count} h a = record {
         (refl, refl),
       ))))
       (record {
-        truth = s.truth;
         file = h.files.file ∙ s.file;
         tapes = told_with (makes access) held h.out h.tape ∙ ap (tapes_with (makes access) name) s.tapes;
         links = ap (λ o. o.told) h.links ∙ s.links;

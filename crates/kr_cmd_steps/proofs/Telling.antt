@@ -8,25 +8,23 @@ use Rattle.kr_base.specs.Walks.{Walk}
 use Rattle.kr_kms.specs.Calls.{Link}
 use Rattle.kr_kms.specs.Exchanges.{Exchange, KeepsLink, TellsAnswer, asked_name}
 use Rattle.kr_kms.specs.Outside.{Objects, same_link}
-use Rattle.kr_kms.specs.Truth.{Truth}
 use Rattle.kr_kms.specs.declared.plugin.Status.{Status}
 use Rattle.kr_provider.specs.AskedLinks.{Among}
 use Rattle.kr_provider.specs.Names.{AreDistinct, names_of}
 use Rattle.kr_cmd_steps.specs.inner.Lent.{lent_links}
 use Rattle.kr_cmd_steps.proofs.Links.{told_of}
 
--- each answer is the told status of its plugin, or what the truth says
-abbrev pub TellAll : Truth → (List ℕ → Option Status) → List Exchange → Type 0
-TellAll truth status [] = ⊤
-TellAll truth status (e ∷ es) =
-    TellsAnswer truth (status (asked_name e)) e × TellAll truth status es
+-- each status is the told one of its plugin, and what was wrapped is within the limits
+abbrev pub TellAll : (List ℕ → Option Status) → List Exchange → Type 0
+TellAll status [] = ⊤
+TellAll status (e ∷ es) = TellsAnswer (status (asked_name e)) e × TellAll status es
 
-pub tell_parts : (truth : Truth) (status : List ℕ → Option Status) (first others : List Exchange)
-    → TellAll truth status (first ++ others)
-    → TellAll truth status first × TellAll truth status others
-tell_parts truth status [] others t = (tt, t)
-tell_parts truth status (e ∷ first) others t =
-    let more = tell_parts truth status first others t.1 in ((t.0, more.0), more.1)
+pub tell_parts : (status : List ℕ → Option Status) (first others : List Exchange)
+    → TellAll status (first ++ others)
+    → TellAll status first × TellAll status others
+tell_parts status [] others t = (tt, t)
+tell_parts status (e ∷ first) others t =
+    let more = tell_parts status first others t.1 in ((t.0, more.0), more.1)
 
 -- the status that a plugin's link tells
 abbrev pub status_in : {L : Type 0} → (L → Link) → List L
@@ -49,11 +47,11 @@ module _ {L : Type 0} (link : L → Link) (old new : L) (named : (link new).name
       if same_link (0, (link first).name) key then (link first).status
       else told_kept objects front i key
 
-module _ {L : Type 0} (truth : Truth) (link : L → Link) (step : L → Exchange → L → Type 0)
+module _ {L : Type 0} (link : L → Link) (step : L → Exchange → L → Type 0)
     (keeps : (old : L) (e : Exchange) (new : L) → step old e new
     → KeepsLink (link old) e (link new))
     (tells : (old : L) (e : Exchange) (new : L) → step old e new
-    → TellsAnswer truth (link old).status e)
+    → TellsAnswer (link old).status e)
     (objects : Objects (ℕ × List ℕ) (Option Status)) where
   module _ (olds : List L) (e : Exchange) (news : List L) (a : Among step olds e news) where
     kept : KeepsLink (link a.old) e (link a.new)
@@ -76,20 +74,20 @@ module _ {L : Type 0} (truth : Truth) (link : L → Link) (step : L → Exchange
         ∙ ap of_links (sym a.olds_are)
 
     one_tells : AreDistinct link olds
-        → TellsAnswer truth (status_in link olds objects (asked_name e)) e
+        → TellsAnswer (status_in link olds objects (asked_name e)) e
     one_tells d =
         let there : Contains olds a.old = subst (λ l. Contains l a.old) (sym a.olds_are)
         (Contains-append_right a.front (a.old ∷ a.behind) a.old (0, omega arith, refl)) in
         let is : status_in link olds objects (asked_name e) ≡ (link a.old).status =
         ap (status_in link olds objects) kept.own ∙ told_of link 0 objects olds a.old d there in
-        subst (λ s. TellsAnswer truth s e) (sym is) (tells a.old e a.new a.steps)
+        subst (λ s. TellsAnswer s e) (sym is) (tells a.old e a.new a.steps)
 
   pub walk_tells : (olds : List L) (es : List Exchange) (news : List L) → AreDistinct link olds
-      → Walk (Among step) olds es news → TellAll truth (status_in link olds objects) es
+      → Walk (Among step) olds es news → TellAll (status_in link olds objects) es
   walk_tells olds [] news d w = tt
   walk_tells olds (e ∷ es) news d (mid, s, w) = (
     one_tells olds e mid s d,
-    subst (λ (status : List ℕ → Option Status). TellAll truth status es)
+    subst (λ (status : List ℕ → Option Status). TellAll status es)
         (still_told olds e mid s)
         (walk_tells mid es news (still_distinct olds e mid s d) w),
   )

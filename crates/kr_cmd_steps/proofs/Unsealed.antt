@@ -5,9 +5,9 @@ use Rattle.kr_config.specs.declared.who.Who.{Who}
 use Rattle.kr_config.specs.declared.who.Who.TheVariants.{Identity, Aescbc, Aesgcm, Kms}
 use Rattle.kr_envelope.specs.declared.object.EncryptedObject.{EncryptedObject}
 use Rattle.kr_envelope.specs.declared.object.ObjectNo.{ObjectNo}
-use Rattle.kr_kms.specs.Cache.{key_eq}
+use Rattle.kr_kms.specs.Cache.{CacheState, key_eq, seed_at}
 use Rattle.kr_kms.specs.Calls.{Link}
-use Rattle.kr_kms.specs.Truth.{Truth, key_of}
+use Rattle.kr_kms.specs.Opens.{key_of}
 use Rattle.kr_kms.specs.declared.seeds.SeedKey.{SeedKey}
 use Rattle.kr_kms.specs.declared.seeds.SeedRow.{SeedRow}
 use Rattle.kr_kms.proofs.Keys.{same_key}
@@ -20,8 +20,8 @@ use Rattle.kr_provider.specs.Unsealing.{IsSeedOf, MayAskPlugin, MayAskFor, Takes
 use Rattle.kr_provider.specs.declared.refusal.Opened.{Opened}
 use Rattle.kr_provider.specs.declared.refusal.UnsealNo.{UnsealNo}
 use Rattle.kr_provider.specs.declared.refusal.UnsealNo.TheVariants as unseal
-use Rattle.kr_cmd_steps.specs.ValueSteps.{opening, published_source, source_steps}
-use Rattle.kr_cmd_steps.specs.Steps.{Goes, Left, Point, Steps, unwrap}
+use Rattle.kr_cmd_steps.specs.ValueSteps.{fetching, opening, published_source, source_steps}
+use Rattle.kr_cmd_steps.specs.Steps.{Goes, Left, Point, Steps}
 
 pub one_key : (a b : SeedKey) → key_eq a b ≡ true → a ≡ b
 one_key a b t = (same_key a b).0 t
@@ -31,36 +31,40 @@ one_key a b t = (same_key a b).0 t
 abbrev pub envelope_of : Result EncryptedObject ObjectNo → Option (List ℕ) → Envelope
 envelope_of object source = record { object = object; source = source }
 
-module _ {A : Type 0} (read_so : Reading → Bool → Steps A) (seeds : List SeedRow)
-    (path bytes : List ℕ) (stale : Option (List ℕ) → Bool) (point : Point A) (l : Left) where
+module _ {A : Type 0} (read_so : Reading → Bool → CacheState → Steps A) (seeds : List SeedRow)
+    (path bytes : List ℕ) (stale : Option (List ℕ) → Bool) (kept : CacheState) (point : Point A)
+    (l : Left) where
   -- the value, once its source is there
-  abbrev With : Option Who → Result EncryptedObject ObjectNo → Option (List ℕ) → Steps A
-  With reader object source = read_so
-      (reader_reading (envelope_of object source) reader path bytes) (stale source)
+  abbrev With : Option Who → Result EncryptedObject ObjectNo → Option (List ℕ) → CacheState
+      → Steps A
+  With reader object source now = read_so
+      (reader_reading (envelope_of object source) reader path bytes) (stale source) now
 
   -- the steps come to the point, whatever the source is
   passes : (reader : Option Who) (object : Result EncryptedObject ObjectNo)
       (source : Option (List ℕ)) → stale None ≡ stale source
       → reader_reading (envelope_of object source) reader path bytes
       ≡ reader_reading (envelope_of object None) reader path bytes
-      → Goes point l (With reader object source) l → Goes point l (With reader object None) l
+      → Goes point l (With reader object source kept) l
+      → Goes point l (With reader object None kept) l
   passes reader object source same reads goes = subst (λ b. Goes point l
-      (read_so (reader_reading (envelope_of object None) reader path bytes) b) l) (sym same)
-      (subst (λ r. Goes point l (read_so r (stale source)) l) reads goes)
+      (read_so (reader_reading (envelope_of object None) reader path bytes) b kept) l) (sym same)
+      (subst (λ r. Goes point l (read_so r (stale source) kept) l) reads goes)
 
   module _ (name : List ℕ) (object : EncryptedObject) (source : Option (List ℕ))
-      (goes : Goes point l (With (Some (Kms name)) (Ok object) source) l) where
+      (goes : Goes point l (With (Some (Kms name)) (Ok object) source kept) l) where
     abbrev key : SeedKey
     key = seed_key name object
 
     at_source : (s : Option (List ℕ)) → source ≡ s
-        → Goes point l (With (Some (Kms name)) (Ok object) s) l
-    at_source s e = subst (λ t. Goes point l (With (Some (Kms name)) (Ok object) t) l) e goes
+        → Goes point l (With (Some (Kms name)) (Ok object) s kept) l
+    at_source s e =
+        subst (λ t. Goes point l (With (Some (Kms name)) (Ok object) t kept) l) e goes
 
     by_seed : (row : SeedRow) (q : Bool) → key_eq (key_of row) key ≡ q
         → (IsSeedOf row name object → source ≡ Some row.seed)
         → ((IsSeedOf row name object → ⊥) → ⊥)
-        → Goes point l (source_steps (if q then Some row.seed else None) key
+        → Goes point l (source_steps (if q then Some row.seed else None) kept key
         (With (Some (Kms name)) (Ok object))) l
     by_seed row true e takes own =
         at_source (Some row.seed) (takes (one_key (key_of row) key e))
@@ -72,7 +76,7 @@ module _ {A : Type 0} (read_so : Reading → Bool → Steps A) (seeds : List See
         → ((seed : SeedRow) → row ≡ Some seed → IsSeedOf seed name object
         → source ≡ Some seed.seed)
         → (((seed : SeedRow) → row ≡ Some seed → IsSeedOf seed name object → ⊥) → ⊥)
-        → Goes point l (source_steps (published_source row key) key
+        → Goes point l (source_steps (published_source row key) kept key
         (With (Some (Kms name)) (Ok object))) l
     by_row None takes own =
         absurd (own (λ seed is same. let none : None ≡ Some seed = is in cc))
@@ -86,8 +90,8 @@ module _ {A : Type 0} (read_so : Reading → Bool → Steps A) (seeds : List See
       (source : Option (List ℕ)) → TakesSeed seeds reader (envelope_of object source)
       → (MayAskPlugin seeds reader object → ⊥)
       → ((s : Option (List ℕ)) → stale s ≡ stale source)
-      → Goes point l (With reader object source) l
-      → Goes point l (opening seeds reader object (With reader object)) l
+      → Goes point l (With reader object source kept) l
+      → Goes point l (opening seeds reader object kept (With reader object)) l
   opens_unasked None object source takes own fresh goes =
       passes None object source (fresh None) refl goes
   opens_unasked (Some Identity) object source takes own fresh goes =
@@ -121,36 +125,37 @@ as_stale seeds list bytes object s t =
 
 -- ---- a value
 
--- a plugin is asked where the published seed is another
+-- the source is fetched where the published seed is another
 pub asks_plugin : {A : Type 0} (seeds : List SeedRow) (name : List ℕ) (object : EncryptedObject)
-    (next : Option (List ℕ) → Steps A) (point : Point A) (end l : Left)
-    → MayAskFor seeds name object
-    → Goes point end (unwrap 0 (seed_key name object) (λ source. next (Some source))) l
-    → Goes point end (opening seeds (Some (Kms name)) (Ok object) next) l
-asks_plugin {A} seeds name object next point end l asked goes = at (seed_of name seeds) asked
+    (kept : CacheState) (next : Option (List ℕ) → CacheState → Steps A) (point : Point A)
+    (end l : Left) → MayAskFor seeds name object
+    → Goes point end (fetching (seed_at kept.rows (seed_key name object)) kept
+    (seed_key name object) next) l
+    → Goes point end (opening seeds (Some (Kms name)) (Ok object) kept next) l
+asks_plugin {A} seeds name object kept next point end l asked goes = at (seed_of name seeds) asked
   where
     key : SeedKey
     key = seed_key name object
 
     by_test : (row : SeedRow) (q : Bool) → key_eq (key_of row) key ≡ q
         → (IsSeedOf row name object → ⊥)
-        → Goes point end (source_steps (if q then Some row.seed else None) key next) l
+        → Goes point end (source_steps (if q then Some row.seed else None) kept key next) l
     by_test row true e other = absurd (other (one_key (key_of row) key e))
     by_test row false e other = goes
 
     at : (row : Option SeedRow)
         → ((seed : SeedRow) → row ≡ Some seed → IsSeedOf seed name object → ⊥)
-        → Goes point end (source_steps (published_source row key) key next) l
+        → Goes point end (source_steps (published_source row key) kept key next) l
     at None other = goes
     at (Some row) other = by_test row (key_eq (key_of row) key) refl (λ same. other row refl same)
 
 -- links that a value's reading asks
-pub asks_reader : {L : Type 0} (truth : Truth) (link : L → Link) (seeds : List SeedRow)
+pub asks_reader : {L : Type 0} (link : L → Link) (seeds : List SeedRow)
     (list : List Who) (path bytes : List ℕ) (olds news : List L) (result : Result Opened UnsealNo)
-    → UnsealsBy truth link seeds list path bytes olds result news
+    → UnsealsBy link seeds list path bytes olds result news
     → AskedOnly link (plugin_reading (reader_in list bytes)) olds news
-asks_reader truth link seeds list path bytes olds news (Ok opened) u = u.asked
-asks_reader truth link seeds list path bytes olds news (Err (unseal.Refused why)) u = u.asked
-asks_reader truth link seeds list path bytes olds news (Err (unseal.PluginFailed name)) u =
+asks_reader link seeds list path bytes olds news (Ok opened) u = u.asked
+asks_reader link seeds list path bytes olds news (Err (unseal.Refused why)) u = u.asked
+asks_reader link seeds list path bytes olds news (Err (unseal.PluginFailed name)) u =
     subst (λ r. AskedOnly link (plugin_reading r) olds news) (sym u.reader) u.others
-asks_reader truth link seeds list path bytes olds news (Err unseal.NoMemory) u = u.asked
+asks_reader link seeds list path bytes olds news (Err unseal.NoMemory) u = u.asked

@@ -9,10 +9,9 @@ use Rattle.kr_config.specs.declared.who.Who.{Who}
 use Rattle.kr_config.specs.declared.who.Who.TheVariants.{Identity, Aescbc, Aesgcm, Kms}
 use Rattle.kr_envelope.specs.Prefixes.{is_marked}
 use Rattle.kr_kms.specs.Calls.{Link}
-use Rattle.kr_kms.specs.Cache.{AreOpen, CacheState, FetchesBy, GivesSeed}
+use Rattle.kr_kms.specs.Cache.{CacheState, FetchesBy, GivesSeed, KeepsAnswer, seed_at, with_used}
 use Rattle.kr_kms.specs.Cache as fetch
 use Rattle.kr_kms.specs.Exchanges.{Exchange, UnwrapCall}
-use Rattle.kr_kms.specs.Truth.{Truth, TellsOf}
 use Rattle.kr_kms.specs.declared.plugin.KmsNo.{KmsNo}
 use Rattle.kr_kms.specs.declared.plugin.KmsNo.TheVariants as kms
 use Rattle.kr_kms.specs.declared.seeds.SeedKey.{SeedKey}
@@ -23,7 +22,7 @@ use Rattle.kr_provider.specs.Envelopes.{Envelope, HasObject, IsObjectOf, seed_ke
 use Rattle.kr_provider.specs.Exchanges.{AnswersByFetch, LacksSource, ReadsBy, fetched, no_memory, unasked}
 use Rattle.kr_provider.specs.Names.{AreDistinct}
 use Rattle.kr_provider.specs.Readers.{reader_in}
-use Rattle.kr_provider.specs.Reading.{Unseals, data_of, is_stale}
+use Rattle.kr_provider.specs.Reading.{Reading, Unseals, data_of, is_stale}
 use Rattle.kr_provider.specs.Sealing.{draw_size, sealed_by, Seals}
 use Rattle.kr_provider.specs.Unsealing.{MayAskPlugin, MayAskFor, TakesSeed, UnsealsBy, plugin_reading}
 use Rattle.kr_provider.specs.declared.refusal.Opened.{Opened}
@@ -33,20 +32,17 @@ use Rattle.kr_provider.specs.declared.refusal.UnsealNo.{UnsealNo}
 use Rattle.kr_provider.specs.declared.refusal.UnsealNo.TheVariants as unseal
 use Rattle.kr_provider.specs.declared.refusal.ValueNo.{ValueNo}
 use Rattle.kr_cmd_steps.specs.Around.{Around, Ends, Reaches, Stays, with_exchanges}
-use Rattle.kr_cmd_steps.specs.ValueSteps.{draw_some, opening, reading_given, value_read, value_sealed, value_with}
+use Rattle.kr_cmd_steps.specs.ValueSteps.{draw_some, fetching, opening, reading_given, value_read, value_sealed, value_with}
 use Rattle.kr_cmd_steps.specs.Phases.{with_memory}
-use Rattle.kr_cmd_steps.specs.Steps.{Goes, Left, Point, Steps, WasUnwrapped, amid, asking, awaits, drawing, give, gives, hearing, unwrap, with_dice, with_heard}
-use Rattle.kr_cmd_steps.specs.inner.KeptSeeds.{AreHeard}
+use Rattle.kr_cmd_steps.specs.Steps.{Goes, Left, Point, Steps, amid, and_then, asking, awaits, drawing, give, gives, hearing, with_dice, with_heard}
 use Rattle.kr_cmd_steps.specs.inner.Phases.{Does}
 use Rattle.kr_cmd_messages.specs.declared.refusal.Object.TheVariants.{Dice, Plugin}
 use Rattle.kr_cmd_messages.specs.declared.refusal.Stop.{Stop}
 use Rattle.kr_cmd_messages.specs.declared.refusal.Stop.TheVariants.{Fault, NoMemory}
-use Rattle.kr_kms.proofs.Fetching.{found_there}
 use Rattle.kr_provider.proofs.AskedLists.{asked_none}
 use Rattle.kr_cmd_steps.proofs.Frames.{Seen, drawn, home, keeps_none, kept, plugin_fault}
 use Rattle.kr_cmd_steps.proofs.Goes.{consumes_by, reach}
 use Rattle.kr_cmd_steps.proofs.Hearing.{heard_none, home_heard, stays_heard}
-use Rattle.kr_cmd_steps.proofs.Telling.{TellAll, status_in}
 use Rattle.kr_cmd_steps.proofs.Unsealed.{as_stale, asks_plugin, asks_reader, opens_unasked}
 
 -- ---- what is simple
@@ -76,29 +72,33 @@ IsValueEnd link links (Err (unseal.PluginFailed name)) made =
     HasLinkWith link name (λ l. made ≡ Err (Fault (Plugin name) l.count)) links
 IsValueEnd link links (Err unseal.NoMemory) made = made ≡ Err NoMemory
 
-module _ {L : Type 0} (truth : Truth) (link : L → Link) (seeds : List SeedRow) (list : List Who)
+-- what was read, and what is kept then
+abbrev pub keeping : {A : Type 0} → CacheState → Result A Stop → Result (A × CacheState) Stop
+keeping kept (Ok x) = Ok (x, kept)
+keeping kept (Err stop) = Err stop
+
+module _ {L : Type 0} (link : L → Link) (seeds : List SeedRow) (list : List Who)
     (path bytes : List ℕ) (olds news : List L) (distinct : AreDistinct link olds)
-    (dice : Option (List ℕ)) (count : ℕ) (a : Around) (truth_is : a.truth ≡ truth)
-    (cache : CacheState) (open_kept : AreOpen truth cache.rows)
-    (heard_kept : AreHeard cache.rows a.heard) where
+    (dice : Option (List ℕ)) (count : ℕ) (a : Around) (cache : CacheState) where
   abbrev Before : Around
   Before = Seen link a olds dice count
 
   abbrev After : List Exchange → Around
   After es = with_exchanges es (Seen link a news dice count)
 
-  abbrev Value : Steps (Result Opened ValueNo)
-  Value = value_read seeds list path bytes
-
-  abbrev Told : List Exchange → Type 0
-  Told es = TellAll truth (status_in link olds a.world.links) es
+  abbrev Value : Steps (Result Opened ValueNo × CacheState)
+  Value = value_read seeds list path bytes cache
 
   -- what the steps come to by an envelope, once its source is there
   abbrev Settles : Envelope → Result (Result Opened ValueNo) Stop → Type 0
   Settles envelope made = ((x : Result Opened ValueNo) × (made ≡ Ok x)
-      × ((l : Left) → Goes (gives x) l (value_with seeds list path bytes envelope.object
-      envelope.source) l))
+      × ((l : Left) (kept : CacheState) → Goes (gives (x, kept)) l
+      (value_with seeds list path bytes envelope.object envelope.source kept) l))
       ⊎ (made ≡ Err NoMemory)
+
+  abbrev Given : Envelope → CacheState → Left → Result Opened ValueNo → Reading → Bool → Type 0
+  Given envelope now l x r stale = Goes {A = Result Opened ValueNo × CacheState} (gives (x, now)) l
+      (and_then (reading_given r stale) (λ (read : Result Opened ValueNo). give (read, now))) l
 
   settles : (envelope : Envelope) (result : Result Opened UnsealNo)
       (made : Result (Result Opened ValueNo) Stop)
@@ -107,16 +107,16 @@ module _ {L : Type 0} (truth : Truth) (link : L → Link) (seeds : List SeedRow)
   settles envelope (Ok opened) made u e = inl (
     Ok opened,
     e,
-    λ l. subst (λ r. Goes (gives (Ok opened)) l
-        (reading_given r (is_stale envelope seeds list bytes)) l) (sym u.0)
-        (subst (λ b. Goes (gives (Ok opened)) l (reading_given (data_of opened.plain) b) l) u.1
+    λ l kept. subst (λ r. Given envelope kept l (Ok opened) r
+        (is_stale envelope seeds list bytes)) (sym u.0)
+        (subst (λ b. Given envelope kept l (Ok opened) (data_of opened.plain) b) u.1
         (refl, refl)),
   )
   settles envelope (Err (unseal.Refused why)) made u e = inl (
     Err why,
     e,
-    λ l. subst (λ r. Goes (gives (Err why)) l
-        (reading_given r (is_stale envelope seeds list bytes)) l) (sym u) (refl, refl),
+    λ l kept. subst (λ r. Given envelope kept l (Err why) r
+        (is_stale envelope seeds list bytes)) (sym u) (refl, refl),
   )
   settles envelope (Err (unseal.PluginFailed name)) made u e = absurd u
   settles envelope (Err unseal.NoMemory) made u e = inr e
@@ -126,7 +126,8 @@ module _ {L : Type 0} (truth : Truth) (link : L → Link) (seeds : List SeedRow)
       (names : List (List ℕ)) (asked : AskedOnly link names olds news)
       (fails : (name : List ℕ) → result ≡ Err (unseal.PluginFailed name)
       → FaultRose link name olds news)
-      (e : IsValueEnd link news result made) (l : Left) (s : Stays l Before) where
+      (e : IsValueEnd link news result made) (after : CacheState) (l : Left)
+      (s : Stays l Before) where
     stay : Stays l (Seen link a news dice count)
     stay = kept link a names olds news asked dice dice count count (Keeps-refl dice) l s
 
@@ -138,32 +139,39 @@ module _ {L : Type 0} (truth : Truth) (link : L → Link) (seeds : List SeedRow)
         stays_heard {left = l} (exchange ∷ []) (hearing (exchange ∷ []) l.heard) refl stay
 
     abbrev Ended : List Exchange → Type 0
-    Ended es = Ends Value l Before (After es) made
+    Ended es = Ends Value l Before (After es) (keeping after made)
+
+    ended_so : (es : List Exchange) (m : Result (Result Opened ValueNo) Stop) → made ≡ m
+        → Ends Value l Before (After es) (keeping after m) → Ended es
+    ended_so es m is ends = subst (λ m. Ends Value l Before (After es) (keeping after m)) (sym is) ends
 
     forgot : (es : List Exchange) → result ≡ Err unseal.NoMemory
         → Reaches Value l (After es) amid → Ended es
-    forgot es is r = subst (λ m. Ends Value l Before (After es) m)
-        (sym (subst (λ q. IsValueEnd link news q made) is e)) (inr r)
+    forgot es is r =
+        ended_so es (Err NoMemory) (subst (λ q. IsValueEnd link news q made) is e) (inr r)
 
     -- the value was read without a plugin
     unasked_ends : (envelope : Envelope)
         → HasObject (reader_in list bytes) bytes envelope.object
         → TakesSeed seeds (reader_in list bytes) envelope
-        → (MayAskPlugin seeds (reader_in list bytes) envelope.object → ⊥) → Settles envelope made
-        → Ended []
-    unasked_ends envelope has takes own (inl (x, is, goes)) =
+        → (MayAskPlugin seeds (reader_in list bytes) envelope.object → ⊥) → after ≡ cache
+        → Settles envelope made → Ended []
+    unasked_ends envelope has takes own same (inl (x, is, goes)) =
         let stale : Option (List ℕ) → Bool = λ source.
         is_stale (record { object = envelope.object; source = source }) seeds list bytes in
-        subst (λ m. Ends Value l Before (After []) m) (sym is)
-        (reach l (inr (
+        ended_so [] (Ok x) is (reach l (inr (
           envelope.object,
           has,
-          opens_unasked reading_given seeds path bytes stale (gives x) l (reader_in list bytes)
-              envelope.object envelope.source takes own
-              (λ q. as_stale seeds list bytes envelope.object q envelope.source) (goes l),
+          subst (λ c. Goes (gives (x, c)) l (opening seeds (reader_in list bytes) envelope.object
+              cache (value_with seeds list path bytes envelope.object)) l) (sym same)
+              (opens_unasked (λ r b c. and_then (reading_given r b)
+              (λ (read : Result Opened ValueNo). give (read, c))) seeds path bytes stale cache
+              (gives (x, cache)) l (reader_in list bytes) envelope.object envelope.source takes
+              own (λ q. as_stale seeds list bytes envelope.object q envelope.source)
+              (goes l cache)),
         )) unheard)
-    unasked_ends envelope has takes own (inr is) = subst (λ m. Ends Value l Before (After []) m)
-        (sym is) (inr (reach l (inl (refl, refl)) unheard))
+    unasked_ends envelope has takes own same (inr is) =
+        ended_so [] (Err NoMemory) is (inr (reach l (inl (refl, refl)) unheard))
 
     -- ---- a plugin reads it, and may be asked for its source
 
@@ -172,143 +180,137 @@ module _ {L : Type 0} (truth : Truth) (link : L → Link) (seeds : List SeedRow)
       abbrev key : SeedKey
       key = seed_key name object
 
-      abbrev With : List ℕ → Steps (Result Opened ValueNo)
-      With source = value_with seeds list path bytes (Ok object) (Some source)
+      abbrev With : Option (List ℕ) → CacheState → Steps (Result Opened ValueNo × CacheState)
+      With = value_with seeds list path bytes (Ok object)
 
       -- the steps come to where the source's own do
-      by_source : (es : List Exchange) (point : Point (Result Opened ValueNo)) (end : Left)
-          → Goes point end (unwrap 0 key With) l → Stays end (After es)
+      by_source : (es : List Exchange) (seed : Option (List ℕ)) (point : Point (Result Opened ValueNo × CacheState)) (end : Left)
+          → seed_at cache.rows key ≡ seed
+          → Goes point end (fetching seed cache key With) l → Stays end (After es)
           → Reaches Value l (After es) point
-      by_source es point end goes stays = reach end (inr (
+      by_source es seed point end found goes stays = reach end (inr (
         Ok object,
         subst (λ r. HasObject r bytes (Ok object)) (sym reader) has,
-        subst (λ r. Goes point end (opening seeds r (Ok object)
-            (value_with seeds list path bytes (Ok object))) l) (sym reader)
-            (asks_plugin seeds name object (value_with seeds list path bytes (Ok object)) point
-            end l may goes),
+        subst (λ r. Goes point end (opening seeds r (Ok object) cache With) l) (sym reader)
+            (asks_plugin seeds name object cache With point end l may
+            (subst (λ f. Goes point end (fetching f cache key With) l) (sym found) goes)),
       )) stays
-
-      tells : (source : List ℕ) → TellsOf truth key source → TellsOf l.truth key source
-      tells source h =
-          subst (λ (t : Truth). TellsOf t key source) (sym truth_is ∙ s.truth) h
 
       abbrev Sourced : List ℕ → Envelope
       Sourced source = record { object = Ok object; source = Some source }
 
       -- it is kept
-      kept_ends : (source : List ℕ) → Contains cache.rows (key, source)
-          → Settles (Sourced source) made → Ended []
-      kept_ends source there (inl (x, is, goes)) =
-          subst (λ m. Ends Value l Before (After []) m) (sym is)
-          (by_source [] (gives x) l (inr (inr (inr (
-            source,
-            tells source (open_kept key source there),
-            inl (
-              subst (WasUnwrapped key source) s.heard (heard_kept key source there),
-              goes l,
-            ),
-          )))) unheard)
-      kept_ends source there (inr is) = subst (λ m. Ends Value l Before (After []) m) (sym is)
-          (inr (by_source [] amid l (inl (refl, refl)) unheard))
+      kept_ends : (source : List ℕ) → seed_at cache.rows key ≡ Some source
+          → after ≡ with_used cache key → Settles (Sourced source) made → Ended []
+      kept_ends source found same (inl (x, is, goes)) = ended_so [] (Ok x) is
+          (subst (λ c. Reaches Value l (After []) (gives (x, c))) (sym same)
+          (by_source [] (Some source) (gives (x, with_used cache key)) l found
+          (goes l (with_used cache key)) unheard))
+      kept_ends source found same (inr is) =
+          ended_so [] (Err NoMemory) is (inr (reach l (inl (refl, refl)) unheard))
 
       -- it was unwrapped
-      asked_ends : (source : List ℕ) → TellsOf truth key source → Settles (Sourced source) made
+      asked_ends : (source : List ℕ) → seed_at cache.rows key ≡ None
+          → KeepsAnswer cache key (Ok source) after → Settles (Sourced source) made
           → Ended (UnwrapCall key (Ok source) ∷ [])
-      asked_ends source told (inl (x, is, goes)) =
+      asked_ends source found keeps (inl (x, is, goes)) =
           let exchange : Exchange = UnwrapCall key (Ok source) in
-          subst (λ m. Ends Value l Before (After (exchange ∷ [])) m) (sym is)
-          (by_source (exchange ∷ []) (gives x) (with_heard exchange l)
-          (inr (inr (inr (source, tells source told, inr (goes (with_heard exchange l))))))
+          ended_so (exchange ∷ []) (Ok x) is
+          (by_source (exchange ∷ []) None (gives (x, after)) (with_heard exchange l) found
+          (inr (inr (inr (
+            source,
+            inr (after, keeps, goes (with_heard exchange l) after),
+          ))))
           (heard exchange))
-      asked_ends source told (inr is) =
+      asked_ends source found keeps (inr is) =
           let exchange : Exchange = UnwrapCall key (Ok source) in
-          subst (λ m. Ends Value l Before (After (exchange ∷ [])) m) (sym is)
-          (inr (by_source (exchange ∷ []) amid (with_heard exchange l)
+          ended_so (exchange ∷ []) (Err NoMemory) is
+          (inr (by_source (exchange ∷ []) None amid (with_heard exchange l) found
           (inr (inl (Ok source, (refl, refl)))) (heard exchange)))
 
       -- or wasn't
-      lacking_ends : (why : KmsNo) → LacksSource name why result
+      lacking_ends : (why : KmsNo) → seed_at cache.rows key ≡ None → LacksSource name why result
           → Ended (UnwrapCall key (Err why) ∷ [])
-      lacking_ends kms.Failed is =
+      lacking_ends kms.Failed found is =
           let exchange : Exchange = UnwrapCall key (Err kms.Failed) in
           let h = subst (λ q. IsValueEnd link news q made) is e in
-          subst (λ m. Ends Value l Before (After (exchange ∷ [])) m) (sym h.has) (
+          ended_so (exchange ∷ []) (Err (Fault (Plugin name) (link h.it).count)) h.has (
             asking 0 name,
-            by_source (exchange ∷ []) (awaits (asking 0 name)) (with_heard exchange l)
+            by_source (exchange ∷ []) None (awaits (asking 0 name)) (with_heard exchange l) found
                 (inr (inr (inl (refl, refl)))) (heard exchange),
             plugin_fault link a names olds news asked dice dice count count name distinct
                 (fails name is) h.it h.there h.named,
           )
-      lacking_ends kms.NoMemory is =
+      lacking_ends kms.NoMemory found is =
           let exchange : Exchange = UnwrapCall key (Err kms.NoMemory) in
-          forgot (exchange ∷ []) is (by_source (exchange ∷ []) amid (with_heard exchange l)
-          (inr (inl (Err kms.NoMemory, (refl, refl)))) (heard exchange))
+          forgot (exchange ∷ []) is (by_source (exchange ∷ []) None amid (with_heard exchange l)
+          found (inr (inl (Err kms.NoMemory, (refl, refl)))) (heard exchange))
 
-      answered_ends : (source : Result (List ℕ) KmsNo)
+      answered_ends : (source : Result (List ℕ) KmsNo) → seed_at cache.rows key ≡ None
+          → KeepsAnswer cache key source after
           → AnswersByFetch seeds list path bytes name object source result
-          → Told (UnwrapCall key source ∷ []) → Ended (UnwrapCall key source ∷ [])
-      answered_ends (Ok source) answers told =
-          asked_ends source told.0 (settles (Sourced source) result made answers e)
-      answered_ends (Err why) answers told = lacking_ends why answers
+          → Ended (UnwrapCall key source ∷ [])
+      answered_ends (Ok source) found keeps answers =
+          asked_ends source found keeps (settles (Sourced source) result made answers e)
+      answered_ends (Err why) found keeps answers = lacking_ends why found answers
 
       given_ends : (seed : List ℕ) (source : Result (List ℕ) KmsNo)
-          → Contains cache.rows (key, seed) → GivesSeed seed source
+          → seed_at cache.rows key ≡ Some seed → GivesSeed seed source
+          → after ≡ with_used cache key
           → AnswersByFetch seeds list path bytes name object source result → Ended []
-      given_ends seed (Ok source) there gives_it answers =
-          kept_ends source (subst (λ b. Contains cache.rows (key, b)) (sym gives_it) there)
+      given_ends seed (Ok source) found gives_it same answers =
+          kept_ends source (found ∙ ap (λ b. Some b) (sym gives_it)) same
           (settles (Sourced source) result made answers e)
-      given_ends seed (Err kms.Failed) there gives_it answers = absurd gives_it
-      given_ends seed (Err kms.NoMemory) there gives_it answers =
-          forgot [] answers (by_source [] amid l (inl (refl, refl)) unheard)
+      given_ends seed (Err kms.Failed) found gives_it same answers = absurd gives_it
+      given_ends seed (Err kms.NoMemory) found gives_it same answers =
+          forgot [] answers (reach l (inl (refl, refl)) unheard)
 
       no_room_ends : (source : Result (List ℕ) KmsNo) → source ≡ Err kms.NoMemory
           → AnswersByFetch seeds list path bytes name object source result → Ended []
       no_room_ends source is answers = forgot []
           (subst (λ q. AnswersByFetch seeds list path bytes name object q result) is answers)
-          (by_source [] amid l (inl (refl, refl)) unheard)
+          (reach l (inl (refl, refl)) unheard)
 
-      fetched_ends : (source : Result (List ℕ) KmsNo) (after : CacheState) (es : List Exchange)
+      fetched_ends : (source : Result (List ℕ) KmsNo) (es : List Exchange)
           → FetchesBy key cache source after es
-          → AnswersByFetch seeds list path bytes name object source result → Told es → Ended es
-      fetched_ends source after _ (fetch.kept seed found gives_it same) answers told =
-          given_ends seed source (found_there cache.rows key seed found) gives_it answers
-      fetched_ends source after _ (fetch.no_memory is same) answers told =
-          no_room_ends source is answers
-      fetched_ends source after _ (fetch.unwrapped none keeps) answers told =
-          answered_ends source answers told
+          → AnswersByFetch seeds list path bytes name object source result → Ended es
+      fetched_ends source _ (fetch.kept seed found gives_it same) answers =
+          given_ends seed source found gives_it same answers
+      fetched_ends source _ (fetch.no_memory is same) answers = no_room_ends source is answers
+      fetched_ends source _ (fetch.unwrapped none keeps) answers =
+          answered_ends source none keeps answers
 
-    value_ends : (after : CacheState) (es : List Exchange)
-        → ReadsBy seeds list path bytes cache result after es → Told es → Ended es
-    value_ends after _ (no_memory is same) told =
-        forgot [] is (reach l (inl (refl, refl)) unheard)
-    value_ends after _ (unasked envelope has takes none own reads same) told =
-        unasked_ends envelope has takes own (settles envelope result made reads e)
-    value_ends after es (fetched name object source reader has may fetches answers) told =
-        fetched_ends name object reader has may source after es fetches answers told
+    value_ends : (es : List Exchange) → ReadsBy seeds list path bytes cache result after es
+        → Ended es
+    value_ends _ (no_memory is same) = forgot [] is (reach l (inl (refl, refl)) unheard)
+    value_ends _ (unasked envelope has takes none own reads same) =
+        unasked_ends envelope has takes own same (settles envelope result made reads e)
+    value_ends es (fetched name object source reader has may fetches answers) =
+        fetched_ends name object reader has may source es fetches answers
 
   pub value_goes : (result : Result Opened UnsealNo) (made : Result (Result Opened ValueNo) Stop)
       (names : List (List ℕ)) → AskedOnly link names olds news
       → ((name : List ℕ) → result ≡ Err (unseal.PluginFailed name)
       → FaultRose link name olds news)
       → IsValueEnd link news result made → (after : CacheState) (es : List Exchange)
-      → ReadsBy seeds list path bytes cache result after es → Told es
-      → Does Value Before (After es) made
-  value_goes result made names asked fails e after es reads told = record {
+      → ReadsBy seeds list path bytes cache result after es
+      → Does Value Before (After es) (keeping after made)
+  value_goes result made names asked fails e after es reads = record {
     home = home_heard es (home link a names olds news asked dice dice count count (omega arith));
-    ends = λ l s. value_ends result made names asked fails e l s after es reads told;
+    ends = λ l s. value_ends result made names asked fails e after l s es reads;
   }
 
   -- by what is said of the links
   pub value_does : (result : Result Opened UnsealNo) (made : Result (Result Opened ValueNo) Stop)
-      → UnsealsBy truth link seeds list path bytes olds result news
+      → UnsealsBy link seeds list path bytes olds result news
       → IsValueEnd link news result made → (after : CacheState) (es : List Exchange)
-      → ReadsBy seeds list path bytes cache result after es → Told es
-      → Does Value Before (After es) made
-  value_does result made u e after es reads told =
+      → ReadsBy seeds list path bytes cache result after es
+      → Does Value Before (After es) (keeping after made)
+  value_does result made u e after es reads =
       value_goes result made (plugin_reading (reader_in list bytes))
-      (asks_reader truth link seeds list path bytes olds news result u)
-      (λ name is. (subst (λ q. UnsealsBy truth link seeds list path bytes olds q news) is u).rose)
-      e after es reads told
+      (asks_reader link seeds list path bytes olds news result u)
+      (λ name is. (subst (λ q. UnsealsBy link seeds list path bytes olds q news) is u).rose)
+      e after es reads
 
 -- ---- data that a bench sealed, within their limit
 

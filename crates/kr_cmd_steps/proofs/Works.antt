@@ -1,6 +1,6 @@
 -- How the steps of a bench end, by what it made of the bytes.
 use Rattle.std.proofs.Common.{◌≡◌, ℕ, ◌≤◌, List, length, Option, None, Some, Result, Ok, Err, refl, sym, ◌∙◌, ap, subst, inl, inr, arith, Contains}
-use Rattle.std.specs.Prelude.{IfOk, IfSome, IsSome, []}
+use Rattle.std.specs.Prelude.{IfOk, IfSome, IsSome}
 use Rattle.kr_base.specs.Limits.{data_limit, value_limit}
 use Rattle.kr_config.specs.declared.who.Who.{Who}
 use Rattle.kr_kms.specs.Calls.{Link}
@@ -14,13 +14,11 @@ use Rattle.kr_provider.specs.declared.refusal.ValueNo.TheVariants.{LooksEncrypte
 use Rattle.kr_provider.proofs.AskedLists.{names_stay}
 use Rattle.kr_cmd_steps.specs.Around.{Around, with_exchanges}
 use Rattle.kr_cmd_steps.specs.Phases.{silently, with_memory, input_limit}
-use Rattle.kr_cmd_steps.specs.ValueSteps.{value_steps, sealing, working_by, freshness, unsealing, value_read, value_sealed, data_steps}
+use Rattle.kr_cmd_steps.specs.ValueSteps.{none_kept, value_steps, sealing, working_by, freshness, unsealing, value_read, value_sealed, data_steps}
 use Rattle.kr_cmd_messages.specs.declared.command.Direction.{Direction}
 use Rattle.kr_cmd_messages.specs.declared.command.Direction.TheVariants.{Encrypt, Decrypt}
 use Rattle.kr_cmd_steps.specs.Steps.{Steps, refuse}
-use Rattle.kr_cmd_steps.specs.inner.KeptSeeds.{AreHeard}
 use Rattle.kr_cmd_steps.specs.inner.Phases.{Does}
-use Rattle.kr_cmd_steps.proofs.Telling.{TellAll, status_in}
 use Rattle.kr_cmd_steps.specs.inner.Plugins.{seal_outcome, IsUnsealEnd, NamesAnUnread}
 use Rattle.kr_cmd_messages.specs.declared.refusal.Outcome.{Outcome}
 use Rattle.kr_cmd_messages.specs.declared.refusal.Refusal.TheVariants.{Value}
@@ -28,10 +26,8 @@ use Rattle.kr_cmd_messages.specs.declared.refusal.Stop.{Stop}
 use Rattle.kr_cmd_messages.specs.declared.refusal.Stop.TheVariants.{NoMemory, Fault, Refused}
 use Rattle.kr_cmd_steps.proofs.Frames.{Seen}
 use Rattle.kr_cmd_steps.proofs.Goes.{home_refl, reach, goes_on, given, stops}
-use Rattle.kr_kms.specs.Cache.{AreOpen, CacheState}
+use Rattle.kr_kms.specs.Cache.{CacheState}
 use Rattle.kr_kms.specs.Exchanges.{Exchange}
-use Rattle.kr_kms.specs.Truth.{Truth}
-use Rattle.kr_kms.specs.declared.seeds.SeedKey.{SeedKey}
 use Rattle.kr_provider.specs.Exchanges.{ReadsBy}
 use Rattle.kr_provider.specs.Names.{AreDistinct, names_of}
 use Rattle.kr_provider.specs.Unsealing.{UnsealsBy, plugin_reading}
@@ -43,7 +39,7 @@ use Rattle.kr_provider.specs.declared.refusal.ValueNo.{ValueNo}
 use Rattle.kr_cmd_messages.specs.declared.refusal.Object.TheVariants.{Dice, Plugin}
 use Rattle.kr_cmd_steps.proofs.Unsealed.{asks_reader}
 use Rattle.kr_cmd_messages.specs.declared.refusal.Refusal.{Refusal}
-use Rattle.kr_cmd_steps.proofs.ValueRead.{IsValueEnd, Rises, sealed_does, sealed_end, value_does}
+use Rattle.kr_cmd_steps.proofs.ValueRead.{IsValueEnd, Rises, keeping, sealed_does, sealed_end, value_does}
 
 -- memory lacked before anything was done
 pub lacks : {A : Type 0} (next : Steps A) (a : Around) → Does (with_memory next) a a (Err NoMemory)
@@ -129,72 +125,71 @@ sealed_size faults (Err seal.NoMemory) s = tt
 
 -- ---- what a bench read
 
-module _ {L : Type 0} (truth : Truth) (link : L → Link) (seeds : List SeedRow) (list : List Who)
+module _ {L : Type 0} (link : L → Link) (seeds : List SeedRow) (list : List Who)
     (path bytes : List ℕ) (olds news : List L) (distinct : AreDistinct link olds)
-    (dice : Option (List ℕ)) (count : ℕ) (a : Around) (truth_is : a.truth ≡ truth)
-    (cache after : CacheState) (open_kept : AreOpen truth cache.rows)
-    (heard_kept : AreHeard cache.rows a.heard) (es : List Exchange)
-    (told : TellAll truth (status_in link olds a.world.links) es) where
-  abbrev ValueSteps : Steps (Result Opened ValueNo)
-  ValueSteps = value_read seeds list path bytes
+    (dice : Option (List ℕ)) (count : ℕ) (a : Around) (after : CacheState) (es : List Exchange)
+  where
+    abbrev ValueSteps : Steps (Result Opened ValueNo × CacheState)
+    ValueSteps = value_read seeds list path bytes none_kept
 
-  abbrev Before : Around
-  Before = Seen link a olds dice count
+    -- what the steps make of what was read
+    abbrev Told : Result Opened ValueNo × CacheState → Steps Outcome
+    Told read = data_steps read.0
 
-  abbrev After : Around
-  After = with_exchanges es (Seen link a news dice count)
+    abbrev Before : Around
+    Before = Seen link a olds dice count
 
-  abbrev ReadsMessage : Result Opened UnsealNo → Type 0
-  ReadsMessage result = UnsealsBy truth link seeds list path bytes olds result news
-      × ReadsBy seeds list path bytes cache result after es
+    abbrev After : Around
+    After = with_exchanges es (Seen link a news dice count)
 
-  reads : (result : Result Opened UnsealNo) (made : Result (Result Opened ValueNo) Stop)
-      → ReadsMessage result → IsValueEnd link news result made → Does ValueSteps Before After made
-  reads result made u e = value_does truth link seeds list path bytes olds news distinct dice count
-      a truth_is cache open_kept heard_kept result made u.0 e after es u.1 told
+    abbrev ReadsMessage : Result Opened UnsealNo → Type 0
+    ReadsMessage result = UnsealsBy link seeds list path bytes olds result news
+        × ReadsBy seeds list path bytes none_kept result after es
 
-  unseals : (result : Result Opened UnsealNo) (made : Result Outcome Stop) → ReadsMessage result
-      → IsUnsealEnd link news result made
-      → Does (unsealing seeds list path bytes) Before After made
-  unseals (Ok opened) made u e =
-      subst (λ m. Does (unsealing seeds list path bytes) Before After m) (sym e)
-      (goes_on ValueSteps data_steps (Ok opened) (reads (Ok opened) (Ok (Ok opened)) u refl)
-      (given (record { bytes = opened.plain; done = freshness opened.stale }) After))
-  unseals (Err (unseal.Refused why)) made u e =
-      subst (λ m. Does (unsealing seeds list path bytes) Before After m) (sym e)
-      (goes_on ValueSteps data_steps (Err why)
-      (reads (Err (unseal.Refused why)) (Ok (Err why)) u refl) (declined (Value why) After))
-  unseals (Err (unseal.PluginFailed name)) made u e =
-      let stop : Stop = Fault (Plugin name) (link e.it).count in
-      subst (λ m. Does (unsealing seeds list path bytes) Before After m) (sym e.has)
-      (stops ValueSteps data_steps stop (reads (Err (unseal.PluginFailed name)) (Err stop) u
-      (record { it = e.it; there = e.there; named = e.named; has = refl })))
-  unseals (Err unseal.NoMemory) made u e =
-      subst (λ m. Does (unsealing seeds list path bytes) Before After m) (sym e)
-      (stops ValueSteps data_steps NoMemory (reads (Err unseal.NoMemory) (Err NoMemory) u refl))
+    reads : (result : Result Opened UnsealNo) (made : Result (Result Opened ValueNo) Stop)
+        → ReadsMessage result → IsValueEnd link news result made
+        → Does ValueSteps Before After (keeping after made)
+    reads result made u e = value_does link seeds list path bytes olds news distinct dice count a
+        none_kept result made u.0 e after es u.1
+
+    unseals : (result : Result Opened UnsealNo) (made : Result Outcome Stop)
+        → ReadsMessage result → IsUnsealEnd link news result made
+        → Does (unsealing seeds list path bytes) Before After made
+    unseals (Ok opened) made u e =
+        subst (λ m. Does (unsealing seeds list path bytes) Before After m) (sym e)
+        (goes_on ValueSteps Told (Ok opened, after) (reads (Ok opened) (Ok (Ok opened)) u refl)
+        (given (record { bytes = opened.plain; done = freshness opened.stale }) After))
+    unseals (Err (unseal.Refused why)) made u e =
+        subst (λ m. Does (unsealing seeds list path bytes) Before After m) (sym e)
+        (goes_on ValueSteps Told (Err why, after)
+        (reads (Err (unseal.Refused why)) (Ok (Err why)) u refl) (declined (Value why) After))
+    unseals (Err (unseal.PluginFailed name)) made u e =
+        let stop : Stop = Fault (Plugin name) (link e.it).count in
+        subst (λ m. Does (unsealing seeds list path bytes) Before After m) (sym e.has)
+        (stops ValueSteps Told stop (reads (Err (unseal.PluginFailed name)) (Err stop) u
+        (record { it = e.it; there = e.there; named = e.named; has = refl })))
+    unseals (Err unseal.NoMemory) made u e =
+        subst (λ m. Does (unsealing seeds list path bytes) Before After m) (sym e)
+        (stops ValueSteps Told NoMemory (reads (Err unseal.NoMemory) (Err NoMemory) u refl))
 
 -- what a bench that adopted a publication, and keeps no seed, read, once its links and its random
 -- source are back
-module _ {L D : Type 0} (truth : Truth) (link : L → Link) (left : D → Option (List ℕ))
+module _ {L D : Type 0} (link : L → Link) (left : D → Option (List ℕ))
     (count : D → ℕ) (resource path bytes : List ℕ) (published : Option Publication)
-    (olds news : List L) (cache after : CacheState) (cold : cache.rows ≡ [])
+    (olds news : List L) (cache after : CacheState) (cold : cache ≡ none_kept)
     (result : Result Opened UnsealNo) (es : List Exchange) where
-  abbrev Read : Publication → Type 0
-  Read p = UnsealsBy truth link p.seeds (list_at p resource) path bytes olds result news
-      × ReadsBy p.seeds (list_at p resource) path bytes cache result after es
-
-  none_kept : {A : Type 0} (key : SeedKey) (seed : List ℕ) → Contains cache.rows (key, seed) → A
-  none_kept key seed there = let c : Contains [] (key, seed) =
-      subst (λ rows. Contains rows (key, seed)) cold there in absurd (omega (arith, c.1))
+  abbrev ReadFrom : CacheState → Publication → Type 0
+  ReadFrom kept p = UnsealsBy link p.seeds (list_at p resource) path bytes olds result news
+      × ReadsBy p.seeds (list_at p resource) path bytes kept result after es
 
   pub unseal_made : (a : Around) (direction : Direction) (back : List L) (old new : D)
-      (made : Result Outcome Stop) → a.truth ≡ truth → AreDistinct link olds
+      (made : Result Outcome Stop) → AreDistinct link olds
       → direction ≡ Decrypt → back ≡ news → new ≡ old → IsUnsealEnd link back result made
-      → TellAll truth (status_in link olds a.world.links) es → IfSome published Read
+      → IfSome published (ReadFrom cache)
       → IfSome published (λ p. Does (working_by direction resource path p.rows bytes p.seeds)
       (Seen link a olds (left old) (count old))
       (with_exchanges es (Seen link a back (left new) (count new))) made)
-  unseal_made a direction back old new made t d e same at m told u =
+  unseal_made a direction back old new made d e same at m u =
       subst (λ (d : Direction). IfSome published (λ p. Does (working_by d resource path p.rows
       bytes p.seeds) (Seen link a olds (left old) (count old))
       (with_exchanges es (Seen link a back (left new) (count new))) made)) (sym e)
@@ -204,41 +199,42 @@ module _ {L D : Type 0} (truth : Truth) (link : L → Link) (left : D → Option
       (subst (λ n. IfSome published (λ p. Does (working_by Decrypt resource path p.rows bytes
       p.seeds) (Seen link a olds (left old) (count old))
       (with_exchanges es (Seen link a news (left n) (count n))) made)) (sym at)
-      (by published u (subst (λ l. IsUnsealEnd link l result made) same m))))
+      (by published (subst (λ kept. IfSome published (ReadFrom kept)) cold u)
+      (subst (λ l. IsUnsealEnd link l result made) same m))))
     where
-      by : (p : Option Publication) → IfSome p Read → IsUnsealEnd link news result made
+      by : (p : Option Publication) → IfSome p (ReadFrom none_kept)
+          → IsUnsealEnd link news result made
           → IfSome p (λ p. Does (working_by Decrypt resource path p.rows bytes p.seeds)
           (Seen link a olds (left old) (count old))
           (with_exchanges es (Seen link a news (left old) (count old))) made)
       by None u m = tt
-      by (Some p) u m = unseals truth link p.seeds (list_at p resource) path bytes olds news d
-          (left old) (count old) a t cache after (λ key seed there. none_kept key seed there)
-          (λ key seed there. none_kept key seed there) es told result made u m
+      by (Some p) u m = unseals link p.seeds (list_at p resource) path bytes olds news d
+          (left old) (count old) a after es result made u m
 
 -- there is a link to the plugin that failed
-pub names_unread : {L : Type 0} (truth : Truth) (link : L → Link) (resource path bytes : List ℕ)
+pub names_unread : {L : Type 0} (link : L → Link) (resource path bytes : List ℕ)
     (published : Option Publication) (olds news : List L) (result : Result Opened UnsealNo)
     → IsSome published
-    → IfSome published (λ p. UnsealsBy truth link p.seeds (list_at p resource) path bytes olds
+    → IfSome published (λ p. UnsealsBy link p.seeds (list_at p resource) path bytes olds
     result news)
     → NamesAnUnread (names_of link news) result
-names_unread truth link resource path bytes None olds news result some u = absurd (cc)
-names_unread truth link resource path bytes (Some p) olds news (Ok opened) some u = tt
-names_unread truth link resource path bytes (Some p) olds news (Err (unseal.Refused why)) some u =
+names_unread link resource path bytes None olds news result some u = absurd (cc)
+names_unread link resource path bytes (Some p) olds news (Ok opened) some u = tt
+names_unread link resource path bytes (Some p) olds news (Err (unseal.Refused why)) some u =
     tt
-names_unread truth link resource path bytes (Some p) olds news (Err (unseal.PluginFailed name)) some
+names_unread link resource path bytes (Some p) olds news (Err (unseal.PluginFailed name)) some
     u =
     subst (Contains (names_of link news)) u.rose.new_named
     (named_there link news u.rose.new u.rose.new_there)
-names_unread truth link resource path bytes (Some p) olds news (Err unseal.NoMemory) some u = tt
+names_unread link resource path bytes (Some p) olds news (Err unseal.NoMemory) some u = tt
 
-pub names_stay_read : {L : Type 0} (truth : Truth) (link : L → Link) (resource path bytes : List ℕ)
+pub names_stay_read : {L : Type 0} (link : L → Link) (resource path bytes : List ℕ)
     (published : Option Publication) (olds news : List L) (result : Result Opened UnsealNo)
     → IsSome published
-    → IfSome published (λ p. UnsealsBy truth link p.seeds (list_at p resource) path bytes olds
+    → IfSome published (λ p. UnsealsBy link p.seeds (list_at p resource) path bytes olds
     result news)
     → names_of link news ≡ names_of link olds
-names_stay_read truth link resource path bytes None olds news result some u = absurd (cc)
-names_stay_read truth link resource path bytes (Some p) olds news result some u =
+names_stay_read link resource path bytes None olds news result some u = absurd (cc)
+names_stay_read link resource path bytes (Some p) olds news result some u =
     names_stay link (plugin_reading (reader_in (list_at p resource) bytes)) olds news
-    (asks_reader truth link p.seeds (list_at p resource) path bytes olds news result u)
+    (asks_reader link p.seeds (list_at p resource) path bytes olds news result u)

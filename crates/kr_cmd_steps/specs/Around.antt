@@ -5,16 +5,14 @@ use Rattle.kr_base.specs.Faults.{Rose}
 use Rattle.kr_kms.specs.Outside.{Outside, Objects, KeepsFiles, file_faults, at_key}
 use Rattle.kr_cmd_steps.specs.Steps.{Steps, Call, loading, reading, opening, lending, scanning, writing, settling, drawing, object_of, Point, awaits, amid, refuses, gives, Left, Goes, hearing, linking, asking}
 use Rattle.kr_kms.specs.Exchanges.{Exchange}
-use Rattle.kr_kms.specs.Truth.{Truth}
 use Rattle.kr_cmd_messages.specs.declared.refusal.Object.{Object}
 use Rattle.kr_cmd_messages.specs.declared.refusal.Stop.{Stop}
 use Rattle.kr_cmd_messages.specs.declared.refusal.Stop.TheVariants.{Words, Refused, Fault, NoMemory}
 
--- what is around a command: the truth of the plugins that the world links to; the world and the
--- input, with what they tell and their counts of faults; what is to be written in place of a value;
--- and what plugins were asked so far and answered, where that is told
+-- what is around a command: the world and the input, with what they tell and their counts of
+-- faults; what is to be written in place of a value; and what plugins were asked so far and
+-- answered, where that is told
 pub record Around : Type 0 where
-  pub truth : Truth
   pub world : Outside
   pub input : Option (List ℕ)
   pub faults : ℕ
@@ -22,9 +20,8 @@ pub record Around : Type 0 where
   pub heard : Option (List Exchange)
 
 -- what is asked of plugins isn't told
-abbrev pub around : Truth → Outside → Option (List ℕ) → ℕ → Around
-around truth world input faults = record {
-  truth = truth;
+abbrev pub around : Outside → Option (List ℕ) → ℕ → Around
+around world input faults = record {
   world = world;
   input = input;
   faults = faults;
@@ -45,12 +42,8 @@ abbrev pub with_exchanges : List Exchange → Around → Around
 with_exchanges exchanges a = record a { heard = hearing exchanges a.heard }
 
 -- what plugins are asked isn't told
-abbrev pub unheard : Around → Around
-unheard a = record a { heard = None }
-
--- the plugins' truth is this, and what they are asked isn't told
-abbrev pub IsUnheard : Truth → Around → Type 0
-IsUnheard truth a = (a.truth ≡ truth) × (a.heard ≡ None)
+abbrev pub IsUnheard : Around → Type 0
+IsUnheard a = a.heard ≡ None
 
 -- an object that is out, of which this is told, stands as if it were at home
 abbrev pub with_lent : {K V : Type 0} → (same : K → K → Bool) → K → V → ℕ → Objects K V
@@ -59,6 +52,7 @@ with_lent same key told faults objects = record {
   told = λ other. if same key other then told else objects.told other;
   faults = λ other. if same key other then faults else objects.faults other;
   out = λ other. objects.out other - at_key same key 1 other;
+  handed = objects.handed;
 }
 
 -- ---- faults
@@ -113,7 +107,6 @@ MayLack (asking seat plugin) = ⊤
 
 -- nothing was consumed, said, or asked of the world or of plugins but what is left of
 pub record Stays (left : Left) (new : Around) : Type 0 where
-  pub truth : new.truth ≡ left.truth
   pub file : new.world.file ≡ left.file
   pub tapes : new.world.tapes.told ≡ left.tapes
   pub links : new.world.links.told ≡ left.links
@@ -125,7 +118,6 @@ pub record Stays (left : Left) (new : Around) : Type 0 where
 
 abbrev pub left_of : Around → Left
 left_of around = record {
-  truth = around.truth;
   file = around.world.file;
   tapes = around.world.tapes.told;
   links = around.world.links.told;

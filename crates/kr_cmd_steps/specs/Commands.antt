@@ -20,7 +20,7 @@ use Rattle.kr_cmd_messages.specs.declared.command.Rewriting.{Rewriting}
 use Rattle.kr_cmd_messages.specs.declared.command.Direction.TheVariants.{Encrypt, Decrypt}
 use Rattle.kr_cmd_messages.specs.declared.refusal.Object.TheVariants.{Store}
 use Rattle.kr_cmd_messages.specs.declared.refusal.Outcome.{Outcome}
-use Rattle.kr_cmd_steps.specs.Phases.{configuration, tape_for, settled_for, show, input_of, linking_programs}
+use Rattle.kr_cmd_steps.specs.Phases.{configuration, tape_for, read_for, settled_for, show, input_of, linking_programs}
 use Rattle.kr_cmd_steps.specs.ValueSteps.{bench_steps}
 use Rattle.kr_cmd_steps.specs.StoreSteps.{stored_into, row_on, live_on, verifying_with, source_on, migrating_into, listing_on, judging_on}
 use Rattle.kr_cmd_steps.specs.RewriteSteps.{rewriting_on}
@@ -38,20 +38,20 @@ putting words store =
     and_then (linking_programs words.options rows) (λ programs.
     and_then (input_of Encrypt) (stored_into words store rows programs)))
 
--- the tape is borrowed before the random source and the links; no step says when it is back
+-- the tape is back before the random source and the links are borrowed
 abbrev pub getting : Lookup → Steps Outcome
 getting words =
     and_then (configuration words.config) (λ rows.
     and_then (linking_programs words.options rows) (λ programs.
-    and_then (tape_for words.store ToRead (row_on words.store words.path)) (λ row.
+    and_then (read_for words.store (row_on words.store words.path)) (λ row.
     bench_steps programs Decrypt row.resource words.path rows row.stored)))
 
--- so is it here, and all live rows are found before the first value is read
+-- so it is here, and all live rows are found before the first value is read
 abbrev pub verifying : Verification → Steps Outcome
 verifying words =
     and_then (configuration words.config) (λ rows.
     and_then (linking_programs words.options rows) (λ programs.
-    and_then (tape_for words.store ToRead (live_on words.store)) (verifying_with programs rows)))
+    and_then (read_for words.store (live_on words.store)) (verifying_with programs rows)))
 
 -- the target's tape is borrowed once the source was read
 abbrev pub migrating : Migration → Steps Outcome

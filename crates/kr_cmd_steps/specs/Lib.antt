@@ -17,5 +17,6 @@ pub mod RowLines
 pub mod Steps
 pub mod StoreFiles
 pub mod StoreSteps
+pub mod Telling
 pub mod ValueSteps
 pub mod inner

@@ -3,12 +3,13 @@ use Rattle.std.specs.Prelude.{ℕ, List, Result, Ok, Err, ⊤, if◌then◌else�
 use Rattle.kr_base.specs.Limits.{data_limit, value_limit, store_limit}
 use Rattle.kr_config.specs.Kept.{ConfigEntry}
 use Rattle.kr_kms.specs.declared.world.Access.{Access}
+use Rattle.kr_kms.specs.declared.world.Access.TheVariants.{ToRead}
 use Rattle.kr_provider.specs.PluginOrder.{plugin_order}
 use Rattle.kr_store.specs.File.{file_bytes}
 use Rattle.kr_store.specs.declared.rows.LogRow.{LogRow}
 use Rattle.kr_cmd_steps.specs.Configuration.{Entries, IsConfiguration}
 use Rattle.kr_cmd_steps.specs.StoreFiles.{Stored, IsStored, with_row}
-use Rattle.kr_cmd_steps.specs.Steps.{Steps, load, take_input, borrow_tape, read_tape, write_row, settle, find, refuse, give, and_then}
+use Rattle.kr_cmd_steps.specs.Steps.{Steps, load, take_input, borrow_tape, read_tape, write_row, settle, give_back, find, refuse, give, and_then}
 use Rattle.kr_cmd_steps.specs.Plugins.{settings_programs}
 use Rattle.kr_cmd_messages.specs.declared.command.Direction.{Direction}
 use Rattle.kr_cmd_messages.specs.declared.command.Direction.TheVariants.{Encrypt, Decrypt}
@@ -41,6 +42,10 @@ stored_on object name =
 -- the tape of a name, for these steps
 abbrev pub tape_for : {A : Type 0} → List ℕ → (access : Access) → Steps A → Steps A
 tape_for name access next = borrow_tape name access (Absent (visible name)) next
+
+-- it is only read; where these steps give something it is back then, before anything else is asked
+abbrev pub read_for : {A : Type 0} → List ℕ → Steps A → Steps A
+read_for name next = tape_for name ToRead (and_then next (λ made. give_back name (give made)))
 
 -- it is settled before it is back, where these steps give something
 abbrev pub settled_for : {A : Type 0} → Object → List ℕ → (access : Access) → Steps A → Steps A

@@ -1,24 +1,18 @@
 -- What a call of `run` did: one relation for all commands, and what follows from it for readers.
-use Rattle.std.specs.Prelude.{◌≡◌, ℕ, ◌≤◌, ◌⊎◌, false, List, [], ◌∷◌, Contains, Option, None, Some, IsSome, Result, Ok, Err, ⊤}
+use Rattle.std.specs.Prelude.{◌≡◌, ℕ, ◌≤◌, ◌⊎◌, List, [], ◌∷◌, Option, None, Some, Result, Ok, Err, ⊤}
 use Rattle.std.specs.Io.KnownBytes.{Appends}
+use Rattle.std.specs.Option.{option_map}
 use Rattle.kr_base.specs.Faults.{Rose}
 use Rattle.kr_base.specs.Streams.{AppendsFront}
-use Rattle.kr_base.specs.Told.{Agrees}
-use Rattle.kr_config.specs.Kept.{ConfigEntry}
 use Rattle.kr_kms.specs.declared.world.WorldCall.TheVariants.{Settled}
-use Rattle.kr_provider.specs.PluginOrder.{plugin_order}
-use Rattle.kr_provider.specs.Publication.{names_plugin}
-use Rattle.kr_cmd_steps.specs.Around.{Around, unheard, with_what_is_said, left_of, faults_at, count_at, IsHome, IsFault, MayLack, Stays}
-use Rattle.kr_cmd_messages.specs.Command.{replica_names, reload_in, reload_file, Asks, AskNothing, AskPage, AskReplicas, AskSize, AskBadly}
+use Rattle.kr_cmd_steps.specs.Around.{Around, with_what_is_said, left_of, faults_at, count_at, IsHome, IsFault, MayLack, Stays}
+use Rattle.kr_cmd_messages.specs.Command.{Asks, AskNothing, AskPage, AskReplicas, AskSize, AskBadly}
 use Rattle.kr_cmd_steps.specs.Commands.{steps}
-use Rattle.kr_cmd_steps.specs.Configuration.{IsConfiguration}
 use Rattle.kr_cmd_messages.specs.Message.{status_of, status_of_done, status_of_refusal, line_of, refusal_line, fault_line, done_line}
 use Rattle.kr_cmd_steps.specs.Steps.{Call, settling, object_of, Point, awaits, amid, refuses, gives, Left, with_asked, with_said, IsAt, Goes}
-use Rattle.kr_cmd_messages.specs.declared.command.Command.TheVariants.{Verify}
+use Rattle.kr_cmd_steps.specs.Telling.{AnswersOnce, IsTold, MayEnd}
 use Rattle.kr_cmd_messages.specs.declared.command.Command.{Command}
-use Rattle.kr_cmd_messages.specs.declared.command.Command.TheVariants.{Convert, Check, Inspect, Put, Get, Migrate, Rows, Judge, Plan, Rewrite}
-use Rattle.kr_cmd_messages.specs.declared.command.Direction.{Direction}
-use Rattle.kr_cmd_messages.specs.declared.command.Direction.TheVariants.{Encrypt, Decrypt}
+use Rattle.kr_cmd_messages.specs.declared.command.Command.TheVariants.{Rewrite}
 use Rattle.kr_cmd_messages.specs.declared.refusal.Object.TheVariants.{Output, Store}
 use Rattle.kr_cmd_messages.specs.declared.refusal.Refusal.{Refusal}
 use Rattle.kr_cmd_messages.specs.declared.refusal.Stop.{Stop}
@@ -210,75 +204,24 @@ IsRefused words old new output errors status =
     ⊎ ((status ≡ 6) × (AskReplicas words ⊎ AskSize words ⊎ AskPage words)
     × IsUntouched old new output)
 
--- what a conversion touches of the plugins that these entries name is told: their statuses; as the
--- key id is told nowhere that a seed is wrapped with, `decrypt` touches none
-abbrev pub ArePluginsTold : Direction → Around → List ConfigEntry → Type 0
-ArePluginsTold Encrypt old rows = (plugin : List ℕ) → Contains (plugin_order rows) plugin
-    → IsSome (old.world.links.told (0, plugin))
-ArePluginsTold Decrypt old rows = names_plugin rows ≡ false
-
--- each of the files is told
-abbrev pub AreTold : (List ℕ → Option (Option (List ℕ))) → (names : List (List ℕ)) → Type 0
-AreTold file [] = ⊤
-AreTold file (name ∷ names) = IsSome (file name) × AreTold file names
-
--- what the command touches of the files, the tapes, the input and the plugins is told
-abbrev pub IsTelling : Command → Around → Type 0
-IsTelling (Convert words) old = IsSome (old.world.file words.config) × IsSome old.input
-    × ((file : Option (List ℕ)) (rows : List ConfigEntry)
-    → IsConfiguration words.config file (Ok rows)
-    → Agrees (old.world.file words.config) file → ArePluginsTold words.direction old rows)
-IsTelling (Check config resource) old = IsSome (old.world.file config)
-IsTelling Inspect old = IsSome old.input
-IsTelling (Put words store) old = IsSome (old.world.file words.config)
-    × IsSome (old.world.tapes.told store) × IsSome old.input
-    × ((file : Option (List ℕ)) (rows : List ConfigEntry)
-    → IsConfiguration words.config file (Ok rows)
-    → Agrees (old.world.file words.config) file → names_plugin rows ≡ false)
-IsTelling (Get words) old = IsSome (old.world.file words.config)
-    × IsSome (old.world.tapes.told words.store)
-    × ((file : Option (List ℕ)) (rows : List ConfigEntry)
-    → IsConfiguration words.config file (Ok rows)
-    → Agrees (old.world.file words.config) file → ArePluginsTold Decrypt old rows)
-IsTelling (Verify words) old = IsSome (old.world.file words.config)
-    × IsSome (old.world.tapes.told words.store)
-    × ((file : Option (List ℕ)) (rows : List ConfigEntry)
-    → IsConfiguration words.config file (Ok rows)
-    → Agrees (old.world.file words.config) file → ArePluginsTold Decrypt old rows)
-IsTelling (Migrate words) old = IsSome (old.world.file words.config)
-    × IsSome (old.world.tapes.told words.store) × IsSome (old.world.tapes.told words.to)
-IsTelling (Rows store) old = IsSome (old.world.tapes.told store)
-IsTelling (Judge words) old =
-    IsSome (old.world.tapes.told words.store)
-    × AreTold old.world.file (replica_names words.options)
-    × IsSome (old.world.file (reload_file (reload_in words.options)))
-IsTelling (Plan words) old =
-    IsSome (old.world.file words.from) × IsSome (old.world.file words.to)
-IsTelling (Rewrite words) old = IsSome (old.world.file words.config)
-    × IsSome (old.world.tapes.told words.store)
-    × ((file : Option (List ℕ)) (rows : List ConfigEntry)
-    → IsConfiguration words.config file (Ok rows)
-    → Agrees (old.world.file words.config) file → names_plugin rows ≡ false)
-
--- the steps of a command over the told files, tapes and input, some drawn bytes, and whatever
--- plugins are asked, come to this point
-abbrev pub WouldCome : Command → Around → Point Outcome → Type 0
-WouldCome command old point =
-    (end : Left) × Goes point end (steps command) (left_of (unheard old))
-
 -- how the last step of a command ends it, whatever its value is
 abbrev pub end_at : Point Outcome → Option (Result Done Stop)
 end_at (refuses why) = Some (Err (Refused why))
 end_at (gives made) = Some (Ok made.done)
 end_at point = None
 
--- where what the command touches is told, the last step that it comes to decides the status and the
--- line; only a fault, 4, and want of memory, 5, stand in its place. So 1, 3 and 6 come exactly
--- where that step refuses so
-abbrev pub IsDecided : List (List ℕ) → Around → Receipt → ℕ → Type 0
-IsDecided words old errors status =
+-- nothing of what plugins are asked was told before
+abbrev pub IsUnasked : (old new : Around) → Type 0
+IsUnasked old new = old.heard ≡ option_map (λ told. []) new.heard
+
+-- where all that a call touches is told, the last step that its own way comes to decides the status
+-- and the line, whatever it wrote; only a fault, 4, and want of memory, 5, stand in its place. So 1,
+-- 3 and 6 come exactly where that step refuses so
+abbrev pub IsDecided : List (List ℕ) → (old new : Around) → Receipt → ℕ → Type 0
+IsDecided words old new errors status =
     (command : Command) (point : Point Outcome) (end : Result Done Stop) → Asks words command
-    → IsTelling command old → WouldCome command old point → end_at point ≡ Some end
+    → IsUnasked old new → AnswersOnce new.heard → IsTold new.heard (steps command) (left_of old)
+    → MayEnd new.heard command old point → end_at point ≡ Some end
     → ((status ≡ status_of end) × Appends errors.old errors.new (line_of end))
     ⊎ (status ≡ 4) ⊎ (status ≡ 5)
 
@@ -297,7 +240,7 @@ pub record Readings (words : List (List ℕ)) (old new : Around) (output errors 
   pub usage : IsUsage words errors status
   pub caused : IsCaused words old new output errors status
   pub refused : IsRefused words old new output errors status
-  pub decided : IsDecided words old errors status
+  pub decided : IsDecided words old new errors status
   -- status 0 comes only where the steps give a value, and then just that was written, and its line
   pub done : status ≡ 0 → GivesWith words old new output errors 0
   pub written : IsOutputWritten words old new output status

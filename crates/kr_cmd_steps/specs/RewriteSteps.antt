@@ -3,6 +3,7 @@ use Rattle.std.specs.Prelude.{◌≡◌, ◌+◌, ◌*◌, ℕ, Bool, false, Lis
 use Rattle.kr_base.specs.Limits.{data_limit, journal_limit}
 use Rattle.kr_config.specs.Kept.{ConfigEntry}
 use Rattle.kr_config.specs.Lists.{list_of}
+use Rattle.kr_kms.specs.Cache.{CacheState}
 use Rattle.kr_provider.specs.PluginOrder.{plugin_order}
 use Rattle.kr_provider.specs.Publication.{Publication}
 use Rattle.kr_provider.specs.Readers.{writer_of}
@@ -29,7 +30,7 @@ use Rattle.kr_cmd_messages.specs.declared.refusal.Limit.TheVariants as limit
 use Rattle.kr_cmd_messages.specs.declared.refusal.Outcome.{Outcome}
 use Rattle.kr_cmd_messages.specs.declared.report.RewriteCounts.{RewriteCounts}
 use Rattle.kr_cmd_steps.specs.Phases.{by_result, stored_on, with_memory, adding}
-use Rattle.kr_cmd_steps.specs.ValueSteps.{value_sealed, value_read}
+use Rattle.kr_cmd_steps.specs.ValueSteps.{none_kept, value_sealed, value_read}
 
 -- the store, and what became of the rows so far
 pub record Progress : Type 0 where
@@ -93,10 +94,12 @@ abbrev pub row_by : (name : List ℕ) → Publication → stored.Row → Progres
 row_by name p row at (Ok opened) = row_data name p row at opened.plain opened.stale
 row_by name p row at (Err why) = give (one_left at)
 
-abbrev pub row_steps : (name : List ℕ) → Publication → stored.Row → Progress → Steps Progress
-row_steps name p row at =
-    and_then (value_read p.seeds (list_of p.rows row.resource) row.path row.stored)
-    (row_by name p row at)
+-- with the seeds that are kept
+abbrev pub row_steps : (name : List ℕ) → Publication → stored.Row → CacheState → Progress
+    → Steps (Progress × CacheState)
+row_steps name p row kept at =
+    and_then (value_read p.seeds (list_of p.rows row.resource) row.path row.stored kept)
+    (λ read. and_then (row_by name p row at read.0) (λ done. give (done, read.1)))
 
 -- ---- all of them
 
@@ -105,10 +108,11 @@ row_steps name p row at =
 abbrev pub reporting : {A : Type 0} → (name : List ℕ) → Progress → Steps A → Steps A
 reporting name at next = keep_rows name at.store (note (report_text at.counts) next)
 
-abbrev pub driving : (name : List ℕ) → Publication → List stored.Row → Progress → Steps Outcome
-driving name p [] at = reporting name at (with_memory (give (report_outcome at.counts)))
-driving name p (row ∷ rows) at =
-    reporting name at (and_then (row_steps name p row at) (driving name p rows))
+abbrev pub driving : (name : List ℕ) → Publication → List stored.Row → CacheState → Progress
+    → Steps Outcome
+driving name p [] kept at = reporting name at (with_memory (give (report_outcome at.counts)))
+driving name p (row ∷ rows) kept at = reporting name at
+    (and_then (row_steps name p row kept at) (λ done. driving name p rows done.1 done.0))
 
 -- the configuration goes with what is stored, or why it doesn't
 abbrev pub IsStarted : List LogRow → List ConfigEntry → Result ⊤ Refusal → Type 0
@@ -124,7 +128,7 @@ abbrev pub rewriting_by : (name : List ℕ) → List ConfigEntry → Stored → 
 rewriting_by name rows store live = with_memory
     (and_then (make_seeds (plugin_order rows)) (λ seeds.
     and_then (starting store.rows rows) (λ u.
-    driving name (record { rows = rows; seeds = seeds }) live (nothing_done store))))
+    driving name (record { rows = rows; seeds = seeds }) live none_kept (nothing_done store))))
 
 -- each row may take four entries of a journal, and the end three
 abbrev pub within_journal : (live : List stored.Row) → Result ⊤ Refusal

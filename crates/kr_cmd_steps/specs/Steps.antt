@@ -1,20 +1,18 @@
 -- What a command asks of the outside, step by step, and how it goes on by what it saw.
-use Rattle.std.specs.Prelude.{◌≡◌, ℕ, ◌+◌, ◌≤◌, ◌==◌, ◌⊎◌, ⊤, Bool, true, false, List, [], ◌∷◌, ◌++◌, length, Contains, Option, None, Some, Result, Ok, Err, if◌then◌else◌}
+use Rattle.std.specs.Prelude.{◌≡◌, ℕ, ◌+◌, ◌≤◌, ◌==◌, ◌⊎◌, ⊤, Bool, true, false, List, [], ◌∷◌, ◌++◌, length, Option, None, Some, Result, Ok, Err, if◌then◌else◌}
 use Rattle.std.specs.Io.KnownBytes.{Consumes, IsAtEnd}
 use Rattle.std.specs.Option.{option_map}
 use Rattle.kr_base.specs.Told.{Agrees}
 use Rattle.kr_kms.specs.Outside.{with_call, same_name, makes}
-use Rattle.kr_kms.specs.Calls.{key_in}
 use Rattle.kr_kms.specs.Exchanges.{Exchange, StatusCall, WrapCall, UnwrapCall}
 use Rattle.kr_kms.specs.Limits.{IsWithinLimits}
-use Rattle.kr_kms.specs.Truth.{Truth, TellsOf}
 use Rattle.kr_kms.specs.declared.plugin.KmsNo.{KmsNo}
 use Rattle.kr_kms.specs.declared.plugin.KmsNo.TheVariants.{Failed}
 use Rattle.kr_kms.specs.declared.plugin.Status.{Status}
 use Rattle.kr_kms.specs.declared.plugin.Wrapped.{Wrapped}
 use Rattle.kr_kms.specs.declared.seeds.SeedKey.{SeedKey}
 use Rattle.kr_kms.specs.declared.world.WorldCall.{WorldCall}
-use Rattle.kr_kms.specs.declared.world.WorldCall.TheVariants.{File, Tape, RandomSource, Link, Settled}
+use Rattle.kr_kms.specs.declared.world.WorldCall.TheVariants.{File, Tape, RandomSource, Link, Settled, Returned}
 use Rattle.kr_kms.specs.declared.world.Access.{Access}
 use Rattle.kr_store.specs.declared.rows.LogRow.{LogRow}
 use Rattle.kr_cmd_steps.specs.StoreFiles.{Stored, with_row, HoldsRows, BeginsWith}
@@ -41,6 +39,8 @@ pub data Steps (A : Type 0) : Type 1 where
   -- all that the tape holds, which is lent, is on the device, and the world is told so where it
   -- comes back; a fault's line names the object
   settle : Object → (name : List ℕ) → Steps A → Steps A
+  -- the tape that is lent comes back, and the world is told so before anything else is asked of it
+  give_back : (name : List ℕ) → Steps A → Steps A
   -- so many bytes of the random source of a seat
   draw : (seat size : ℕ) → (List ℕ → Steps A) → Steps A
   -- the link of a seat to a plugin, which a program is
@@ -49,7 +49,7 @@ pub data Steps (A : Type 0) : Type 1 where
   ask_status : (seat : ℕ) → (plugin : List ℕ) → (Status → Steps A) → Steps A
   -- what the plugin makes of these bytes
   wrap : (seat : ℕ) → (plugin plain : List ℕ) → (Wrapped → Steps A) → Steps A
-  -- what the plugin unwraps a source to; one that was unwrapped before may be kept
+  -- what the plugin unwraps a source to
   unwrap : (seat : ℕ) → SeedKey → (List ℕ → Steps A) → Steps A
   -- nothing is asked: where a later step ends the command, this is written in place of a value
   note : List ℕ → Steps A → Steps A
@@ -72,6 +72,7 @@ and_then (write_row object name store row next) others =
     write_row object name store row (and_then next others)
 and_then (keep_rows name store next) others = keep_rows name store (and_then next others)
 and_then (settle object name next) others = settle object name (and_then next others)
+and_then (give_back name next) others = give_back name (and_then next others)
 and_then (draw seat size next) others = draw seat size (λ bytes. and_then (next bytes) others)
 and_then (borrow_link seat plugin program next) others =
     borrow_link seat plugin program (and_then next others)
@@ -140,12 +141,11 @@ tapes_with true name tapes =
 abbrev pub MayBorrow : Option (Option (List ℕ)) → (make : Bool) → Type 0
 MayBorrow tape make = tape ≡ Some None → make ≡ true
 
--- the truth of plugins, the files by their names and the statuses of links, which stay; what the
--- steps so far left of the tapes, of the input and of the random source of each seat, the calls
--- that they made on the world, and what they asked plugins and were answered, one exchange behind
--- another, all this where it is told; and what they said last
+-- the files by their names and the statuses of links, which stay; what the steps so far left of the
+-- tapes, of the input and of the random source of each seat, the calls that they made on the world,
+-- and what they asked plugins and were answered, one exchange behind another, all this where it is
+-- told; and what they said last
 pub record Left : Type 0 where
-  pub truth : Truth
   pub file : List ℕ → Option (Option (List ℕ))
   pub tapes : List ℕ → Option (Option (List ℕ))
   pub links : ℕ × List ℕ → Option Status
@@ -179,11 +179,6 @@ hearing exchanges heard = option_map (λ before. before ++ exchanges) heard
 
 abbrev pub with_heard : Exchange → Left → Left
 with_heard exchange left = record left { heard = hearing (exchange ∷ []) left.heard }
-
--- the source was unwrapped to these bytes before, where that is told
-abbrev pub WasUnwrapped : SeedKey → List ℕ → Option (List Exchange) → Type 0
-WasUnwrapped key bytes None = ⊤
-WasUnwrapped key bytes (Some heard) = Contains heard (UnwrapCall key (Ok bytes))
 
 abbrev pub with_said : List ℕ → Left → Left
 with_said text left = record left { said = text }
@@ -228,6 +223,7 @@ module _ {A : Type 0} (point : Point A) (end : Left) where
       (told : Option (List ℕ)) × HoldsRows store told × Goes next (with_told name told left)
   Goes (settle object name next) left =
       IsAt (awaits (settling object name)) left ⊎ Goes next (with_asked (Settled name) left)
+  Goes (give_back name next) left = Goes next (with_asked (Returned name) left)
   Goes (draw seat size next) left =
       IsAt (awaits (drawing seat)) left
       ⊎ ((bytes : List ℕ) × (rest : Option (List ℕ)) × Consumes (left.dice seat) rest bytes
@@ -247,16 +243,13 @@ module _ {A : Type 0} (point : Point A) (end : Left) where
       ⊎ ((answer : Result Wrapped KmsNo)
       × IsAt amid (with_heard (WrapCall plugin plain answer) left))
       ⊎ IsAt (awaits (asking seat plugin)) (with_heard (WrapCall plugin plain (Err Failed)) left)
-      ⊎ ((wrapped : Wrapped) × TellsOf left.truth (key_in plugin wrapped) plain
-      × IsWithinLimits wrapped
+      ⊎ ((wrapped : Wrapped) × IsWithinLimits wrapped
       × Goes (next wrapped) (with_heard (WrapCall plugin plain (Ok wrapped)) left))
   Goes (unwrap seat key next) left =
       IsAt amid left
       ⊎ ((answer : Result (List ℕ) KmsNo) × IsAt amid (with_heard (UnwrapCall key answer) left))
       ⊎ IsAt (awaits (asking seat key.name)) (with_heard (UnwrapCall key (Err Failed)) left)
-      ⊎ ((bytes : List ℕ) × TellsOf left.truth key bytes
-      × ((WasUnwrapped key bytes left.heard × Goes (next bytes) left)
-      ⊎ Goes (next bytes) (with_heard (UnwrapCall key (Ok bytes)) left)))
+      ⊎ ((bytes : List ℕ) × Goes (next bytes) (with_heard (UnwrapCall key (Ok bytes)) left))
   Goes (note text next) left = Goes next (with_said text left)
   Goes (find B P next) left = IsAt amid left ⊎ ((b : B) × P b × Goes (next b) left)
   Goes (refuse why) left = IsAt (refuses why) left

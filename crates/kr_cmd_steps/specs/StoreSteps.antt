@@ -3,6 +3,7 @@ use Rattle.std.specs.Prelude.{ℕ, List, [], ◌∷◌, ◌++◌, map, Option, S
 use Rattle.kr_config.specs.Kept.{ConfigEntry}
 use Rattle.kr_config.specs.Lists.{list_of}
 use Rattle.kr_config.specs.declared.who.Who.{Who}
+use Rattle.kr_kms.specs.Cache.{CacheState}
 use Rattle.kr_kms.specs.declared.world.Access.TheVariants.{ToMake}
 use Rattle.kr_provider.specs.PluginOrder.{plugin_order}
 use Rattle.kr_provider.specs.Publication.{Publication}
@@ -33,7 +34,7 @@ use Rattle.kr_cmd_messages.specs.declared.refusal.Refusal.{Refusal}
 use Rattle.kr_cmd_messages.specs.declared.refusal.Refusal.TheVariants.{NoPath}
 use Rattle.kr_cmd_messages.specs.declared.refusal.Outcome.{Outcome}
 use Rattle.kr_cmd_steps.specs.Phases.{by_result, configuration, stored_on, settled_for, with_memory, silently, show, adding}
-use Rattle.kr_cmd_steps.specs.ValueSteps.{value_read, bench_steps}
+use Rattle.kr_cmd_steps.specs.ValueSteps.{none_kept, value_read, bench_steps}
 
 -- the row of a value, with the check of its writer where the format keeps one
 abbrev pub new_row : Format → Conversion → List ConfigEntry → (value : List ℕ) → LogRow
@@ -74,17 +75,17 @@ abbrev pub live_on : (store : List ℕ) → Steps (List stored.Row)
 live_on store = and_then (stored_on Store store)
     (λ read. find (List stored.Row) (IsListing read.rows) give)
 
--- what the row's value is found to be, read as `get` reads it
-abbrev pub row_finding : Publication → stored.Row → Steps Finding
-row_finding p row =
-    and_then (value_read p.seeds (list_of p.rows row.resource) row.path row.stored)
-    (λ read. give (finding_of read))
+-- what the row's value is found to be, read as `get` reads it, with the seeds that are kept
+abbrev pub row_finding : Publication → stored.Row → CacheState → Steps (Finding × CacheState)
+row_finding p row kept =
+    and_then (value_read p.seeds (list_of p.rows row.resource) row.path row.stored kept)
+    (λ read. give (finding_of read.0, read.1))
 
 -- one row behind another, where there is memory for what was found
-abbrev pub row_findings : Publication → List stored.Row → Steps (List Finding)
-row_findings p [] = give []
-row_findings p (row ∷ rows) = and_then (row_finding p row) (λ finding. with_memory
-    (and_then (row_findings p rows) (λ findings. give (finding ∷ findings))))
+abbrev pub row_findings : Publication → List stored.Row → CacheState → Steps (List Finding)
+row_findings p [] kept = give []
+row_findings p (row ∷ rows) kept = and_then (row_finding p row kept) (λ found. with_memory
+    (and_then (row_findings p rows found.1) (λ findings. give (found.0 ∷ findings))))
 
 -- what is found of all rows is told
 abbrev pub telling_findings : List stored.Row → List Finding → Steps Outcome
@@ -93,7 +94,8 @@ telling_findings live findings = with_memory (give (findings_outcome live findin
 abbrev pub verifying_by : List ConfigEntry → (live : List stored.Row) → Steps Outcome
 verifying_by rows live = with_memory
     (and_then (make_seeds (plugin_order rows)) (λ seeds.
-    and_then (row_findings (record { rows = rows; seeds = seeds }) live) (telling_findings live)))
+    and_then (row_findings (record { rows = rows; seeds = seeds }) live none_kept)
+    (telling_findings live)))
 
 abbrev pub verifying_with : List Program → List ConfigEntry → (live : List stored.Row)
     → Steps Outcome

@@ -6,8 +6,8 @@ use Rattle.kr_config.specs.declared.who.Who.{Who}
 use Rattle.kr_config.specs.declared.who.Who.TheVariants.{Kms}
 use Rattle.kr_envelope.specs.declared.object.EncryptedObject.{EncryptedObject}
 use Rattle.kr_envelope.specs.declared.object.ObjectNo.{ObjectNo}
-use Rattle.kr_kms.specs.Cache.{key_eq}
-use Rattle.kr_kms.specs.Truth.{key_of}
+use Rattle.kr_kms.specs.Cache.{CacheState, KeepsAnswer, key_eq, seed_at, with_used}
+use Rattle.kr_kms.specs.Opens.{key_of}
 use Rattle.kr_kms.specs.declared.seeds.SeedKey.{SeedKey}
 use Rattle.kr_kms.specs.declared.seeds.SeedRow.{SeedRow}
 use Rattle.kr_provider.specs.Envelopes.{Envelope, HasObject, seed_key}
@@ -62,32 +62,46 @@ abbrev pub published_source : Option SeedRow → SeedKey → Option (List ℕ)
 published_source None key = None
 published_source (Some row) key = if key_eq (key_of row) key then Some row.seed else None
 
--- else the plugin unwraps the source
-abbrev pub source_steps : {A : Type 0} → Option (List ℕ) → SeedKey
-    → (Option (List ℕ) → Steps A) → Steps A
-source_steps (Some seed) key next = next (Some seed)
-source_steps None key next = unwrap 0 key (λ source. next (Some source))
+-- nothing was unwrapped yet; the seeds of 64 sources are kept, those that were used last
+abbrev pub none_kept : CacheState
+none_kept = record { rows = []; size = 64 }
+
+-- a seed that is kept is used, and its plugin isn't asked; else the plugin unwraps the source, and
+-- what it gives is kept as far as there is memory for it
+abbrev pub fetching : {A : Type 0} → Option (List ℕ) → CacheState → SeedKey
+    → (Option (List ℕ) → CacheState → Steps A) → Steps A
+fetching (Some seed) kept key next = next (Some seed) (with_used kept key)
+fetching None kept key next =
+    unwrap 0 key (λ seed. find CacheState (KeepsAnswer kept key (Ok seed)) (next (Some seed)))
+
+-- where the published seed isn't the source's own, it is fetched
+abbrev pub source_steps : {A : Type 0} → Option (List ℕ) → CacheState → SeedKey
+    → (Option (List ℕ) → CacheState → Steps A) → Steps A
+source_steps (Some seed) kept key next = next (Some seed) kept
+source_steps None kept key next = fetching (seed_at kept.rows key) kept key next
 
 -- only the object of a plugin's value has a source
 abbrev pub opening : {A : Type 0} → List SeedRow → Option Who → Result EncryptedObject ObjectNo
-    → (Option (List ℕ) → Steps A) → Steps A
-opening seeds (Some (Kms name)) (Ok object) next =
-    source_steps (published_source (seed_of name seeds) (seed_key name object))
+    → CacheState → (Option (List ℕ) → CacheState → Steps A) → Steps A
+opening seeds (Some (Kms name)) (Ok object) kept next =
+    source_steps (published_source (seed_of name seeds) (seed_key name object)) kept
     (seed_key name object) next
-opening seeds reader object next = next None
+opening seeds reader object kept next = next None kept
 
--- the value with this object, once its source is there
+-- the value with this object, once its source is there; and what is kept then
 abbrev pub value_with : List SeedRow → List Who → (path bytes : List ℕ)
-    → Result EncryptedObject ObjectNo → Option (List ℕ) → Steps (Result Opened ValueNo)
-value_with seeds list path bytes object source =
+    → Result EncryptedObject ObjectNo → Option (List ℕ) → CacheState
+    → Steps (Result Opened ValueNo × CacheState)
+value_with seeds list path bytes object source kept =
     let envelope : Envelope = record { object = object; source = source } in
-    reading_given (value_reading envelope list path bytes) (is_stale envelope seeds list bytes)
+    and_then (reading_given (value_reading envelope list path bytes)
+    (is_stale envelope seeds list bytes)) (λ read. give (read, kept))
 
-abbrev pub value_read : List SeedRow → List Who → (path bytes : List ℕ)
-    → Steps (Result Opened ValueNo)
-value_read seeds list path bytes =
+abbrev pub value_read : List SeedRow → List Who → (path bytes : List ℕ) → CacheState
+    → Steps (Result Opened ValueNo × CacheState)
+value_read seeds list path bytes kept =
     find (Result EncryptedObject ObjectNo) (HasObject (reader_in list bytes) bytes)
-    (λ object. opening seeds (reader_in list bytes) object
+    (λ object. opening seeds (reader_in list bytes) object kept
     (value_with seeds list path bytes object))
 
 abbrev pub freshness : Bool → Done
@@ -98,7 +112,8 @@ data_steps (Ok opened) = give (record { bytes = opened.plain; done = freshness o
 data_steps (Err why) = refuse (Value why)
 
 abbrev pub unsealing : List SeedRow → List Who → (path bytes : List ℕ) → Steps Outcome
-unsealing seeds list path bytes = and_then (value_read seeds list path bytes) data_steps
+unsealing seeds list path bytes =
+    and_then (value_read seeds list path bytes none_kept) (λ read. data_steps read.0)
 
 -- ---- both of these go one way
 

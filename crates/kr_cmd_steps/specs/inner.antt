@@ -1,5 +1,4 @@
 -- The definitions of inner contracts.
-pub mod KeptSeeds
 pub mod Lent
 pub mod Phases
 pub mod Plugins

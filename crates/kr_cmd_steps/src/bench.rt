@@ -1,11 +1,11 @@
 //! Seals or unseals by a bench of one configuration.
-ghost use Rattle.std.specs.Prelude.{◌≡◌, ◌≤◌, [], length, Some, IfOk, IfSome, IsSome, MatchResult};
+ghost use Rattle.std.specs.Prelude.{◌≡◌, ◌≤◌, length, Some, IfOk, IfSome, IsSome, MatchResult};
 ghost use Rattle.kr_base.specs.Limits.{path_limit, value_limit};
 ghost use Rattle.kr_base.specs.Walks.{Talk};
 ghost use Rattle.kr_provider.specs.AskedLinks.{Among};
 ghost use Rattle.kr_provider.specs.Names.{AreDistinct, HasLinks, names_of};
 ghost use Rattle.kr_cmd_steps.specs.Around.{Around, with_exchanges};
-ghost use Rattle.kr_cmd_steps.specs.ValueSteps.{freshness, working_by};
+ghost use Rattle.kr_cmd_steps.specs.ValueSteps.{freshness, none_kept, working_by};
 ghost use Rattle.kr_cmd_steps.specs.Phases.{input_limit};
 ghost use Rattle.kr_cmd_messages.specs.declared.command.Direction.{Direction};
 ghost use Rattle.kr_cmd_steps.specs.inner.Lent.{with_lent_dice, with_lent_links};
@@ -35,7 +35,7 @@ pub fn adopted<L: Kms, D: Dice>(
     ensures published { IfOk result (λ bench. bench.published ≡ Some published) }
     ensures links { MatchResult result (λ bench. bench.links ≡ links) (λ back. back.0 ≡ links) }
     ensures dice { MatchResult result (λ bench. bench.dice ≡ dice) (λ back. back.1 ≡ dice) }
-    ensures cold { IfOk result (λ bench. bench.cache.rows ≡ []) }
+    ensures cold { IfOk result (λ bench. bench.cache ≡ none_kept) }
 {
     published.known();
     let published = match Shared::new(alloc, published) {
@@ -64,11 +64,11 @@ pub fn work<L: Kms, D: Dice>(
 ) -> (Result<Outcome, Stop>, Links<L>, D)
     requires adopted { IsSome bench.published }
     requires distinct { AreDistinct L.link bench.links }
-    requires cold { bench.cache.rows ≡ [] }
+    requires cold { bench.cache ≡ none_kept }
     requires path { length path.now ≤ path_limit }
     requires fits { length bytes ≤ input_limit direction }
     ensures made { Talk (Among L.step) bench.links result.1
-        (λ es. (a : Around) → a.truth ≡ L.truth → IfSome bench.published (λ p. Does
+        (λ es. (a : Around) → IfSome bench.published (λ p. Does
         (working_by direction resource.now path.now p.rows bytes p.seeds)
         (with_lent_links L.link 0 bench.links
         (with_lent_dice 0 (D.left bench.dice) (D.count bench.dice) a))

@@ -19,5 +19,7 @@ pub use phases::{
 pub use programs::{Program, Programs, program_plugins, settings_programs, without_program};
 pub use publication::publish_settings;
 pub use starts::start_stop;
-pub use stores::{add_delete, add_put, close_tape, load_store, open_tape, settle_tape};
+pub use stores::{
+    add_delete, add_put, close_tape, load_store, open_tape, return_tape, settle_tape,
+};
 pub use work::{Task, make, split_first_program, take_last};

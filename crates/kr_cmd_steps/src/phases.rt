@@ -24,8 +24,9 @@ use std::alloc::Global;
 
 /// The configuration in a file.
 pub fn configure<W: World>(alloc: Global, world: &mut W, name: &str) -> Result<Settings, Stop>
-    ensures { (a : Around) → Does (configuration name.now) (with_world (W.told world.old) a)
+    ensures does { (a : Around) → Does (configuration name.now) (with_world (W.told world.old) a)
         (with_world (W.told world.new) a) (rows_in result) }
+    ensures links { (W.told world.new).links ≡ (W.told world.old).links }
 {
     load_settings(alloc, world, name)
 }

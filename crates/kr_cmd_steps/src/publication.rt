@@ -1,7 +1,7 @@
 //! Publishes settings, as a command does.
 ghost use Rattle.std.specs.Prelude.{◌≡◌, ◌≤◌, All, IfOk};
 ghost use Rattle.kr_config.specs.Kept.{plugins_in, rows_of};
-ghost use Rattle.kr_kms.specs.Truth.{TellsOf, key_of};
+ghost use Rattle.kr_kms.specs.Opens.{key_of};
 ghost use Rattle.kr_base.specs.Walks.{Talk};
 ghost use Rattle.kr_provider.specs.AskedLinks.{Among, AskedOnly};
 ghost use Rattle.kr_provider.specs.Names.{HasLinks, names_of};
@@ -28,14 +28,14 @@ pub fn publish_settings<L: Kms, D: Dice>(
 ) -> Result<Published, Stop>
     requires links { HasLinks (names_of L.link links.old) (rows_of settings.entries.0) }
     ensures heard { Talk (Among L.step) links.old links.new
-        (λ es. (a : Around) → a.truth ≡ L.truth → Does
+        (λ es. (a : Around) → Does
         (make_seeds (plugin_order (rows_of settings.entries.0)))
         (with_lent_links L.link 0 links.old
         (with_lent_dice 0 (D.left dice.old) (D.count dice.old) a))
         (with_lent_links L.link 0 links.new
         (with_lent_dice 0 (D.left dice.new) (D.count dice.new) (with_exchanges es a)))
         (seeds_in result)) }
-    ensures does { (a : Around) → IsUnheard L.truth a → Does
+    ensures does { (a : Around) → IsUnheard a → Does
         (make_seeds (plugin_order (rows_of settings.entries.0)))
         (with_lent_links L.link 0 links.old
         (with_lent_dice 0 (D.left dice.old) (D.count dice.old) a))
@@ -43,7 +43,6 @@ pub fn publish_settings<L: Kms, D: Dice>(
         (with_lent_dice 0 (D.left dice.new) (D.count dice.new) a))
         (seeds_in result) }
     ensures rows { IfOk result (λ p. p.rows ≡ rows_of settings.entries.0) }
-    ensures opens { IfOk result (λ p. All (λ row. TellsOf L.truth (key_of row) row.seed) p.seeds) }
     ensures asked { AskedOnly L.link (plugins_in (rows_of settings.entries.0)) links.old links.new }
     ensures later { D.count dice.old ≤ D.count dice.new }
 {

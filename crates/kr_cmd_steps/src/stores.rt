@@ -9,7 +9,7 @@ ghost use Rattle.kr_cmd_steps.specs.Around.{Around};
 ghost use Rattle.kr_cmd_steps.specs.Phases.{adding, stored_on};
 ghost use Rattle.kr_cmd_steps.specs.inner.Lent.{with_lent_tape};
 ghost use Rattle.kr_cmd_steps.specs.inner.Phases.{Does, AskedFor};
-ghost use Rattle.kr_cmd_steps.specs.inner.Tapes.{HasOneMore, IsLoaded, LentTape, ReturnedTape, ReturnsSettled, NoTape, grown_by, load_stop, stored_of};
+ghost use Rattle.kr_cmd_steps.specs.inner.Tapes.{HasOneMore, IsLoaded, LentTape, ReturnedTape, ReturnsRead, ReturnsSettled, NoTape, grown_by, load_stop, stored_of};
 
 use kr_base::{Bytes, Failed, STORE_LIMIT, Tape};
 use kr_cmd_messages::{Breach, Limit, Object, Refusal, Stop, visible};
@@ -53,6 +53,19 @@ pub fn close_tape<W: World>(world: &mut W, name: &str, tape: W::Tap)
         (W.Tap.count tape) }
 {
     world.back_tape(name, tape);
+}
+
+/// Gives the tape of the name back, which was only read. Where something was read, the world is
+/// told that it is back.
+pub fn return_tape<W: World, A>(world: &mut W, name: &str, tape: W::Tap, read: &Result<A, Stop>)
+    requires out { 0 < (W.told world.old).tapes.out name.now }
+    ensures { ReturnsRead name.now (W.told world.old) (W.told world.new) (W.Tap.told tape)
+        (W.Tap.count tape) read.now }
+{
+    match read {
+        Ok(_) => world.back_read(name, tape),
+        Err(_) => world.back_tape(name, tape),
+    }
 }
 
 /// Gives the tape of the name back. Where something was made of it, the tape is settled before: a

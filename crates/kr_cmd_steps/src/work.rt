@@ -51,8 +51,8 @@ pub fn make<W: World>(
         ≡ plugin_order (rows_of settings.entries.0) }
     requires path { length task.now.path.now ≤ path_limit }
     requires fits { length bytes ≤ input_limit task.now.direction }
-    ensures made { Heard W.lent W.took W.Link.step 0 [] [] (λ es. (tapes : Tapes) (a : Around)
-        → a.truth ≡ W.Link.truth → Does
+    ensures made { Heard W.Link.link W.lent W.took W.Link.step 0 (W.told world.old)
+        (W.told world.new) [] [] (λ es. (tapes : Tapes) (a : Around) → Does
         (bench_steps programs.now task.now.direction task.now.resource.now task.now.path.now
         (rows_of settings.entries.0) bytes)
         (with_world (with_tapes tapes (W.told world.old)) a)
@@ -90,8 +90,9 @@ fn make_linked<W: World>(
         ≡ plugin_order (rows_of settings.entries.0) }
     requires path { length task.now.path.now ≤ path_limit }
     requires fits { length bytes ≤ input_limit task.now.direction }
-    ensures made { Heard W.lent W.took W.Link.step 0 links result.1
-        (λ es. (tapes : Tapes) (a : Around) → a.truth ≡ W.Link.truth → Does
+    ensures made { Heard W.Link.link W.lent W.took W.Link.step 0 (W.told world.old)
+        (W.told world.new) links result.1
+        (λ es. (tapes : Tapes) (a : Around) → Does
         (borrow_links programs.now (working task.now.direction task.now.resource.now
         task.now.path.now (rows_of settings.entries.0) bytes))
         (with_lent_links W.Link.link 0 links
@@ -171,7 +172,7 @@ fn make_on_bench<L: Kms, D: Dice>(
     requires path { length task.now.path.now ≤ path_limit }
     requires fits { length bytes ≤ input_limit task.now.direction }
     ensures made { Talk (Among L.step) links result.1
-        (λ es. (a : Around) → a.truth ≡ L.truth → Does
+        (λ es. (a : Around) → Does
         (working task.now.direction task.now.resource.now task.now.path.now
         (rows_of settings.entries.0) bytes)
         (with_lent_links L.link 0 links (with_lent_dice 0 (D.left dice) (D.count dice) a))

@@ -1,15 +1,13 @@
 -- What the value of a row is found to be, and those of the rows one behind another.
-use Rattle.std.proofs.Common.{◌≡◌, ℕ, suc, ◌+◌, ◌≤◌, ◌<◌, Contains, arith, List, [], ◌∷◌, ◌++◌, length, drop, get_or, append-nil, append_assoc, Option, None, Some, Result, Ok, Err, refl, sym, ◌∙◌, ap, subst, drop-cons, add-one, length-append}
+use Rattle.std.proofs.Common.{◌≡◌, ℕ, suc, ◌+◌, ◌≤◌, ◌<◌, List, [], ◌∷◌, ◌++◌, length, drop, get_or, append-nil, append_assoc, Option, None, Some, Result, Ok, Err, refl, sym, ◌∙◌, ap, subst, drop-cons, add-one, length-append}
 use Rattle.std.specs.Prelude.{IfErr, IfOk, IfSome, IsSome}
 use Rattle.std.proofs.lemmas.List.{drop_all}
 use Rattle.kr_config.specs.Lists.{list_of}
 use Rattle.kr_kms.specs.Calls.{Link}
 use Rattle.kr_base.specs.Walks.{Talk}
 use Rattle.kr_base.proofs.Walks.{talk_none, talk_so, talk_then}
-use Rattle.kr_kms.specs.Cache.{AreOpen, CacheState}
+use Rattle.kr_kms.specs.Cache.{CacheState}
 use Rattle.kr_kms.specs.Exchanges.{Exchange}
-use Rattle.kr_kms.specs.Truth.{Truth}
-use Rattle.kr_kms.specs.declared.seeds.SeedKey.{SeedKey}
 use Rattle.kr_provider.specs.AskedLinks.{Among}
 use Rattle.kr_provider.specs.Exchanges.{ReadsBy}
 use Rattle.kr_provider.specs.BenchState.{BenchState}
@@ -28,19 +26,15 @@ use Rattle.kr_cmd_steps.specs.StoreSteps.{row_finding, row_findings}
 use Rattle.kr_cmd_steps.specs.ValueSteps.{value_read}
 use Rattle.kr_cmd_steps.specs.Phases.{with_memory}
 use Rattle.kr_cmd_steps.specs.RowFindings.{finding_of}
-use Rattle.kr_cmd_steps.specs.Steps.{Steps, and_then, give, hearing}
-use Rattle.kr_cmd_steps.specs.inner.KeptSeeds.{AreHeard}
+use Rattle.kr_cmd_steps.specs.Steps.{Steps, and_then, give}
 use Rattle.kr_cmd_steps.specs.declared.finding.Finding.{Finding}
 use Rattle.kr_cmd_steps.specs.inner.Phases.{Does}
 use Rattle.kr_cmd_steps.specs.inner.Plugins.{NamesAnUnread}
 use Rattle.kr_cmd_steps.proofs.Frames.{Seen}
 use Rattle.kr_cmd_steps.proofs.Goes.{given, goes_on, stops}
 use Rattle.kr_cmd_steps.proofs.Made.{remembers}
-use Rattle.kr_cmd_steps.proofs.Hearing.{around_more, around_none, heard_more}
-use Rattle.kr_cmd_steps.proofs.Links.{LinksOf}
-use Rattle.kr_cmd_steps.proofs.KeptSeeds.{read_heard, read_open}
-use Rattle.kr_cmd_steps.proofs.Telling.{TellAll, status_in}
-use Rattle.kr_cmd_steps.proofs.ValueRead.{IsValueEnd, value_does}
+use Rattle.kr_cmd_steps.proofs.Hearing.{around_more, around_none}
+use Rattle.kr_cmd_steps.proofs.ValueRead.{IsValueEnd, keeping, value_does}
 use Rattle.kr_cmd_steps.proofs.Works.{lacks, names_unread}
 use Rattle.kr_cmd_store.specs.declared.reading.Unread.{Unread}
 use Rattle.kr_cmd_store.specs.declared.reading.Unread.TheVariants.{PluginFailed, NoMemory}
@@ -48,16 +42,14 @@ use Rattle.kr_cmd_store.specs.inner.Verifying.{IsRowRead, IsUnreadStop, NamesUnr
 
 -- ---- one row
 
-module _ {L : Type 0} (truth : Truth) (link : L → Link) (row : Row) (p : Publication)
+module _ {L : Type 0} (link : L → Link) (row : Row) (p : Publication)
     (olds news : List L) (distinct : AreDistinct link olds) (dice : Option (List ℕ)) (count : ℕ)
-    (a : Around) (truth_is : a.truth ≡ truth) (cache after : CacheState)
-    (open_kept : AreOpen truth cache.rows) (heard_kept : AreHeard cache.rows a.heard)
-    (es : List Exchange) (told : TellAll truth (status_in link olds a.world.links) es) where
-  abbrev Value : Steps (Result Opened ValueNo)
-  Value = value_read p.seeds (list_of p.rows row.resource) row.path row.stored
+    (a : Around) (cache after : CacheState) (es : List Exchange) where
+  abbrev Value : Steps (Result Opened ValueNo × CacheState)
+  Value = value_read p.seeds (list_of p.rows row.resource) row.path row.stored cache
 
-  abbrev next : Result Opened ValueNo → Steps Finding
-  next read = give (finding_of read)
+  abbrev next : Result Opened ValueNo × CacheState → Steps (Finding × CacheState)
+  next read = give (finding_of read.0, read.1)
 
   abbrev Before : Around
   Before = Seen link a olds dice count
@@ -66,24 +58,26 @@ module _ {L : Type 0} (truth : Truth) (link : L → Link) (row : Row) (p : Publi
   After = with_exchanges es (Seen link a news dice count)
 
   abbrev Unseals : Result Opened UnsealNo → Type 0
-  Unseals opened = UnsealsBy truth link p.seeds (list_at p row.resource) row.path row.stored olds
+  Unseals opened = UnsealsBy link p.seeds (list_at p row.resource) row.path row.stored olds
       opened news
       × ReadsBy p.seeds (list_at p row.resource) row.path row.stored cache opened after es
 
   value_so : (opened : Result Opened UnsealNo) (made : Result (Result Opened ValueNo) Stop)
-      → Unseals opened → IsValueEnd link news opened made → Does Value Before After made
-  value_so opened made u e = value_does truth link p.seeds (list_of p.rows row.resource) row.path
-      row.stored olds news distinct dice count a truth_is cache open_kept heard_kept opened made
-      u.0 e after es u.1 told
+      → Unseals opened → IsValueEnd link news opened made
+      → Does Value Before After (keeping after made)
+  value_so opened made u e = value_does link p.seeds (list_of p.rows row.resource) row.path
+      row.stored olds news distinct dice count a cache opened made u.0 e after es u.1
 
   reads : (opened : Result Opened UnsealNo) (read : Result Opened ValueNo) (finding : Finding)
-      → finding_of read ≡ finding → Does Value Before After (Ok read)
-      → Does (row_finding p row) Before After (Ok finding)
-  reads opened read finding is d = goes_on Value next read d
-      (subst (λ f. Does (next read) After After (Ok f)) is (given (finding_of read) After))
+      → finding_of read ≡ finding → Does Value Before After (Ok (read, after))
+      → Does (row_finding p row cache) Before After (Ok (finding, after))
+  reads opened read finding is d = goes_on Value next (read, after) d
+      (subst (λ f. Does (next (read, after)) After After (Ok (f, after))) is
+      (given (finding_of read, after) After))
 
   pub finds : (opened : Result Opened UnsealNo) (finding : Finding) → Unseals opened
-      → Ok finding ≡ value_finding opened → Does (row_finding p row) Before After (Ok finding)
+      → Ok finding ≡ value_finding opened
+      → Does (row_finding p row cache) Before After (Ok (finding, after))
   finds (Ok opened) finding u is = reads (Ok opened) (Ok opened) finding (cc)
       (value_so (Ok opened) (Ok (Ok opened)) u refl)
   finds (Err (unseal.Refused why)) finding u is =
@@ -94,7 +88,7 @@ module _ {L : Type 0} (truth : Truth) (link : L → Link) (row : Row) (p : Publi
 
   pub finds_none : (opened : Result Opened UnsealNo) (why : Unread) (end : Stop) → Unseals opened
       → Err why ≡ value_finding opened → IsUnreadStop link news why end
-      → Does (row_finding p row) Before After (Err end)
+      → Does (row_finding p row cache) Before After (Err end)
   finds_none (Ok opened) why end u is h = absurd (cc)
   finds_none (Err (unseal.Refused cause)) why end u is h = absurd (cc)
   finds_none (Err (unseal.PluginFailed name)) why end u is h =
@@ -136,89 +130,97 @@ behind_more before finding (Ok findings) =
     ap (λ l. Ok l) (sym (append_assoc before (finding ∷ []) findings))
 behind_more before finding (Err why) = refl
 
-module _ (p : Publication) (row : Row) (rest : List Row) where
+module _ (p : Publication) (row : Row) (rest : List Row) (first : CacheState) where
   abbrev put_before : Finding → List Finding → Steps (List Finding)
   put_before finding findings = give (finding ∷ findings)
 
-  abbrev others : Finding → Steps (List Finding)
-  others finding = with_memory (and_then (row_findings p rest) (put_before finding))
+  abbrev others : Finding × CacheState → Steps (List Finding)
+  others found = with_memory (and_then (row_findings p rest found.1) (put_before found.0))
 
-  in_front : {mid new : Around} (finding : Finding) (result : Result (List Finding) Stop)
-      → Does (row_findings p rest) mid new result
-      → Does (and_then (row_findings p rest) (put_before finding)) mid new
+  in_front : {mid new : Around} (finding : Finding) (kept : CacheState)
+      (result : Result (List Finding) Stop) → Does (row_findings p rest kept) mid new result
+      → Does (and_then (row_findings p rest kept) (put_before finding)) mid new
       (behind (finding ∷ []) result)
-  in_front {new = new} finding (Ok findings) d =
-      goes_on (row_findings p rest) (put_before finding) findings d (given (finding ∷ findings) new)
-  in_front finding (Err why) d = stops (row_findings p rest) (put_before finding) why d
+  in_front {new = new} finding kept (Ok findings) d = goes_on (row_findings p rest kept)
+      (put_before finding) findings d (given (finding ∷ findings) new)
+  in_front finding kept (Err why) d =
+      stops (row_findings p rest kept) (put_before finding) why d
 
   module _ {old mid : Around} where
-    row_then : {new : Around} (finding : Finding) (result : Result (List Finding) Stop)
-        → Does (row_finding p row) old mid (Ok finding)
-        → Does (row_findings p rest) mid new result
-        → Does (row_findings p (row ∷ rest)) old new (behind (finding ∷ []) result)
-    row_then finding result d e =
-        goes_on (row_finding p row) others finding d (remembers (in_front finding result e))
+    row_then : {new : Around} (finding : Finding) (kept : CacheState)
+        (result : Result (List Finding) Stop)
+        → Does (row_finding p row first) old mid (Ok (finding, kept))
+        → Does (row_findings p rest kept) mid new result
+        → Does (row_findings p (row ∷ rest) first) old new (behind (finding ∷ []) result)
+    row_then finding kept result d e = goes_on (row_finding p row first) others (finding, kept) d
+        (remembers (in_front finding kept result e))
 
-    row_lacks : (finding : Finding) → Does (row_finding p row) old mid (Ok finding)
-        → Does (row_findings p (row ∷ rest)) old mid (Err stop.NoMemory)
-    row_lacks finding d = goes_on (row_finding p row) others finding d
-        (lacks (and_then (row_findings p rest) (put_before finding)) mid)
+    row_lacks : (finding : Finding) (kept : CacheState)
+        → Does (row_finding p row first) old mid (Ok (finding, kept))
+        → Does (row_findings p (row ∷ rest) first) old mid (Err stop.NoMemory)
+    row_lacks finding kept d = goes_on (row_finding p row first) others (finding, kept) d
+        (lacks (and_then (row_findings p rest kept) (put_before finding)) mid)
 
-    row_stops : (why : Stop) → Does (row_finding p row) old mid (Err why)
-        → Does (row_findings p (row ∷ rest)) old mid (Err why)
-    row_stops why d = stops (row_finding p row) others why d
+    row_stops : (why : Stop) → Does (row_finding p row first) old mid (Err why)
+        → Does (row_findings p (row ∷ rest) first) old mid (Err why)
+    row_stops why d = stops (row_finding p row first) others why d
 
--- what reading the rest of the rows does completes what reading all of them does
-abbrev pub Completes : List Row → (at : ℕ) → List Finding → Around → Around → Publication → Type 0
-Completes rows at findings old now p = (new : Around) (result : Result (List Finding) Stop)
-    → Does (row_findings p (drop at rows)) now new result
-    → Does (row_findings p rows) old new (behind findings result)
+-- what reading the rest of the rows does, with what is kept then, completes what reading all of
+-- them does, with what was kept first
+abbrev pub Completes : List Row → (first : CacheState) → (at : ℕ) → List Finding
+    → (kept : CacheState) → Around → Around → Publication → Type 0
+Completes rows first at findings kept old now p =
+    (new : Around) (result : Result (List Finding) Stop)
+    → Does (row_findings p (drop at rows) kept) now new result
+    → Does (row_findings p rows first) old new (behind findings result)
 
-abbrev pub Finds : List Row → Around → Around → Result (List Finding) Stop → Publication → Type 0
-Finds rows old new result p = Does (row_findings p rows) old new result
+abbrev pub Finds : List Row → CacheState → Around → Around → Result (List Finding) Stop
+    → Publication → Type 0
+Finds rows first old new result p = Does (row_findings p rows first) old new result
 
-completes_none : (p : Publication) (rows : List Row) (a : Around) → Completes rows 0 [] a a p
-completes_none p rows a = λ new result d.
-    subst (λ r. Does (row_findings p rows) a new r) (sym (behind_none result)) d
+completes_none : (p : Publication) (rows : List Row) (first : CacheState) (a : Around)
+    → Completes rows first 0 [] first a a p
+completes_none p rows first a = λ new result d.
+    subst (λ r. Does (row_findings p rows first) a new r) (sym (behind_none result)) d
 
-module _ (p : Publication) (rows : List Row) (row : Row) (at : ℕ)
+module _ (p : Publication) (rows : List Row) (first : CacheState) (row : Row) (at : ℕ)
     (next_is : drop at rows ≡ row ∷ drop (at + 1) rows) (findings : List Finding)
-    {old now next : Around} (so_far : Completes rows at findings old now p) where
-  completes_more : (finding : Finding) → Does (row_finding p row) now next (Ok finding)
-      → Completes rows (at + 1) (findings ++ finding ∷ []) old next p
-  completes_more finding d = λ new result e.
-      subst (λ r. Does (row_findings p rows) old new r) (behind_more findings finding result)
+    (kept : CacheState) {old now next : Around}
+    (so_far : Completes rows first at findings kept old now p) where
+  completes_more : (finding : Finding) (then : CacheState)
+      → Does (row_finding p row kept) now next (Ok (finding, then))
+      → Completes rows first (at + 1) (findings ++ finding ∷ []) then old next p
+  completes_more finding then d = λ new result e.
+      subst (λ r. Does (row_findings p rows first) old new r) (behind_more findings finding result)
       (so_far new (behind (finding ∷ []) result)
-      (subst (λ l. Does (row_findings p l) now new (behind (finding ∷ []) result)) (sym next_is)
-      (row_then p row (drop (at + 1) rows) finding result d e)))
+      (subst (λ l. Does (row_findings p l kept) now new (behind (finding ∷ []) result))
+      (sym next_is) (row_then p row (drop (at + 1) rows) kept finding then result d e)))
 
-  completes_lacking : (finding : Finding) → Does (row_finding p row) now next (Ok finding)
-      → Finds rows old next (Err stop.NoMemory) p
-  completes_lacking finding d = so_far next (Err stop.NoMemory)
-      (subst (λ l. Does (row_findings p l) now next (Err stop.NoMemory)) (sym next_is)
-      (row_lacks p row (drop (at + 1) rows) finding d))
+  completes_lacking : (finding : Finding) (then : CacheState)
+      → Does (row_finding p row kept) now next (Ok (finding, then))
+      → Finds rows first old next (Err stop.NoMemory) p
+  completes_lacking finding then d = so_far next (Err stop.NoMemory)
+      (subst (λ l. Does (row_findings p l kept) now next (Err stop.NoMemory)) (sym next_is)
+      (row_lacks p row (drop (at + 1) rows) kept finding then d))
 
-  completes_stopped : (why : Stop) → Does (row_finding p row) now next (Err why)
-      → Finds rows old next (Err why) p
+  completes_stopped : (why : Stop) → Does (row_finding p row kept) now next (Err why)
+      → Finds rows first old next (Err why) p
   completes_stopped why d = so_far next (Err why)
-      (subst (λ l. Does (row_findings p l) now next (Err why)) (sym next_is)
-      (row_stops p row (drop (at + 1) rows) why d))
+      (subst (λ l. Does (row_findings p l kept) now next (Err why)) (sym next_is)
+      (row_stops p row (drop (at + 1) rows) kept why d))
 
-completes_all : (p : Publication) (rows : List Row) (at : ℕ) (findings : List Finding)
-    {old now : Around} → Completes rows at findings old now p → length rows ≤ at
-    → Finds rows old now (Ok findings) p
-completes_all p rows at findings {old} {now} so_far whole =
-    subst (λ l. Does (row_findings p rows) old now (Ok l)) (append-nil findings)
-    (so_far now (Ok []) (subst (λ l. Does (row_findings p l) now now (Ok []))
+completes_all : (p : Publication) (rows : List Row) (first : CacheState) (at : ℕ)
+    (findings : List Finding) (kept : CacheState) {old now : Around}
+    → Completes rows first at findings kept old now p → length rows ≤ at
+    → Finds rows first old now (Ok findings) p
+completes_all p rows first at findings kept {old} {now} so_far whole =
+    subst (λ l. Does (row_findings p rows first) old now (Ok l)) (append-nil findings)
+    (so_far now (Ok []) (subst (λ l. Does (row_findings p l kept) now now (Ok []))
     (sym (drop_all at rows whole)) (given [] now)))
 
 -- ---- by a bench
 
--- no link at all
-abbrev no_links : LinksOf
-no_links = record { told = λ key. None; faults = λ key. 0; out = λ key. 0 }
-
-module _ {L D : Type 0} (truth : Truth) (link : L → Link) (left : D → Option (List ℕ))
+module _ {L D : Type 0} (link : L → Link) (left : D → Option (List ℕ))
     (count : D → ℕ) where
   abbrev pub Held : BenchState L D → Around → Around
   Held bench a = Seen link a bench.links (left bench.dice) (count bench.dice)
@@ -229,7 +231,7 @@ module _ {L D : Type 0} (truth : Truth) (link : L → Link) (left : D → Option
       (kept : new ≡ record old { links = new.links; cache = new.cache })
       (distinct : AreDistinct link old.links) (opened : Result Opened UnsealNo) where
     abbrev Unsealed : (resource path stored : List ℕ) → Publication → Type 0
-    Unsealed resource path stored p = UnsealsBy truth link p.seeds (list_at p resource) path stored
+    Unsealed resource path stored p = UnsealsBy link p.seeds (list_at p resource) path stored
         old.links opened new.links
 
     abbrev Read : (resource path stored : List ℕ) → List Exchange → Publication → Type 0
@@ -254,17 +256,16 @@ module _ {L D : Type 0} (truth : Truth) (link : L → Link) (left : D → Option
         (subst (λ x. IfSome published (Read row.resource x stored es)) p
         (subst (λ x. IfSome published (Read x path stored es)) r u))
 
-    module _ (open_kept : AreOpen truth old.cache.rows) (es : List Exchange)
-        (told : (objects : LinksOf) → TellAll truth (status_in link old.links objects) es) where
-      abbrev Reads : Around → Result Finding Stop → Publication → Type 0
-      Reads a result p = Does (row_finding p row) (Held old a) (Held new (with_exchanges es a))
-          result
+    module _ (es : List Exchange) where
+      abbrev Reads : Around → Result (Finding × CacheState) Stop → Publication → Type 0
+      Reads a result p = Does (row_finding p row old.cache) (Held old a)
+          (Held new (with_exchanges es a)) result
 
-      same_dice : (p : Publication) (a : Around) (result : Result Finding Stop)
-          → Does (row_finding p row) (Held old a)
+      same_dice : (p : Publication) (a : Around) (result : Result (Finding × CacheState) Stop)
+          → Does (row_finding p row old.cache) (Held old a)
           (with_exchanges es (Seen link a new.links (left old.dice) (count old.dice))) result
           → Reads a result p
-      same_dice p a result = subst (λ d. Does (row_finding p row) (Held old a)
+      same_dice p a result = subst (λ d. Does (row_finding p row old.cache) (Held old a)
           (with_exchanges es (Seen link a new.links (left d) (count d))) result)
           (sym (ap (λ (b : BenchState L D). b.dice) kept))
 
@@ -272,59 +273,38 @@ module _ {L D : Type 0} (truth : Truth) (link : L → Link) (left : D → Option
           → IfSome published (Unsealed row.resource row.path row.stored)
           → IfSome published (Read row.resource row.path row.stored es)
           → (result : Result Finding Unread) → result ≡ value_finding opened
-          → IfOk result (λ finding. (a : Around) → a.truth ≡ truth
-          → AreHeard old.cache.rows a.heard → IfSome published (Reads a (Ok finding)))
-      row_found None u r (Ok finding) is = λ a t h. tt
-      row_found (Some p) u r (Ok finding) is = λ a t h. same_dice p a (Ok finding)
-          (finds truth link row p old.links new.links distinct (left old.dice) (count old.dice) a
-          t old.cache new.cache open_kept h es (told a.world.links) opened finding (u, r) is)
+          → IfOk result (λ finding. (a : Around)
+          → IfSome published (Reads a (Ok (finding, new.cache))))
+      row_found None u r (Ok finding) is = λ a. tt
+      row_found (Some p) u r (Ok finding) is = λ a. same_dice p a (Ok (finding, new.cache))
+          (finds link row p old.links new.links distinct (left old.dice) (count old.dice) a
+          old.cache new.cache es opened finding (u, r) is)
       row_found published u r (Err why) is = tt
 
       row_unread : (published : Option Publication)
           → IfSome published (Unsealed row.resource row.path row.stored)
           → IfSome published (Read row.resource row.path row.stored es)
           → (result : Result Finding Unread) → result ≡ value_finding opened
-          → IfErr result (λ why. (end : Stop) (a : Around) → a.truth ≡ truth
-          → AreHeard old.cache.rows a.heard → IsUnreadStop link new.links why end
+          → IfErr result (λ why. (end : Stop) (a : Around) → IsUnreadStop link new.links why end
           → IfSome published (Reads a (Err end)))
       row_unread published u r (Ok finding) is = tt
-      row_unread None u r (Err why) is = λ end a t h s. tt
-      row_unread (Some p) u r (Err why) is = λ end a t h s. same_dice p a (Err end)
-          (finds_none truth link row p old.links new.links distinct (left old.dice)
-          (count old.dice) a t old.cache new.cache open_kept h es (told a.world.links) opened why end (u, r)
-          is s)
+      row_unread None u r (Err why) is = λ end a s. tt
+      row_unread (Some p) u r (Err why) is = λ end a s. same_dice p a (Err end)
+          (finds_none link row p old.links new.links distinct (left old.dice)
+          (count old.dice) a old.cache new.cache es opened why end (u, r) is s)
 
-      seeds_kept : (published : Option Publication) → IsSome published
-          → IfSome published (Read row.resource row.path row.stored es)
-          → (heard : Option (List Exchange)) → AreHeard old.cache.rows heard
-          → AreHeard new.cache.rows (hearing es heard)
-      seeds_kept None some r = absurd (cc)
-      seeds_kept (Some p) some r = read_heard p.seeds (list_at p row.resource) row.path row.stored
-          old.cache opened new.cache es r
-
-      seeds_open : (published : Option Publication) → IsSome published
-          → IfSome published (Read row.resource row.path row.stored es)
-          → AreOpen truth new.cache.rows
-      seeds_open None some r = absurd (cc)
-      seeds_open (Some p) some r = read_open truth (status_in link old.links no_links)
-          p.seeds (list_at p row.resource) row.path row.stored old.cache opened new.cache es r
-          (told no_links) open_kept
-
-      pub row_read : (published : Option Publication) → IsSome published
-          → published ≡ old.published
+      pub row_read : (published : Option Publication) → published ≡ old.published
           → IfSome published (Unsealed row.resource row.path row.stored)
           → IfSome published (Read row.resource row.path row.stored es)
           → (result : Result Finding Unread) → result ≡ value_finding opened
-          → IsRowRead truth link left count row old new result es
-      row_read published some same u r result is = subst
+          → IsRowRead link left count row old new result es
+      row_read published same u r result is = subst
           (λ o. IfSome o (Unsealed row.resource row.path row.stored)
           → IfSome o (Read row.resource row.path row.stored es)
-          → IsRowRead truth link left count row old new result es) (sym same)
+          → IsRowRead link left count row old new result es) (sym same)
           (λ x y. record {
             found = row_found old.published x y result is;
             unread = row_unread old.published x y result is;
-            kept = seeds_kept old.published (subst (λ o. IsSome o) same some) y;
-            opened = seeds_open old.published (subst (λ o. IsSome o) same some) y;
           }) u r
 
     pub row_named : (published : Option Publication) (resource path stored : List ℕ)
@@ -334,7 +314,7 @@ module _ {L D : Type 0} (truth : Truth) (link : L → Link) (left : D → Option
     row_named published resource path stored some u (Ok finding) is = tt
     row_named published resource path stored some u (Err why) is =
         unread_named (names_of link new.links) opened why
-        (names_unread truth link resource path stored published old.links new.links opened some u)
+        (names_unread link resource path stored published old.links new.links opened some u)
         is
 
   -- ---- all rows of the bench
@@ -351,55 +331,43 @@ module _ {L D : Type 0} (truth : Truth) (link : L → Link) (left : D → Option
   by_one (Some p) f x = f p x
 
   module _ (step : L → Exchange → L → Type 0) (rows : List Row) (initial : BenchState L D) where
-    -- so many rows were read by these exchanges, and what is kept was unwrapped by them
-    pub record IsSoFar (at : ℕ) (findings : List Finding) (bench : BenchState L D)
-        (es : List Exchange) : Type 0 where
-      pub completes : (a : Around) → a.truth ≡ truth → IfSome initial.published
-          (Completes rows at findings (Held initial a) (Held bench (with_exchanges es a)))
-      pub heard : (heard : Option (List Exchange)) → AreHeard bench.cache.rows (hearing es heard)
+    -- so many rows were read by these exchanges
+    abbrev pub IsSoFar : (at : ℕ) → List Finding → BenchState L D → List Exchange → Type 0
+    IsSoFar at findings bench es = (a : Around) → IfSome initial.published
+        (Completes rows initial.cache at findings bench.cache (Held initial a)
+        (Held bench (with_exchanges es a)))
 
     pub record HasRead (at : ℕ) (findings : List Finding) (bench : BenchState L D)
         : Type 0 where
       pub talk : Talk (Among step) initial.links bench.links (IsSoFar at findings bench)
-      pub opened : AreOpen truth bench.cache.rows
       pub published : bench.published ≡ initial.published
       pub names : names_of link bench.links ≡ names_of link initial.links
       pub all : length findings ≡ at
 
     -- what all of them come to
     abbrev pub FindsAll : List L → D → Result (List Finding) Stop → List Exchange → Type 0
-    FindsAll links dice result es = (a : Around) → a.truth ≡ truth
-        → IfSome initial.published (Finds rows (Held initial a)
+    FindsAll links dice result es = (a : Around) → IfSome initial.published
+        (Finds rows initial.cache (Held initial a)
         (Seen link (with_exchanges es a) links (left dice) (count dice)) result)
 
   module _ (step : L → Exchange → L → Type 0) (rows : List Row) where
-    none_kept : {A : Type 0} (bench : BenchState L D) → bench.cache.rows ≡ []
-        → (key : SeedKey) (seed : List ℕ) → Contains bench.cache.rows (key, seed) → A
-    none_kept bench cold key seed there = let c : Contains [] (key, seed) =
-        subst (λ rows. Contains rows (key, seed)) cold there in absurd (omega (arith, c.1))
-
-    pub none_read : (bench : BenchState L D) → bench.cache.rows ≡ [] → (findings : List Finding)
-        → findings ≡ [] → HasRead step rows bench 0 findings bench
-    none_read bench cold findings none = record {
+    pub none_read : (bench : BenchState L D) → (findings : List Finding) → findings ≡ []
+        → HasRead step rows bench 0 findings bench
+    none_read bench findings none = record {
       talk = talk_none (Among step) (IsSoFar step rows bench 0 findings bench) bench.links
-          (record {
-            completes = λ a t. subst (λ l. IfSome bench.published
-                (Completes rows 0 l (Held bench a) (Held bench (with_exchanges [] a)))) (sym none)
-                (subst (λ b. IfSome bench.published
-                (Completes rows 0 [] (Held bench a) (Held bench b))) (sym (around_none a))
-                (each bench.published a));
-            heard = λ heard key seed there. none_kept bench cold key seed there;
-          });
-      opened = λ key seed there. none_kept bench cold key seed there;
+          (λ a. subst (λ l. IfSome bench.published (Completes rows bench.cache 0 l bench.cache
+          (Held bench a) (Held bench (with_exchanges [] a)))) (sym none)
+          (subst (λ b. IfSome bench.published (Completes rows bench.cache 0 [] bench.cache
+          (Held bench a) (Held bench b))) (sym (around_none a)) (each bench.published a)));
       published = refl;
       names = refl;
       all = ap (λ l. length l) none;
     }
       where
-        each : (published : Option Publication) (a : Around)
-            → IfSome published (Completes rows 0 [] (Held bench a) (Held bench a))
+        each : (published : Option Publication) (a : Around) → IfSome published
+            (Completes rows bench.cache 0 [] bench.cache (Held bench a) (Held bench a))
         each None a = tt
-        each (Some p) a = completes_none p rows (Held bench a)
+        each (Some p) a = completes_none p rows bench.cache (Held bench a)
 
   module _ (step : L → Exchange → L → Type 0) (rows : List Row) (initial : BenchState L D)
       (at : ℕ) (findings : List Finding) (bench : BenchState L D)
@@ -409,13 +377,13 @@ module _ {L D : Type 0} (truth : Truth) (link : L → Link) (left : D → Option
         (FindsAll step rows initial bench.links bench.dice (Ok findings))
     all_read whole = talk_so (Among step) (IsSoFar step rows initial at findings bench)
         (FindsAll step rows initial bench.links bench.dice (Ok findings)) initial.links bench.links
-        so_far.talk (λ es so a t. by_one initial.published
-        (λ p c. completes_all p rows at findings c whole) (so.completes a t))
+        so_far.talk (λ es so a. by_one initial.published
+        (λ p c. completes_all p rows initial.cache at findings bench.cache c whole) (so a))
 
     module _ (row item : Row) (below : at < length rows) (item_is : item ≡ get_or rows at item)
         (row_is : row ≡ item) (after : BenchState L D) (result : Result Finding Unread)
         (read : Talk (Among step) bench.links after.links
-        (IsRowRead truth link left count row bench after result)) where
+        (IsRowRead link left count row bench after result)) where
       next_row : drop at rows ≡ row ∷ drop (at + 1) rows
       next_row = drop-cons rows at item below
           ∙ ap (λ r. r ∷ drop (suc at) rows) (sym item_is ∙ sym row_is)
@@ -424,22 +392,28 @@ module _ {L D : Type 0} (truth : Truth) (link : L → Link) (left : D → Option
       -- both talks
       behind_it : (Be : List Exchange → Type 0)
           → ((es fs : List Exchange) → IsSoFar step rows initial at findings bench es
-          → IsRowRead truth link left count row bench after result fs → Be (es ++ fs))
+          → IsRowRead link left count row bench after result fs → Be (es ++ fs))
           → Talk (Among step) initial.links after.links Be
       behind_it Be so = talk_then (Among step) (IsSoFar step rows initial at findings bench)
-          (IsRowRead truth link left count row bench after result) Be initial.links bench.links
+          (IsRowRead link left count row bench after result) Be initial.links bench.links
           after.links so_far.talk read so
 
-      abbrev Found : Result Finding Stop → Around → List Exchange → Type 0
-      Found end a fs = IfSome bench.published
-          (λ p. Does (row_finding p row) (Held bench a) (Held after (with_exchanges fs a)) end)
+      abbrev Found : Result (Finding × CacheState) Stop → Around → List Exchange → Publication
+          → Type 0
+      Found end a fs p = Does (row_finding p row bench.cache) (Held bench a)
+          (Held after (with_exchanges fs a)) end
 
-      found_first : (end : Result Finding Stop) (a : Around) (fs : List Exchange) → Found end a fs
-          → IfSome initial.published
-          (λ p. Does (row_finding p row) (Held bench a) (Held after (with_exchanges fs a)) end)
-      found_first end a fs = subst (λ o. IfSome o
-          (λ p. Does (row_finding p row) (Held bench a) (Held after (with_exchanges fs a)) end))
-          so_far.published
+      found_first : (end : Result (Finding × CacheState) Stop) (a : Around) (fs : List Exchange)
+          → IfSome bench.published (Found end a fs) → IfSome initial.published (Found end a fs)
+      found_first end a fs = subst (λ o. IfSome o (Found end a fs)) so_far.published
+
+      -- a finding, where one was made
+      found_so : (finding : Finding) → result ≡ Ok finding → (a : Around) (fs : List Exchange)
+          → IsRowRead link left count row bench after result fs
+          → IfSome initial.published (Found (Ok (finding, after.cache)) a fs)
+      found_so finding is a fs one = found_first (Ok (finding, after.cache)) a fs
+          (subst (λ r. IfOk r (λ finding. (a : Around)
+          → IfSome bench.published (Found (Ok (finding, after.cache)) a fs))) is one.found a)
 
       in_one : (Is : Around → Type 0) (es fs : List Exchange) (a : Around)
           → Is (with_exchanges fs (with_exchanges es a)) → Is (with_exchanges (es ++ fs) a)
@@ -451,21 +425,15 @@ module _ {L D : Type 0} (truth : Truth) (link : L → Link) (left : D → Option
           → names_of link after.links ≡ names_of link bench.links
           → HasRead step rows initial (at + 1) new after
       one_more_read finding is new new_is kept names = record {
-        talk = behind_it (IsSoFar step rows initial (at + 1) new after) (λ es fs so one. record {
-          completes = λ a t. in_one (λ b. IfSome initial.published
-              (Completes rows (at + 1) new (Held initial a) (Held after b))) es fs a
-              (subst (λ l. IfSome initial.published (Completes rows (at + 1) l (Held initial a)
-              (Held after (with_exchanges fs (with_exchanges es a))))) (sym new_is)
-              (by_both initial.published
-              (λ p c d. completes_more p rows row at next_row findings c finding d)
-              (so.completes a t) (found_first (Ok finding) (with_exchanges es a) fs
-              (subst (λ r. IfOk r (λ finding. (a : Around) → a.truth ≡ truth
-              → AreHeard bench.cache.rows a.heard → Found (Ok finding) a fs)) is one.found
-              (with_exchanges es a) t (so.heard a.heard)))));
-          heard = λ heard. subst (AreHeard after.cache.rows) (heard_more es fs heard)
-              (one.kept (hearing es heard) (so.heard heard));
-        });
-        opened = read.are.opened;
+        talk = behind_it (IsSoFar step rows initial (at + 1) new after) (λ es fs so one a.
+            in_one (λ b. IfSome initial.published (Completes rows initial.cache (at + 1) new
+            after.cache (Held initial a) (Held after b))) es fs a
+            (subst (λ l. IfSome initial.published (Completes rows initial.cache (at + 1) l
+            after.cache (Held initial a) (Held after (with_exchanges fs (with_exchanges es a)))))
+            (sym new_is)
+            (by_both initial.published (λ p c d. completes_more p rows initial.cache row at
+            next_row findings bench.cache c finding after.cache d)
+            (so a) (found_so finding is (with_exchanges es a) fs one))));
         published = ap (λ (b : BenchState L D). b.published) kept ∙ so_far.published;
         names = names ∙ so_far.names;
         all = ap (λ l. length l) new_is ∙ length-append findings (finding ∷ [])
@@ -490,29 +458,28 @@ module _ {L D : Type 0} (truth : Truth) (link : L → Link) (left : D → Option
             → IsUnreadStop link after.links why end
             → Talk (Among step) initial.links back (FindsAll step rows initial back dice made)
         stopped_at why is h = given_back (behind_it
-            (FindsAll step rows initial after.links after.dice (Err end)) (λ es fs so one a t.
-            in_one (λ b. IfSome initial.published (Finds rows (Held initial a) (Held after b)
-            (Err end))) es fs a (by_both initial.published
-            (λ p c d. completes_stopped p rows row at next_row findings c end d)
-            (so.completes a t) (found_first (Err end) (with_exchanges es a) fs
-            (subst (λ r. IfErr r (λ why. (end : Stop) (a : Around) → a.truth ≡ truth
-            → AreHeard bench.cache.rows a.heard → IsUnreadStop link after.links why end
-            → Found (Err end) a fs)) is one.unread end (with_exchanges es a) t (so.heard a.heard)
-            h)))))
+            (FindsAll step rows initial after.links after.dice (Err end)) (λ es fs so one a.
+            in_one (λ b. IfSome initial.published (Finds rows initial.cache (Held initial a)
+            (Held after b) (Err end))) es fs a (by_both initial.published
+            (λ p c d. completes_stopped p rows initial.cache row at next_row findings bench.cache
+            c end d)
+            (so a) (found_first (Err end) (with_exchanges es a) fs
+            (subst (λ r. IfErr r (λ why. (end : Stop) (a : Around)
+            → IsUnreadStop link after.links why end
+            → IfSome bench.published (Found (Err end) a fs))) is one.unread end
+            (with_exchanges es a) h)))))
 
         pub lacking_at : end ≡ stop.NoMemory → (finding : Finding) → result ≡ Ok finding
             → Talk (Among step) initial.links back (FindsAll step rows initial back dice made)
         lacking_at lacked finding is = given_back (behind_it
-            (FindsAll step rows initial after.links after.dice (Err end)) (λ es fs so one a t.
-            in_one (λ b. IfSome initial.published (Finds rows (Held initial a) (Held after b)
-            (Err end))) es fs a (by_both initial.published
-            (λ p c d. subst (λ s. Finds rows (Held initial a)
+            (FindsAll step rows initial after.links after.dice (Err end)) (λ es fs so one a.
+            in_one (λ b. IfSome initial.published (Finds rows initial.cache (Held initial a)
+            (Held after b) (Err end))) es fs a (by_both initial.published
+            (λ p c d. subst (λ s. Finds rows initial.cache (Held initial a)
             (Held after (with_exchanges fs (with_exchanges es a))) (Err s) p) (sym lacked)
-            (completes_lacking p rows row at next_row findings c finding d))
-            (so.completes a t) (found_first (Ok finding) (with_exchanges es a) fs
-            (subst (λ r. IfOk r (λ finding. (a : Around) → a.truth ≡ truth
-            → AreHeard bench.cache.rows a.heard → Found (Ok finding) a fs)) is one.found
-            (with_exchanges es a) t (so.heard a.heard))))))
+            (completes_lacking p rows initial.cache row at next_row findings bench.cache c finding
+            after.cache d))
+            (so a) (found_so finding is (with_exchanges es a) fs one))))
 
         pub names_back : names_of link after.links ≡ names_of link bench.links
             → names_of link back ≡ names_of link initial.links

@@ -61,6 +61,7 @@ module _ (name other : List ℕ) (told : Option (List ℕ)) (count : ℕ)
     count_is = h.count_is ∙ sym (counted old);
     out = λ key. ap (λ n. n - at_key same_name name 1 key) (h.out key)
         ∙ apart_of (same_name name key) (same_name other key) (old.out key) (not_both key);
+    handed = h.handed;
     told = λ key n. one_of_two (same_name name key) (option_map Some told) (out.told key)
         (old.told key) (λ f. h.told key n);
     faults = λ key n. one_of_two (same_name name key) count (out.faults key) (old.faults key)
@@ -73,6 +74,7 @@ module _ (name other : List ℕ) (told : Option (List ℕ)) (count : ℕ)
     count_is = counted new ∙ h.count_is;
     out = λ key. sym (apart_of (same_name name key) (same_name other key) (new.out key)
         (not_both key)) ∙ ap (λ n. n - at_key same_name name 1 key) (h.out key);
+    handed = h.handed;
     told = λ key n. one_of_two (same_name name key) (option_map Some told) (new.told key)
         (mid.told key) (λ f. h.told key n);
     faults = λ key n. one_of_two (same_name name key) count (new.faults key) (mid.faults key)

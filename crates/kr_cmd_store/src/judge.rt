@@ -26,8 +26,9 @@ use std::alloc::Global;
 /// Judges the reload.
 pub fn judge<W: World>(alloc: Global, words: &JudgeWords, world: &mut W) -> Result<Outcome, Stop>
     requires replicas { HasReplicas words.now.options }
-    ensures { (a : Around) → Does (judging words.now)
+    ensures does { (a : Around) → Does (judging words.now)
         (with_world (W.told world.old) a) (with_world (W.told world.new) a) result }
+    ensures links { (W.told world.new).links ≡ (W.told world.old).links }
 {
     let name = words.store.as_str();
     let tape = match open_tape(alloc, world, name, Access::ToRead) {
@@ -53,6 +54,7 @@ fn judge_on_tape<W: World>(
         (with_lent_tape name (W.Tap.told result.1) (W.Tap.count result.1)
         (with_world (W.told world.new) a)) result.0 }
     ensures tapes { (W.told world.new).tapes ≡ (W.told world.old).tapes }
+    ensures links { (W.told world.new).links ≡ (W.told world.old).links }
 {
     let store = match load_store(alloc, tape, Object::Store) {
         Ok(store) => store,
@@ -75,6 +77,7 @@ fn judge_stored<W: World, T: Tape>(
         (with_world (with_tapes tapes (W.told world.old)) a)
         (with_world (with_tapes tapes (W.told world.new)) a) result }
     ensures tapes { (W.told world.new).tapes ≡ (W.told world.old).tapes }
+    ensures links { (W.told world.new).links ≡ (W.told world.old).links }
 {
     let replicas = match load_replicas(alloc, &words.options, world) {
         Ok(replicas) => replicas,

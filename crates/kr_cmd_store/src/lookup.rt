@@ -1,11 +1,10 @@
 //! `get`: configuration, programs of its plugins, store, the path's row, random source, links,
 //! publish, unseal.
 ghost use Rattle.std.specs.Prelude.{◌≡◌, ◌≤◌, ◌⊎◌, [], List, ℕ, IfOk, length};
-ghost use Rattle.kr_kms.specs.declared.world.Access.TheVariants.{ToRead};
 ghost use Rattle.kr_base.specs.Limits.{path_limit, value_limit};
 ghost use Rattle.kr_cmd_steps.specs.Around.{Around, with_exchanges, with_world};
 ghost use Rattle.kr_cmd_steps.specs.Commands.{getting};
-ghost use Rattle.kr_cmd_steps.specs.Phases.{tape_for};
+ghost use Rattle.kr_cmd_steps.specs.Phases.{read_for};
 ghost use Rattle.kr_cmd_steps.specs.StoreSteps.{row_on};
 ghost use Rattle.kr_cmd_steps.specs.Heard.{Heard};
 ghost use Rattle.kr_cmd_messages.specs.declared.refusal.Refusal.{Refusal};
@@ -16,17 +15,18 @@ ghost use Rattle.kr_cmd_steps.specs.inner.Tapes.{IsLookedUp};
 
 use kr_base::{Bytes, Shared, Tape, Text};
 use kr_cmd_messages::{Direction, Lookup, Object, Outcome, Refusal, Stop};
-use kr_cmd_steps::{Task, close_tape, configure, load_store, make, open_tape, settings_programs};
+use kr_cmd_steps::{Task, configure, load_store, make, open_tape, return_tape, settings_programs};
 use kr_kms::{Access, World};
 use kr_store::{Row, Store};
 use std::alloc::Global;
 
-/// Reads the value at a path of a store. Its tape goes back before a plugin is asked, which no
-/// clause says: the world notes what is borrowed, and of what comes back only what is settled.
+/// Reads the value at a path of a store. The world is told that its tape is back before a plugin is
+/// asked.
 pub fn get<W: World>(alloc: Global, words: &Lookup, world: &mut W) -> Result<Outcome, Stop>
     requires path { length words.now.path ≤ path_limit }
-    ensures { Heard W.lent W.took W.Link.step 0 [] [] (λ es. (a : Around)
-        → a.truth ≡ W.Link.truth → Does (getting words.now)
+    ensures { Heard W.Link.link W.lent W.took W.Link.step 0
+        (W.told world.old) (W.told world.new) [] [] (λ es. (a : Around)
+        → Does (getting words.now)
         (with_world (W.told world.old) a)
         (with_world (W.told world.new) (with_exchanges es a)) result) }
 {
@@ -61,9 +61,10 @@ fn find_row<W: World>(
     store: &Text,
     path: &Text,
 ) -> Result<Shared<Row>, Stop>
-    ensures does { (a : Around) → Does (tape_for store.now ToRead (row_on store.now path.now))
+    ensures does { (a : Around) → Does (read_for store.now (row_on store.now path.now))
         (with_world (W.told world.old) a) (with_world (W.told world.new) a) result }
     ensures fits { IfOk result (λ row. length row.stored ≤ value_limit) }
+    ensures links { (W.told world.new).links ≡ (W.told world.old).links }
 {
     let name = store.as_str();
     let tape = match open_tape(alloc, world, name, Access::ToRead) {
@@ -71,7 +72,7 @@ fn find_row<W: World>(
         Err(stop) => return Err(stop),
     };
     let (row, tape) = find_on_tape(alloc, tape, path);
-    close_tape(world, name, tape);
+    return_tape(world, name, tape, &row);
     row
 }
 

@@ -33,8 +33,9 @@ use std::alloc::Global;
 /// Copies a store of the first format into a new one of the second.
 pub fn migrate<W: World>(alloc: Global, words: &Migration, world: &mut W) -> Result<Outcome, Stop>
     requires apart { same_name words.now.store words.now.to ≡ false }
-    ensures { (a : Around) → Does (migrating words.now)
+    ensures does { (a : Around) → Does (migrating words.now)
         (with_world (W.told world.old) a) (with_world (W.told world.new) a) result }
+    ensures links { (W.told world.new).links ≡ (W.told world.old).links }
 {
     let settings = match configure(alloc, world, words.config.as_str()) {
         Ok(settings) => settings,
@@ -65,6 +66,7 @@ fn migrate_tape<W: World>(
         (with_world (W.told world.new) a)) result.0 }
     ensures out { (name : List ℕ)
         → (W.told world.new).tapes.out name ≡ (W.told world.old).tapes.out name }
+    ensures links { (W.told world.new).links ≡ (W.told world.old).links }
 {
     let source = match load_source(alloc, tape) {
         Ok(source) => source,
@@ -118,6 +120,7 @@ fn migrate_store<W: World>(
         (with_lent_tape name told count (with_world (W.told world.new) a)) result }
     ensures out { (name : List ℕ)
         → (W.told world.new).tapes.out name ≡ (W.told world.old).tapes.out name }
+    ensures links { (W.told world.new).links ≡ (W.told world.old).links }
 {
     let name = to.as_str();
     let tape = match open_tape(alloc, world, name, Access::ToMake) {

@@ -2,7 +2,6 @@
 ghost use Rattle.std.specs.Prelude.{◌≡◌, ◌++◌, [], ℕ, All, Err, IfOk, IfErr, IfSome, IsSome, length, map};
 ghost use Rattle.kr_base.specs.Walks.{Talk};
 ghost use Rattle.kr_config.specs.Kept.{rows_of};
-ghost use Rattle.kr_kms.specs.Cache.{AreOpen};
 ghost use Rattle.kr_provider.specs.AskedLinks.{Among};
 ghost use Rattle.kr_provider.specs.Names.{AreDistinct, names_of};
 ghost use Rattle.kr_provider.specs.PluginOrder.{plugin_order};
@@ -40,8 +39,9 @@ pub fn read_by_links<W: World>(
     requires programs { map (λ program. program.plugin) programs.now
         ≡ plugin_order (rows_of settings.entries.0) }
     requires within { All IsWithin rows.now }
-    ensures { Heard W.lent W.took W.Link.step 0 [] [] (λ es. (a : Around)
-        → a.truth ≡ W.Link.truth → Does
+    ensures { Heard W.Link.link W.lent W.took W.Link.step 0
+        (W.told world.old) (W.told world.new) [] [] (λ es. (a : Around)
+        → Does
         (verifying_with programs.now (rows_of settings.entries.0) rows.now)
         (with_world (W.told world.old) a)
         (with_world (W.told world.new) (with_exchanges es a)) result) }
@@ -71,8 +71,9 @@ fn read_linked<W: World>(
         ++ map (λ program. program.plugin) programs.now
         ≡ plugin_order (rows_of settings.entries.0) }
     requires within { All IsWithin rows.now }
-    ensures does { Heard W.lent W.took W.Link.step 0 links result.1 (λ es. (a : Around)
-        → a.truth ≡ W.Link.truth → Does
+    ensures does { Heard W.Link.link W.lent W.took W.Link.step 0
+        (W.told world.old) (W.told world.new) links result.1 (λ es. (a : Around)
+        → Does
         (borrow_links programs.now (verifying_by (rows_of settings.entries.0) rows.now))
         (with_lent_links W.Link.link 0 links
         (with_lent_dice 0 (W.Rand.left dice) (W.Rand.count dice) (with_world (W.told world.old) a)))
@@ -121,7 +122,7 @@ fn read_stored_rows<L: Kms, D: Dice>(
 ) -> (Result<Outcome, Stop>, Links<L>, D)
     requires links { names_of L.link links ≡ plugin_order (rows_of settings.entries.0) }
     requires within { All IsWithin rows.now }
-    ensures does { Talk (Among L.step) links result.1 (λ es. (a : Around) → a.truth ≡ L.truth
+    ensures does { Talk (Among L.step) links result.1 (λ es. (a : Around)
         → Does (verifying_by (rows_of settings.entries.0) rows.now)
         (with_lent_links L.link 0 links (with_lent_dice 0 (D.left dice) (D.count dice) a))
         (with_lent_links L.link 0 result.1
@@ -154,10 +155,9 @@ fn read_rows<L: Kms, D: Dice>(
 ) -> (Result<List<Finding>, Stop>, Links<L>, D)
     requires adopted { IsSome bench.published }
     requires distinct { AreDistinct L.link bench.links }
-    requires cold { bench.cache.rows ≡ [] }
     requires within { All IsWithin rows.now }
     ensures does { Talk (Among L.step) bench.links result.1 (λ es. (a : Around)
-        → a.truth ≡ L.truth → IfSome bench.published (λ p. Does (row_findings p rows.now)
+        → IfSome bench.published (λ p. Does (row_findings p rows.now bench.cache)
         (with_lent_links L.link 0 bench.links
         (with_lent_dice 0 (D.left bench.dice) (D.count bench.dice) a))
         (with_lent_links L.link 0 result.1
@@ -198,10 +198,9 @@ fn read_row<L: Kms, D: Dice>(
 ) -> Result<Finding, Unread>
     requires adopted { IsSome bench.old.published }
     requires distinct { AreDistinct L.link bench.old.links }
-    requires opened { AreOpen L.truth bench.old.cache.rows }
     requires within { IsWithin row.now }
     ensures read { Talk (Among L.step) bench.old.links bench.new.links
-        (IsRowRead L.truth L.link D.left D.count row.now bench.old bench.new result) }
+        (IsRowRead L.link D.left D.count row.now bench.old bench.new result) }
     ensures named { IfErr result (NamesUnread (names_of L.link bench.new.links)) }
     ensures names { names_of L.link bench.new.links ≡ names_of L.link bench.old.links }
     ensures kept { bench.new

@@ -1,5 +1,5 @@
 //! `list`: store, its live rows.
-ghost use Rattle.std.specs.Prelude.{List, ℕ};
+ghost use Rattle.std.specs.Prelude.{◌≡◌, List, ℕ};
 ghost use Rattle.kr_cmd_steps.specs.Around.{Around, with_world};
 ghost use Rattle.kr_cmd_steps.specs.Commands.{steps};
 ghost use Rattle.kr_cmd_steps.specs.StoreSteps.{listing_on};
@@ -15,8 +15,9 @@ use std::alloc::Global;
 
 /// Makes the text of the live rows of the store in a file.
 pub fn list<W: World>(alloc: Global, name: &str, world: &mut W) -> Result<Outcome, Stop>
-    ensures { (a : Around) → Does (steps (Command.Rows name.now))
+    ensures does { (a : Around) → Does (steps (Command.Rows name.now))
         (with_world (W.told world.old) a) (with_world (W.told world.new) a) result }
+    ensures links { (W.told world.new).links ≡ (W.told world.old).links }
 {
     let tape = match open_tape(alloc, world, name, Access::ToRead) {
         Ok(tape) => tape,

@@ -43,8 +43,9 @@ pub fn put<W: World, I: Source>(
 ) -> Result<Outcome, Stop>
     requires path { IsPath words.now.path }
     requires resource { IsResource words.now.resource }
-    ensures { Heard W.lent W.took W.Link.step 0 [] [] (λ es. (a : Around)
-        → a.truth ≡ W.Link.truth → Does (putting words.now store.now)
+    ensures { Heard W.Link.link W.lent W.took W.Link.step 0
+        (W.told world.old) (W.told world.new) [] [] (λ es. (a : Around)
+        → Does (putting words.now store.now)
         (with_told_input (I.left input.old) (I.count input.old) (with_world (W.told world.old) a))
         (with_told_input (I.left input.new) (I.count input.new)
         (with_world (W.told world.new) (with_exchanges es a))) result) }
@@ -87,8 +88,9 @@ fn put_into_store<W: World>(
     requires path { IsPath words.now.path }
     requires resource { IsResource words.now.resource }
     requires fits { length bytes ≤ data_limit }
-    ensures { Heard W.lent W.took W.Link.step 0 [] [] (λ es. (a : Around)
-        → a.truth ≡ W.Link.truth → Does (stored_into words.now store.now
+    ensures { Heard W.Link.link W.lent W.took W.Link.step 0
+        (W.told world.old) (W.told world.new) [] [] (λ es. (a : Around)
+        → Does (stored_into words.now store.now
         (rows_of settings.entries.0) programs.now bytes)
         (with_world (W.told world.old) a)
         (with_world (W.told world.new) (with_exchanges es a)) result) }
@@ -117,8 +119,9 @@ fn put_on_tape<W: World>(
     requires path { IsPath words.now.path }
     requires resource { IsResource words.now.resource }
     requires fits { length bytes ≤ data_limit }
-    ensures made { Heard W.lent W.took W.Link.step 0 [] [] (λ es. (name : List ℕ) (a : Around)
-        → a.truth ≡ W.Link.truth → Does
+    ensures made { Heard W.Link.link W.lent W.took W.Link.step 0
+        (W.told world.old) (W.told world.new) [] [] (λ es. (name : List ℕ) (a : Around)
+        → Does
         (and_then (stored_on objects.Object.Store name) (sealed_into words.now name
         (rows_of settings.entries.0) programs.now bytes))
         (with_lent_tape name (W.Tap.told tape) (W.Tap.count tape) (with_world (W.told world.old) a))

@@ -2,10 +2,9 @@
 //! publish, unseal each row.
 ghost use Rattle.std.specs.Prelude.{◌≡◌, [], All, IfOk, None};
 ghost use Rattle.std.specs.List.{last_or};
-ghost use Rattle.kr_kms.specs.declared.world.Access.TheVariants.{ToRead};
 ghost use Rattle.kr_cmd_steps.specs.Around.{Around, with_exchanges, with_world};
 ghost use Rattle.kr_cmd_steps.specs.StoreSteps.{live_on};
-ghost use Rattle.kr_cmd_steps.specs.Phases.{tape_for};
+ghost use Rattle.kr_cmd_steps.specs.Phases.{read_for};
 ghost use Rattle.kr_cmd_steps.specs.Commands.{verifying};
 ghost use Rattle.kr_cmd_steps.specs.Heard.{Heard};
 ghost use Rattle.kr_cmd_steps.specs.inner.Lent.{Name, with_lent_tape};
@@ -16,16 +15,17 @@ ghost use Rattle.kr_cmd_store.specs.inner.Verifying.{IsWithin, ListsRows, rows_l
 use crate::reading::read_by_links;
 use kr_base::{List, Shared, Tape};
 use kr_cmd_messages::{Object, Outcome, Stop, Verification};
-use kr_cmd_steps::{close_tape, configure, load_store, open_tape, settings_programs};
+use kr_cmd_steps::{configure, load_store, open_tape, return_tape, settings_programs};
 use kr_kms::{Access, World};
 use kr_store::{Row, Store};
 use std::alloc::Global;
 
-/// Tells what each value of a store reads as. Its tape goes back before a plugin is asked, which no
-/// clause says.
+/// Tells what each value of a store reads as. The world is told that its tape is back before a
+/// plugin is asked.
 pub fn verify<W: World>(alloc: Global, words: &Verification, world: &mut W) -> Result<Outcome, Stop>
-    ensures { Heard W.lent W.took W.Link.step 0 [] [] (λ es. (a : Around)
-        → a.truth ≡ W.Link.truth → Does (verifying words.now)
+    ensures { Heard W.Link.link W.lent W.took W.Link.step 0
+        (W.told world.old) (W.told world.new) [] [] (λ es. (a : Around)
+        → Does (verifying words.now)
         (with_world (W.told world.old) a)
         (with_world (W.told world.new) (with_exchanges es a)) result) }
 {
@@ -46,16 +46,17 @@ pub fn verify<W: World>(alloc: Global, words: &Verification, world: &mut W) -> R
 
 /// The live rows of the store in a file, by their paths.
 fn find_rows<W: World>(alloc: Global, world: &mut W, name: &str) -> Result<List<Shared<Row>>, Stop>
-    ensures does { (a : Around) → Does (tape_for name.now ToRead (live_on name.now))
+    ensures does { (a : Around) → Does (read_for name.now (live_on name.now))
         (with_world (W.told world.old) a) (with_world (W.told world.new) a) (rows_listed result) }
     ensures within { IfOk result (λ rows. All IsWithin rows.0) }
+    ensures links { (W.told world.new).links ≡ (W.told world.old).links }
 {
     let tape = match open_tape(alloc, world, name, Access::ToRead) {
         Ok(tape) => tape,
         Err(stop) => return Err(stop),
     };
     let (rows, tape) = live_rows_on_tape(alloc, tape);
-    close_tape(world, name, tape);
+    return_tape(world, name, tape, &rows);
     rows
 }
 

@@ -21,8 +21,9 @@ pub fn check<W: World>(
     resource: &Option<Text>,
     world: &mut W,
 ) -> Result<Outcome, Stop>
-    ensures { (a : Around) → Does (steps (Command.Check config.now resource.now))
+    ensures does { (a : Around) → Does (steps (Command.Check config.now resource.now))
         (with_world (W.told world.old) a) (with_world (W.told world.new) a) result }
+    ensures links { (W.told world.new).links ≡ (W.told world.old).links }
 {
     let settings = match configure(alloc, world, config) {
         Ok(settings) => settings,

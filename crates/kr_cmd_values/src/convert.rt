@@ -22,8 +22,8 @@ pub fn convert<W: World, I: Source>(
     input: &mut I,
 ) -> Result<Outcome, Stop>
     requires path { length words.now.path ≤ path_limit }
-    ensures { Heard W.lent W.took W.Link.step 0 [] [] (λ es. (a : Around)
-        → a.truth ≡ W.Link.truth → Does (converting words.now)
+    ensures { Heard W.Link.link W.lent W.took W.Link.step 0 (W.told world.old)
+        (W.told world.new) [] [] (λ es. (a : Around) → Does (converting words.now)
         (with_told_input (I.left input.old) (I.count input.old) (with_world (W.told world.old) a))
         (with_told_input (I.left input.new) (I.count input.new)
         (with_world (W.told world.new) (with_exchanges es a))) result) }

@@ -23,8 +23,9 @@ use std::alloc::Global;
 pub fn plan<W: World>(alloc: Global, words: &Planning, world: &mut W) -> Result<Outcome, Stop>
     requires some { 1 ≤ words.now.replicas }
     requires few { words.now.replicas ≤ REPLICA_LIMIT }
-    ensures { (a : Around) → Does (steps (Command.Plan words.now))
+    ensures does { (a : Around) → Does (steps (Command.Plan words.now))
         (with_world (W.told world.old) a) (with_world (W.told world.new) a) result }
+    ensures links { (W.told world.new).links ≡ (W.told world.old).links }
 {
     let from = match configure(alloc, world, words.from.as_str()) {
         Ok(settings) => settings,

@@ -12,9 +12,10 @@ use Rattle.std.proofs.lemmas.List.Elements.{All-head, All-tail}
 use Rattle.std.proofs.lemmas.Option.{none-some, same_Some}
 use Rattle.kr_config.specs.Lists.{list_of}
 use Rattle.kr_config.specs.Providers.{is_kms}
-use Rattle.kr_kms.specs.Truth.{OpenAll, Opens, Truth}
+use Rattle.kr_kms.specs.Exchanges.{AgreeAll, Exchange}
+use Rattle.kr_kms.specs.Opens.{OpenAll, Opens}
 use Rattle.kr_provider.specs.Publication.{Publication, list_at, names_plugin}
-use Rattle.kr_provider.specs.Reading.{HasReading, Reading, value_reading}
+use Rattle.kr_provider.specs.Reading.{HasReading, Reading}
 use Rattle.kr_provider.proofs.WithoutPlugins.{none_listed}
 use Rattle.kr_store.specs.Rows.{live}
 use Rattle.kr_store.specs.Stores.{IsListing}
@@ -56,8 +57,8 @@ rise_apart (x ∷ items) r (suc i) (suc j) d before below =
 abbrev own_item : Bool → Item → Option Item → Option Item
 own_item b item others = if b then Some item else others
 
-module _ (truth : Truth) (p : Publication) where
-  paths_are : (listing : List Row) (items : List Item) → AreReadOf truth p listing items
+module _ (es : List Exchange) (p : Publication) where
+  paths_are : (listing : List Row) (items : List Item) → AreReadOf es p listing items
       → map (λ (row : Row). row.path) listing ≡ map (λ (item : Item). item.path) items
   paths_are [] [] r = refl
   paths_are [] (item ∷ items) r = absurd r
@@ -72,7 +73,7 @@ module _ (truth : Truth) (p : Publication) where
     Lives row = live rows row.path ≡ Some row
 
     -- where nothing lives there is no item
-    none_at : (listing : List Row) (items : List Item) → AreReadOf truth p listing items
+    none_at : (listing : List Row) (items : List Item) → AreReadOf es p listing items
         → All (λ row. live rows row.path ≡ Some row) listing → (path : List ℕ)
         → live rows path ≡ None → item_at items path ≡ None
     none_at [] [] r all path none = refl
@@ -96,9 +97,9 @@ module _ (truth : Truth) (p : Publication) where
     pub record HasItem (items : List Item) (row : Row) : Type 0 where
       pub item : Item
       pub is : item_at items row.path ≡ Some item
-      pub reads : IsReadOf truth p row item
+      pub reads : IsReadOf es p row item
 
-    item_of : (listing : List Row) (items : List Item) → AreReadOf truth p listing items
+    item_of : (listing : List Row) (items : List Item) → AreReadOf es p listing items
         → All (λ row. live rows row.path ≡ Some row) listing → (row : Row)
         → live rows row.path ≡ Some row → Contains listing row → HasItem items row
     item_of [] items r all row lives (k, below, is) = absurd (omega (arith, below))
@@ -126,7 +127,7 @@ module _ (truth : Truth) (p : Publication) where
             record {
               item = item;
               is = ap (λ b. own_item b item (item_at items row.path)) e;
-              reads = subst (λ x. IsReadOf truth p x item) same r.0;
+              reads = subst (λ x. IsReadOf es p x item) same r.0;
             }
         by false e (zero, below, is) again = absurd (
             let x : true ≡ false = sym (here is) ∙ e in cc)
@@ -141,7 +142,7 @@ module _ (truth : Truth) (p : Publication) where
   -- ---- all live rows
 
   module _ (o : Opening) (listing : List Row) (lists : IsListing o.rows listing)
-      (items : List Item) (reads : AreReadOf truth p listing items) where
+      (items : List Item) (reads : AreReadOf es p listing items) where
     in_order : AreInOrder items
     in_order = subst (IsStrictlySortedBy (slice_cmp nat_cmp)) (paths_are listing items reads)
         lists.sorted
@@ -187,11 +188,10 @@ module _ (truth : Truth) (p : Publication) where
             let at = at_row path row e in
             item_for path row at.1 at.0 (plain_at items path) (plain_of path row at.1 at.0)
 
-    -- where their readings are those by this truth, they are what is shown
+    -- where their readings are those by these openings, they are what is shown
     pub shown_by : (opens : Opens) → first_of o ≡ p.rows
-        → ((row : Row) (item : Item) → (r : IsReadOf truth p row item)
-        → HasReading opens (list_at p row.resource) row.path row.stored
-        (value_reading r.envelope (list_at p row.resource) row.path row.stored))
+        → ((row : Row) (item : Item) → (r : IsReadOf es p row item)
+        → HasReading opens (list_at p row.resource) row.path row.stored r.reading)
         → IsShown opens o [] items
     shown_by opens first reads_so = record {
       in_order = in_order;
@@ -211,7 +211,7 @@ module _ (truth : Truth) (p : Publication) where
         by path (Some row) e =
             let at = at_row path row e in
             let r = at.1.reads in
-            let reading = value_reading r.envelope (list_at p row.resource) row.path row.stored in
+            let reading = r.reading in
             subst (Shows path) (sym e) (
               Some reading,
               (
@@ -232,20 +232,19 @@ first_is : (o : Opening) (p : Publication) (others : List (Option Publication))
     → o.replicas ≡ Some p ∷ others → first_of o ≡ p.rows
 first_is o p others e = ap (λ replicas. first_rows (settings_of replicas)) e
 
-module _ (truth : Truth) (o : Opening) (items : List Item)
-    (f : AreFirstItems truth o.rows o.replicas items) where
+module _ (es : List Exchange) (o : Opening) (items : List Item)
+    (f : AreFirstItems es o.rows o.replicas items) where
   pub first_live : AreLiveItems o items
-  first_live = live_items truth f.first o f.listing f.lists items f.reads
+  first_live = live_items es f.first o f.listing f.lists items f.reads
 
-  pub first_told : truth.told ≡ true → OpenAll truth.opens f.first.seeds
-      → IsShown truth.opens o [] items
-  first_told told opens = shown_by truth f.first o f.listing f.lists items f.reads truth.opens
+  pub first_agreed : (opens : Opens) → AgreeAll opens es → OpenAll opens f.first.seeds
+      → IsShown opens o [] items
+  first_agreed opens agree all = shown_by es f.first o f.listing f.lists items f.reads opens
       (first_is o f.first f.others f.replicas_are)
-      (λ row item r. (r.envelope, r.told told opens, refl))
+      (λ row item r. r.agreed opens agree all)
 
   pub first_bare : names_plugin f.first.rows ≡ false → (any : Opens) → IsShown any o [] items
-  first_bare none any = shown_by truth f.first o f.listing f.lists items f.reads any
+  first_bare none any = shown_by es f.first o f.listing f.lists items f.reads any
       (first_is o f.first f.others f.replicas_are)
-      (λ row item r. some_reads any (list_at f.first row.resource) row.path row.stored
-      (value_reading r.envelope (list_at f.first row.resource) row.path row.stored)
-      (none_listed f.first.rows row.resource none) (r.envelope, r.object, refl))
+      (λ row item r. some_reads any (list_at f.first row.resource) row.path row.stored r.reading
+      (none_listed f.first.rows row.resource none) r.some)

@@ -5,7 +5,7 @@ use Rattle.std.proofs.lemmas.List.Elements.{All-head}
 use Rattle.std.specs.Prelude.{All}
 use Rattle.kr_kms.specs.Calls.{Link}
 use Rattle.kr_kms.specs.Exchanges.{Exchange}
-use Rattle.kr_kms.specs.Truth.{OpenAll, Opens, Truth}
+use Rattle.kr_kms.specs.Opens.{OpenAll, Opens}
 use Rattle.kr_provider.specs.Publication.{Publication, names_plugin}
 use Rattle.kr_opening.specs.Replicas.{generations_from}
 use Rattle.kr_opening.specs.declared.generation.Generation.{Generation}
@@ -34,21 +34,26 @@ use Rattle.kr_cmd_steps.specs.Ran.{WroteNothing}
 use Rattle.kr_cmd_steps.specs.declared.programs.Program.{Program}
 use Rattle.kr_cmd_steps.specs.inner.Phases.{Does}
 use Rattle.kr_cmd_steps.specs.inner.ProgramNames.{names_in}
+use Rattle.kr_cmd_steps.specs.Steps.{hearing}
 use Rattle.kr_cmd_steps.proofs.Goes.{goes_on, home_trans, stays_refl, stops}
+use Rattle.kr_cmd_steps.proofs.Hearing.{heard_none}
 use Rattle.kr_cmd_fleet.specs.FleetFiles.{FleetPlan, planning}
 use Rattle.kr_cmd_fleet.specs.Fleets.{Begun, opening_of, over_store}
 use Rattle.kr_cmd_fleet.specs.declared.fleet.Record.{Record}
 use Rattle.kr_cmd_fleet.specs.inner.FleetOutcomes.{Beginning, LacksSettling, LacksWorkers, LeavesRecord}
+use Rattle.kr_cmd_fleet.specs.StartExchanges.{OpenBy, WereAsked}
 use Rattle.kr_cmd_fleet.specs.inner.Readings.{AreFirstItems}
+use Rattle.kr_cmd_fleet.specs.inner.Workings.{BeginsLent}
+use Rattle.kr_cmd_fleet.proofs.StartExchanges.{none_were}
 use Rattle.kr_cmd_watch.specs.WatchTexts.{ahead_text, changes_text, gone_text}
 use Rattle.kr_cmd_watch.specs.Watchings.{AreShown, DidWatch, Shows, ShowsHistory, WritesWatch, keep, refused_at_least}
 use Rattle.kr_cmd_watch.specs.inner.Followings.{AreOf, AreOfOne, IsText, ShowsState}
-use Rattle.kr_cmd_watch.proofs.FirstShown.{first_bare, first_live, first_told}
+use Rattle.kr_cmd_watch.proofs.FirstShown.{first_agreed, first_bare, first_live}
 use Rattle.kr_cmd_watch.proofs.SeededItems.{legal_front}
 
 -- ---- what is shown
 
-module _ (truth : Truth) (begun : Begun) (o : Opening) (history : List Entry)
+module _ (begun : Begun) (o : Opening) (history : List Entry)
     (legal : IsLegal o history) (watch : WatchState) (f : Follows begun.items o history watch) where
   same_oldest : watch.keep ≡ keep
       → watch.oldest ≡ revision_after (length o.rows) (earlier_ones keep (changes_in history))
@@ -79,7 +84,7 @@ module _ (truth : Truth) (begun : Begun) (o : Opening) (history : List Entry)
         end,
       ))
 
-  module _ (first : AreFirstItems truth o.rows o.replicas begun.items) where
+  module _ (es : List Exchange) (first : AreFirstItems es o.rows o.replicas begun.items) where
     seeds_open : (opens : Opens)
         → All (λ replica. IfSome replica (SeedsOpen opens)) o.replicas
         → OpenAll opens first.first.seeds
@@ -95,17 +100,15 @@ module _ (truth : Truth) (begun : Begun) (o : Opening) (history : List Entry)
         (no_names_no_plugin o [] (legal_front o history 0 legal) none) 0
         (record { replica = 0; published = first.first }) (omega arith)
 
-    pub are_shown : (truth.told ≡ true
-        → All (λ replica. IfSome replica (SeedsOpen truth.opens)) o.replicas)
-        → (begun.plan.programs ≡ [] → o.names ≡ [])
-        → AreShown truth begun o history watch.items
-    are_shown opens names = record {
+    pub are_shown : OpenBy es o.replicas → (begun.plan.programs ≡ [] → o.names ≡ [])
+        → AreShown es begun o history watch.items
+    are_shown made names = record {
       since = f.shown;
-      told = λ told. shown_since_is_shown truth.opens o history begun.items watch.items
-          (first_told truth o begun.items first told
-          (seeds_open truth.opens (opens told))) f.shown;
+      agreed = λ opens agree. shown_since_is_shown opens o history begun.items watch.items
+          (first_agreed es o begun.items first opens agree
+          (seeds_open opens (made opens agree))) f.shown;
       bare = λ none any. shown_since_is_shown any o history begun.items watch.items
-          (first_bare truth o begun.items first (none_named (names none)) any) f.shown;
+          (first_bare es o begun.items first (none_named (names none)) any) f.shown;
     }
 
 -- what was written of one thing is written of another that follows
@@ -121,53 +124,72 @@ writes_so P Q output (Err (Refused why)) h w = absurd w
 
 -- ---- the call
 
-module _ (T : Type 0) {L D : Type 0} (truth : Truth) (link : L → Link)
-    (step : L → Exchange → L → Type 0)
+module _ (T : Type 0) {L D : Type 0} (link : L → Link)
+    (step : L → Exchange → L → Type 0) (lent took : ℕ → L → Type 0)
     (left : D → Option (List ℕ)) (count : D → ℕ) (words : WatchWords) where
   -- the plan wasn't made
   pub watch_unplanned : (old new : Around) (file : List ℕ) → file ≡ words.fleet.file
       → (stop : Stop) (output : Receipt)
       → Does (planning file words.fleet.options) old new (Err stop) → WroteNothing output
-      → DidWatch T truth link step left count words old new output (Err stop)
-  watch_unplanned old new file is stop output d idle =
+      → new.heard ≡ old.heard → new.world.links ≡ old.world.links
+      → DidWatch T link step lent took left count words old new output (Err stop)
+  watch_unplanned old new file is stop output d idle same links =
       let all = stops (planning words.fleet.file words.fleet.options)
       (over_store true words.fleet.store) stop
       (subst (λ f. Does (planning f words.fleet.options) old new (Err stop)) is d) in
       record {
         home = all.home;
+        exchanges = [];
+        heard = same ∙ sym (heard_none old.heard);
+        asked = none_were link lent took step links;
         did = inl (inl (all.ends (left_of old) (stays_refl old)), idle);
+        came = refl;
       }
 
   module _ (plan : FleetPlan) (old now new : Around) (file : List ℕ)
       (is : file ≡ words.fleet.file)
       (planned : Does (planning file words.fleet.options) old now (Ok plan)) (store : List ℕ)
-      (is_store : store ≡ words.fleet.store) where
+      (is_store : store ≡ words.fleet.store) (exchanges : List Exchange)
+      (heard : new.heard ≡ hearing exchanges old.heard)
+      (asked : WereAsked link lent took step exchanges old.world new.world) where
+    abbrev Lent : Beginning T L D
+    Lent =
+        BeginsLent (hearing exchanges old.heard) exchanges step lent took asked.begun asked.back
+
     d : Does (planning words.fleet.file words.fleet.options) old now (Ok plan)
     d = subst (λ f. Does (planning f words.fleet.options) old now (Ok plan)) is planned
 
     -- the steps behind it ended the command, or want of memory did
     pub watch_stopped : (stop : Stop) (output : Receipt)
-        → Does (over_store true store plan) now new (Err stop)
-        ⊎ LacksWorkers T truth link step left count (over_store true store plan) store now new stop
-        ⊎ LacksSettling T truth link step left count (over_store true store plan) store now new stop
-        → WroteNothing output → DidWatch T truth link step left count words old new output
-        (Err stop)
-    watch_stopped stop output (inl e) idle =
+        → ((asked.back ≡ asked.begun) × (Does (over_store true store plan) now new (Err stop)
+        ⊎ LacksWorkers T link step left count (over_store true store plan) store now new stop))
+        ⊎ LacksSettling T link step left count Lent (over_store true store plan) store now new
+        stop
+        → WroteNothing output
+        → DidWatch T link step lent took left count words old new output (Err stop)
+    watch_stopped stop output (inl (unasked, inl e)) idle =
         let all = goes_on (planning words.fleet.file words.fleet.options)
         (over_store true words.fleet.store) plan d
         (subst (λ s. Does (over_store true s plan) now new (Err stop)) is_store e) in
         record {
           home = all.home;
+          exchanges = exchanges;
+          heard = heard;
+          asked = asked;
           did = inl (inl (all.ends (left_of old) (stays_refl old)), idle);
+          came = unasked;
         }
-    watch_stopped stop output (inr (inl lacking)) idle =
-        let l = subst (λ s. LacksWorkers T truth link step left count (over_store true s plan) s now
+    watch_stopped stop output (inl (unasked, inr lacking)) idle =
+        let l = subst (λ s. LacksWorkers T link step left count (over_store true s plan) s now
         new
         stop) is_store lacking in
         let all = goes_on (planning words.fleet.file words.fleet.options)
         (over_store true words.fleet.store) plan d l.does in
         record {
           home = home_trans d.home l.home;
+          exchanges = exchanges;
+          heard = heard;
+          asked = asked;
           did = inl (
             inr (inl (
               l.stops,
@@ -175,15 +197,19 @@ module _ (T : Type 0) {L D : Type 0} (truth : Truth) (link : L → Link)
             )),
             idle,
           );
+          came = unasked;
         }
-    watch_stopped stop output (inr (inr lacking)) idle =
-        let l = subst (λ s. LacksSettling T truth link step left count (over_store true s plan) s
+    watch_stopped stop output (inr lacking) idle =
+        let l = subst (λ s. LacksSettling T link step left count Lent (over_store true s plan) s
         now new
         stop) is_store lacking in
         let all = goes_on (planning words.fleet.file words.fleet.options)
         (over_store true words.fleet.store) plan d l.does in
         record {
           home = home_trans d.home l.home;
+          exchanges = exchanges;
+          heard = heard;
+          asked = asked;
           did = inl (
             inr (inr (
               l.mid,
@@ -194,16 +220,16 @@ module _ (T : Type 0) {L D : Type 0} (truth : Truth) (link : L → Link)
             )),
             idle,
           );
+          came = (l.begins.3, l.begins.4, l.begins.1);
         }
 
     -- the workers ran, and left this record
-    module _ (made : Record) (Begins : Beginning T L D)
-        (left_so : LeavesRecord T truth link step left count Begins true true
+    module _ (made : Record) (left_so : LeavesRecord T link step left count Lent true true
         (over_store true store plan) store plan now new made) where
-      l : LeavesRecord T truth link step left count Begins true true
+      l : LeavesRecord T link step left count Lent true true
           (over_store true words.fleet.store plan)
           words.fleet.store plan now new made
-      l = subst (λ s. LeavesRecord T truth link step left count Begins true true
+      l = subst (λ s. LeavesRecord T link step left count Lent true true
           (over_store true s plan) s
           plan
           now new made) is_store left_so
@@ -211,8 +237,12 @@ module _ (T : Type 0) {L D : Type 0} (truth : Truth) (link : L → Link)
       abbrev Opened : Opening
       Opened = opening_of words.fleet.store l.begun l.mid
 
-      first : AreFirstItems truth Opened.rows Opened.replicas l.begun.items
-      first = l.known refl
+      first : AreFirstItems exchanges Opened.rows Opened.replicas l.begun.items
+      first = subst (λ es. AreFirstItems es Opened.rows Opened.replicas l.begun.items) l.begins.1
+          (l.known refl)
+
+      opens : OpenBy exchanges Opened.replicas
+      opens = subst (λ es. OpenBy es Opened.replicas) l.begins.1 l.runs.made.opens
 
       are_of : AreOf made.start.items.0 made.start.revision made.lines.0 Opened l.history
       are_of = record {
@@ -220,7 +250,7 @@ module _ (T : Type 0) {L D : Type 0} (truth : Truth) (link : L → Link)
         lines_are = l.lines;
         revision_is = l.revision_is;
         live = subst (AreLiveItems Opened) (sym l.items_are)
-            (first_live truth Opened l.begun.items first);
+            (first_live exchanges Opened l.begun.items first);
       }
 
       handed : (lines : List Line) → lines ≡ made.lines.0
@@ -237,29 +267,40 @@ module _ (T : Type 0) {L D : Type 0} (truth : Truth) (link : L → Link)
       ended_so = ap gravest_ending l.replies
 
       starts : (output : Receipt) (result : Result Ending Stop)
-          → WritesWatch (ShowsHistory truth words l.begun Opened l.history
+          → WritesWatch (ShowsHistory words exchanges l.begun Opened l.history
           (gravest_ending (map (λ (w : fleet_worker.Worker T L D). w.told) l.ended))) output result
-          → DidWatch T truth link step left count words old new output result
+          → DidWatch T link step lent took left count words old new output result
       starts output result w =
           let all = goes_on (planning words.fleet.file words.fleet.options)
           (over_store true words.fleet.store) plan d l.does in
           record {
             home = home_trans d.home l.home;
-            did = inr (record {
-              begun = l.begun;
-              mid = l.mid;
-              reaches = all.ends (left_of old) (stays_refl old);
-              since = all.home;
-              history = l.history;
-              ended = l.ended;
-              runs = l.runs;
-              writes = w;
-            });
+            exchanges = exchanges;
+            heard = heard;
+            asked = asked;
+            did = inr (
+              record {
+                begun = l.begun;
+                mid = l.mid;
+                reaches = all.ends (left_of old) (stays_refl old);
+                since = all.home;
+                exchanges = exchanges;
+                heard = l.begins.0;
+                history = l.history;
+                ended = l.ended;
+                runs = l.runs;
+                writes = w;
+                began = l.begins.2;
+                made = l.begins.1;
+              },
+              refl,
+            );
+            came = (l.begins.3, l.begins.4);
           }
 
       -- and memory lacked for what is shown
       pub watch_lacks : (output : Receipt) → WroteNothing output
-          → DidWatch T truth link step left count words old new output (Err NoMemory)
+          → DidWatch T link step lent took left count words old new output (Err NoMemory)
       watch_lacks output idle = starts output (Err NoMemory) idle
 
       -- and what a watch showed was written
@@ -270,26 +311,26 @@ module _ (T : Type 0) {L D : Type 0} (truth : Truth) (link : L → Link)
           → ended ≡ gravest_ending made.replies.0 → (text : List ℕ) (told : Ending)
           → ShowsState words.since words watch ended text told → (output : Receipt)
           (result : Result Ending Stop) → WritesWatch (IsText text told) output result
-          → DidWatch T truth link step left count words old new output result
+          → DidWatch T link step lent took left count words old new output result
       watch_wrote lines same watch kept follows ended end text told shows output result w =
           let f = subst (λ items. Follows items Opened l.history watch) l.items_are
           (follows Opened l.history (handed lines same)) in
           let legal = l.runs.one.legal in
-          let has : ShowsHistory truth words l.begun Opened l.history
+          let has : ShowsHistory words exchanges l.begun Opened l.history
           (gravest_ending (map (λ (x : fleet_worker.Worker T L D). x.told) l.ended)) text told = (
             watch.items,
-            are_shown truth l.begun Opened l.history legal watch f first
-                (λ t. (l.runs.opens t).opening) (λ none. ap names_in none),
-            shows_so truth l.begun Opened l.history legal watch f kept words.since words
+            are_shown l.begun Opened l.history legal watch f exchanges first opens
+                (λ none. ap names_in none),
+            shows_so l.begun Opened l.history legal watch f kept words.since words
                 (gravest_ending (map (λ (x : fleet_worker.Worker T L D). x.told) l.ended)) text told
                 (subst (λ e. ShowsState words.since words watch e text told)
                 (end ∙ ended_so) shows),
           ) in
           starts output result (writes_so (IsText text told)
-          (ShowsHistory truth words l.begun Opened l.history
+          (ShowsHistory words exchanges l.begun Opened l.history
           (gravest_ending (map (λ (x : fleet_worker.Worker T L D). x.told) l.ended))) output result
-          (λ other end_of same. subst (λ x. ShowsHistory truth words l.begun Opened l.history
+          (λ other end_of same. subst (λ x. ShowsHistory words exchanges l.begun Opened l.history
           (gravest_ending (map (λ (y : fleet_worker.Worker T L D). y.told) l.ended)) x end_of)
-          (sym same.0) (subst (λ x. ShowsHistory truth words l.begun Opened l.history
+          (sym same.0) (subst (λ x. ShowsHistory words exchanges l.begun Opened l.history
           (gravest_ending (map (λ (y : fleet_worker.Worker T L D). y.told) l.ended)) text x)
           (sym same.1) has)) w)

@@ -1,10 +1,9 @@
 -- How a call ends that a watch was asked of.
 use Rattle.std.specs.Prelude.{◌⊎◌, map}
-use Rattle.std.proofs.Common.{◌≡◌, ℕ, ◌≤◌, List, codes, Option, None, Some, Result, Ok, Err, refl, sym, ap, subst, inl, inr, arith}
+use Rattle.std.proofs.Common.{◌≡◌, ℕ, ◌≤◌, List, [], codes, Option, None, Some, Result, Ok, Err, refl, sym, ap, subst, inl, inr, arith}
 use Rattle.std.specs.Prelude.{IfSome, IsSomeAnd}
 use Rattle.kr_kms.specs.Calls.{Link}
 use Rattle.kr_kms.specs.Exchanges.{Exchange}
-use Rattle.kr_kms.specs.Truth.{Truth}
 use Rattle.kr_words.specs.Numerals.{IsDecimal}
 use Rattle.kr_words.specs.Options.{value_of}
 use Rattle.kr_words.specs.declared.command.Verb.TheVariants as verbs
@@ -25,6 +24,8 @@ use Rattle.kr_cmd_messages.specs.inner.WatchAnswers.{IsWatchAsked}
 use Rattle.kr_cmd_steps.specs.Around.{Around, left_of}
 use Rattle.kr_cmd_steps.specs.Ran.{WroteNothing, StopsAtOnce}
 use Rattle.kr_cmd_steps.proofs.Goes.{home_refl, reach, stays_refl}
+use Rattle.kr_cmd_steps.proofs.Hearing.{heard_none}
+use Rattle.kr_cmd_fleet.proofs.StartExchanges.{none_were}
 use Rattle.kr_cmd_watch.specs.Watchings.{DidWatch, RanWatch}
 
 -- ---- the words stop the call
@@ -68,28 +69,32 @@ no_watch_by_fleet words (Refused why) h asked asks = absurd h
 no_watch_by_fleet words (Fault object count) h asked asks = absurd h
 no_watch_by_fleet words NoMemory h asked asks = refl
 
-module _ (T : Type 0) {L D : Type 0} (truth : Truth) (link : L → Link)
-    (step : L → Exchange → L → Type 0)
+module _ (T : Type 0) {L D : Type 0} (link : L → Link)
+    (step : L → Exchange → L → Type 0) (lent took : ℕ → L → Type 0)
     (left : D → Option (List ℕ)) (count : D → ℕ) where
   pub watch_unread : (asked : WatchWords) (stop : Stop) → stop ≡ NoMemory → (a : Around)
       (output : Receipt) → WroteNothing output
-      → DidWatch T truth link step left count asked a a output (Err stop)
+      → DidWatch T link step lent took left count asked a a output (Err stop)
   watch_unread asked stop lacks a output idle =
-      subst (λ s. DidWatch T truth link step left count asked a a output (Err s)) (sym lacks)
+      subst (λ s. DidWatch T link step lent took left count asked a a output (Err s)) (sym lacks)
       (record {
         home = home_refl a;
+        exchanges = [];
+        heard = sym (heard_none a.heard);
+        asked = none_were link lent took step refl;
         did = inl (inl (inr (reach (left_of a) (inl (refl, refl)) (stays_refl a))), idle);
+        came = refl;
       })
 
-pub for_watch : {T L D : Type 0} {truth : Truth} {link : L → Link}
-    {step : L → Exchange → L → Type 0} {left : D → Option (List ℕ)}
+pub for_watch : {T L D : Type 0} {link : L → Link}
+    {step : L → Exchange → L → Type 0} {lent took : ℕ → L → Type 0} {left : D → Option (List ℕ)}
     {count : D → ℕ} {a b : WatchWords} {old new : Around} {output errors : Receipt} {status : ℕ}
-    → a ≡ b → RanWatch T truth link step left count a old new output errors status
-    → RanWatch T truth link step left count b old new output errors status
-for_watch {T} {truth = truth} {link = link} {step = step} {left = left} {count = count} {old = old}
-    {new = new}
-    {output = output} {errors = errors} {status = status} e r =
-    subst (λ w. RanWatch T truth link step left count w old new output errors status) e r
+    → a ≡ b → RanWatch T link step lent took left count a old new output errors status
+    → RanWatch T link step lent took left count b old new output errors status
+for_watch {T} {link = link} {step = step} {lent = lent} {took = took} {left = left}
+    {count = count} {old = old} {new = new} {output = output} {errors = errors} {status = status} e
+    r =
+    subst (λ w. RanWatch T link step lent took left count w old new output errors status) e r
 
 -- ---- a page has items
 

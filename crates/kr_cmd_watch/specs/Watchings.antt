@@ -1,12 +1,13 @@
 -- `watch`: the steps of a fleet, at which the live rows are read too, and what is shown of its one
 -- history.
-use Rattle.std.specs.Prelude.{◌≡◌, ℕ, ◌<◌, ◌≤◌, ◌⊎◌, true, List, [], length, map, Option, None, Some, Result, Ok, Err}
+use mathlib.Core.Logic.{inl, inr}
+use Rattle.std.specs.Prelude.{◌≡◌, ℕ, ◌<◌, ◌≤◌, ◌⊎◌, List, [], length, map, Option, None, Some, Result, Ok, Err}
 use Rattle.std.specs.Io.KnownBytes.{Appends}
 use Rattle.kr_base.specs.Faults.{Rose}
 use Rattle.kr_base.specs.Streams.{AppendsFront}
 use Rattle.kr_kms.specs.Calls.{Link}
-use Rattle.kr_kms.specs.Exchanges.{Exchange}
-use Rattle.kr_kms.specs.Truth.{Opens, Truth}
+use Rattle.kr_kms.specs.Exchanges.{AgreeAll, Exchange}
+use Rattle.kr_kms.specs.Opens.{Opens}
 use Rattle.kr_rollout.specs.declared.opening.Entry.{Entry}
 use Rattle.kr_rollout.specs.declared.opening.Opening.{Opening}
 use Rattle.kr_watch.specs.Changes.{changes_above, changes_in, earlier_ones, revision_after}
@@ -23,8 +24,9 @@ use Rattle.kr_cmd_messages.specs.declared.refusal.Stop.TheVariants.{Fault, NoMem
 use Rattle.kr_cmd_messages.specs.declared.watch_words.WatchWords.{WatchWords}
 use Rattle.kr_cmd_steps.specs.Around.{Around, IsHome, Reaches, left_of}
 use Rattle.kr_cmd_steps.specs.Ran.{WroteNothing}
-use Rattle.kr_cmd_steps.specs.Steps.{gives}
-use Rattle.kr_cmd_fleet.specs.Fleets.{Begun, RunsFleet, StopsBefore, TellsFleet, opening_of, settled_behind, watch_steps}
+use Rattle.kr_cmd_steps.specs.Steps.{gives, hearing}
+use Rattle.kr_cmd_fleet.specs.StartExchanges.{BeganWith, WereAsked, links_in}
+use Rattle.kr_cmd_fleet.specs.Fleets.{Begun, ComeBack, RunsFleet, StopsBefore, TellsFleet, opening_of, settled_behind, watch_steps}
 use Rattle.kr_cmd_watch.specs.WatchTexts.{ShowsPages, ahead_text, changes_text, gone_text}
 
 -- how many changes are kept
@@ -59,20 +61,21 @@ Shows None words opening history items ended text told =
 Shows (Some revision) words opening history items ended text told =
     ShowsChanges opening revision history ended text told
 
--- The items are what is shown of the history since what was read of the opening's rows. By what
--- plugins' sources open to they are what is shown of it, where that is told; and without a program
--- for a plugin whatever sources open to.
-pub record AreShown (truth : Truth) (begun : Begun) (o : Opening) (history : List Entry)
-    (items : List Item) : Type 0 where
+-- The items are what is shown of the history since what was read of the opening's rows. They are
+-- what is shown of it by all openings that agree with these exchanges, those up to the workers;
+-- what the workers' plugins answered doesn't matter, since a line that puts data tells them. Without
+-- a program for a plugin they are so whatever sources open to.
+pub record AreShown (exchanges : List Exchange) (begun : Begun) (o : Opening)
+    (history : List Entry) (items : List Item) : Type 0 where
   pub since : IsShownSince begun.items o history items
-  pub told : truth.told ≡ true → IsShown truth.opens o history items
+  pub agreed : (opens : Opens) → AgreeAll opens exchanges → IsShown opens o history items
   pub bare : begun.plan.programs ≡ [] → (any : Opens) → IsShown any o history items
 
 -- the text of what is shown of the history
-abbrev pub ShowsHistory : Truth → WatchWords → Begun → Opening → List Entry → Ending
+abbrev pub ShowsHistory : WatchWords → List Exchange → Begun → Opening → List Entry → Ending
     → (text : List ℕ) → Ending → Type 0
-ShowsHistory truth words begun o history ended text told = (items : List Item)
-    × AreShown truth begun o history items
+ShowsHistory words exchanges begun o history ended text told = (items : List Item)
+    × AreShown exchanges begun o history items
     × Shows words.since words (length o.rows) history items ended text told
 
 -- just the text was written; or a prefix of it before the output failed; or memory lacked for it,
@@ -90,39 +93,68 @@ WritesWatch Shown output (Err why) = ⊥
 
 -- ---- once the workers were started
 
-module _ (T : Type 0) {L D : Type 0} (truth : Truth) (link : L → Link)
-    (step : L → Exchange → L → Type 0)
+module _ (T : Type 0) {L D : Type 0} (link : L → Link)
+    (step : L → Exchange → L → Type 0) (lent took : ℕ → L → Type 0)
     (left : D → Option (List ℕ)) (count : D → ℕ) where
-  -- the one history is that of a fleet, and what is shown of it was written
+  -- The one history is that of a fleet, and what is shown of it was written. What the steps up to
+  -- the workers asked of plugins, to publish and to read the live rows, is just what the first
+  -- seat's links answered before the first worker had them
   pub record StartsWatch (words : WatchWords) (old new : Around) (output : Receipt)
       (result : Result Ending Stop) : Type 0 where
     pub begun : Begun
     pub mid : Around
     pub reaches : Reaches (watch_steps words.fleet) (left_of old) mid (gives begun)
     pub since : IsHome old mid
+    pub exchanges : List Exchange
+    pub heard : mid.heard ≡ hearing exchanges old.heard
     pub history : List Entry
     pub ended : List (fleet_worker.Worker T L D)
-    pub runs : RunsFleet truth link step left count words.fleet.store begun
+    pub runs : RunsFleet link step left count words.fleet.store begun
         (settled_behind words.fleet.store mid) new history ended
-    pub writes : WritesWatch (ShowsHistory truth words begun
+    pub writes : WritesWatch (ShowsHistory words exchanges begun
         (opening_of words.fleet.store begun mid) history
         (gravest_ending (map (λ (w : fleet_worker.Worker T L D). w.told) ended))) output result
+    pub began : BeganWith lent took step exchanges runs.workers ended
+    pub made : runs.made.exchanges ≡ exchanges
 
-  -- all that was handed out is back
+  -- how the call ended
+  abbrev pub EndsWatch : WatchWords → (old new : Around) → Receipt → Result Ending Stop
+      → List Exchange → Type 0
+  EndsWatch words old new output result exchanges =
+      StopsBefore T link step left count (watch_steps words.fleet) words.fleet.store old new output
+      result
+      ⊎ ((start : StartsWatch words old new output result) × (start.exchanges ≡ exchanges))
+
+  -- so these links came back
+  abbrev pub WatchBack : (begun back : List (List L)) → (words : WatchWords) (old new : Around)
+      (output : Receipt) (result : Result Ending Stop) (exchanges : List Exchange)
+      → EndsWatch words old new output result exchanges → Type 0
+  WatchBack begun back words old new output result exchanges (inl stops) =
+      ComeBack T link step left count exchanges begun back (watch_steps words.fleet)
+      words.fleet.store old new output result stops
+  WatchBack begun back words old new output result exchanges (inr (start, same)) =
+      (links_in start.runs.workers ≡ begun) × (links_in start.ended ≡ back)
+
+  -- all that was handed out is back; what the steps up to the workers asked, as far as they went,
+  -- the links that were lent to the first seat answered, of all that were handed out; where the
+  -- workers were started, it is just what those answered with which the first worker began (one
+  -- list, that of `StartsWatch`)
   pub record DidWatch (words : WatchWords) (old new : Around) (output : Receipt)
       (result : Result Ending Stop) : Type 0 where
     pub home : IsHome old new
-    pub did : StopsBefore T truth link step left count (watch_steps words.fleet)
-        words.fleet.store old new output result
-        ⊎ StartsWatch words old new output result
+    pub exchanges : List Exchange
+    pub heard : new.heard ≡ hearing exchanges old.heard
+    pub asked : WereAsked link lent took step exchanges old.world new.world
+    pub did : EndsWatch words old new output result exchanges
+    pub came : WatchBack asked.begun asked.back words old new output result exchanges did
 
 -- what a call of `run` did for a watch
-pub record RanWatch (T : Type 0) {L D : Type 0} (truth : Truth) (link : L → Link)
-    (step : L → Exchange → L → Type 0)
+pub record RanWatch (T : Type 0) {L D : Type 0} (link : L → Link)
+    (step : L → Exchange → L → Type 0) (lent took : ℕ → L → Type 0)
     (left : D → Option (List ℕ)) (count : D → ℕ) (words : WatchWords) (old new : Around)
     (output errors : Receipt) (status : ℕ) : Type 0 where
   pub result : Result Ending Stop
-  pub did : DidWatch T truth link step left count words old new output result
+  pub did : DidWatch T link step lent took left count words old new output result
   pub tells : TellsFleet result errors status
   pub written : output.old_faults ≤ output.new_faults
   pub told : errors.old_faults ≤ errors.new_faults

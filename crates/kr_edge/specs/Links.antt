@@ -4,7 +4,6 @@ use Rattle.std.specs.Prelude.{◌≡◌, ℕ, ⊤, List, Option, None, Ok, Err}
 use Rattle.kr_base.specs.Numbering.{next_number}
 use Rattle.kr_kms.specs.Exchanges.{Exchange, StatusCall, WrapCall, UnwrapCall, KeepsLink, TellsAnswer}
 use Rattle.kr_kms.specs.Limits.{IsWithinLimits}
-use Rattle.kr_kms.specs.Truth.{untold}
 use Rattle.kr_kms_wire.specs.declared.replies.Asked.TheVariants as call
 use Rattle.kr_kms_wire.specs.declared.replies.Reply.TheVariants as reply
 use Rattle.kr_kms_wire.specs.declared.requests.Request.TheVariants as request
@@ -46,13 +45,11 @@ module _ {C W R : Type 0} (contents : W → Option (List ℕ)) (remaining : R �
       (line_link new.name new.lines.faults)
   line_keeps old exchange new h = h.keeps
 
-  -- it tells neither a status nor what sources open to
+  -- it tells no status
   pub line_tells : (old : LineLink C W R) (exchange : Exchange) (new : LineLink C W R)
-      → LineStep old exchange new → TellsAnswer untold None exchange
+      → LineStep old exchange new → TellsAnswer None exchange
   line_tells old (StatusCall name (Ok status)) new h = tt
   line_tells old (StatusCall name (Err why)) new h = tt
-  line_tells old (WrapCall name plain (Ok wrapped)) new h =
-      (λ told. absurd (cc), h.answers.1)
+  line_tells old (WrapCall name plain (Ok wrapped)) new h = h.answers.1
   line_tells old (WrapCall name plain (Err why)) new h = tt
-  line_tells old (UnwrapCall key (Ok bytes)) new h = λ told. absurd (cc)
-  line_tells old (UnwrapCall key (Err why)) new h = tt
+  line_tells old (UnwrapCall key answer) new h = tt

@@ -20,7 +20,7 @@ abbrev pub count_of : {K : Type 0} → K × ℕ → ℕ
 count_of entry = entry.1
 
 -- its files, where they are told; its counts, those of a seat by its number. It doesn't tell what
--- it was asked for, nor what its tapes hold and its plugins say
+-- it was asked for and what it handed out, nor what its tapes hold and its plugins say
 abbrev pub real_world : (file : List ℕ → Option (Option (List ℕ))) → (faults : FileFaults)
     → (dice_faults dice_out : List ℕ) → (tapes : TapeCounts) → (links : LinkCounts) → Outside
 real_world file faults dice_faults dice_out tapes links = record {
@@ -31,6 +31,7 @@ real_world file faults dice_faults dice_out tapes links = record {
     told = λ seat. None;
     faults = λ seat. slice_index_or dice_faults seat 0;
     out = λ seat. slice_index_or dice_out seat 0;
+    handed = None;
   };
   tapes = objects_by same_name shelf_key (λ first. None) count_of tapes;
   links = objects_by same_link shelf_key (λ first. None) count_of links;

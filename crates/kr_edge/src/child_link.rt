@@ -1,10 +1,9 @@
 //! A link to a plugin over its lines, as over the pipes of a child program.
 ghost use Rattle.std.specs.Prelude.{◌≡◌, false, is_some, ⊤};
 ghost use Rattle.kr_base.specs.Numbering.{next_number};
-ghost use Rattle.kr_kms.specs.Calls.{Says, Unwraps, Wraps, asked_key};
+ghost use Rattle.kr_kms.specs.Calls.{AsksLink, Says, Wraps, asked_key};
 ghost use Rattle.kr_kms.specs.Exchanges.{StatusCall, WrapCall, UnwrapCall};
 ghost use Rattle.kr_kms.specs.Limits.{IsWithinLimits};
-ghost use Rattle.kr_kms.specs.Truth.{untold};
 ghost use Rattle.kr_kms_wire.specs.declared.replies.Asked.{Asked};
 ghost use Rattle.kr_kms_wire.specs.declared.replies.Reply.{Reply};
 ghost use Rattle.kr_kms_wire.specs.declared.requests.Request.{Request};
@@ -129,8 +128,6 @@ impl ChildLink {
 }
 
 impl<C, W: Write, R: Read> Kms for LineLink<C, W, R> {
-    ghost truth = { untold };
-
     ghost link = { λ link. line_link link.name link.lines.faults };
 
     ghost step = { LineStep W.contents R.remaining };
@@ -175,8 +172,8 @@ impl<C, W: Write, R: Read> Kms for LineLink<C, W, R> {
         ensures wiped { IsWiped self.new.lines.exchange.line.line.items }
 
         // As the trait says.
-        ensures wraps { Wraps untold (line_link self.old.name self.old.lines.faults) plain.now
-            result (line_link self.new.name self.new.lines.faults) }
+        ensures wraps { Wraps (line_link self.old.name self.old.lines.faults) result
+            (line_link self.new.name self.new.lines.faults) }
         ensures asked { LineStep W.contents R.remaining self.old
             (WrapCall self.old.name plain.now result) self.new }
     {
@@ -200,8 +197,7 @@ impl<C, W: Write, R: Read> Kms for LineLink<C, W, R> {
         ensures wiped { IsWiped self.new.lines.exchange.line.line.items }
 
         // As the trait says.
-        ensures unwraps { Unwraps untold (line_link self.old.name self.old.lines.faults)
-            key_id.now annotations.now source.now result
+        ensures unwraps { AsksLink (line_link self.old.name self.old.lines.faults) result
             (line_link self.new.name self.new.lines.faults) }
         ensures asked { LineStep W.contents R.remaining self.old (UnwrapCall (asked_key
             self.old.name key_id.now annotations.now source.now) result) self.new }

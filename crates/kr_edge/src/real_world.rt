@@ -395,6 +395,10 @@ where
         self.back_tape(name, tape);
     }
 
+    fn back_read(&mut self, name: &str, tape: FileTape<DiskFile>) {
+        self.back_tape(name, tape);
+    }
+
     fn back_dice(&mut self, seat: u32, dice: DeviceDice<S::File>) {
         let at = seat as usize;
         if at >= SEATS {

@@ -2,7 +2,7 @@
 use Rattle.std.proofs.Common.{◌≡◌, inl, inr, ℕ, List, [], Option, None, Some, Result, Ok, Err, subst}
 use Rattle.kr_config.specs.Kept.{ConfigEntry, plugins_in}
 use Rattle.kr_kms.specs.Exchanges.{AgreeAll, Exchange}
-use Rattle.kr_kms.specs.Truth.{Opens}
+use Rattle.kr_kms.specs.Opens.{Opens}
 use Rattle.kr_kms.proofs.Opening.{agree_parts}
 use Rattle.kr_provider.specs.Exchanges.{PublishesBy}
 use Rattle.kr_provider.specs.Publication.{Publication}
@@ -24,7 +24,10 @@ use Rattle.kr_fleet.specs.declared.outcome.Joining.{Joining}
 use Rattle.kr_fleet.specs.declared.outcome.Joining.TheVariants as joining
 use Rattle.kr_fleet.specs.declared.outcome.Loaded.{Loaded}
 use Rattle.kr_fleet.specs.declared.outcome.Loaded.TheVariants as loaded
-use Rattle.kr_fleet.proofs.Bringing.{keeps_join, keeps_reload}
+use Rattle.kr_fleet.specs.declared.loading.Way.{Way}
+use Rattle.kr_fleet.specs.declared.loading.Way.TheVariants as way
+use Rattle.kr_fleet.specs.inner.Stages.{brought_by}
+use Rattle.kr_fleet.proofs.Bringing.{keeps_bring}
 
 -- ---- what is brought
 
@@ -58,31 +61,28 @@ module _ (opens : Opens) (Publishes : Result Publication PublishNo → Type 0)
   cut_keeps brings replica refusal.NoMemory keeps (inr (inr c)) =
       brought_keeps brings answer.NoMemory keeps c
 
-  reload_keeping : (replica : ℕ) (expect : Option ℕ) → Keeping (reload_of replica expect)
-  reload_keeping replica expect p given s a = keeps_reload opens old new replica p expect given s a
-
-  join_keeping : (replica : ℕ) → Keeping (event.Join replica)
-  join_keeping replica p given s a = keeps_join opens old new replica p given s a
+  keeping : (by : Way) (replica : ℕ) → Keeping (brought_by by replica)
+  keeping by replica p given s a = keeps_bring opens old new by replica p given s a
 
   reload_keeps : (replica : ℕ) (result : Result Loaded CallNo)
       → ReloadsWhere Publishes replica old result new → KeepsHonestBy opens old new
   reload_keeps replica (Ok (loaded.Generation number)) w = brought_keeps (reload_of replica None)
-      (answer.Reloaded number) (reload_keeping replica None) w
+      (answer.Reloaded number) (keeping (way.Reload None) replica) w
   reload_keeps replica (Ok (loaded.Refused verdict)) w = brought_keeps (reload_of replica None)
-      (answer.Refused verdict) (reload_keeping replica None) w
+      (answer.Refused verdict) (keeping (way.Reload None) replica) w
   reload_keeps replica (Ok (loaded.Moved number)) w = absurd w
   reload_keeps replica (Ok (loaded.Unchanged number)) w = absurd w
   reload_keeps replica (Err why) w =
-      cut_keeps (reload_of replica None) replica why (reload_keeping replica None) w
+      cut_keeps (reload_of replica None) replica why (keeping (way.Reload None) replica) w
 
   join_keeps : (replica : ℕ) (result : Result Joining CallNo)
       → JoinsWhere Publishes replica old result new → KeepsHonestBy opens old new
   join_keeps replica (Ok (joining.Generation number)) w = brought_keeps (event.Join replica)
-      (answer.Joined number) (join_keeping replica) w
+      (answer.Joined number) (keeping way.Join replica) w
   join_keeps replica (Ok (joining.Refused verdict)) w = brought_keeps (event.Join replica)
-      (answer.Refused verdict) (join_keeping replica) w
+      (answer.Refused verdict) (keeping way.Join replica) w
   join_keeps replica (Ok (joining.Present number)) w = brought_keeps (event.Join replica)
-      (answer.Present number) (join_keeping replica) w
+      (answer.Present number) (keeping way.Join replica) w
   join_keeps replica (Err (refusal.Refused x)) w = absurd w
   join_keeps replica (Err (refusal.PluginFailed name)) w = same_keeps w.1
   join_keeps replica (Err refusal.DiceFailed) w = same_keeps w.1
@@ -92,7 +92,7 @@ module _ (opens : Opens) (Publishes : Result Publication PublishNo → Type 0)
   join_keeps replica (Err refusal.Gone) w = absurd w
   join_keeps replica (Err refusal.Spent) w = same_keeps w.1.same
   join_keeps replica (Err refusal.NoMemory) w =
-      cut_keeps (event.Join replica) replica refusal.NoMemory (join_keeping replica) w
+      cut_keeps (event.Join replica) replica refusal.NoMemory (keeping way.Join replica) w
 
 -- ---- by exchanges
 
@@ -135,10 +135,8 @@ module _ (opens : Opens) {D : Type 0} (left : D → Option (List ℕ)) (count : 
         brought_keeps opens Made
         (published_open p.rows dice after r.others (others_agree _ r)) old new
         (reload_of replica (Some number)) given
-        (reload_keeping opens Made
-        (published_open p.rows dice after r.others (others_agree _ r)) old new replica
-        (Some number))
-        r.brings
+        (keeping opens Made (published_open p.rows dice after r.others (others_agree _ r)) old new
+        (way.Reload (Some number)) replica) r.brings
 
     stops : (why : CallNo) → RenewsAfter p.seeds es (λ others. CutShortWhere
         (λ made. PublishesBy left count p.rows dice made after others)
@@ -149,10 +147,8 @@ module _ (opens : Opens) {D : Type 0} (left : D → Option (List ℕ)) (count : 
         cut_keeps opens Made
         (published_open p.rows dice after r.others (others_agree _ r)) old new
         (reload_of replica (Some number)) replica why
-        (reload_keeping opens Made
-        (published_open p.rows dice after r.others (others_agree _ r)) old new replica
-        (Some number))
-        r.brings
+        (keeping opens Made (published_open p.rows dice after r.others (others_agree _ r)) old new
+        (way.Reload (Some number)) replica) r.brings
 
     held_keeps : (result : Result Loaded CallNo)
         → RefreshesBy left count replica number p old dice result new after es

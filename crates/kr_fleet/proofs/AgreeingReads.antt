@@ -2,7 +2,7 @@
 use Rattle.std.proofs.Common.{◌≡◌, inl, inr, ℕ, List, [], ◌∷◌, ◌++◌, Option, None, Some, Result, Ok, Err, sym, ap, subst, ◌∙◌, append_assoc}
 use Rattle.kr_kms.specs.Cache.{AreOpenBy, CacheState}
 use Rattle.kr_kms.specs.Exchanges.{AgreeAll, Exchange}
-use Rattle.kr_kms.specs.Truth.{Opens}
+use Rattle.kr_kms.specs.Opens.{Opens}
 use Rattle.kr_provider.specs.Publication.{Publication, list_at}
 use Rattle.kr_provider.specs.Reading.{Reading, data_of, refused}
 use Rattle.kr_provider.specs.declared.refusal.Opened.{Opened}

@@ -1,4 +1,4 @@
--- Where no configuration names a plugin, values read by any truth of plugins.
+-- Where no configuration names a plugin, values read so whatever sources open to.
 use Rattle.std.proofs.Common.{◌≡◌, ℕ, false, List, Option, None, Some, refl, subst}
 use Rattle.std.specs.Prelude.{All}
 use Rattle.std.specs.List.{slice_get}
@@ -6,7 +6,7 @@ use Rattle.std.specs.Option.{option_map}
 use Rattle.std.proofs.lemmas.Option.{none-some, same_Some}
 use Rattle.kr_config.specs.Kept.{ConfigEntry as settings_row}
 use Rattle.kr_config.specs.Lists.{list_of}
-use Rattle.kr_kms.specs.Truth.{Opens}
+use Rattle.kr_kms.specs.Opens.{Opens}
 use Rattle.kr_provider.specs.Publication.{Publication, names_plugin}
 use Rattle.kr_provider.specs.Reading.{Reading, HasReading, HasSomeReading}
 use Rattle.kr_provider.proofs.WithoutPlugins.{none_listed}
@@ -37,7 +37,7 @@ none_live generations number rows none is = by (slice_get generations number) re
         (there_holds (λ (g : Generation). names_plugin g.published.rows ≡ false) generations
         number g none at)
 
--- what a value reads as with some unwrapped source it reads as by any truth
+-- what a value reads as with some unwrapped source it reads as whatever sources open to
 pub reads_bare : (opens : Opens) (o : Opening) (history : List Entry) (rows : List settings_row)
     (resource path bytes : List ℕ) (reading : Reading) → IsLive (state_of o history) rows
     → NamesNoPlugin o history → HasSomeReading (list_of rows resource) path bytes reading

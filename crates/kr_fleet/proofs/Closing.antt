@@ -6,7 +6,7 @@ use Rattle.std.proofs.lemmas.List.Elements.{All-contains, Contains-append_right}
 use mathlib.Core.Option.{some, some-injective, some-ne-none}
 use lib.ListN.{get_elem?}
 use Rattle.kr_base.specs.Lines.{of_seat, Stands}
-use Rattle.kr_kms.specs.Truth.{Opens}
+use Rattle.kr_kms.specs.Opens.{Opens}
 use Rattle.kr_turn.specs.Keys.{Home}
 use Rattle.kr_turn.specs.Seats.{AreAll, number_of, lines_seen, mine}
 use Rattle.kr_turn.specs.declared.seat.Place.{Place}

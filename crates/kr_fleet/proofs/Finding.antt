@@ -1,11 +1,11 @@
 -- What `read` finds is the content at its path.
-use Rattle.std.proofs.Common.{◌≡◌, inl, inr, ℕ, true, List, ◌++◌, length, Option, None, Some, Result, Ok, Err, refl, sym, ap, subst, ◌∙◌}
+use Rattle.std.proofs.Common.{◌≡◌, inl, inr, ℕ, List, ◌++◌, length, Option, None, Some, Result, Ok, Err, refl, sym, ap, subst, ◌∙◌}
 use Rattle.std.specs.Prelude.{IfOk, IfSome, ◌≤◌}
 use Rattle.kr_base.specs.Limits.{value_limit}
 use Rattle.kr_base.specs.Lines.{of_seat}
 use Rattle.kr_config.specs.Lists.{list_of}
 use Rattle.kr_kms.specs.Calls.{Link}
-use Rattle.kr_kms.specs.Truth.{Opens, Truth}
+use Rattle.kr_kms.specs.Opens.{Opens}
 use Rattle.kr_provider.specs.Publication.{Publication, list_at}
 use Rattle.kr_provider.specs.Reading.{Reading, data_of, refused, HasReading, HasSomeReading}
 use Rattle.kr_provider.specs.Unsealing.{UnsealsBy}
@@ -156,30 +156,22 @@ module _ (old : Caller) (k : IsCaller old) (number : ℕ) (p : Publication)
         (subst (λ q. HasReading opens (list_of p.rows row.resource) q row.stored reading)
         (sym r.path_is) reads))
 
-  module _ {L : Type 0} (truth : Truth) (link : L → Link) (new : Caller) (olds news : List L) where
+  module _ {L : Type 0} (link : L → Link) (new : Caller) (olds news : List L) where
     known_content : (row : Row) (f : AddsEntry old (event.Fetch path) (answer.Found row) new)
         (reading : Reading)
-        → (truth.told ≡ true → SeedsOpen truth.opens p
-        → HasReading truth.opens (list_at p row.resource) path row.stored reading)
         → HasSomeReading (list_at p row.resource) path row.stored reading
-        → IsKnownContent truth old.opening (old.seen ++ f.others) path reading
-    known_content row f reading reads some =
-        let given = answer.Found row in
+        → IsKnownContent old.opening (old.seen ++ f.others) path reading
+    known_content row f reading some =
         let h = old.seen ++ f.others in
-        record {
-          told = λ told honest. found_content new truth.opens row f reading
-              (honest_at_each truth.opens old.opening h path f.legal honest)
-              (reads told (seeds_open new given f truth.opens honest));
-          bare = λ opens none. found_content new opens row f reading
-              (honest_at_each opens old.opening h path f.legal
-              (honest_without_plugin opens old.opening h f.legal none))
-              (reads_bare opens old.opening h p.rows row.resource path row.stored reading
-              (lives new given f) none some);
-        }
+        λ opens none. found_content new opens row f reading
+        (honest_at_each opens old.opening h path f.legal
+        (honest_without_plugin opens old.opening h f.legal none))
+        (reads_bare opens old.opening h p.rows row.resource path row.stored reading
+        (lives new (answer.Found row) f) none some)
 
     value_refused : (row : Row) (f : AddsEntry old (event.Fetch path) (answer.Found row) new)
         (why : ValueNo)
-        → UnsealsBy truth link p.seeds (list_at p row.resource) path row.stored olds
+        → UnsealsBy link p.seeds (list_at p row.resource) path row.stored olds
         (Err (unsealing.Refused why)) news
         → IsOfValue why
     value_refused row f why u =
@@ -190,23 +182,22 @@ module _ (old : Caller) (k : IsCaller old) (number : ℕ) (p : Publication)
 
     pub content_found : (row : Row) (f : AddsEntry old (event.Fetch path) (answer.Found row) new)
         (opened : Result Opened UnsealNo)
-        → UnsealsBy truth link p.seeds (list_at p row.resource) path row.stored olds opened news
-        → IsContentOf opened (IsKnownContent truth old.opening (old.seen ++ f.others) path)
+        → UnsealsBy link p.seeds (list_at p row.resource) path row.stored olds opened news
+        → IsContentOf opened (IsKnownContent old.opening (old.seen ++ f.others) path)
     content_found row f (Ok opened) u = known_content row f (data_of opened.plain)
-        (λ told opens. (u.envelope, u.told told opens, u.is.0)) (u.envelope, u.object, u.is.0)
+        (u.envelope, u.object, u.is.0)
     content_found row f (Err (unsealing.Refused why)) u = (
       value_refused row f why u,
-      known_content row f (refused why)
-          (λ told opens. (u.envelope, u.told told opens, u.is)) (u.envelope, u.object, u.is),
+      known_content row f (refused why) (u.envelope, u.object, u.is),
     )
     content_found row f (Err (unsealing.PluginFailed name)) u = tt
     content_found row f (Err unsealing.NoMemory) u = tt
 
     pub content_by_any : (row : Row) (f : AddsEntry old (event.Fetch path) (answer.Found row) new)
         (opened : Result Opened UnsealNo)
-        → (u : UnsealsBy truth link p.seeds (list_at p row.resource) path row.stored olds opened
+        → (u : UnsealsBy link p.seeds (list_at p row.resource) path row.stored olds opened
         news)
-        → IsReadByAny truth link path old.opening (old.seen ++ f.others) p row olds news opened u
+        → IsReadByAny link path old.opening (old.seen ++ f.others) p row olds news opened u
     content_by_any row f (Ok opened) u = λ opens honest same.
         found_content new opens row f (data_of opened.plain) honest (u.envelope, same, u.is.0)
     content_by_any row f (Err (unsealing.Refused why)) u = λ opens honest same.
@@ -216,18 +207,18 @@ module _ (old : Caller) (k : IsCaller old) (number : ℕ) (p : Publication)
 
 -- ---- what is found
 
-module _ {L : Type 0} (truth : Truth) (link : L → Link) (path : List ℕ) (old new : Caller)
+module _ {L : Type 0} (link : L → Link) (path : List ℕ) (old new : Caller)
     (olds news : List L) where
   pub fetch_refused : (p : Publication) (why : CallNo) → Fetches path old (Err why) new
-      → Finds truth link path p old olds (Err why) new olds
+      → Finds link path p old olds (Err why) new olds
   fetch_refused p why a = none_fetched path old new
-      (λ row opened. FindsRow truth link path p old olds row opened new olds) (olds ≡ olds) why a
+      (λ row opened. FindsRow link path p old olds row opened new olds) (olds ≡ olds) why a
       refl
 
   pub fetch_absent : (p : Publication) (found : Option Row) → found ≡ None
-      → Fetches path old (Ok found) new → Finds truth link path p old olds (Ok Absent) new olds
+      → Fetches path old (Ok found) new → Finds link path p old olds (Ok Absent) new olds
   fetch_absent p found is a = absent_fetched path old new
-      (λ row opened. FindsRow truth link path p old olds row opened new olds) (olds ≡ olds) found is
+      (λ row opened. FindsRow link path p old olds row opened new olds) (olds ≡ olds) found is
       a refl
 
   -- the row as it was lent
@@ -235,48 +226,48 @@ module _ {L : Type 0} (truth : Truth) (link : L → Link) (path : List ℕ) (old
       (opened : Result Opened UnsealNo) (result : Result Read CallNo) → IsCaller old
       → HoldsAdopted published old.mine
       → Fetches path old (Ok found) new → found ≡ Some row → IsAt path row → lent ≡ row
-      → IfSome published (λ p. UnsealsBy truth link p.seeds (list_at p lent.resource) lent.path
+      → IfSome published (λ p. UnsealsBy link p.seeds (list_at p lent.resource) lent.path
       lent.stored olds opened news)
       → result ≡ row_value lent.revision opened
-      → IfSome published (λ p. Finds truth link path p old olds result new news)
+      → IfSome published (λ p. Finds link path p old olds result new news)
   find_done published found row lent opened result k h fetched is at same unsealed e =
       let p = h.p in
       let f : AddsEntry old (event.Fetch path) (answer.Found row) new =
       subst (λ f. Fetches path old (Ok f) new) is fetched in
-      let u : UnsealsBy truth link p.seeds (list_at p row.resource) path row.stored olds opened
+      let u : UnsealsBy link p.seeds (list_at p row.resource) path row.stored olds opened
       news =
-      subst (λ q. UnsealsBy truth link p.seeds (list_at p row.resource) q row.stored olds opened
+      subst (λ q. UnsealsBy link p.seeds (list_at p row.resource) q row.stored olds opened
       news) at.0
-      (subst (λ (r : Row). UnsealsBy truth link p.seeds (list_at p r.resource) r.path r.stored olds
+      (subst (λ (r : Row). UnsealsBy link p.seeds (list_at p r.resource) r.path r.stored olds
       opened news) same
-      (subst (λ o. IfSome o (λ p. UnsealsBy truth link p.seeds (list_at p lent.resource) lent.path
+      (subst (λ o. IfSome o (λ p. UnsealsBy link p.seeds (list_at p lent.resource) lent.path
       lent.stored olds opened news)) h.adopted unsealed)) in
-      subst (λ o. IfSome o (λ p. Finds truth link path p old olds result new news)) (sym h.adopted)
-      (subst (λ r. Finds truth link path p old olds r new news)
+      subst (λ o. IfSome o (λ p. Finds link path p old olds result new news)) (sym h.adopted)
+      (subst (λ r. Finds link path p old olds r new news)
       (sym (e ∙ ap (λ (r : Row). row_value r.revision opened) same))
       (value_found path old new
-      (λ row opened. FindsRow truth link path p old olds row opened new news)
+      (λ row opened. FindsRow link path p old olds row opened new news)
       (news ≡ olds) row opened (record {
         found = f;
         named = (held_is_named old new (event.Fetch path) (answer.Found row) h.number p k f
             h.held).published;
         unseals = u;
-        content = content_found old k h.number p h.held path truth link new olds news row f opened
+        content = content_found old k h.number p h.held path link new olds news row f opened
             u;
-        by_any = content_by_any old k h.number p h.held path truth link new olds news row f opened
+        by_any = content_by_any old k h.number p h.held path link new olds news row f opened
             u;
       })))
 
 -- the stages of a call, one behind another
-pub reads_held : {L : Type 0} (truth : Truth) (link : L → Link) (path copy : List ℕ) (replica : ℕ)
+pub reads_held : {L : Type 0} (link : L → Link) (path copy : List ℕ) (replica : ℕ)
     (old adopted acted new : Caller) (olds lent news : List L) (held : ℕ × Publication)
     (published : Option Publication) (done result : Result Read CallNo)
     → copy ≡ path → lent ≡ olds → published ≡ Some held.1
     → AddsEntry old (event.Adopt replica) (answer.Adopted held.0 held.1) adopted
-    → IfSome published (λ p. Finds truth link copy p adopted lent done acted news)
+    → IfSome published (λ p. Finds link copy p adopted lent done acted news)
     → LetsGo acted done result new
-    → IsRead truth link path replica old olds result new news
-reads_held truth link path copy replica old adopted acted new olds lent news held published done
+    → IsRead link path replica old olds result new news
+reads_held link path copy replica old adopted acted new olds lent news held published done
     result own same is a f g =
     inr (record {
       number = held.0;
@@ -285,8 +276,8 @@ reads_held truth link path copy replica old adopted acted new olds lent news hel
       done = done;
       acted = acted;
       adopts = a;
-      does = subst (λ l. Finds truth link path held.1 adopted l done acted news) same
-          (subst (λ q. Finds truth link q held.1 adopted lent done acted news) own
-          (subst (λ o. IfSome o (λ p. Finds truth link copy p adopted lent done acted news)) is f));
+      does = subst (λ l. Finds link path held.1 adopted l done acted news) same
+          (subst (λ q. Finds link q held.1 adopted lent done acted news) own
+          (subst (λ o. IfSome o (λ p. Finds link copy p adopted lent done acted news)) is f));
       lets_go = g;
     })

@@ -2,7 +2,6 @@
 use Rattle.std.proofs.Common.{◌≡◌, inl, inr, ℕ, List, Option, Some, Result, Ok, Err, subst}
 use Rattle.std.specs.Prelude.{IfSome}
 use Rattle.kr_kms.specs.Calls.{Link}
-use Rattle.kr_kms.specs.Truth.{Truth}
 use Rattle.kr_provider.specs.Publication.{Publication}
 use Rattle.kr_provider.specs.declared.refusal.Opened.{Opened}
 use Rattle.kr_provider.specs.declared.refusal.UnsealNo.{UnsealNo}
@@ -23,13 +22,13 @@ use Rattle.kr_fleet.specs.declared.outcome.Read.TheVariants.{Absent, Value}
 
 -- ---- a Fetch
 
-module _ {L : Type 0} (truth : Truth) (link : L → Link) (path : List ℕ) (p : Publication)
+module _ {L : Type 0} (link : L → Link) (path : List ℕ) (p : Publication)
     (old new : Caller) (olds news : List L) where
   finds_row : (row : Row) (opened : Result Opened UnsealNo)
-      → FindsRow truth link path p old olds row opened new news → AddsQuietly old new
+      → FindsRow link path p old olds row opened new news → AddsQuietly old new
   finds_row row opened f = quiet_one old new (event.Fetch path) (answer.Found row) tt f.found
 
-  finds : (result : Result Read CallNo) → Finds truth link path p old olds result new news
+  finds : (result : Result Read CallNo) → Finds link path p old olds result new news
       → AddsQuietly old new
   finds (Ok Absent) f = quiet_one old new (event.Fetch path) answer.Absent tt f.0.absent
   finds (Ok (Value revision plain stale)) f =
@@ -47,14 +46,14 @@ module _ {L : Type 0} (truth : Truth) (link : L → Link) (path : List ℕ) (p :
   finds (Err refusal.Gone) f = absurd f
 
 -- by the configuration that the bench has
-pub finds_quietly : {L : Type 0} (truth : Truth) (link : L → Link) (path : List ℕ)
+pub finds_quietly : {L : Type 0} (link : L → Link) (path : List ℕ)
     (published : Option Publication) (p : Publication) (old new : Caller) (olds news : List L)
     (result : Result Read CallNo) → published ≡ Some p
-    → IfSome published (λ p. Finds truth link path p old olds result new news)
+    → IfSome published (λ p. Finds link path p old olds result new news)
     → AddsQuietly old new
-finds_quietly truth link path published p old new olds news result is f =
-    finds truth link path p old new olds news result
-    (subst (λ o. IfSome o (λ p. Finds truth link path p old olds result new news)) is f)
+finds_quietly link path published p old new olds news result is f =
+    finds link path p old new olds news result
+    (subst (λ o. IfSome o (λ p. Finds link path p old olds result new news)) is f)
 
 -- ---- a Put
 

@@ -4,7 +4,6 @@ use Rattle.std.proofs.Common.{◌≡◌, inr, ℕ, Bool, true, List, ◌++◌, O
 use Rattle.std.proofs.lemmas.Option.{none-some}
 use Rattle.kr_config.specs.Kept.{ConfigEntry, plugins_in}
 use Rattle.kr_kms.specs.Calls.{Link}
-use Rattle.kr_kms.specs.Truth.{Truth}
 use Rattle.kr_kms.specs.declared.seeds.SeedRow.{SeedRow}
 use Rattle.kr_provider.specs.AskedLinks.{AskedOnly}
 use Rattle.kr_provider.specs.Publication.{IsPublished, Publication}
@@ -29,10 +28,10 @@ use Rattle.kr_fleet.specs.declared.outcome.Loaded.TheVariants as loaded
 use Rattle.kr_fleet.specs.CallForms.{BringsWhere, CutShortWhere}
 use Rattle.kr_fleet.specs.LoadCalls.{IsKeyChanged, Refreshes, plugin_names, reload_of}
 use Rattle.kr_fleet.specs.inner.Answering.{ReloadsBy}
-use Rattle.kr_fleet.specs.inner.Stages.{ComparesKeys, SharesPublished}
+use Rattle.kr_fleet.specs.inner.Stages.{ComparesKeys, IsBrought}
 use Rattle.kr_provider.proofs.AskedLists.{asked_then}
 use Rattle.kr_fleet.proofs.Asked.{asked_among}
-use Rattle.kr_fleet.proofs.Bringing.{not_shared}
+use Rattle.kr_fleet.proofs.Bringing.{cut_short}
 use Rattle.kr_history.proofs.Nexts.{front_own, legal_now}
 
 -- ---- the generation that is held
@@ -98,48 +97,44 @@ module _ (Publishes : Result Publication PublishNo → Type 0) (replica number :
   Renewed (Ok (loaded.Refused verdict)) = ⊥
   Renewed (Err why) = CutShortWhere Publishes (reload_of replica (Some number)) replica old why new
 
-  pub renew_answered : (q : Publication) (given : Answer) (result : Result Loaded CallNo)
-      → IsCaller old → holding old.mine ≡ Some (number, p) → q.rows ≡ p.rows → Publishes (Ok q)
-      → AddsEntry old (event.Reload replica q (Some number)) given new → ReloadsBy given result
-      → Renewed result
-  renew_answered q (answer.Adopted n r) result k held rows w a d = absurd d
-  renew_answered q (answer.Gone other) result k held rows w a d =
-      let step = reload_step old new replica number p q (answer.Gone other) a in
-      subst (λ r. Renewed r) (sym d) (record {
-        p = q;
-        publishes = w;
-        brought = subst
-            (λ r. AddsEntry old (event.Reload replica q (Some number)) (answer.Gone r) new) step.0
-            a;
-      })
-  renew_answered q (answer.Found row) result k held rows w a d = absurd d
-  renew_answered q answer.Absent result k held rows w a d = absurd d
-  renew_answered q (answer.Written revision) result k held rows w a d = absurd d
-  renew_answered q (answer.Changed revision) result k held rows w a d = absurd d
-  renew_answered q answer.StoreFailed result k held rows w a d = absurd d
-  renew_answered q (answer.StoreFull needed) result k held rows w a d = absurd d
-  renew_answered q answer.Released result k held rows w a d = absurd d
-  renew_answered q (answer.Reloaded made) result k held rows w a d =
-      subst (λ r. Renewed r) (sym d) (record { p = q; publishes = w; brought = a })
-  renew_answered q (answer.Joined made) result k held rows w a d = absurd d
-  renew_answered q (answer.Refused verdict) result k held rows w a d =
-      absurd (not_refused old new replica number p q verdict k held rows a)
-  renew_answered q (answer.Moved current) result k held rows w a d =
-      subst (λ r. Renewed r) (sym d) (record { p = q; publishes = w; brought = a })
-  renew_answered q (answer.Present n) result k held rows w a d = absurd d
-  renew_answered q (answer.Departed n) result k held rows w a d = absurd d
-  renew_answered q answer.NoMemory result k held rows w a d =
-      subst (λ r. Renewed r) (sym d) (inr (inr (record { p = q; publishes = w; brought = a })))
+  pub renew_answered : (given : Answer) (result : Result Loaded CallNo) → IsCaller old
+      → holding old.mine ≡ Some (number, p)
+      → (b : BringsWhere Publishes (reload_of replica (Some number)) old given new)
+      → b.p.rows ≡ p.rows → ReloadsBy given result → Renewed result
+  renew_answered (answer.Adopted n r) result k held b rows d = absurd d
+  renew_answered (answer.Gone other) result k held b rows d =
+      let step = reload_step old new replica number p b.p (answer.Gone other) b.brought in
+      subst (λ r. Renewed r) (sym d)
+      (subst (λ r. BringsWhere Publishes (reload_of replica (Some number)) old (answer.Gone r) new)
+      step.0 b)
+  renew_answered (answer.Found row) result k held b rows d = absurd d
+  renew_answered answer.Absent result k held b rows d = absurd d
+  renew_answered (answer.Written revision) result k held b rows d = absurd d
+  renew_answered (answer.Changed revision) result k held b rows d = absurd d
+  renew_answered answer.StoreFailed result k held b rows d = absurd d
+  renew_answered (answer.StoreFull needed) result k held b rows d = absurd d
+  renew_answered answer.Released result k held b rows d = absurd d
+  renew_answered (answer.Reloaded made) result k held b rows d =
+      subst (λ r. Renewed r) (sym d) b
+  renew_answered (answer.Joined made) result k held b rows d = absurd d
+  renew_answered (answer.Refused verdict) result k held b rows d =
+      absurd (not_refused old new replica number p b.p verdict k held rows b.brought)
+  renew_answered (answer.Moved current) result k held b rows d =
+      subst (λ r. Renewed r) (sym d) b
+  renew_answered (answer.Present n) result k held b rows d = absurd d
+  renew_answered (answer.Departed n) result k held b rows d = absurd d
+  renew_answered answer.NoMemory result k held b rows d =
+      subst (λ r. Renewed r) (sym d) (inr (inr b))
 
-module _ {L D : Type 0} (truth : Truth) (link : L → Link) (left : D → Option (List ℕ))
+module _ {L D : Type 0} (link : L → Link) (left : D → Option (List ℕ))
     (count : D → ℕ) (replica number : ℕ) (p : Publication) (old new : Caller)
     (olds asked news : List L) (dice after : D)
     (links : AskedOnly link (plugin_names p.seeds) olds asked)
     (changed : IsKeyChanged link olds p.seeds) where
   renewed : (result : Result Loaded CallNo) → Renewed
-      (λ made. Publishes truth link left count p.rows asked dice made news after) replica number p
+      (λ made. Publishes link left count p.rows asked dice made news after) replica number p
       old new result
-      → Refreshes truth link left count replica number p old olds dice result new news after
+      → Refreshes link left count replica number p old olds dice result new news after
   renewed (Ok (loaded.Generation made)) b =
       record { asked = asked; links = links; changed = changed; brought = b }
   renewed (Ok (loaded.Moved current)) b =
@@ -169,7 +164,7 @@ renewed_asks link p seeds rows olds mids news k same rows_are a b =
     (λ name c. (k.names name).1 (subst (λ r. Contains (plugins_in r) name) rows_are c)) b)
 
 -- a key has changed, of the seeds of a configuration whose settings are then published
-module _ {L D : Type 0} (truth : Truth) (link : L → Link) (left : D → Option (List ℕ))
+module _ {L D : Type 0} (link : L → Link) (left : D → Option (List ℕ))
     (count : D → ℕ) (replica number : ℕ) (p : Publication) (old new : Caller)
     (olds mids news : List L) (dice between after : D) (seeds : List SeedRow) (rows : List ConfigEntry)
     (seeds_are : seeds ≡ p.seeds) (rows_are : rows ≡ p.rows) (dice_is : between ≡ dice)
@@ -182,30 +177,34 @@ module _ {L D : Type 0} (truth : Truth) (link : L → Link) (left : D → Option
   changed_then = subst (λ s. IsKeyChanged link olds s) seeds_are
       (subst (λ b. ComparesKeys link seeds olds (Ok b) mids) is compares)
 
-  published_then : (result : Result Publication CallNo)
-      → SharesPublished truth link left count rows mids between result news after
-      → SharesPublished truth link left count p.rows mids dice result news after
-  published_then result w =
-      subst (λ d. SharesPublished truth link left count p.rows mids d result news after) dice_is
-      (subst (λ r. SharesPublished truth link left count r mids between result news after)
-      rows_are w)
+  brought_then : (result : Result Answer CallNo)
+      → IsBrought link left count rows (reload_of replica (Some number)) old mids between result
+      new news after
+      → IsBrought link left count p.rows (reload_of replica (Some number)) old mids dice result
+      new news after
+  brought_then result w =
+      subst (λ d. IsBrought link left count p.rows (reload_of replica (Some number)) old mids d
+      result new news after) dice_is
+      (subst (λ r. IsBrought link left count r (reload_of replica (Some number)) old mids between
+      result new news after) rows_are w)
 
-  pub unpublished : (why : CallNo) → new ≡ old
-      → SharesPublished truth link left count rows mids between (Err why) news after
-      → Refreshes truth link left count replica number p old olds dice (Err why) new news after
-  unpublished why same w = renewed truth link left count replica number p old new olds mids
+  pub not_brought : (why : CallNo)
+      → IsBrought link left count rows (reload_of replica (Some number)) old mids between (Err why)
+      new news after
+      → Refreshes link left count replica number p old olds dice (Err why) new news after
+  not_brought why w = renewed link left count replica number p old new olds mids
       news dice after asked_of changed_then (Err why)
-      (not_shared (λ made. Publishes truth link left count p.rows mids dice made news after) old new
-      (reload_of replica (Some number)) replica why same (published_then (Err why) w))
+      (cut_short (λ made. Publishes link left count p.rows mids dice made news after) old new
+      (reload_of replica (Some number)) replica why (brought_then (Err why) w))
 
-  pub published : (q : Publication) (given : Answer) (result : Result Loaded CallNo)
+  pub brought_anew : (given : Answer) (result : Result Loaded CallNo)
       → IsCaller old → holding old.mine ≡ Some (number, p)
-      → SharesPublished truth link left count rows mids between (Ok q) news after
-      → AddsEntry old (event.Reload replica q (Some number)) given new → ReloadsBy given result
-      → Refreshes truth link left count replica number p old olds dice result new news after
-  published q given result k held w a d =
-      let made = published_then (Ok q) w in
-      renewed truth link left count replica number p old new olds mids news dice after asked_of
+      → IsBrought link left count rows (reload_of replica (Some number)) old mids between (Ok given)
+      new news after → ReloadsBy given result
+      → Refreshes link left count replica number p old olds dice result new news after
+  brought_anew given result k held w d =
+      let b = brought_then (Ok given) w in
+      renewed link left count replica number p old new olds mids news dice after asked_of
       changed_then result (renew_answered
-      (λ made. Publishes truth link left count p.rows mids dice made news after) replica number p
-      old new q given result k held made.0 made a d)
+      (λ made. Publishes link left count p.rows mids dice made news after) replica number p
+      old new given result k held b b.publishes.0 d)

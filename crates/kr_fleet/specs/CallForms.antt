@@ -1,6 +1,6 @@
 -- The forms of calls that publish or read, whatever is said of how they publish and unseal.
 use Rattle.std.specs.Prelude.{◌≡◌, ◌⊎◌, ℕ, List, ◌++◌, Option, None, Result, Ok, Err}
-use Rattle.kr_kms.specs.Truth.{Opens}
+use Rattle.kr_kms.specs.Opens.{Opens}
 use Rattle.kr_provider.specs.Publication.{Publication}
 use Rattle.kr_provider.specs.declared.refusal.Opened.{Opened}
 use Rattle.kr_provider.specs.declared.refusal.PublishNo.{PublishNo}
@@ -98,7 +98,7 @@ module _ (Publishes : Result Publication PublishNo → Type 0) where
 
 -- ---- a row is found, and then unsealed
 
--- the path has no row, and no content before the Fetch, by any truth
+-- the path has no row, and no content before the Fetch, whatever sources open to
 pub record FindsNothing (path : List ℕ) (old new : Caller) : Type 0 where
   pub absent : AddsEntry old (event.Fetch path) answer.Absent new
   pub content : (opens : Opens)

@@ -4,7 +4,6 @@ use Rattle.kr_base.specs.Told.{Agrees}
 use Rattle.kr_config.specs.Kept.{ConfigEntry}
 use Rattle.kr_kms.specs.Calls.{Link}
 use Rattle.kr_kms.specs.Health.{breach_in}
-use Rattle.kr_kms.specs.Truth.{Truth}
 use Rattle.kr_kms.specs.declared.plugin.Status.{Status}
 use Rattle.kr_kms.specs.declared.seeds.SeedRow.{SeedRow}
 use Rattle.kr_provider.specs.AskedLinks.{AskedOnly, HasLinkWith, FaultRose}
@@ -25,36 +24,36 @@ use Rattle.kr_fleet.specs.declared.outcome.Loaded.{Loaded}
 use Rattle.kr_fleet.specs.declared.outcome.Loaded.TheVariants as loaded
 use Rattle.kr_history.specs.Calls.{EndsEarly, HoldsMeanwhile}
 
-module _ {L D : Type 0} (truth : Truth) (link : L → Link) (left : D → Option (List ℕ))
+module _ {L D : Type 0} (link : L → Link) (left : D → Option (List ℕ))
     (count : D → ℕ) (rows : List ConfigEntry) where
   -- the settings were published, and the event that brings them was answered so
   abbrev pub Brings : (Publication → Event) → Caller → List L → D → Answer → Caller → List L → D
       → Type 0
   Brings brings old olds dice given new news after = BringsWhere (λ made.
-      Publishes truth link left count rows olds dice made news after) brings old given new
+      Publishes link left count rows olds dice made news after) brings old given new
 
   -- they were published, but aren't brought
   abbrev pub BringsNothing : List L → D → List L → D → Type 0
   BringsNothing olds dice news after = BringsNothingWhere (λ made.
-      Publishes truth link left count rows olds dice made news after)
+      Publishes link left count rows olds dice made news after)
 
   -- they weren't published, and nothing is brought
   abbrev pub PublishesNothing : Caller → List L → D → PublishNo → Caller → List L → D → Type 0
   PublishesNothing old olds dice why new news after = PublishesNothingWhere (λ made.
-      Publishes truth link left count rows olds dice made news after) old why new
+      Publishes link left count rows olds dice made news after) old why new
 
   -- why a call that publishes and brings is cut short
   abbrev pub BringsBy : (Publication → Event) → (replica : ℕ) → Caller → List L → D → CallNo
       → Caller → List L → D → Type 0
   BringsBy brings replica old olds dice why new news after = CutShortWhere (λ made.
-      Publishes truth link left count rows olds dice made news after) brings replica old why new
+      Publishes link left count rows olds dice made news after) brings replica old why new
 
   -- ---- reload: a Reload that expects no generation
 
   abbrev pub IsReload : (replica : ℕ) → Caller → List L → D → Result Loaded CallNo → Caller
       → List L → D → Type 0
   IsReload replica old olds dice result new news after = ReloadsWhere (λ made.
-      Publishes truth link left count rows olds dice made news after) replica old result new
+      Publishes link left count rows olds dice made news after) replica old result new
 
   -- ---- join: a Join
 
@@ -62,12 +61,12 @@ module _ {L D : Type 0} (truth : Truth) (link : L → Link) (left : D → Option
   abbrev pub JoinsBy : (replica : ℕ) → Caller → List L → D → CallNo → Caller → List L → D
       → Type 0
   JoinsBy replica old olds dice why new news after = NotJoinedWhere (λ made.
-      Publishes truth link left count rows olds dice made news after) replica old why new
+      Publishes link left count rows olds dice made news after) replica old why new
 
   abbrev pub IsJoin : (replica : ℕ) → Caller → List L → D → Result Joining CallNo → Caller
       → List L → D → Type 0
   IsJoin replica old olds dice result new news after = JoinsWhere (λ made.
-      Publishes truth link left count rows olds dice made news after) replica old result new
+      Publishes link left count rows olds dice made news after) replica old result new
 
 -- ---- refresh: an Adopt; a Reload of the same settings, where a key has changed; a LetGo
 
@@ -112,7 +111,7 @@ module _ {L : Type 0} (link : L → Link) (links : List L) where
   AsksInVain seeds refusal.NoMemory news = ⊤
   AsksInVain seeds why news = ⊥
 
-module _ {L D : Type 0} (truth : Truth) (link : L → Link) (left : D → Option (List ℕ))
+module _ {L D : Type 0} (link : L → Link) (left : D → Option (List ℕ))
     (count : D → ℕ) (replica : ℕ) where
   -- a key has changed, so the adopted settings are published anew; its Reload expects the adopted
   -- generation
@@ -125,14 +124,14 @@ module _ {L D : Type 0} (truth : Truth) (link : L → Link) (left : D → Option
   abbrev pub RenewsBy : ℕ → Publication → Caller → List L → D → Answer → Caller → List L → D
       → Type 0
   RenewsBy number p old olds dice given new news after = Renews p olds (λ asked.
-      Brings truth link left count p.rows (reload_of replica (Some number)) old asked dice given
+      Brings link left count p.rows (reload_of replica (Some number)) old asked dice given
       new news after)
 
   abbrev pub RefreshesBy : ℕ → Publication → Caller → List L → D → CallNo → Caller → List L → D
       → Type 0
   RefreshesBy number p old olds dice why new news after =
       (AsksInVain link olds p.seeds why news × (new ≡ old) × (after ≡ dice))
-      ⊎ Renews p olds (λ asked. BringsBy truth link left count p.rows
+      ⊎ Renews p olds (λ asked. BringsBy link left count p.rows
       (reload_of replica (Some number)) replica old asked dice why new news after)
 
   -- by a held generation

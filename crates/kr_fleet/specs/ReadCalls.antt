@@ -1,9 +1,9 @@
 -- `read`: an Adopt, a Fetch, a LetGo. What is found is unsealed by the adopted configuration, and
 -- is the content at the path.
-use Rattle.std.specs.Prelude.{◌≡◌, ◌⊎◌, ℕ, true, List, ◌++◌, Some, Result, Ok, Err, ⊤}
+use Rattle.std.specs.Prelude.{◌≡◌, ◌⊎◌, ℕ, List, ◌++◌, Some, Result, Ok, Err, ⊤}
 use Rattle.kr_config.specs.declared.who.Who.{Who}
 use Rattle.kr_kms.specs.Calls.{Link}
-use Rattle.kr_kms.specs.Truth.{Opens, Truth}
+use Rattle.kr_kms.specs.Opens.{Opens}
 use Rattle.kr_provider.specs.Envelopes.{Envelope, IsEnvelopeOf}
 use Rattle.kr_provider.specs.Publication.{Publication, list_at}
 use Rattle.kr_provider.specs.Reading.{Reading, data_of, refused}
@@ -21,7 +21,7 @@ use Rattle.kr_rollout.specs.declared.opening.Opening.{Opening}
 use Rattle.kr_history.specs.Acting.{Caller, AddsEntry}
 use Rattle.kr_history.specs.Contents.{IsContent}
 use Rattle.kr_history.specs.ContentLaws.{NamesNoPlugin}
-use Rattle.kr_history.specs.Honesty.{IsHonest, IsHonestAt}
+use Rattle.kr_history.specs.Honesty.{IsHonestAt}
 use Rattle.kr_history.specs.declared.call.CallNo.{CallNo}
 use Rattle.kr_fleet.specs.CallForms.{FindsWhere}
 use Rattle.kr_fleet.specs.declared.outcome.Read.{Read}
@@ -37,14 +37,11 @@ IsOfValue LooksEncrypted = ⊥
 IsOfValue TooLarge = ⊥
 IsOfValue why = ⊤
 
--- this is the content: by the truth that is told, where the history is honest by it; and by any
--- truth where no configuration of the history names a plugin
-pub record IsKnownContent (truth : Truth) (o : Opening) (history : List Entry) (path : List ℕ)
-    (reading : Reading) : Type 0 where
-  pub told : truth.told ≡ true → IsHonest truth.opens o history
-      → IsContent truth.opens o history path (Some reading)
-  pub bare : (opens : Opens) → NamesNoPlugin o history
-      → IsContent opens o history path (Some reading)
+-- this is the content, whatever sources open to, where no configuration of the history names a
+-- plugin
+abbrev pub IsKnownContent : Opening → (history : List Entry) → (path : List ℕ) → Reading → Type 0
+IsKnownContent o history path reading =
+    (opens : Opens) → NamesNoPlugin o history → IsContent opens o history path (Some reading)
 
 -- where a value was read, or the row that was found reads as a refusal, this is said of the content
 abbrev pub IsContentOf : Result Opened UnsealNo → (Reading → Type 0) → Type 0
@@ -52,8 +49,8 @@ IsContentOf (Ok opened) Is = Is (data_of opened.plain)
 IsContentOf (Err (unsealing.Refused why)) Is = IsOfValue why × Is (refused why)
 IsContentOf (Err why) Is = ⊤
 
--- this is the content by any truth by which what stands at the path is honest and the value's
--- source is what it was unwrapped to; a value that no plugin reads has none
+-- this is the content by any sources' openings by which what stands at the path is honest and the
+-- value's source is what it was unwrapped to; a value that no plugin reads has none
 abbrev pub IsContentByAny : Opening → List Entry → (list : List Who) → (path bytes : List ℕ)
     → Envelope → Reading → Type 0
 IsContentByAny o history list path bytes envelope reading = (opens : Opens)
@@ -62,11 +59,11 @@ IsContentByAny o history list path bytes envelope reading = (opens : Opens)
 
 -- ---- the call
 
-module _ {L : Type 0} (truth : Truth) (link : L → Link) (path : List ℕ) where
+module _ {L : Type 0} (link : L → Link) (path : List ℕ) where
   -- so is what the bench read, with the source that it had
   abbrev pub IsReadByAny : Opening → List Entry → (p : Publication) → (row : Row)
       → (olds news : List L) → (opened : Result Opened UnsealNo)
-      → UnsealsBy truth link p.seeds (list_at p row.resource) path row.stored olds opened news
+      → UnsealsBy link p.seeds (list_at p row.resource) path row.stored olds opened news
       → Type 0
   IsReadByAny o history p row olds news (Ok opened) unsealed = IsContentByAny o history
       (list_at p row.resource) path row.stored unsealed.envelope (data_of opened.plain)
@@ -82,10 +79,10 @@ module _ {L : Type 0} (truth : Truth) (link : L → Link) (path : List ℕ) wher
       (opened : Result Opened UnsealNo) (new : Caller) (news : List L) : Type 0 where
     pub found : AddsEntry old (event.Fetch path) (answer.Found row) new
     pub named : found.entry.published ≡ Some p
-    pub unseals : UnsealsBy truth link p.seeds (list_at p row.resource) path row.stored olds opened
+    pub unseals : UnsealsBy link p.seeds (list_at p row.resource) path row.stored olds opened
         news
     pub content : IsContentOf opened
-        (IsKnownContent truth old.opening (old.seen ++ found.others) path)
+        (IsKnownContent old.opening (old.seen ++ found.others) path)
     pub by_any : IsReadByAny old.opening (old.seen ++ found.others) p row olds news opened unseals
 
   abbrev pub FindsValue : Publication → Caller → List L → Result Opened UnsealNo → Caller → List L

@@ -6,13 +6,13 @@ ghost use Rattle.kr_provider.specs.AskedLinks.{Among, AskedOnly};
 ghost use Rattle.kr_provider.specs.Names.{HasLinks, names_of};
 ghost use Rattle.kr_rollout.specs.Callers.{holding, reloads_in};
 ghost use Rattle.kr_rollout.specs.Openings.{NamesAmong};
-ghost use Rattle.kr_history.specs.Calls.{AreServed, KeepsToldHonesty};
+ghost use Rattle.kr_history.specs.Calls.{AreServed};
 ghost use Rattle.kr_history.specs.Parts.{AddsWithin};
 ghost use Rattle.kr_fleet.specs.CallExchanges.{IsJoinBy, IsReloadBy};
 ghost use Rattle.kr_fleet.specs.CallForms.{publish_refusal};
 ghost use Rattle.kr_fleet.specs.LoadCalls.{IsJoin, IsReload};
 ghost use Rattle.kr_fleet.specs.inner.Answering.{AnswersJoin, AnswersReload, JoinsBy, ReloadsBy};
-ghost use Rattle.kr_fleet.specs.inner.Stages.{SharesPublished, SharesPublishedBy};
+ghost use Rattle.kr_fleet.specs.inner.Stages.{IsBrought, IsBroughtBy, SharesPublished, SharesPublishedBy, brought_by};
 
 use crate::outcome::{Joining, Loaded};
 use kr_base::{Dice, Shared, Spent};
@@ -38,13 +38,12 @@ pub fn reload<A: Acts, L: Kms, D: Dice>(
     requires room { reloads_in (A.caller acts.old).mine
         < get_or (A.caller acts.old).opening.reloads (A.caller acts.old).seat 0 }
     requires links { AreServed (A.caller acts.old).opening.names (names_of L.link bench.old.links) }
-    ensures reloads { IsReload L.truth L.link D.left D.count (rows_of settings.entries.0) replica
+    ensures reloads { IsReload L.link D.left D.count (rows_of settings.entries.0) replica
         (A.caller acts.old) bench.old.links bench.old.dice result (A.caller acts.new)
         bench.new.links bench.new.dice }
     ensures exchanged { Talk (Among L.step) bench.old.links bench.new.links (IsReloadBy D.left
         D.count (rows_of settings.entries.0) replica (A.caller acts.old) bench.old.dice result
         (A.caller acts.new) bench.new.dice) }
-    ensures honest { KeepsToldHonesty L.truth (A.caller acts.old) (A.caller acts.new) }
     ensures idle { holding (A.caller acts.new).mine ≡ None }
     ensures asked { AskedOnly L.link (plugins_in (rows_of settings.entries.0)) bench.old.links
         bench.new.links }
@@ -54,18 +53,16 @@ pub fn reload<A: Acts, L: Kms, D: Dice>(
     ensures adds { AddsWithin 1 1 [] (A.caller acts.old) (A.caller acts.new) }
     ensures place { A.place acts.new ≡ A.place acts.old }
 {
-    let published = match publish(alloc, bench, settings) {
-        Ok(published) => published,
-        Err(why) => return Err(why),
-    };
-    acts.known();
-    match acts.act(Event::Reload {
+    match bring(
+        alloc,
+        acts,
+        bench,
         replica,
-        published,
-        expect: None,
-    }) {
+        Way::Reload { expect: None },
+        settings,
+    ) {
         Ok(answer) => reloaded(answer),
-        Err(Spent) => Err(CallNo::Spent),
+        Err(why) => Err(why),
     }
 }
 
@@ -83,14 +80,57 @@ pub fn join<A: Acts, L: Kms, D: Dice>(
     requires room { reloads_in (A.caller acts.old).mine
         < get_or (A.caller acts.old).opening.reloads (A.caller acts.old).seat 0 }
     requires links { AreServed (A.caller acts.old).opening.names (names_of L.link bench.old.links) }
-    ensures joins { IsJoin L.truth L.link D.left D.count (rows_of settings.entries.0) replica
+    ensures joins { IsJoin L.link D.left D.count (rows_of settings.entries.0) replica
         (A.caller acts.old) bench.old.links bench.old.dice result (A.caller acts.new)
         bench.new.links bench.new.dice }
     ensures exchanged { Talk (Among L.step) bench.old.links bench.new.links (IsJoinBy D.left
         D.count (rows_of settings.entries.0) replica (A.caller acts.old) bench.old.dice result
         (A.caller acts.new) bench.new.dice) }
-    ensures honest { KeepsToldHonesty L.truth (A.caller acts.old) (A.caller acts.new) }
     ensures idle { holding (A.caller acts.new).mine ≡ None }
+    ensures asked { AskedOnly L.link (plugins_in (rows_of settings.entries.0)) bench.old.links
+        bench.new.links }
+    ensures later { D.count bench.old.dice ≤ D.count bench.new.dice }
+    ensures kept { bench.new
+        ≡ record bench.old { links = bench.new.links; dice = bench.new.dice } }
+    ensures adds { AddsWithin 1 1 [] (A.caller acts.old) (A.caller acts.new) }
+    ensures place { A.place acts.new ≡ A.place acts.old }
+{
+    match bring(alloc, acts, bench, replica, Way::Join, settings) {
+        Ok(answer) => joined(answer),
+        Err(why) => Err(why),
+    }
+}
+
+/// How a configuration comes to a replica.
+#[derive(Drop)]
+pub(crate) enum Way {
+    /// The replica is in, and has the expected generation; any, where none is expected.
+    Reload { expect: Option<u32> },
+    /// The replica isn't in.
+    Join,
+}
+
+/// Publishes the settings, and brings them to the replica by one event.
+pub(crate) fn bring<A: Acts, L: Kms, D: Dice>(
+    alloc: Global,
+    acts: &mut A,
+    bench: &mut Bench<L, D>,
+    replica: u32,
+    way: Way,
+    settings: Shared<Settings>,
+) -> Result<Answer, CallNo>
+    requires replica { replica < length (A.caller acts.old).opening.replicas }
+    requires names { NamesAmong (A.caller acts.old).opening.names (rows_of settings.entries.0) }
+    requires room { reloads_in (A.caller acts.old).mine
+        < get_or (A.caller acts.old).opening.reloads (A.caller acts.old).seat 0 }
+    requires links { HasLinks (names_of L.link bench.old.links) (rows_of settings.entries.0) }
+    ensures brings { IsBrought L.link D.left D.count (rows_of settings.entries.0)
+        (brought_by way replica) (A.caller acts.old) bench.old.links bench.old.dice result
+        (A.caller acts.new) bench.new.links bench.new.dice }
+    ensures exchanged { Talk (Among L.step) bench.old.links bench.new.links (IsBroughtBy D.left
+        D.count (rows_of settings.entries.0) (brought_by way replica) (A.caller acts.old)
+        bench.old.dice result (A.caller acts.new) bench.new.dice) }
+    ensures holds { holding (A.caller acts.new).mine ≡ holding (A.caller acts.old).mine }
     ensures asked { AskedOnly L.link (plugins_in (rows_of settings.entries.0)) bench.old.links
         bench.new.links }
     ensures later { D.count bench.old.dice ≤ D.count bench.new.dice }
@@ -104,20 +144,34 @@ pub fn join<A: Acts, L: Kms, D: Dice>(
         Err(why) => return Err(why),
     };
     acts.known();
-    match acts.act(Event::Join { replica, published }) {
-        Ok(answer) => joined(answer),
+    match acts.act(brought_by(way, replica, published)) {
+        Ok(answer) => Ok(answer),
         Err(Spent) => Err(CallNo::Spent),
     }
 }
 
+/// The event that brings the configuration.
+fn brought_by(way: Way, replica: u32, published: Shared<Published>) -> Event
+    ensures { result ≡ brought_by way replica published }
+{
+    match way {
+        Way::Reload { expect } => Event::Reload {
+            replica,
+            published,
+            expect,
+        },
+        Way::Join => Event::Join { replica, published },
+    }
+}
+
 /// Publishes the settings to be shared.
-pub(crate) fn publish<L: Kms, D: Dice>(
+fn publish<L: Kms, D: Dice>(
     alloc: Global,
     bench: &mut Bench<L, D>,
     settings: Shared<Settings>,
 ) -> Result<Shared<Published>, CallNo>
     requires links { HasLinks (names_of L.link bench.old.links) (rows_of settings.entries.0) }
-    ensures published { SharesPublished L.truth L.link D.left D.count (rows_of settings.entries.0)
+    ensures published { SharesPublished L.link D.left D.count (rows_of settings.entries.0)
         bench.old.links bench.old.dice result bench.new.links bench.new.dice }
     ensures exchanged { Talk (Among L.step) bench.old.links bench.new.links (SharesPublishedBy
         D.left D.count (rows_of settings.entries.0) bench.old.dice result bench.new.dice) }

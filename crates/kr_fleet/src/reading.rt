@@ -26,8 +26,8 @@ use kr_store::Row;
 use std::alloc::Global;
 
 /// Reads the data at the path by the replica's current generation, which the seat holds meanwhile.
-/// Where the plugins' truth is told, or none is named, `Refused` comes only for a row with which
-/// the core was started.
+/// Where plugins unwrap what they wrapped, or none is named, `Refused` comes only for a row with
+/// which the core was started.
 pub fn read<A: Acts, L: Kms, D: Dice>(
     alloc: Global,
     acts: &mut A,
@@ -40,7 +40,7 @@ pub fn read<A: Acts, L: Kms, D: Dice>(
     requires path { IsPath path.now }
     requires links { AreServed (A.caller acts.old).opening.names (names_of L.link bench.old.links) }
     requires pages { 64 ≤ size_of bench.old.pages }
-    ensures reads { IsRead L.truth L.link path.now replica (A.caller acts.old) bench.old.links
+    ensures reads { IsRead L.link path.now replica (A.caller acts.old) bench.old.links
         result (A.caller acts.new) bench.new.links }
     ensures exchanged { Talk (Among L.step) bench.old.links bench.new.links (IsReadBy path.now
         replica (A.caller acts.old) bench.old.cache result (A.caller acts.new) bench.new.cache) }
@@ -78,7 +78,7 @@ fn find<A: Acts, L: Kms, D: Dice>(
 ) -> Result<Read, CallNo>
     requires path { IsPath path }
     requires held { HoldsAdopted bench.old.published (A.caller acts.old).mine }
-    ensures finds { IfSome bench.old.published (λ p. Finds L.truth L.link path p
+    ensures finds { IfSome bench.old.published (λ p. Finds L.link path p
         (A.caller acts.old) bench.old.links result (A.caller acts.new) bench.new.links) }
     ensures exchanged { IfSome bench.old.published (λ p. Talk (Among L.step) bench.old.links
         bench.new.links (FindsBy path p (A.caller acts.old) bench.old.cache result

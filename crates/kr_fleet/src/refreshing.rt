@@ -7,20 +7,19 @@ ghost use Rattle.kr_provider.specs.BenchKeys.{adoption_of};
 ghost use Rattle.kr_provider.specs.Names.{HasLinks, names_of};
 ghost use Rattle.kr_rollout.specs.Callers.{holding, reloads_in};
 ghost use Rattle.kr_rollout.specs.Openings.{NamesAmong};
-ghost use Rattle.kr_history.specs.Calls.{AreServed, IsIdle, KeepsToldHonesty};
+ghost use Rattle.kr_history.specs.Calls.{AreServed, IsIdle};
 ghost use Rattle.kr_history.specs.Parts.{AddsWithin};
 ghost use Rattle.kr_fleet.specs.CallExchanges.{ComparesKeysBy, IsRefreshBy, RefreshesBy};
 ghost use Rattle.kr_fleet.specs.LoadCalls.{IsRefresh, Refreshes, plugin_names};
 ghost use Rattle.kr_fleet.specs.inner.Stages.{ComparesKeyBy, ComparesKeys};
 
-use crate::loading::{publish, publish_refusal, reloaded};
+use crate::loading::{Way, bring, publish_refusal, reloaded};
 use crate::outcome::Loaded;
-use kr_base::{Dice, NoMemory, Shared, Spent};
+use kr_base::{Dice, NoMemory, Shared};
 use kr_config::Settings;
 use kr_history::{Acts, CallNo, adopt, let_go};
 use kr_kms::{Kms, SeedRow};
 use kr_provider::{Bench, Published};
-use kr_rollout::Event;
 use std::alloc::Global;
 
 /// Publishes the replica's current settings anew, where the key id of one of their plugins isn't
@@ -37,13 +36,12 @@ pub fn refresh<A: Acts, L: Kms, D: Dice>(
     requires room { reloads_in (A.caller acts.old).mine
         < get_or (A.caller acts.old).opening.reloads (A.caller acts.old).seat 0 }
     requires links { AreServed (A.caller acts.old).opening.names (names_of L.link bench.old.links) }
-    ensures refreshes { IsRefresh L.truth L.link D.left D.count replica
+    ensures refreshes { IsRefresh L.link D.left D.count replica
         (A.caller acts.old) bench.old.links bench.old.dice result (A.caller acts.new)
         bench.new.links bench.new.dice }
     ensures exchanged { Talk (Among L.step) bench.old.links bench.new.links (IsRefreshBy D.left
         D.count replica (A.caller acts.old) bench.old.dice result (A.caller acts.new)
         bench.new.dice) }
-    ensures honest { KeepsToldHonesty L.truth (A.caller acts.old) (A.caller acts.new) }
     ensures idle { IsIdle result (A.caller acts.new) }
     ensures asked { AskedOnly L.link (names_of L.link bench.old.links) bench.old.links
         bench.new.links }
@@ -77,14 +75,13 @@ fn renew<A: Acts, L: Kms, D: Dice>(
     requires room { reloads_in (A.caller acts.old).mine
         < get_or (A.caller acts.old).opening.reloads (A.caller acts.old).seat 0 }
     requires links { HasLinks (names_of L.link bench.old.links) published.now.rows }
-    ensures refreshes { Refreshes L.truth L.link D.left D.count replica generation published.now
+    ensures refreshes { Refreshes L.link D.left D.count replica generation published.now
         (A.caller acts.old) bench.old.links bench.old.dice result (A.caller acts.new)
         bench.new.links bench.new.dice }
     ensures exchanged { Talk (Among L.step) bench.old.links bench.new.links (RefreshesBy D.left
         D.count replica generation published.now (A.caller acts.old) bench.old.dice result
         (A.caller acts.new) bench.new.dice) }
     ensures holds { holding (A.caller acts.new).mine ≡ holding (A.caller acts.old).mine }
-    ensures honest { KeepsToldHonesty L.truth (A.caller acts.old) (A.caller acts.new) }
     ensures asked { AskedOnly L.link (plugin_names published.now.seeds) bench.old.links
         bench.new.links }
     ensures later { D.count bench.old.dice ≤ D.count bench.new.dice }
@@ -104,18 +101,13 @@ fn renew<A: Acts, L: Kms, D: Dice>(
     let Ok(settings) = share_published_settings(published) else {
         return Err(CallNo::NoMemory);
     };
-    let published = match publish(alloc, bench, settings) {
-        Ok(published) => published,
-        Err(why) => return Err(why),
+    let way = Way::Reload {
+        expect: Some(generation),
     };
     acts.known();
-    match acts.act(Event::Reload {
-        replica,
-        published,
-        expect: Some(generation),
-    }) {
+    match bring(alloc, acts, bench, replica, way, settings) {
         Ok(answer) => reloaded(answer),
-        Err(Spent) => Err(CallNo::Spent),
+        Err(why) => Err(why),
     }
 }
 

@@ -6,7 +6,6 @@ use Rattle.std.proofs.lemmas.Option.{none-some, same_Some}
 use Rattle.kr_base.specs.Walks.{Walk}
 use Rattle.kr_kms.specs.Calls.{Link}
 use Rattle.kr_kms.specs.Exchanges.{Exchange}
-use Rattle.kr_kms.specs.Truth.{Truth}
 use Rattle.kr_provider.specs.AskedLinks.{Among, AskedOnly}
 use Rattle.kr_provider.specs.Names.{names_of}
 use Rattle.kr_rollout.specs.declared.opening.Entry.{Entry}
@@ -29,11 +28,11 @@ exchanges_joined [] = refl
 exchanges_joined (done ∷ run) =
     ap (λ (l : List Exchange). done.exchanges ++ l) (exchanges_joined run)
 
-module _ {L D : Type 0} (truth : Truth) (link : L → Link) (step : L → Exchange → L → Type 0)
+module _ {L D : Type 0} (link : L → Link) (step : L → Exchange → L → Type 0)
     (left : D → Option (List ℕ))
     (count : D → ℕ) (files : List SettingsFile) (replica : ℕ) where
   abbrev Chain : Workplace L D → List LineDone → Workplace L D → Type 0
-  Chain first run last = DoesAll truth link step left count files replica first run last
+  Chain first run last = DoesAll link step left count files replica first run last
 
   abbrev pub bench_of : Workplace L D → List L × D
   bench_of place = (place.links, place.dice)
@@ -88,7 +87,7 @@ module _ {L D : Type 0} (truth : Truth) (link : L → Link) (step : L → Exchan
     pub mine_is : before.caller.mine ≡ first.caller.mine ++ entries_in ahead
     pub more : List Entry
     pub seen_is : last.caller.seen ≡ after.caller.seen ++ more
-    pub is : IsDone truth link step left count files replica before done after
+    pub is : IsDone link step left count files replica before done after
     pub does_ahead : Chain first ahead before
 
   pub done_there : (first : Workplace L D) (ahead : List LineDone) (done : LineDone)

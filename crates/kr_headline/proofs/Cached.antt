@@ -14,7 +14,6 @@ use Rattle.kr_envelope.specs.declared.object.ObjectNo.{ObjectNo}
 use Rattle.kr_kms.specs.Cache.{CacheState, FetchesBy, GivesSeed, KeepsAnswer, kept, key_eq, no_memory, unwrapped, with_seed, with_used}
 use Rattle.kr_kms.specs.Calls.{Link}
 use Rattle.kr_kms.specs.Exchanges.{Exchange, UnwrapCall}
-use Rattle.kr_kms.specs.Truth.{Truth}
 use Rattle.kr_kms.specs.declared.plugin.KmsNo.{KmsNo}
 use Rattle.kr_kms.specs.declared.plugin.KmsNo.TheVariants as kms
 use Rattle.kr_kms.specs.declared.seeds.SeedKey.{SeedKey}
@@ -361,7 +360,7 @@ module _ (Was : SeedKey → List ℕ → Type 0) where
 
   -- ---- a line, and a run
 
-  module _ {L D : Type 0} (truth : Truth) (link : L → Link)
+  module _ {L D : Type 0} (link : L → Link)
       (step : L → Exchange → L → Type 0) (left : D → Option (List ℕ)) (count : D → ℕ)
       (files : List SettingsFile) where
     nothing_done : (old new : Workplace L D) → new ≡ old → AreKnown old.cache.rows
@@ -409,7 +408,7 @@ module _ (Was : SeedKey → List ℕ → Type 0) where
         same_known old.cache new.cache d.1 known
 
     pub run_known : (replica : ℕ) (first : Workplace L D) (run : List LineDone)
-        (last : Workplace L D) → DoesAll truth link step left count files replica first run last
+        (last : Workplace L D) → DoesAll link step left count files replica first run last
         → AreAnswers (exchanges_in run) → AreKnown first.cache.rows → AreKnown last.cache.rows
     run_known replica first [] last same answers known = nothing_done first last same known
     run_known replica first (done ∷ run) last all answers known =

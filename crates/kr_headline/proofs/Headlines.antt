@@ -1,18 +1,16 @@
 -- The headline, from one history.
-use Rattle.std.specs.Prelude.{◌≢◌, All, Contains, flat_map, slice_get, slice_index, IsSome, Ok, ⊤}
-use Rattle.std.proofs.Common.{◌≡◌, ℕ, suc, ◌<◌, ◌≤◌, ◌==◌, List, [], ◌∷◌, ◌++◌, length, map, get_or, Option, None, Some, ◌⊎◌, inl, inr, refl, ap, sym, subst, ◌∙◌, arith, append-nil}
-use Rattle.std.proofs.lemmas.Bool.{cases_lt}
-use Rattle.std.proofs.lemmas.List.{append_assoc, append_cancel_left, get_or-map, length-map}
+use Rattle.std.specs.Prelude.{◌≢◌, All, slice_get, IsSome, Ok, ⊤}
+use Rattle.std.proofs.Common.{◌≡◌, ℕ, ◌<◌, ◌≤◌, ◌==◌, List, [], ◌∷◌, ◌++◌, length, get_or, Option, None, Some, ◌⊎◌, inl, inr, refl, ap, sym, subst, ◌∙◌, append-nil}
+use Rattle.std.proofs.lemmas.List.{append_assoc, append_cancel_left}
 use Rattle.std.proofs.lemmas.List.Elements.{All-nil, filter-append}
-use Rattle.std.proofs.lemmas.Option.{none-some, same_Some, slice_get-get_or}
+use Rattle.std.proofs.lemmas.Option.{none-some, same_Some}
 use Rattle.kr_base.specs.Faults.{Rose}
 use Rattle.kr_base.specs.Lines.{of_seat}
 use Rattle.kr_kms.specs.Calls.{Link}
-use Rattle.kr_kms.specs.Exchanges.{AgreeAll, Exchange, UnwrapCall}
+use Rattle.kr_kms.specs.Exchanges.{AgreeAll, Exchange}
 use Rattle.kr_kms.specs.Health.{HasBreach}
-use Rattle.kr_kms.specs.Truth.{Opens, Truth}
+use Rattle.kr_kms.specs.Opens.{Opens}
 use Rattle.kr_kms.specs.declared.health.Field.{Field}
-use Rattle.kr_kms.specs.declared.seeds.SeedKey.{SeedKey}
 use Rattle.kr_provider.specs.AskedLinks.{FaultRose, HasLinkWith}
 use Rattle.kr_provider.specs.Envelopes.{Envelope, unknown}
 use Rattle.kr_provider.specs.Publication.{Publication}
@@ -39,39 +37,36 @@ use Rattle.kr_history.proofs.HavingContent.{some_content}
 use Rattle.kr_history.proofs.Judging.{judged_by_fit}
 use Rattle.kr_history.proofs.NeedsLive.{live_is_readable}
 use Rattle.kr_fleet.specs.LoadCalls.{AreKeysSame, IsKeyChanged}
-use Rattle.kr_script.specs.Fleets.{Worker, worker_of}
+use Rattle.kr_script.specs.Fleets.{Worker}
 use Rattle.kr_script.specs.declared.script.Part.{Part}
 use Rattle.kr_script.specs.declared.script.ScriptLine.{ScriptLine}
 use Rattle.kr_script.specs.declared.script.ScriptLine.TheVariants as line
 use Rattle.kr_script.specs.declared.told.Told.{Told}
 use Rattle.kr_script.specs.declared.told.Told.TheVariants as told
-use Rattle.kr_workers.specs.Changes.{AllowsChange, MayChange}
 use Rattle.kr_workers.specs.Configurations.{CannotBeSealed, IsFresh, IsFreshWith, IsLeft, IsLeftWith, IsStale, IsStaleWith, NamesPlugin, ReadBy}
 use Rattle.kr_workers.specs.Files.{rows_at}
-use Rattle.kr_workers.specs.Gets.{FetchesWhere, IsHeardContent, TellContents, TellsGotContent, heard_by}
+use Rattle.kr_workers.specs.Gets.{FetchesWhere, IsHeardContent, TellsGotContent, heard_by}
 use Rattle.kr_workers.specs.Heard.{AgreesWithHeard, Heard}
-use Rattle.kr_workers.specs.Histories.{IsOneHistory, StandsIn, first_place}
+use Rattle.kr_workers.specs.Histories.{IsOneHistory}
 use Rattle.kr_workers.specs.LineExchanges.{DoesBy}
-use Rattle.kr_workers.specs.Plugins.{IsReplaced}
-use Rattle.kr_workers.specs.Runs.{LineDone, entries_in, exchanges_in, lines_in, replies_in}
+use Rattle.kr_workers.specs.Runs.{LineDone, entries_in, exchanges_in}
 use Rattle.kr_workers.specs.RewriteParts.{RewritePart}
-use Rattle.kr_workers.specs.Sentences.{RepliesAreTrue, TellsRun}
+use Rattle.kr_workers.specs.Sentences.{RepliesAreTrue}
 use Rattle.kr_workers.specs.Shapes.{PartIs}
 use Rattle.kr_workers.specs.ScriptLines.{Workplace}
 use Rattle.kr_workers.specs.declared.files.SettingsFile.{SettingsFile}
 use Rattle.kr_workers.specs.declared.worker.Worker as fleet_worker
 use Rattle.kr_workers.proofs.HeardGets.{both_hold}
 use Rattle.kr_workers.proofs.Hearing.{agree_ahead}
-use Rattle.kr_workers.proofs.Sentencing.{histories_tell}
 use Rattle.kr_workers.proofs.ShapingLines.{parts_have_shape}
-use Rattle.kr_headline.specs.Fleets.{AgreesWithAll, AreBenches, AreKnown, AtLine, BroughtOpens, FleetHeadline, FleetOutside, Readings, ReadsWith, StaysListed, Unwraps, outside_of, run_of}
-use Rattle.kr_headline.specs.Headline.{Finds, Headline, Object, OnlyReseals, Run, Step, entries_of, own_entries, stands_at}
+use Rattle.kr_headline.specs.Fleets.{AgreesWithAll, AreKnown, AtLine, BroughtOpens, FleetHeadline, FleetOutside, Readings, ReadsWith, StaysListed, Unwraps, run_of}
+use Rattle.kr_headline.specs.Headline.{Finds, Headline, Object, Run, Step, entries_of, own_entries, stands_at}
 use Rattle.kr_headline.specs.Laws.{HeadlineHolds}
 use Rattle.kr_headline.specs.Outside.{HasBroken, HasFailed, HasOtherKey, HaveSeedKeys}
 use Rattle.kr_headline.specs.Ties.{IsTied}
 use Rattle.kr_headline.specs.Values.{sealed_values}
 use Rattle.kr_headline.proofs.Answering.{alike, may_answer, some_lives}
-use Rattle.kr_headline.proofs.Benches.{DoneThere, benches_of, benches_stay, done_in_run, exchanges_joined, exchanges_of, first_bench, last_bench, lines_ask, many_benches}
+use Rattle.kr_headline.proofs.Benches.{exchanges_of}
 use Rattle.kr_headline.specs.Sources.{HasSource, WasAnswered}
 use Rattle.kr_headline.proofs.Cached as cached
 use Rattle.kr_headline.proofs.Contents.{content_holds, content_of, data_in}
@@ -79,395 +74,87 @@ use Rattle.kr_headline.proofs.HeardFaults.{Bears}
 use Rattle.kr_headline.proofs.HeardLines.{AsksPlugins, blame_in, line_bears}
 use Rattle.kr_headline.proofs.RefreshKeys.{KeysBy, KeysOf, other_key, refresh_keys}
 use Rattle.kr_headline.proofs.Folds.{HasSteps, MeetsAll, StoodThere}
-use Rattle.kr_headline.proofs.Marks.{all_marks, entries_stay, mark, marks, marks_in_order, marks_split, place_of}
+use Rattle.kr_headline.proofs.Marks.{all_marks, entries_stay, mark, marks, marks_in_order, place_of}
 use Rattle.kr_headline.proofs.Mono.{Begins, part_mono, rewrite_both, rewrite_mono}
-use Rattle.kr_headline.proofs.Own.{own_part}
 use Rattle.kr_headline.proofs.Places as place
-use Rattle.kr_headline.proofs.ReadBack.{at_middle, brought_opens, fetched_row, follows, here, known_trusted, legal_front, legal_one, run_brings_seeds, sealed_anew, unwraps_trusted}
-use Rattle.kr_headline.proofs.Sourced.{FoundSo, IsSourced, SourcedTold, fetches_so, gets_are_sourced}
-use Rattle.kr_headline.proofs.Seats.{below_of, first_in, past_end, path_in, plus_one, reading_in, revision_in, some_below, split_own}
+use Rattle.kr_headline.proofs.ReadBack.{brought_opens, fetched_row, follows, here, known_trusted, legal_front, legal_one, run_brings_seeds, sealed_anew, unwraps_trusted}
+use Rattle.kr_headline.proofs.Sourced.{FoundSo, IsSourced, SourcedTold, fetches_so}
+use Rattle.kr_headline.proofs.Seats.{path_in, reading_in, revision_in, some_below, split_own}
 use Rattle.kr_headline.proofs.Standing.{faults_are, object_revision, row_revision}
-use Rattle.kr_headline.proofs.OnlyReseals.{only_reseals}
-use Rattle.kr_headline.proofs.Unsealed.{SealedAnew, WasUnsealed, part_by_sources, rewrites_unseal}
+use Rattle.kr_headline.proofs.Unsealed.{part_by_sources}
+use Rattle.kr_headline.proofs.SeatRuns as seats
 
-module _ {T L D : Type 0} (truth : Truth) (link : L → Link) (step : L → Exchange → L → Type 0)
+module _ {T L D : Type 0} (link : L → Link) (step : L → Exchange → L → Type 0)
     (left : D → Option (List ℕ))
     (count : D → ℕ) (files : List SettingsFile) (history : List Entry) (o : Opening)
     (parts : List Part) (budgets : List ℕ) (old new : List (fleet_worker.Worker T L D))
-    (one : IsOneHistory truth link step left count files history o parts budgets old new) where
+    (one : IsOneHistory link step left count files history o parts budgets old new) where
+  -- ---- the seats' runs and the steps, in this history
+
   abbrev workers : List Worker
-  workers = map worker_of parts
+  workers = seats.workers link step left count files history o parts budgets old new one
 
   abbrev replies : List (List Told)
-  replies = map (λ (worker : fleet_worker.Worker T L D). worker.told.0) new
+  replies = seats.replies link step left count files history o parts budgets old new one
 
   abbrev lines_at : ℕ → List ScriptLine
-  lines_at worker = get_or (map (λ (it : Worker). it.lines) workers) worker []
+  lines_at = seats.lines_at link step left count files history o parts budgets old new one
 
   abbrev replica_at : ℕ → ℕ
-  replica_at worker = get_or (map (λ (it : Worker). it.replica) workers) worker 0
+  replica_at = seats.replica_at link step left count files history o parts budgets old new one
 
   abbrev Told_at : (worker at : ℕ) → ScriptLine → Told → Type 0
-  Told_at worker at asked reply = (slice_get (lines_at worker) at ≡ Some asked)
-      × (slice_get (get_or replies worker []) at ≡ Some reply)
+  Told_at = seats.Told_at link step left count files history o parts budgets old new one
 
-  -- ---- what was heard, and the run of each seat
-
-  true_replies : RepliesAreTrue truth link step left count files history o parts budgets old new
-  true_replies = histories_tell T truth link step left count files history o parts budgets old new
-      one
+  abbrev true_replies : RepliesAreTrue link step left count files history o parts budgets old new
+  true_replies = seats.true_replies link step left count files history o parts budgets old new one
 
   abbrev heard : (worker : ℕ) → Heard
-  heard worker = true_replies.heard worker
-
-  -- the lines of a part stand so, with this run and its exchanges
-  abbrev Stands : (seat : ℕ) (run : List LineDone) (part : Part)
-      (before after : fleet_worker.Worker T L D) → Type 0
-  Stands seat run part before after = (s : StandsIn truth link step left count files history part
-      (first_place o seat (slice_index budgets seat) before.bench) after.told.0 after.bench)
-      × ((heard seat).exchanges ≡ exchanges_in s.run) × (run ≡ s.run)
-
-  record Stood (seat : ℕ) (run : List LineDone) (benches : List (List L × D)) : Type 0 where
-    replica : ℕ
-    replica_is : replica_at seat ≡ replica
-    first : Workplace L D
-    last : Workplace L D
-    seat_is : first.caller.seat ≡ seat
-    opening_is : first.caller.opening ≡ o
-    none_yet : first.caller.mine ≡ []
-    unseen : List Entry
-    seen_is : last.caller.seen ++ unseen ≡ history
-    there : (ahead : List LineDone) (done : LineDone) (behind : List LineDone)
-        → run ≡ ahead ++ done ∷ behind
-        → DoneThere truth link step left count files replica first last benches ahead done
-    benches_are : (part : Part) (before after : fleet_worker.Worker T L D)
-        → slice_get parts seat ≡ Some part → slice_get old seat ≡ Some before
-        → slice_get new seat ≡ Some after
-        → AreBenches link step count benches (exchanges_of run) part.lines.0 before.bench
-        after.bench
-    stands : (part : Part) (before after : fleet_worker.Worker T L D)
-        → slice_get parts seat ≡ Some part → slice_get old seat ≡ Some before
-        → slice_get new seat ≡ Some after → Stands seat run part before after
-    parts_are : entries_in run ≡ of_seat seat_of seat history
-    lines_are : lines_in run ≡ lines_at seat
-    replies_are : replies_in run ≡ get_or replies seat []
-    exchanges_are : (heard seat).exchanges ≡ exchanges_in run
-    tells : TellContents truth (heard seat).kept o history seat run
-    sourced : (ahead : List LineDone) (done : LineDone) (behind : List LineDone)
-        → run ≡ ahead ++ done ∷ behind → (path : List ℕ) → done.line ≡ line.Get path
-        → SourcedTold history o seat (entries_in ahead) done.part path (heard seat) done.reply
-    known : cached.AreKnown (WasAnswered (heard seat)) first.cache.rows
-    answers : cached.AreAnswers (WasAnswered (heard seat)) (exchanges_in run)
-    unsealed : (ahead : List LineDone) (done : LineDone) (behind : List LineDone)
-        → run ≡ ahead ++ done ∷ behind → done.line ≡ line.Rewrite
-        → All (WasUnsealed (heard seat)) done.part
-
-  many_new : length new ≡ length parts
-  many_new = one.many ∙ one.whole
-
-  module _ (seat : ℕ) (within : seat < length parts) where
-    abbrev first_part : Part
-    first_part = first_in parts seat within
-
-    abbrev first_old : fleet_worker.Worker T L D
-    first_old = first_in old seat (omega (arith, within, one.whole))
-
-    abbrev its_part : Part
-    its_part = get_or parts seat first_part
-
-    abbrev its_old : fleet_worker.Worker T L D
-    its_old = get_or old seat first_old
-
-    abbrev its_new : fleet_worker.Worker T L D
-    its_new = get_or new seat first_old
-
-    abbrev its_place : Workplace L D
-    its_place = first_place o seat (slice_index budgets seat) its_old.bench
-
-    within_workers : seat < length workers
-    within_workers = omega (arith, within, length-map parts worker_of)
-
-    lines_there : lines_at seat ≡ its_part.lines.0
-    lines_there = get_or-map (λ (it : Worker). it.lines) workers seat (worker_of first_part) []
-        within_workers
-        ∙ ap (λ (it : Worker). it.lines)
-        (get_or-map worker_of parts seat first_part (worker_of first_part) within)
-
-    replica_there : replica_at seat ≡ its_part.replica
-    replica_there = get_or-map (λ (it : Worker). it.replica) workers seat (worker_of first_part) 0
-        within_workers
-        ∙ ap (λ (it : Worker). it.replica)
-        (get_or-map worker_of parts seat first_part (worker_of first_part) within)
-
-    abbrev IsTold : Type 0
-    IsTold = TellsRun truth link step left count files
-        (heard seat) o history seat its_part its_place
-        its_new.told.0 its_new.bench
-
-    told_run : IsTold
-    told_run = true_replies.gets seat its_part its_old its_new
-        (slice_get-get_or parts seat first_part within)
-        (slice_get-get_or old seat first_old (omega (arith, within, one.whole)))
-        (slice_get-get_or new seat first_old (omega (arith, within, many_new)))
-
-    -- what its bench had kept
-    was_kept : (heard seat).kept ≡ its_old.bench.cache.rows
-    was_kept = (true_replies.was_heard seat its_old its_new
-        (slice_get-get_or old seat first_old (omega (arith, within, one.whole)))
-        (slice_get-get_or new seat first_old (omega (arith, within, many_new)))).kept
-
-    module _ (t : IsTold) where
-      abbrev s : StandsIn truth link step left count files history its_part its_place its_new.told.0
-          its_new.bench
-      s = t.stands
-
-      -- the same of the part and the workers by their number
-      of_its : (Is : Part → (before after : fleet_worker.Worker T L D) → Type 0) (part : Part)
-          (before after : fleet_worker.Worker T L D) → slice_get parts seat ≡ Some part
-          → slice_get old seat ≡ Some before → slice_get new seat ≡ Some after
-          → Is its_part its_old its_new → Is part before after
-      of_its Is part before after part_is before_is after_is has =
-          subst (λ (p : Part). Is p before after)
-          (same_Some its_part part
-          (sym (slice_get-get_or parts seat first_part within) ∙ part_is))
-          (subst (λ (w : fleet_worker.Worker T L D). Is its_part w after)
-          (same_Some its_old before (sym (slice_get-get_or old seat first_old
-          (omega (arith, within, one.whole))) ∙ before_is))
-          (subst (λ (w : fleet_worker.Worker T L D). Is its_part its_old w)
-          (same_Some its_new after (sym (slice_get-get_or new seat first_old
-          (omega (arith, within, many_new))) ∙ after_is)) has))
-
-      kept_known : cached.AreKnown (WasAnswered (heard seat)) its_place.cache.rows
-      kept_known key seed there = inr (subst (λ (rows : List (SeedKey × List ℕ)).
-          Contains rows (key, seed)) (sym was_kept) there)
-
-      answers_known : cached.AreAnswers (WasAnswered (heard seat)) (exchanges_in s.run)
-      answers_known key seed there = inl (subst (λ (es : List Exchange).
-          Contains es (UnwrapCall key (Ok seed))) (sym t.exchanges) there)
-
-      abbrev its_benches : List (List L × D)
-      its_benches = benches_of truth link step left count files its_part.replica its_place s.run
-          s.last
-          s.does
-
-      are_there : AreBenches link step count its_benches (exchanges_of s.run) its_part.lines.0
-          its_old.bench its_new.bench
-      are_there =
-          let many : length its_part.lines.0 ≡ length s.run =
-          ap length (sym s.lines_are) ∙ length-map s.run (λ (d : LineDone). d.line) in record {
-            many = omega (
-              arith,
-              many,
-              many_benches truth link step left count files its_part.replica
-                  its_place s.run s.last s.does,
-            );
-            first = first_bench truth link step left count files its_part.replica its_place s.run
-                s.last
-                s.does;
-            last = ap (λ n. slice_get its_benches n) many
-                ∙ last_bench truth link step left count files its_part.replica its_place s.run
-                s.last
-                s.does
-                ∙ (λ i. Some (sym s.links_are i, sym s.dice_are i));
-            each = length-map s.run (λ (d : LineDone). d.exchanges) ∙ sym many;
-            asks = λ at asked its l e. lines_ask truth link step left count files
-                its_part.replica its_place s.run s.last s.does at asked its
-                (ap (λ (lines : List ScriptLine). slice_get lines at) s.lines_are ∙ l) e;
-            stay = λ at before after asked b e a. benches_stay truth link step left count files
-                its_part.replica
-                its_place s.run s.last s.does at before after asked b e
-                (ap (slice_get its_benches) (plus_one at) ∙ a);
-          }
-
-      stood_by : Stood seat s.run its_benches
-      stood_by = record {
-        replica = its_part.replica;
-        replica_is = replica_there;
-        first = its_place;
-        last = s.last;
-        seat_is = refl;
-        opening_is = refl;
-        none_yet = refl;
-        unseen = s.front.0;
-        seen_is = s.front.1;
-        there = λ ahead done behind is. done_in_run truth link step left count files
-            its_part.replica
-            its_place s.run s.last ahead done behind is s.does;
-        benches_are = λ part before after part_is before_is after_is.
-            of_its (λ p b a. AreBenches link step count its_benches (exchanges_of s.run)
-            p.lines.0 b.bench a.bench) part before after part_is before_is after_is
-            are_there;
-        stands = λ part before after part_is before_is after_is.
-            of_its (λ p b a. Stands seat s.run p b a) part before after part_is before_is after_is
-            (s, t.exchanges, refl);
-        parts_are = s.parts_are;
-        lines_are = s.lines_are ∙ sym lines_there;
-        replies_are = sym s.replies_are
-            ∙ sym (get_or-map (λ (w : fleet_worker.Worker T L D). w.told.0) new seat first_old []
-            (omega (arith, within, many_new)));
-        exchanges_are = t.exchanges;
-        tells = t.tell;
-        sourced = gets_are_sourced truth link step left count files history its_part its_place
-            its_new.told.0 its_new.bench s refl (heard seat) kept_known answers_known;
-        known = kept_known;
-        answers = answers_known;
-        unsealed = rewrites_unseal truth link step left count files history its_part its_place
-            its_new.told.0 its_new.bench s (heard seat) kept_known answers_known;
-      }
-
-  some_run : (seat : ℕ) → (run : List LineDone) × (benches : List (List L × D))
-      × (seat < length parts → Stood seat run benches) × (length parts ≤ seat → run ≡ [])
-  some_run seat = by (cases_lt seat (length parts))
-    where
-      by : (seat < length parts) ⊎ (length parts ≤ seat)
-          → (run : List LineDone) × (benches : List (List L × D))
-          × (seat < length parts → Stood seat run benches) × (length parts ≤ seat → run ≡ [])
-      by (inl within) =
-          let t = told_run seat within in (
-            t.stands.run,
-            its_benches seat within t,
-            λ again. stood_by seat within t,
-            λ past. absurd (omega (arith, past, within)),
-          )
-      by (inr past) = ([], [], λ within. absurd (omega (arith, past, within)), λ again. refl)
+  heard = seats.heard link step left count files history o parts budgets old new one
 
   abbrev runs : ℕ → List LineDone
-  runs seat = (some_run seat).0
+  runs = seats.runs link step left count files history o parts budgets old new one
 
   abbrev benches : ℕ → List (List L × D)
-  benches seat = (some_run seat).1
+  benches = seats.benches link step left count files history o parts budgets old new one
 
   abbrev exchanges : ℕ → List (List Exchange)
-  exchanges seat = exchanges_of (runs seat)
+  exchanges = seats.exchanges link step left count files history o parts budgets old new one
 
-  -- what was heard, line by line
-  by_line : (seat : ℕ)
-      → (heard seat).exchanges ≡ flat_map (λ (asked : List Exchange). asked) (exchanges seat)
-  by_line seat = by (cases_lt seat (length parts))
-    where
-      by : (seat < length parts) ⊎ (length parts ≤ seat)
-          → (heard seat).exchanges ≡ flat_map (λ (asked : List Exchange). asked) (exchanges seat)
-      by (inl within) =
-          ((some_run seat).2 within).exchanges_are ∙ exchanges_joined (runs seat)
-      by (inr past) = ap (λ (it : Heard). it.exchanges) (true_replies.no_more seat past)
-          ∙ sym (ap (λ (r : List LineDone). flat_map (λ (asked : List Exchange). asked)
-          (exchanges_of r)) ((some_run seat).3 past))
+  abbrev Stood : (seat : ℕ) (run : List LineDone) (benches : List (List L × D)) → Type 0
+  Stood = seats.Stood link step left count files history o parts budgets old new one
 
-  run_stood : (seat : ℕ) → seat < length parts → Stood seat (runs seat) (benches seat)
-  run_stood seat within = (some_run seat).2 within
-
-  seat_within : (front : List Entry) (e : Entry) (rest : List Entry)
-      → history ≡ front ++ e ∷ rest → seat_of e < length parts
-  seat_within front e rest is = at_middle (λ (x : Entry). seat_of x < length parts) front e rest
-      (subst (λ (l : List Entry). All (λ (x : Entry). seat_of x < length parts) l) is one.no_other)
+  abbrev run_stood : (seat : ℕ) → seat < length parts → Stood seat (runs seat) (benches seat)
+  run_stood = seats.run_stood link step left count files history o parts budgets old new one
 
   abbrev steps : List Step
-  steps = marks runs [] history
+  steps = seats.steps link step left count files history o parts budgets old new one
 
-  step_at : (front : List Entry) (e : Entry) (rest : List Entry) → history ≡ front ++ e ∷ rest
+  abbrev step_at : (front : List Entry) (e : Entry) (rest : List Entry)
+      → history ≡ front ++ e ∷ rest
       → steps ≡ marks runs [] front ++ mark runs front e ∷ marks runs (front ++ e ∷ []) rest
-  step_at front e rest is = ap (marks runs []) is ∙ marks_split runs [] front e rest
+  step_at = seats.step_at link step left count files history o parts budgets old new one
 
-  told_there : (seat : ℕ) (ahead : List LineDone) (done : LineDone) (behind : List LineDone)
-      → Stood seat (runs seat) (benches seat) → runs seat ≡ ahead ++ done ∷ behind
-      → Told_at seat (length ahead) done.line done.reply
-  told_there seat ahead done behind s is = (
-    ap (λ (l : List ScriptLine). slice_get l (length ahead)) (sym s.lines_are ∙ ap lines_in is)
-        ∙ place.stands_at (λ (d : LineDone). d.line) ahead done behind,
-    ap (λ (l : List Told). slice_get l (length ahead)) (sym s.replies_are ∙ ap replies_in is)
-        ∙ place.stands_at (λ (d : LineDone). d.reply) ahead done behind,
-  )
+  abbrev LineAt : (worker at : ℕ) (asked : ScriptLine) (reply : Told) → Type 0
+  LineAt = seats.LineAt link step left count files history o parts budgets old new one
 
-  -- ---- each step has its line
-
-  abbrev HasLine : Step → Type 0
-  HasLine step = (asked : ScriptLine) × (reply : Told)
-      × Told_at step.entry.line.seat step.at asked reply
-      × MayChange (rows_at files) (replica_at step.entry.line.seat) asked reply step.entry
-
-  has_line : (front : List Entry) (e : Entry) (rest : List Entry)
-      → history ≡ front ++ e ∷ rest → HasLine (mark runs front e)
-  has_line front e rest is =
-      let seat = seat_of e in
-      let s = run_stood seat (seat_within front e rest is) in
-      let l = place.line_of (runs seat) (of_seat seat_of seat front) e (of_seat seat_of seat rest)
-      (s.parts_are ∙ ap (of_seat seat_of seat) is ∙ split_own seat front e rest refl) in
-      let d = s.there l.ahead l.done l.behind l.run_is in
-      let there : place_of runs front e ≡ length l.ahead =
-      ap (λ (r : List LineDone). get_or (place.places 0 r)
-      (length (of_seat seat_of seat front)) 0) l.run_is
-      ∙ ap (λ (xs : List Entry). get_or (place.places 0 (l.ahead ++ l.done ∷ l.behind))
-      (length xs) 0) l.xs_is
-      ∙ place.place_there l.ahead l.done l.behind l.front e l.rest l.part_is in
-      let r = subst (λ n. Told_at seat n l.done.line l.done.reply) (sym there)
-      (told_there seat l.ahead l.done l.behind s l.run_is) in (
-        l.done.line,
-        l.done.reply,
-        r,
-        subst (λ n. MayChange (rows_at files) n l.done.line l.done.reply e) (sym s.replica_is)
-            (at_middle (MayChange (rows_at files) s.replica l.done.line l.done.reply) l.front e
-            l.rest
-            (subst (λ (p : List Entry).
-            All (MayChange (rows_at files) s.replica l.done.line l.done.reply) p) l.part_is
-            d.is.made)),
-      )
-
-  -- where memory lacked it changed nothing, but for what a rewrite sealed anew
-  abbrev OfLine : Step → Type 0
-  OfLine step = (asked : ScriptLine) × (reply : Told)
-      × Told_at step.entry.line.seat step.at asked reply
-      × ((reply ≡ told.Memory) ⊎ (asked ≡ line.Rewrite)
-      → OnlyReseals asked step.entry.line.gave step.entry.line.did)
-
-  of_line : (front : List Entry) (e : Entry) (rest : List Entry)
-      → history ≡ front ++ e ∷ rest → OfLine (mark runs front e)
-  of_line front e rest is =
-      let l = has_line front e rest is in (
-        l.0,
-        l.1,
-        l.2,
-        only_reseals (rows_at files) (replica_at (seat_of e)) l.0 l.1 e.line.gave e.line.did
-            e.line.held e.published l.3,
-      )
-
-  -- ---- the line at a place
-
-  record LineAt (worker at : ℕ) (asked : ScriptLine) (reply : Told) : Type 0 where
-    within : worker < length parts
-    s : Stood worker (runs worker) (benches worker)
-    d : place.DoneAt (runs worker) at asked reply
-    t : DoneThere truth link step left count files s.replica s.first s.last (benches worker) d.ahead
-        d.done
-
-  line_at : (worker at : ℕ) (asked : ScriptLine) (reply : Told)
+  abbrev line_at : (worker at : ℕ) (asked : ScriptLine) (reply : Told)
       → Told_at worker at asked reply → LineAt worker at asked reply
-  line_at worker at asked reply r =
-      let within : worker < length parts =
-      let l = below_of (map (λ (it : Worker). it.lines) workers) worker at asked r.0 in
-      omega (
-        arith,
-        l,
-        length-map workers (λ (it : Worker). it.lines),
-        length-map parts worker_of,
-      ) in
-      let s = run_stood worker within in
-      let d = place.done_at (runs worker) at asked reply
-      (ap (λ (l : List ScriptLine). slice_get l at) s.lines_are ∙ r.0)
-      (ap (λ (l : List Told). slice_get l at) s.replies_are ∙ r.1) in
-      record {
-        within = within;
-        s = s;
-        d = d;
-        t = s.there d.ahead d.done d.behind d.run_is;
-      }
+  line_at = seats.line_at link step left count files history o parts budgets old new one
 
-  own_is : (worker at : ℕ) (asked : ScriptLine) (reply : Told)
+  abbrev own_is : (worker at : ℕ) (asked : ScriptLine) (reply : Told)
       → (l : LineAt worker at asked reply) → own_entries steps worker at ≡ l.d.done.part
-  own_is worker at asked reply l = own_part runs worker at history l.d.ahead l.d.done l.d.behind
-      l.d.run_is l.d.many l.s.parts_are
+  own_is = seats.own_is link step left count files history o parts budgets old new one
+
+  abbrev at_line : (worker at : ℕ) (asked : ScriptLine) (reply : Told)
+      → (l : LineAt worker at asked reply)
+      (Has : (before : List L × D) → List Exchange → (after : List L × D) → Type 0)
+      → Has (l.t.before.links, l.t.before.dice) l.d.done.exchanges
+      (l.t.after.links, l.t.after.dice) → AtLine (benches worker) (exchanges worker) at Has
+  at_line = seats.at_line link step left count files history o parts budgets old new one
 
   abbrev outside : FleetOutside
-  outside = outside_of link count benches exchanges
+  outside = seats.outside link step left count files history o parts budgets old new one
 
   -- ---- gets
 
@@ -569,7 +256,7 @@ module _ {T L D : Type 0} (truth : Truth) (link : L → Link) (step : L → Exch
 
   was_read : (worker at : ℕ) (path : List ℕ) (reply : Told) (reading : Reading)
       → (l : LineAt worker at (line.Get path) reply) → reading_in reply ≡ Some reading
-      → TellsGotContent truth (heard_to worker at (line.Get path) reply l) o history worker path
+      → TellsGotContent (heard_to worker at (line.Get path) reply l) o history worker path
       (entries_in l.d.ahead) l.d.done.part reply
       → SourcedTold history o worker (entries_in l.d.ahead) l.d.done.part path (heard worker) reply
       → (envelope : Envelope) × WasTold worker at path reading envelope reply
@@ -582,7 +269,7 @@ module _ {T L D : Type 0} (truth : Truth) (link : L → Link) (step : L → Exch
       (fetches_so history worker path (entries_in l.d.ahead) l.d.done.part
       {Second = λ front fetch.
       KnownSo worker at path (told.Got revision bytes) l (data_of bytes) front}
-      (λ front fetch h. (h.1.known.bare, h.2)) t))
+      (λ front fetch h. (h.1.known, h.2)) t))
   was_read worker at path (told.Value why) reading l is t s =
       subst (λ (it : Reading). (envelope : Envelope)
       × WasTold worker at path it envelope (told.Value why)) (same_Some (refused why) reading is)
@@ -590,15 +277,15 @@ module _ {T L D : Type 0} (truth : Truth) (link : L → Link) (step : L → Exch
       (λ n n_is. absurd (none-some n n_is)) s.1
       (fetches_so history worker path (entries_in l.d.ahead) l.d.done.part
       {Second = λ front fetch. KnownSo worker at path (told.Value why) l (refused why) front}
-      (λ front fetch h. (h.2.known.bare, h.3)) t))
+      (λ front fetch h. (h.2.known, h.3)) t))
   was_read worker at path reply reading l is t s = absurd (none-some reading is)
 
   told_content : (worker at : ℕ) (path : List ℕ) (reply : Told)
       → (l : LineAt worker at (line.Get path) reply)
-      → TellsGotContent truth (heard_to worker at (line.Get path) reply l) o history worker path
+      → TellsGotContent (heard_to worker at (line.Get path) reply l) o history worker path
       (entries_in l.d.ahead) l.d.done.part reply
   told_content worker at path reply l = subst (λ (t : Told).
-      TellsGotContent truth (heard_to worker at (line.Get path) reply l) o history worker path
+      TellsGotContent (heard_to worker at (line.Get path) reply l) o history worker path
       (entries_in l.d.ahead) l.d.done.part t) l.d.reply_is
       (l.s.tells l.d.ahead l.d.done l.d.behind l.d.run_is path l.d.line_is)
 
@@ -668,36 +355,15 @@ module _ {T L D : Type 0} (truth : Truth) (link : L → Link) (step : L → Exch
             (ap path_in (same_Some asked (line.Get path) (sym asked_is ∙ r.0)))),
       )
 
-  -- a row that was replaced was sealed anew by a rewrite
-  resealed_there : (front : List Entry) (e : Entry) (rest : List Entry) (path : List ℕ)
-      → history ≡ front ++ e ∷ rest → IsReplaced path e → SealedAnew (heard (seat_of e)) path e
-  resealed_there front e rest path is replaced =
-      let seat = seat_of e in
-      let s = run_stood seat (seat_within front e rest is) in
-      let l = place.line_of (runs seat) (of_seat seat_of seat front) e (of_seat seat_of seat rest)
-      (s.parts_are ∙ ap (of_seat seat_of seat) is ∙ split_own seat front e rest refl) in
-      let d = s.there l.ahead l.done l.behind l.run_is in
-      let settings = rows_at files in
-      let made : MayChange settings s.replica l.done.line l.done.reply e =
-      at_middle (MayChange settings s.replica l.done.line l.done.reply) l.front e l.rest
-      (subst (λ (p : List Entry). All (MayChange settings s.replica l.done.line l.done.reply) p)
-      l.part_is d.is.made) in
-      let asked : l.done.line ≡ line.Rewrite =
-      subst (λ done. AllowsChange settings s.replica l.done.line l.done.reply
-      (gave.Written replaced.revision) done e.line.held e.published) replaced.did_is
-      (subst (λ given. AllowsChange settings s.replica l.done.line l.done.reply given e.line.did
-      e.line.held e.published) replaced.gave_is made) in
-      at_middle (WasUnsealed (heard seat)) l.front e l.rest
-      (subst (λ (p : List Entry). All (WasUnsealed (heard seat)) p) l.part_is
-      (s.unsealed l.ahead l.done l.behind l.run_is asked)) path replaced
-
   abbrev readings : Readings sealed_values heard o files workers replies history
   readings = record {
     at_start = λ opens path. (some_content opens o [] path).0;
     start_is = λ opens path. (some_content opens o [] path).1;
     envelope_of = λ worker at. (read_at worker at).0;
     reseals = λ front e rest path is replaced. sealed_anew o history one.legal front e rest is
-        (heard (seat_of e)) path replaced (resealed_there front e rest path is replaced);
+        (heard (seat_of e)) path replaced
+        (seats.resealed_there link step left count files history o parts budgets old new one
+        front e rest path is replaced);
   }
 
   abbrev run : Run
@@ -756,7 +422,8 @@ module _ {T L D : Type 0} (truth : Truth) (link : L → Link) (step : L → Exch
     where
       by : (opens : Opens)
           → AreKnown heard opens o
-          ⊎ Unwraps sealed_values heard o files workers replies history readings opens path worker at w.fetch
+          ⊎ Unwraps sealed_values heard o files workers replies history readings opens path worker at
+          w.fetch
           → IsContent opens o w.front path (Some reading)
       by opens (inl known) = known_trusted o history one.legal w.front w.fetch w.rest w.there heard
           opens path
@@ -787,20 +454,6 @@ module _ {T L D : Type 0} (truth : Truth) (link : L → Link) (step : L → Exch
       (w.revision, finds worker at path (refused why) w.revision w.was)
 
   -- ---- the steps of a line
-
-  -- an own entry of the line is a step of it
-  own_place : (worker at : ℕ) (asked : ScriptLine) (reply : Told)
-      → (l : LineAt worker at asked reply) (before : List Entry) (e : Entry) (behind : List Entry)
-      → l.d.done.part ≡ before ++ e ∷ behind → (front : List Entry) → seat_of e ≡ worker
-      → of_seat seat_of worker front ≡ entries_in l.d.ahead ++ before
-      → place_of runs front e ≡ at
-  own_place worker at asked reply l before e behind part front seat its =
-      ap (λ n. get_or (place.places 0 (runs n)) (length (of_seat seat_of n front)) 0) seat
-      ∙ ap (λ (r : List LineDone). get_or (place.places 0 r)
-      (length (of_seat seat_of worker front)) 0) l.d.run_is
-      ∙ ap (λ (xs : List Entry). get_or (place.places 0 (l.d.ahead ++ l.d.done ∷ l.d.behind))
-      (length xs) 0) its
-      ∙ place.place_there l.d.ahead l.d.done l.d.behind before e behind part ∙ l.d.many
 
   -- what lives at each entry that a rewrite adds stands there at each of its steps
   covers : (worker at : ℕ) (asked : ScriptLine) (reply : Told)
@@ -851,7 +504,8 @@ module _ {T L D : Type 0} (truth : Truth) (link : L → Link) (step : L → Exch
           (marks runs (front ++ e ∷ []) (rest ++ (l.t.more ++ l.s.unseen)))
           (step_at front e (rest ++ (l.t.more ++ l.s.unseen)) there) (
             its_seat,
-            own_place worker at asked reply l (of_seat seat_of worker before) e
+            seats.own_place link step left count files history o parts budgets old new one
+                worker at asked reply l (of_seat seat_of worker before) e
                 (of_seat seat_of worker rest) part front its_seat its,
           ) in
           subst (λ (it : Opening). IsSome (live (state_of it front).rows (x ∷ xs))) (sym opened)
@@ -859,25 +513,6 @@ module _ {T L D : Type 0} (truth : Truth) (link : L → Link) (step : L → Exch
           (alike heard o files workers replies history outside readings front legal_now (x ∷ xs))
           (subst (λ (h : List Entry). stands_at run (x ∷ xs) h ≢ None)
           (entries_stay runs [] front) standing))
-
-  at_line : (worker at : ℕ) (asked : ScriptLine) (reply : Told)
-      → (l : LineAt worker at asked reply)
-      (Has : (before : List L × D) → List Exchange → (after : List L × D) → Type 0)
-      → Has (l.t.before.links, l.t.before.dice) l.d.done.exchanges
-      (l.t.after.links, l.t.after.dice)
-      → AtLine (benches worker) (exchanges worker) at Has
-  at_line worker at asked reply l Has has = record {
-    before = (l.t.before.links, l.t.before.dice);
-    asked = l.d.done.exchanges;
-    after = (l.t.after.links, l.t.after.dice);
-    asked_is = ap (slice_get (exchanges worker)) (sym l.d.many)
-        ∙ ap (λ (r : List LineDone). slice_get (exchanges_of r) (length l.d.ahead)) l.d.run_is
-        ∙ place.stands_at (λ (d : LineDone). d.exchanges) l.d.ahead l.d.done l.d.behind;
-    before_is = ap (slice_get (benches worker)) (sym l.d.many) ∙ l.t.before_is;
-    after_is = ap (slice_get (benches worker)) (sym (plus_one at) ∙ ap suc (sym l.d.many))
-        ∙ l.t.after_is;
-    has = has;
-  }
 
   -- what the line's own exchanges bear out
   borne : (worker at : ℕ) (asked : ScriptLine) (reply : Told)
@@ -928,7 +563,7 @@ module _ {T L D : Type 0} (truth : Truth) (link : L → Link) (step : L → Exch
       let parts = cached.parted Was l.d.ahead l.d.done l.d.behind
       (subst (λ (run : List LineDone). cached.AreAnswers Was (exchanges_in run)) l.d.run_is
       l.s.answers) in
-      let known = cached.run_known Was truth link step left count files l.s.replica l.s.first
+      let known = cached.run_known Was link step left count files l.s.replica l.s.first
       l.d.ahead l.t.before l.t.does_ahead parts.0 l.s.known in
       let Own : ℕ → ℕ → List Entry → Told → Type 0 = λ seat own part t.
       RewritePart (Fresh worker) (Stale worker) (Leaves worker) (λ name. ⊤)
@@ -939,7 +574,7 @@ module _ {T L D : Type 0} (truth : Truth) (link : L → Link) (step : L → Exch
       (subst (λ n. Own worker n l.d.done.part reply) (sym l.s.replica_is)
       (subst (λ n. Own n l.s.replica l.d.done.part reply) (l.t.seat_is ∙ l.s.seat_is)
       (subst (λ (t : Told). Own l.t.before.caller.seat l.s.replica l.d.done.part t) l.d.reply_is
-      (part_by_sources (heard worker) truth link step left count files l.s.replica l.t.before
+      (part_by_sources (heard worker) link step left count files l.s.replica l.t.before
       l.d.done l.t.after l.t.is (l.d.line_is ∙ is) parts.1 known))))
 
   has_steps : (worker at : ℕ) (asked : ScriptLine) (reply : Told)
@@ -966,7 +601,7 @@ module _ {T L D : Type 0} (truth : Truth) (link : L → Link) (step : L → Exch
       PartIs Plugin Dice Breaks Keys Changed NamesPlugin CannotBeSealed ReadBy
       (RewritePart IsFresh IsStale IsLeft Plugin Dice Covers seat own part) seat own part
       (rows_at files) asked reply in
-      let shape = parts_have_shape truth link step left count files l.s.replica old_place new_place
+      let shape = parts_have_shape link step left count files l.s.replica old_place new_place
       l.d.done l.t.is in
       let failed : (name : List ℕ) → AsksPlugins asked → reply ≡ told.FaultPlugin name
       → Plugin name → run.PluginFailed worker at name = λ name asks is rose.
@@ -1019,48 +654,23 @@ module _ {T L D : Type 0} (truth : Truth) (link : L → Link) (step : L → Exch
 
   -- ---- the headline
 
-  all_told : (worker : ℕ) → length (get_or replies worker []) ≡ length (lines_at worker)
-  all_told worker = by (cases_lt worker (length parts))
-    where
-      by : (worker < length parts) ⊎ (length parts ≤ worker)
-          → length (get_or replies worker []) ≡ length (lines_at worker)
-      by (inl within) = let s = run_stood worker within in
-          ap length (sym s.replies_are) ∙ length-map (runs worker) (λ (d : LineDone). d.reply)
-          ∙ sym (length-map (runs worker) (λ (d : LineDone). d.line)) ∙ ap length s.lines_are
-      by (inr past) =
-          ap length (past_end replies worker (omega (
-            arith,
-            past,
-            one.many,
-            one.whole,
-            length-map new (λ (w : fleet_worker.Worker T L D). w.told.0),
-          )))
-          ∙ sym (ap length (past_end (map (λ (it : Worker). it.lines) workers) worker (omega (
-            arith,
-            past,
-            length-map workers (λ (it : Worker). it.lines),
-            length-map parts worker_of,
-          ))))
-
-  own_entries_there : (front : List Entry) (e : Entry) (rest : List Entry)
-      → history ≡ front ++ e ∷ rest
-      → entries_in (runs (seat_of e)) ≡ of_seat seat_of (seat_of e) history
-  own_entries_there front e rest is =
-      (run_stood (seat_of e) (seat_within front e rest is)).parts_are
-
   headline : Headline run
   headline = record {
-    all_told = all_told;
+    all_told = seats.all_told link step left count files history o parts budgets old new one;
     steps = steps;
     entries_are = entries_stay runs [] history;
-    in_order = marks_in_order runs history own_entries_there [] history refl;
+    in_order = marks_in_order runs history
+        (seats.own_entries_there link step left count files history o parts budgets old new one)
+        [] history refl;
     answers = λ front e rest is. may_answer heard o files workers replies history outside readings
         front (legal_front o history one.legal front e rest is) e rest is
         (here o history one.legal front e rest is)
         (judged_by_fit o front e (legal_one o history one.legal front e rest is));
     counts = λ front e rest is. subst (λ n. n ≤ e.line.faults)
         (sym (faults_are (start_of o) front)) (here o history one.legal front e rest is).counted;
-    of_lines = all_marks runs OfLine [] history (λ front e rest is. of_line front e rest is);
+    of_lines = all_marks runs
+        (seats.OfLine link step left count files history o parts budgets old new one) [] history
+        (seats.of_line link step left count files history o parts budgets old new one);
     tells = has_steps;
     gets = got;
     refuses = refused_at;
@@ -1086,7 +696,8 @@ module _ {T L D : Type 0} (truth : Truth) (link : L → Link) (step : L → Exch
   unfolding headline
   the_headline = record {
     whole = one.whole;
-    many = many_new;
+    many = seats.many_new link step left count files history o parts budgets old new
+        one;
     benches = benches;
     benches_are = λ worker part before after part_is before_is after_is.
         (run_stood worker (some_below parts worker part part_is)).benches_are part before after
@@ -1094,7 +705,8 @@ module _ {T L D : Type 0} (truth : Truth) (link : L → Link) (step : L → Exch
     exchanges = exchanges;
     heard = heard;
     was_heard = true_replies.was_heard;
-    by_line = by_line;
+    by_line = seats.by_line link step left count files history o parts budgets old new
+        one;
     no_more = true_replies.no_more;
     has = record {
       follows = λ front e rest is. follows o history one.legal front e rest is;
@@ -1103,11 +715,13 @@ module _ {T L D : Type 0} (truth : Truth) (link : L → Link) (step : L → Exch
       published = run_brings_seeds o (start_of o) history one.legal.runs;
       readings = readings;
       headline = headline;
-      made = all_marks runs HasLine [] history (λ front e rest is. has_line front e rest is);
+      made = all_marks runs
+          (seats.HasLine link step left count files history o parts budgets old new one) [] history
+          (seats.has_line link step left count files history o parts budgets old new one);
     };
   }
 
-  tied : IsTied truth link step left count files o parts budgets history old new the_headline
+  tied : IsTied link step left count files o parts budgets history old new the_headline
   unfolding the_headline
   tied = record {
     legal = one.legal;
@@ -1116,10 +730,10 @@ module _ {T L D : Type 0} (truth : Truth) (link : L → Link) (step : L → Exch
         part_is before_is after_is in (t.0, t.1, ap exchanges_of t.2);
   }
 
-pub fleet_headline : (T : Type 0) → {L D : Type 0} → (truth : Truth) (link : L → Link)
+pub fleet_headline : (T : Type 0) → {L D : Type 0} → (link : L → Link)
     (step : L → Exchange → L → Type 0)
-    (left : D → Option (List ℕ)) (count : D → ℕ) → HeadlineHolds T truth link step left count
-fleet_headline T truth link step left count files history o parts budgets old new one = (
-  the_headline truth link step left count files history o parts budgets old new one,
-  tied truth link step left count files history o parts budgets old new one,
+    (left : D → Option (List ℕ)) (count : D → ℕ) → HeadlineHolds T link step left count
+fleet_headline T link step left count files history o parts budgets old new one = (
+  the_headline link step left count files history o parts budgets old new one,
+  tied link step left count files history o parts budgets old new one,
 )

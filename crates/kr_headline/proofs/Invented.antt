@@ -6,7 +6,7 @@ use Rattle.std.proofs.lemmas.Option.{none-some}
 use Rattle.kr_kms.specs.Cache.{key_eq}
 use Rattle.kr_kms.specs.Calls.{key_in}
 use Rattle.kr_kms.specs.Exchanges.{AgreeAll, AgreesWith, Exchange, StatusCall, UnwrapCall, WrapCall}
-use Rattle.kr_kms.specs.Truth.{OpenAll, Opens, key_of}
+use Rattle.kr_kms.specs.Opens.{OpenAll, Opens, key_of}
 use Rattle.kr_kms.specs.declared.seeds.SeedKey.{SeedKey}
 use Rattle.kr_kms.specs.declared.seeds.SeedRow.{SeedRow}
 use Rattle.kr_kms.proofs.Keys.{same_key}

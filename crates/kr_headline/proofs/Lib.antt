@@ -16,6 +16,7 @@ pub mod RefreshKeys
 pub mod Mono
 pub mod Benches
 pub mod ReadBack
+mod SeatRuns
 pub mod Seats
 pub mod Headlines
 pub mod Consequences

@@ -4,7 +4,7 @@ use Rattle.std.proofs.Common.{◌≡◌, ℕ, List, [], ◌∷◌, ◌++◌, Opt
 use Rattle.kr_kms.specs.Cache.{CacheState}
 use Rattle.kr_kms.specs.Calls.{Link}
 use Rattle.kr_kms.specs.Exchanges.{Exchange}
-use Rattle.kr_kms.specs.Truth.{Opens, Truth}
+use Rattle.kr_kms.specs.Opens.{Opens}
 use Rattle.kr_provider.specs.BenchState.{BenchState}
 use Rattle.kr_provider.specs.Envelopes.{Envelope, IsEnvelopeOf}
 use Rattle.kr_provider.specs.Publication.{Publication, list_at}
@@ -181,11 +181,11 @@ fetches_so history seat path ahead part so f = record {
 }
 
 -- each `get` of a run that stands in a history, where what was heard has all of its exchanges
-module _ {L D : Type 0} (truth : Truth) (link : L → Link) (step : L → Exchange → L → Type 0)
+module _ {L D : Type 0} (link : L → Link) (step : L → Exchange → L → Type 0)
     (left : D → Option (List ℕ)) (count : D → ℕ) (files : List SettingsFile)
     (history : List Entry) (part : Part) (first : Workplace L D) (replies : List Told)
     (after : BenchState L D)
-    (stands : StandsIn truth link step left count files history part first replies after)
+    (stands : StandsIn link step left count files history part first replies after)
     (nothing : first.caller.seen ≡ []) (heard : Heard)
     (kept : AreKnown (WasAnswered heard) first.cache.rows)
     (answers : AreAnswers (WasAnswered heard) (exchanges_in stands.run)) where
@@ -194,9 +194,9 @@ module _ {L D : Type 0} (truth : Truth) (link : L → Link) (step : L → Exchan
       → SourcedTold history first.caller.opening first.caller.seat (entries_in ahead) done.part
       path heard done.reply
   gets_are_sourced ahead done behind run_is path asked =
-      let w = done_there truth link step left count files history part first replies after stands
+      let w = done_there link step left count files history part first replies after stands
       ahead done behind run_is in
-      let c = call_there truth link step left count files history part first replies after stands
+      let c = call_there link step left count files history part first replies after stands
       ahead done behind run_is w nothing in
       let o = first.caller.opening in
       let seat = first.caller.seat in
@@ -206,7 +206,7 @@ module _ {L D : Type 0} (truth : Truth) (link : L → Link) (step : L → Exchan
       let parts = parted (WasAnswered heard) ahead done behind
       (subst (λ (run : List LineDone). AreAnswers (WasAnswered heard) (exchanges_in run)) run_is
       answers) in
-      let known = run_known (WasAnswered heard) truth link step left count files part.replica first
+      let known = run_known (WasAnswered heard) link step left count files part.replica first
       ahead w.before w.does_ahead parts.0 kept in
       read_sourced history o seat entries done.part path heard w.before.caller.seat asks.0
       done.reply asks.1 (call_tells history o seat entries done.part

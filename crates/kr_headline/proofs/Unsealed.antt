@@ -10,7 +10,6 @@ use Rattle.kr_base.specs.Faults.{Rose}
 use Rattle.kr_kms.specs.Cache.{CacheState}
 use Rattle.kr_kms.specs.Calls.{Link}
 use Rattle.kr_kms.specs.Exchanges.{Exchange, UnwrapCall}
-use Rattle.kr_kms.specs.Truth.{Truth}
 use Rattle.kr_provider.specs.BenchState.{BenchState}
 use Rattle.kr_provider.specs.Envelopes.{Envelope}
 use Rattle.kr_provider.specs.Publication.{Publication, list_at}
@@ -422,10 +421,10 @@ module _ (heard : Heard) where
 
   -- ---- a line
 
-  module _ {L D : Type 0} (truth : Truth) (link : L → Link) (step : L → Exchange → L → Type 0)
+  module _ {L D : Type 0} (link : L → Link) (step : L → Exchange → L → Type 0)
       (left : D → Option (List ℕ)) (count : D → ℕ) (files : List SettingsFile) where
     pub part_unsealed : (replica : ℕ) (old : Workplace L D) (done : LineDone)
-        (new : Workplace L D) → IsDone truth link step left count files replica old done new
+        (new : Workplace L D) → IsDone link step left count files replica old done new
         → done.line ≡ line.Rewrite → AreAnswers (WasAnswered heard) done.exchanges
         → AreKnown (WasAnswered heard) old.cache.rows → All WasUnsealed done.part
     part_unsealed replica old done new is asked answers known =
@@ -439,7 +438,7 @@ module _ (heard : Heard) where
 
     -- its part is by the sources that were had
     pub part_by_sources : (replica : ℕ) (old : Workplace L D) (done : LineDone)
-        (new : Workplace L D) → IsDone truth link step left count files replica old done new
+        (new : Workplace L D) → IsDone link step left count files replica old done new
         → done.line ≡ line.Rewrite → AreAnswers (WasAnswered heard) done.exchanges
         → AreKnown (WasAnswered heard) old.cache.rows
         → RewritePart (IsFreshWith (HasSource heard)) (IsStaleWith (HasSource heard))
@@ -459,23 +458,23 @@ module _ (heard : Heard) where
         done.part is.adds asks.0 asks.2)
 
 -- each rewrite of a run that stands in a history, where what was heard has all of its exchanges
-module _ {L D : Type 0} (truth : Truth) (link : L → Link) (step : L → Exchange → L → Type 0)
+module _ {L D : Type 0} (link : L → Link) (step : L → Exchange → L → Type 0)
     (left : D → Option (List ℕ)) (count : D → ℕ) (files : List SettingsFile)
     (history : List Entry) (part : Part) (first : Workplace L D) (replies : List Told)
     (after : BenchState L D)
-    (stands : StandsIn truth link step left count files history part first replies after)
+    (stands : StandsIn link step left count files history part first replies after)
     (heard : Heard) (kept : AreKnown (WasAnswered heard) first.cache.rows)
     (answers : AreAnswers (WasAnswered heard) (exchanges_in stands.run)) where
   pub rewrites_unseal : (ahead : List LineDone) (done : LineDone) (behind : List LineDone)
       → stands.run ≡ ahead ++ done ∷ behind → done.line ≡ line.Rewrite
       → All (WasUnsealed heard) done.part
   rewrites_unseal ahead done behind run_is asked =
-      let w = done_there truth link step left count files history part first replies after stands
+      let w = done_there link step left count files history part first replies after stands
       ahead done behind run_is in
       let parts = parted (WasAnswered heard) ahead done behind
       (subst (λ (run : List LineDone). AreAnswers (WasAnswered heard) (exchanges_in run)) run_is
       answers) in
-      let known = run_known (WasAnswered heard) truth link step left count files part.replica first
+      let known = run_known (WasAnswered heard) link step left count files part.replica first
       ahead w.before w.does_ahead parts.0 kept in
-      part_unsealed heard truth link step left count files part.replica w.before done w.after
+      part_unsealed heard link step left count files part.replica w.before done w.after
       w.is_done asked parts.1 known

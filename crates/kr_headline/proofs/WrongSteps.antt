@@ -36,7 +36,8 @@ use Rattle.kr_headline.specs.Fleets.{FleetHeadline, Seals, run_in}
 use Rattle.kr_headline.specs.Headline.{Finds, IsOwn, IsTold, Run, Step, entries_of, own_entries, stands_at}
 use Rattle.kr_headline.specs.Sources.{HasSource}
 use Rattle.kr_headline.specs.Values.{Values, sealed_values}
-use Rattle.kr_headline.specs.WrongSteps.{EachStepIsWrong, HasAdopted, WrongSteps}
+use Rattle.kr_headline.specs.WrongPages.{HasAdopted}
+use Rattle.kr_headline.specs.WrongSteps.{EachStepIsWrong, WrongSteps}
 use Rattle.kr_headline.proofs.WrongRewrites.{all_behind, all_front, all_mids}
 
 -- ---- the steps of a line, among all

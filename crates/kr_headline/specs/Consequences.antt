@@ -4,7 +4,7 @@ use Rattle.std.specs.List.{list_any}
 use Rattle.kr_kms.specs.Cache.{AreOpenBy}
 use Rattle.kr_kms.specs.Calls.{Link}
 use Rattle.kr_kms.specs.Exchanges.{AgreesWith, Exchange}
-use Rattle.kr_kms.specs.Truth.{Opens}
+use Rattle.kr_kms.specs.Opens.{Opens}
 use Rattle.kr_provider.specs.Reading.{data_of, refused}
 use Rattle.kr_provider.specs.declared.refusal.ValueNo.{ValueNo}
 use Rattle.kr_provider.specs.Publication.{Publication, list_at}
@@ -76,7 +76,7 @@ UsesNoPlugin path e (gave.Found revision) (did.Fetch own) =
 UsesNoPlugin path e given done = ⊤
 
 -- by this truth links are answered as plugins are supposed to answer, whatever they are asked; so
--- are plugins in memory by their own truth (the law `tables_agree` of kr_kms)
+-- are plugins in memory by what their sources open to (the law `tables_agree` of kr_kms)
 abbrev pub LinksAgree : {L : Type 0} → (L → Exchange → L → Type 0) → Opens → Type 0
 LinksAgree {L} step opens = (old : L) (exchange : Exchange) (new : L) → step old exchange new
     → AgreesWith opens exchange

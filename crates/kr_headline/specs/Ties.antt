@@ -3,7 +3,6 @@
 use Rattle.std.specs.Prelude.{◌≡◌, ℕ, List, Option, Some, map, slice_get, slice_index}
 use Rattle.kr_kms.specs.Calls.{Link}
 use Rattle.kr_kms.specs.Exchanges.{Exchange}
-use Rattle.kr_kms.specs.Truth.{Truth}
 use Rattle.kr_rollout.specs.Histories.{IsLegal}
 use Rattle.kr_rollout.specs.declared.opening.Entry.{Entry}
 use Rattle.kr_rollout.specs.declared.opening.Opening.{Opening}
@@ -15,7 +14,7 @@ use Rattle.kr_workers.specs.declared.worker.Worker.{Worker}
 use Rattle.kr_headline.specs.Fleets.{FleetHeadline}
 use Rattle.kr_headline.specs.Values.{sealed_values}
 
-pub record IsTied {T L D : Type 0} (truth : Truth) (link : L → Link)
+pub record IsTied {T L D : Type 0} (link : L → Link)
     (step : L → Exchange → L → Type 0)
     (left : D → Option (List ℕ)) (count : D → ℕ) (files : List SettingsFile) (o : Opening)
     (parts : List Part) (budgets : List ℕ) (history : List Entry) (old new : List (Worker T L D))
@@ -27,7 +26,7 @@ pub record IsTied {T L D : Type 0} (truth : Truth) (link : L → Link)
   pub stand : (worker : ℕ) (part : Part) (before after : Worker T L D)
       → slice_get parts worker ≡ Some part → slice_get old worker ≡ Some before
       → slice_get new worker ≡ Some after
-      → (s : StandsIn truth link step left count files history part
+      → (s : StandsIn link step left count files history part
       (first_place o worker (slice_index budgets worker) before.bench) after.told.0 after.bench)
       × ((h.heard worker).exchanges ≡ exchanges_in s.run)
       × (h.exchanges worker ≡ map (λ (done : LineDone). done.exchanges) s.run)

@@ -3,7 +3,7 @@
 -- `sealed_values`, which are the providers' envelopes and ciphers.
 use Rattle.std.specs.Prelude.{◌≡◌, ℕ, List, Option}
 use Rattle.kr_config.specs.Kept.{ConfigEntry as setting}
-use Rattle.kr_kms.specs.Truth.{Opens}
+use Rattle.kr_kms.specs.Opens.{Opens}
 use Rattle.kr_provider.specs.Envelopes.{Envelope, IsEnvelopeOf}
 use Rattle.kr_provider.specs.Publication.{Publication, list_at}
 use Rattle.kr_provider.specs.Reading.{Reading}

@@ -4,7 +4,7 @@ use Rattle.std.specs.Prelude.{◌≡◌, ◌≢◌, ℕ, List, ◌∷◌, ◌++�
 use Rattle.kr_config.specs.Kept.{plugins_in}
 use Rattle.kr_kms.specs.Calls.{Link, key_in}
 use Rattle.kr_kms.specs.Exchanges.{Exchange, StatusCall, UnwrapCall, WrapCall}
-use Rattle.kr_kms.specs.Truth.{Opens, key_of}
+use Rattle.kr_kms.specs.Opens.{Opens, key_of}
 use Rattle.kr_kms.specs.declared.seeds.SeedKey.{SeedKey}
 use Rattle.kr_kms.specs.declared.seeds.SeedRow.{SeedRow}
 use Rattle.kr_provider.specs.Envelopes.{Envelope}

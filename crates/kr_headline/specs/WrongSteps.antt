@@ -9,7 +9,6 @@ use Rattle.kr_provider.specs.Reading.{data_of, refused}
 use Rattle.kr_provider.specs.declared.refusal.ValueNo.{ValueNo}
 use Rattle.kr_store.specs.declared.rows.Row.{Row}
 use Rattle.kr_rollout.specs.declared.line.Did.TheVariants as did
-use Rattle.kr_rollout.specs.declared.line.Gave.TheVariants as gave
 use Rattle.kr_rollout.specs.declared.opening.Entry.{Entry}
 use Rattle.kr_rollout.specs.declared.opening.Opening.{Opening}
 use Rattle.kr_script.specs.declared.script.Part.{Part}
@@ -22,14 +21,7 @@ use Rattle.kr_headline.specs.Fleets.{FleetHeadline, run_in}
 use Rattle.kr_headline.specs.Headline.{IsOwn, IsTold, Run, Step, entries_of, own_entries, stands_at}
 use Rattle.kr_headline.specs.Sources.{HasSource}
 use Rattle.kr_headline.specs.Values.{Values, sealed_values}
-
--- by these steps the worker's line at this place has adopted this configuration
-pub record HasAdopted (steps : List Step) (worker at : ℕ) (p : Publication) : Type 0 where
-  pub entry : Entry
-  pub number : ℕ
-  pub own : Contains (own_entries steps worker at) entry
-  pub gave_is : entry.line.gave ≡ gave.Adopted number
-  pub adopted : entry.published ≡ Some p
+use Rattle.kr_headline.specs.WrongPages.{HasAdopted}
 
 module _ {T L D : Type 0} (values : Values) (link : L → Link) (step : L → Exchange → L → Type 0)
     (count : D → ℕ) (old new : List (Worker T L D)) (files : List SettingsFile) (o : Opening)

@@ -11,7 +11,7 @@ use kr_kms::Kms;
 /// Where the workers' lines stand in one history, a read by any of them tells the bytes that were
 /// put last at its path.
 pub fn headline_holds<T: Tape, L: Kms, D: Dice>()
-    ensures { HeadlineHolds T L.truth L.link L.step D.left D.count }
+    ensures { HeadlineHolds T L.link L.step D.left D.count }
 {}
 
 /// By the headline alone: where plugins unwrapped what they had wrapped, bytes that are told were

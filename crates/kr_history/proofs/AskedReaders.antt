@@ -3,7 +3,6 @@ use Rattle.std.proofs.Common.{ℕ, suc, List, [], ◌∷◌, Option, None, Some,
 use Rattle.std.specs.Prelude.{Contains, IfSome, IsSome}
 use Rattle.std.proofs.lemmas.Bool.{false≢true}
 use Rattle.kr_kms.specs.Calls.{Link}
-use Rattle.kr_kms.specs.Truth.{Truth}
 use Rattle.kr_provider.specs.AskedLinks.{AskedOnly}
 use Rattle.kr_provider.specs.Names.{names_of}
 use Rattle.kr_provider.specs.Publication.{Publication, list_at}
@@ -36,10 +35,10 @@ asked_all link names olds news a =
     asked_within link names (names_of link olds) olds news (λ name c. c) a
 
 -- an unsealing asks none but the reader's plugin
-module _ {L : Type 0} (truth : Truth) (link : L → Link) (p : Publication)
+module _ {L : Type 0} (link : L → Link) (p : Publication)
     (resource path bytes : List ℕ) (olds news : List L) where
   unsealed_asks : (result : Result Opened UnsealNo)
-      → UnsealsBy truth link p.seeds (list_at p resource) path bytes olds result news
+      → UnsealsBy link p.seeds (list_at p resource) path bytes olds result news
       → AskedOnly link (plugin_reading (reader_in (list_at p resource) bytes)) olds news
   unsealed_asks (Ok opened) u = u.asked
   unsealed_asks (Err (Refused why)) u = u.asked
@@ -47,13 +46,13 @@ module _ {L : Type 0} (truth : Truth) (link : L → Link) (p : Publication)
       subst (λ o. AskedOnly link (plugin_reading o) olds news) (sym u.reader) u.others
   unsealed_asks (Err NoMemory) u = u.asked
 
-pub unsealed_all : {L : Type 0} (truth : Truth) (link : L → Link) (resource path bytes : List ℕ)
+pub unsealed_all : {L : Type 0} (link : L → Link) (resource path bytes : List ℕ)
     (olds news : List L) (published : Option Publication) (result : Result Opened UnsealNo)
     → IsSome published
-    → IfSome published (λ p. UnsealsBy truth link p.seeds (list_at p resource) path bytes olds
+    → IfSome published (λ p. UnsealsBy link p.seeds (list_at p resource) path bytes olds
     result news)
     → AskedOnly link (names_of link olds) olds news
-unsealed_all truth link resource path bytes olds news None result is u = absurd (false≢true is)
-unsealed_all truth link resource path bytes olds news (Some p) result is u =
+unsealed_all link resource path bytes olds news None result is u = absurd (false≢true is)
+unsealed_all link resource path bytes olds news (Some p) result is u =
     asked_all link (plugin_reading (reader_in (list_at p resource) bytes)) olds news
-    (unsealed_asks truth link p resource path bytes olds news result u)
+    (unsealed_asks link p resource path bytes olds news result u)

@@ -19,7 +19,7 @@ use Rattle.kr_config.specs.declared.who.Who.TheVariants.{Identity, Aescbc, Aesgc
 use Rattle.kr_config.specs.Kept.{ConfigEntry, keeps, keeps_providers}
 use Rattle.kr_config.specs.Lists.{list_of}
 use Rattle.kr_kms.specs.declared.seeds.SeedRow.{SeedRow}
-use Rattle.kr_kms.specs.Truth.{Opens, OpenAll, key_of}
+use Rattle.kr_kms.specs.Opens.{Opens, OpenAll, key_of}
 use Rattle.kr_provider.specs.Envelopes.{Envelope, HasEnvelope}
 use Rattle.kr_provider.specs.Publication.{Publication, IsPublished, SeedOpens, list_at, writer_at}
 use Rattle.kr_provider.specs.Readers.{reader_in, is_reader}

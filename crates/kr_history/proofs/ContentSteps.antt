@@ -10,7 +10,7 @@ use Rattle.kr_store.specs.declared.rows.LogRow.{LogRow}
 use Rattle.kr_store.specs.declared.rows.Row as stored_row
 use Rattle.kr_store.specs.Rows.{later, latest_from, latest, live, live_row, put_of, delete_of}
 use Rattle.kr_config.specs.Kept.{ConfigEntry}
-use Rattle.kr_kms.specs.Truth.{Opens}
+use Rattle.kr_kms.specs.Opens.{Opens}
 use Rattle.kr_provider.specs.Reading.{Reading, data_of}
 use Rattle.kr_provider.proofs.OneReading as readings
 use Rattle.kr_rollout.specs.declared.opening.Entry.{Entry}

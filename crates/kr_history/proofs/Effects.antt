@@ -8,7 +8,7 @@ use Rattle.kr_store.specs.declared.rows.LogRow.{LogRow}
 use Rattle.kr_store.specs.declared.rows.Row.{Row}
 use Rattle.kr_store.specs.Rows.{live, put_of, delete_of, row_of, put_at}
 use Rattle.kr_store.proofs.Places.{row_stays}
-use Rattle.kr_kms.specs.Truth.{Opens}
+use Rattle.kr_kms.specs.Opens.{Opens}
 use Rattle.kr_provider.specs.Publication.{Publication, IsPublished, SeedOpens, list_at, writer_at}
 use Rattle.kr_provider.specs.Reading.{data_of, HasReading, HasSomeReading}
 use Rattle.kr_provider.specs.Sealing.{IsSealing}

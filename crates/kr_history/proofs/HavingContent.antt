@@ -6,7 +6,7 @@ use Rattle.kr_store.specs.Rows.{live}
 use Rattle.kr_config.specs.declared.who.Who.{Who}
 use Rattle.kr_config.specs.declared.who.Who.TheVariants.{Identity, Aescbc, Aesgcm, Kms}
 use Rattle.kr_config.specs.Lists.{list_of}
-use Rattle.kr_kms.specs.Truth.{Opens}
+use Rattle.kr_kms.specs.Opens.{Opens}
 use Rattle.kr_provider.specs.Envelopes.{Envelope, HasEnvelope, source_by, unknown}
 use Rattle.kr_provider.specs.Readers.{body_by, reader_in}
 use Rattle.kr_provider.specs.Reading.{Reading, data_of, HasReading, value_reading}

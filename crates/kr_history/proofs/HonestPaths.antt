@@ -5,7 +5,7 @@ use Rattle.std.specs.List.{slice_get}
 use Rattle.std.specs.Option.{option_map}
 use Rattle.std.proofs.lemmas.Option.{none-some, same_Some}
 use Rattle.kr_store.specs.declared.rows.Row.{Row}
-use Rattle.kr_kms.specs.Truth.{Opens}
+use Rattle.kr_kms.specs.Opens.{Opens}
 use Rattle.kr_provider.specs.Publication.{Publication, writer_at}
 use Rattle.kr_opening.specs.declared.generation.Generation.{Generation}
 use Rattle.kr_opening.specs.Replicas.{generations_from}

@@ -1,5 +1,5 @@
--- Where no configuration names a plugin, each legal history is honest by any truth, and contents
--- are the same.
+-- Where no configuration names a plugin, each legal history is honest and contents are the same,
+-- whatever sources open to.
 use Rattle.std.proofs.Common.{◌≡◌, ℕ, zero, suc, ◌<◌, ◌+◌, false, List, [], ◌∷◌, ◌++◌, length, get_or, map, Contains, Option, None, Some, IfSome, refl, sym, ap, subst, ◌∙◌, arith}
 use Rattle.std.specs.Prelude.{All}
 use Rattle.std.specs.List.{slice_get, list_any}
@@ -14,7 +14,7 @@ use Rattle.kr_config.specs.Kept.{ConfigEntry}
 use Rattle.kr_config.specs.Lists.{list_of}
 use Rattle.kr_config.specs.Providers.{is_kms}
 use Rattle.kr_kms.specs.declared.seeds.SeedRow.{SeedRow}
-use Rattle.kr_kms.specs.Truth.{Opens}
+use Rattle.kr_kms.specs.Opens.{Opens}
 use Rattle.kr_provider.specs.Envelopes.{unknown}
 use Rattle.kr_provider.specs.Publication.{Publication, IsPublished, list_at, names_plugin}
 use Rattle.kr_provider.specs.Readers.{reader_in}
@@ -65,7 +65,7 @@ no_seeds opens p k none = λ i d l.
           (no_names p.rows none),
     )))
 
--- and reads by any truth
+-- and reads whatever sources open to
 pub some_reads : (opens : Opens) (list : List Who) (path bytes : List ℕ) (reading : Reading)
     → list_any is_kms list ≡ false → HasSomeReading list path bytes reading
     → HasReading opens list path bytes reading
@@ -74,10 +74,10 @@ some_reads opens list path bytes reading none r =
     (readings.any_envelope (reader_in list bytes) path bytes unknown r.0
     (readings.no_plugin list bytes none) ∙ r.2)
 
-any_truth : (opens others : Opens) (list : List Who) (path bytes : List ℕ) (reading : Reading)
+any_opens : (opens others : Opens) (list : List Who) (path bytes : List ℕ) (reading : Reading)
     → list_any is_kms list ≡ false → HasReading opens list path bytes reading
     → HasReading others list path bytes reading
-any_truth opens others list path bytes reading none r =
+any_opens opens others list path bytes reading none r =
     (readings.without_plugin others list path bytes reading none).1
     ((readings.without_plugin opens list path bytes reading none).0 r)
 
@@ -253,7 +253,7 @@ opening_by_any : (opens others : Opens) (first : List ConfigEntry) (path : List 
 opening_by_any opens others first path None content none c = c
 opening_by_any opens others first path (Some row) content none c = (
   c.0,
-  any_truth opens others (list_of first row.resource) path row.stored c.0
+  any_opens opens others (list_of first row.resource) path row.stored c.0
       (none_listed first row.resource none) c.1,
   c.2,
 )

@@ -1,7 +1,7 @@
 -- What calls over a core have in common: what each of them keeps, and how one holds a generation
 -- meanwhile.
 use Rattle.std.specs.Prelude.{◌≡◌, ◌⊎◌, ℕ, true, List, All, Contains, None, Result, Ok, Err, ⊤}
-use Rattle.kr_kms.specs.Truth.{Opens, Truth}
+use Rattle.kr_kms.specs.Opens.{Opens}
 use Rattle.kr_provider.specs.Publication.{Publication}
 use Rattle.kr_rollout.specs.declared.answer.Answer.TheVariants as answer
 use Rattle.kr_history.specs.declared.call.CallNo.{CallNo}
@@ -13,18 +13,14 @@ use Rattle.kr_history.specs.Honesty.{KeepsHonest}
 
 -- ---- what every call keeps
 
--- by this truth of plugins, what the caller sees stays honest at each entry of its seat
+-- by what sources open to so, what the caller sees stays honest at each entry of its seat
 abbrev pub KeepsHonestBy : Opens → (old new : Caller) → Type 0
 KeepsHonestBy opens old new = KeepsHonest opens old.opening old.seat old.seen
     → KeepsHonest opens new.opening new.seat new.seen
 
--- by any truth
+-- whatever sources open to
 abbrev pub KeepsHonesty : (old new : Caller) → Type 0
 KeepsHonesty old new = (opens : Opens) → KeepsHonestBy opens old new
-
--- where the truth is told, by it
-abbrev pub KeepsToldHonesty : Truth → (old new : Caller) → Type 0
-KeepsToldHonesty truth old new = truth.told ≡ true → KeepsHonestBy truth.opens old new
 
 -- the seat holds nothing, unless it could add no more lines
 abbrev pub IsIdleAfter : CallNo → Caller → Type 0

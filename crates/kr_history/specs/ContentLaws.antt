@@ -6,7 +6,7 @@ use Rattle.kr_store.specs.Rows.{live}
 use Rattle.kr_store.specs.Stores.{IsNext}
 use Rattle.kr_config.specs.Kept.{ConfigEntry}
 use Rattle.kr_config.specs.Lists.{list_of}
-use Rattle.kr_kms.specs.Truth.{Opens}
+use Rattle.kr_kms.specs.Opens.{Opens}
 use Rattle.kr_provider.specs.Publication.{Publication, names_plugin}
 use Rattle.kr_provider.specs.Reading.{Reading, HasReading}
 use Rattle.kr_rollout.specs.declared.line.Did.{Did}

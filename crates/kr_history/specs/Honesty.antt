@@ -1,7 +1,7 @@
 -- Honest histories: plugins unwrap what they wrapped, and what is sealed anew is what stood there.
 use Rattle.std.specs.Prelude.{◌≡◌, ℕ, List, [], ◌∷◌, ◌++◌, All, None, Some, IfSome, ⊤}
 use Rattle.kr_store.specs.declared.rows.Row.{Row}
-use Rattle.kr_kms.specs.Truth.{Opens, OpenAll}
+use Rattle.kr_kms.specs.Opens.{Opens, OpenAll}
 use Rattle.kr_provider.specs.Publication.{Publication, SeedOpens, list_at, writer_at}
 use Rattle.kr_provider.specs.Reading.{data_of, HasReading}
 use Rattle.kr_provider.specs.Sealing.{IsSealing}
@@ -41,7 +41,7 @@ HonestBy gave did opens e = ⊤
 abbrev pub IsHonestEntry : Opens → Entry → Type 0
 IsHonestEntry opens e = HonestBy e.line.gave e.line.did opens e
 
--- by this truth of plugins
+-- where sources open to so
 pub record IsHonest (opens : Opens) (o : Opening) (history : List Entry) : Type 0 where
   pub opening : All (λ replica. IfSome replica (SeedsOpen opens)) o.replicas
   pub entries : All (IsHonestEntry opens) history

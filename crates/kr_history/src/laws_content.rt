@@ -75,12 +75,14 @@ pub fn no_names_no_plugin()
     ensures { NoNamesNoPlugin }
 {}
 
-/// Where no configuration names a plugin, each legal history is honest by any truth.
+/// Where no configuration names a plugin, each legal history is honest, whatever
+/// sources open to.
 pub fn honest_without_plugin()
     ensures { HonestWithoutPlugin }
 {}
 
-/// Where no configuration names a plugin, contents are the same by any truth.
+/// Where no configuration names a plugin, contents are the same, whatever sources
+/// open to.
 pub fn content_without_plugin()
     ensures { ContentWithoutPlugin }
 {}

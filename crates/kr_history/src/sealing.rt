@@ -25,7 +25,7 @@ pub fn unseal<L: Kms, D: Dice>(
     requires adopted { IsSome bench.old.published }
     requires path { length row.now.path ≤ path_limit }
     requires fits { length row.now.stored ≤ value_limit }
-    ensures opened { IfSome bench.old.published (λ p. UnsealsBy L.truth L.link p.seeds
+    ensures opened { IfSome bench.old.published (λ p. UnsealsBy L.link p.seeds
         (list_at p row.now.resource) row.now.path row.now.stored bench.old.links result
         bench.new.links) }
     ensures exchanged { IfSome bench.old.published (λ p. Talk (Among L.step) bench.old.links

@@ -6,7 +6,7 @@ use Rattle.kr_base.specs.InMemory.{Calls, IsListed, after_call, after_fault}
 use Rattle.kr_kms.specs.Calls.{Link}
 use Rattle.kr_kms.specs.Exchanges.{Exchange, StatusCall, WrapCall, UnwrapCall, KeepsLink, TellsAnswer}
 use Rattle.kr_kms.specs.Exchanges.{AgreesWith, asked_name, has_failed, is_fault}
-use Rattle.kr_kms.specs.Truth.{Truth}
+use Rattle.kr_kms.specs.Opens.{Opens}
 use Rattle.kr_kms.specs.declared.plugin.Status.{Status}
 use Rattle.kr_kms.specs.declared.plugin.Wrapped.{Wrapped}
 use Rattle.kr_kms.specs.declared.plugin.KmsNo.{KmsNo}
@@ -20,10 +20,10 @@ pub record KeyLinkState : Type 0 where
   pub key_id : List ℕ
   pub calls : Calls
 
--- the truth of all links over one type of rings: a source opens under the ring's key of its key id,
--- whatever the plugin's name and the annotations are
-abbrev pub truth_of : Keys → Truth
-truth_of keys = record { told = true; opens = λ key. opened_by keys key.key_id key.source }
+-- what sources open to over links of one type of rings: a source opens under the ring's key of its key id, whatever
+-- the plugin's name and the annotations are
+abbrev pub ring_opens : Keys → Opens
+ring_opens keys key = opened_by keys key.key_id key.source
 
 abbrev pub status_of : List ℕ → Status
 status_of key_id = record { version = codes "v2"; healthz = codes "ok"; key_id = key_id }
@@ -73,12 +73,13 @@ AnswersKeyCall keys old (UnwrapCall key answer) new =
     AnswersByKeys old (IsSome (opened_by keys key.key_id key.source))
     (λ bytes. opened_by keys key.key_id key.source ≡ Some bytes) answer new
 
--- what one call does; what it answers is what is told
+-- what one call does; a status that it answers is what is told, and what it wraps is within the
+-- limits
 pub record KeyLinkStep (keys : Keys) (old : KeyLinkState) (exchange : Exchange) (new : KeyLinkState)
     : Type 0 where
   pub own : asked_name exchange ≡ old.name
   pub answers : AnswersKeyCall keys old exchange new
-  pub tells : TellsAnswer (truth_of keys) (link_seen old).status exchange
+  pub tells : TellsAnswer (link_seen old).status exchange
 
 abbrev calls_after : Bool → Calls → Calls
 calls_after failed calls = if failed then after_fault calls else after_call calls
@@ -119,8 +120,7 @@ key_link_keeps keys old exchange new h =
     }
 
 pub key_link_tells : (keys : Keys) (old : KeyLinkState) (exchange : Exchange) (new : KeyLinkState)
-    → KeyLinkStep keys old exchange new
-    → TellsAnswer (truth_of keys) (link_seen old).status exchange
+    → KeyLinkStep keys old exchange new → TellsAnswer (link_seen old).status exchange
 key_link_tells keys old exchange new h = h.tells
 
 -- what was to be wrapped are bytes
@@ -133,4 +133,4 @@ IsOfBytes (UnwrapCall key answer) = ⊤
 abbrev pub KeyLinksAgree : Keys → Type 0
 KeyLinksAgree keys = (old : KeyLinkState) (exchange : Exchange) (new : KeyLinkState)
     → KeyLinkStep keys old exchange new → IsOfBytes exchange
-    → AgreesWith (truth_of keys).opens exchange
+    → AgreesWith (ring_opens keys) exchange

@@ -1,16 +1,16 @@
-//! A link in memory that wraps under the keys of a ring, and so tells its truth.
+//! A link in memory that wraps under the keys of a ring.
 ghost use Rattle.std.specs.Prelude.{◌≡◌, ◌⊎◌, ◌↔◌, ◌≤◌, [], length, take, IsTrue, IsSome, IfOk, MatchOption, Some, None};
 ghost use Rattle.std.specs.Prelude.{if◌then◌else◌};
 ghost use Rattle.std.specs.Bool.{OnTrue};
 ghost use Rattle.kr_base.specs.Faults.{Rose};
 ghost use Rattle.kr_base.specs.InMemory.{IsListed, after_call, after_fault};
 ghost use Rattle.kr_base.specs.Limits.{IsShort};
-ghost use Rattle.kr_kms.specs.Calls.{Says, Wraps, Unwraps, asked_key};
+ghost use Rattle.kr_kms.specs.Calls.{AsksLink, Says, Wraps, asked_key};
 ghost use Rattle.kr_kms.specs.Exchanges.{StatusCall, WrapCall, UnwrapCall};
 ghost use Rattle.kr_kms.specs.Limits.{IsWithinLimits};
 ghost use Rattle.kr_keywrap.specs.KeyWrap.{IsWrappable};
 ghost use Rattle.kr_keywrap.specs.Keys.{opened_by};
-ghost use Rattle.kr_keywrap.specs.KeyLink.{AnswersByKeys, IsWrapBy, link_seen, status_of, truth_of};
+ghost use Rattle.kr_keywrap.specs.KeyLink.{AnswersByKeys, IsWrapBy, link_seen, status_of};
 ghost use Rattle.kr_keywrap.specs.KeyLink.{wrapped_by, KeyLinkStep, key_link_keeps, key_link_tells};
 
 use crate::key_wrap::is_wrappable;
@@ -102,8 +102,6 @@ impl<R: Ring> KeyLink<R> {
 }
 
 impl<R: Ring> Kms for KeyLink<R> {
-    ghost truth = { truth_of R.keys };
-
     ghost link = { link_seen };
 
     ghost step = { KeyLinkStep R.keys };
@@ -142,8 +140,7 @@ impl<R: Ring> Kms for KeyLink<R> {
             (IsWrapBy R.keys self.old plain.now) result self.new }
 
         // As the trait says.
-        ensures wraps { Wraps (truth_of R.keys) (link_seen self.old) plain.now result
-            (link_seen self.new) }
+        ensures wraps { Wraps (link_seen self.old) result (link_seen self.new) }
         ensures asked { KeyLinkStep R.keys self.old
             (WrapCall self.old.name plain.now result) self.new }
     {
@@ -171,8 +168,7 @@ impl<R: Ring> Kms for KeyLink<R> {
             (λ bytes. opened_by R.keys key_id.now source.now ≡ Some bytes) result self.new }
 
         // As the trait says.
-        ensures unwraps { Unwraps (truth_of R.keys) (link_seen self.old) key_id.now annotations.now
-            source.now result (link_seen self.new) }
+        ensures unwraps { AsksLink (link_seen self.old) result (link_seen self.new) }
         ensures asked { KeyLinkStep R.keys self.old (UnwrapCall (asked_key self.old.name key_id.now
             annotations.now source.now) result) self.new }
     {

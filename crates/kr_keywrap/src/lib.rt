@@ -1,4 +1,4 @@
-//! The key wrap of RFC 3394, and an example plugin on it: a link in memory that tells its truth,
+//! The key wrap of RFC 3394, and an example plugin on it: a link in memory under a ring's keys,
 //! and the loop that serves a plugin's lines.
 #![tactic(auto)]
 

@@ -1,13 +1,12 @@
 -- What is fetched through a cache.
-use Rattle.std.proofs.Common.{◌≡◌, ℕ, ◌≤◌, ◌⊎◌, ◌∙◌, Bool, true, false, cond, List, [], ◌∷◌, length, Contains, Option, Some, None, Result, Ok, Err, IfOk, refl, sym, ap, subst, inl, inr, arith}
+use Rattle.std.proofs.Common.{◌≡◌, ℕ, ◌≤◌, ◌⊎◌, ◌∙◌, Bool, true, false, cond, List, [], ◌∷◌, length, Contains, Option, Some, None, Result, Ok, Err, refl, sym, ap, subst, inl, inr, arith}
 use Rattle.std.specs.Prelude.{◌-◌, OnOk, OnErr, take}
 use Rattle.std.specs.Map.{lookup, lookup_entry, remove_entry}
 use Rattle.std.specs.Option.{option_map_or}
 use Rattle.lru.specs.LruCache.{LruCache, lru_cache, put_entries}
 use Rattle.lru.proofs.CallerLemmas.{Contains-lookup, Contains-put_entries}
-use Rattle.kr_kms.specs.Cache.{CacheState, Fetches, AreOpen, GivesSeed, KeepsAnswer, key_eq, seed_at}
-use Rattle.kr_kms.specs.Calls.{Link, AsksLink, IsSameLink, Unwraps, asked_key}
-use Rattle.kr_kms.specs.Truth.{Truth, TellsOf}
+use Rattle.kr_kms.specs.Cache.{CacheState, Fetches, GivesSeed, KeepsAnswer, key_eq, seed_at}
+use Rattle.kr_kms.specs.Calls.{Link, AsksLink, IsSameLink, asked_key}
 use Rattle.kr_kms.specs.declared.plugin.KmsNo.{KmsNo}
 use Rattle.kr_kms.specs.declared.plugin.KmsNo.TheVariants.{Failed, NoMemory}
 use Rattle.kr_kms.specs.declared.seeds.SeedKey.{SeedKey}
@@ -89,17 +88,9 @@ rows_with before middle after key seed among with other kept there =
       | inr put ↦ inr (put.0, ap answer (sym put.1))
     ]
 
-module _ {L : Type 0} (truth : Truth) (link : L → Link) where
+module _ {L : Type 0} (link : L → Link) where
   same_link : (old : L) → IsSameLink (link old) (link old)
   same_link old = record { name = refl; status = refl; later = omega arith }
-
-  -- the seed that a copy gives opens
-  copy_opens : (rows : Rows) (key : SeedKey) (seed : List ℕ) (copy : Result (List ℕ) KmsNo)
-      → seed_at rows key ≡ Some seed → GivesSeed seed copy → AreOpen truth rows
-      → IfOk copy (λ bytes. TellsOf truth key bytes)
-  copy_opens rows key seed (Ok bytes) found gives known =
-      subst (TellsOf truth key) (sym gives) (known key seed (found_there rows key seed found))
-  copy_opens rows key seed (Err why) found gives known = tt
 
   copy_asks : (old : L) (seed : List ℕ) (copy : Result (List ℕ) KmsNo) → GivesSeed seed copy
       → AsksLink (link old) copy (link old)
@@ -111,15 +102,12 @@ module _ {L : Type 0} (truth : Truth) (link : L → Link) where
   pub gives_kept : (old : L) (cache after : CacheState) (key : SeedKey)
       (copy : Result (List ℕ) KmsNo) → IsCopyAt cache.rows key (Some copy)
       → AreAmong cache.rows after.rows → after.size ≡ cache.size → length after.rows ≤ after.size
-      → Fetches truth link old cache key copy old after
+      → Fetches link old cache key copy old after
   gives_kept old cache after key copy is among size fits = record {
     kept = λ seed found. let same : is.0 ≡ seed = cc (is.1, found) in
         (refl, subst (λ s. GivesSeed s copy) same is.2);
-    asked = λ none. cc (is.1, none);
     asks = copy_asks old is.0 copy is.2;
-    opens = copy_opens cache.rows key is.0 copy is.1 is.2;
     rows = λ other seed there. inl (among other seed there);
-    still_open = λ known other seed there. known other seed (among other seed there);
     size = size;
     fits = fits;
   }
@@ -129,25 +117,16 @@ module _ {L : Type 0} (truth : Truth) (link : L → Link) where
       (source : List ℕ) (result : Result (List ℕ) KmsNo)
       → let key = asked_key (link old).name key_id annotations source in
       seed_at cache.rows key ≡ None
-      → Unwraps truth (link old) key_id annotations source result (link new)
+      → AsksLink (link old) result (link new)
       → ((other : SeedKey) (seed : List ℕ) → Contains after.rows (other, seed)
       → Contains cache.rows (other, seed) ⊎ ((other ≡ key) × (result ≡ Ok seed)))
       → after.size ≡ cache.size → length after.rows ≤ after.size
-      → Fetches truth link old cache key result new after
+      → Fetches link old cache key result new after
   gives_answer old new cache after key_id annotations source result none answer rows size fits =
-      let key = asked_key (link old).name key_id annotations source in
       record {
         kept = λ seed found. cc (none, found);
-        asked = λ _. answer;
-        asks = answer.0;
-        opens = λ _. answer.1;
+        asks = answer;
         rows = rows;
-        still_open = λ known other seed there. elim (rows other seed there) [
-          | inl before ↦ known other seed before
-          | inr put ↦
-              let Opens : Result (List ℕ) KmsNo → Type 0 = λ r. IfOk r (λ s. TellsOf truth key s) in
-              subst (λ k. TellsOf truth k seed) (sym put.0) (subst Opens put.1 answer.1)
-        ];
         size = size;
         fits = fits;
       }

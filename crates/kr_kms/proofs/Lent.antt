@@ -187,6 +187,7 @@ module _ {K T V : Type 0} (same : K → K → Bool) (key_of : T → K) (told : O
         count_is = ap (λ f. option_map_or count f 0)
             (sym (found_at (of_key key) old.items at item place is));
         out = λ other. count-end (λ o. same o other) old.out key;
+        handed = refl;
         told = λ other n. ap told (stays other n);
         faults = λ other n. ap (λ f. option_map_or count f 0) (stays other n);
       })
@@ -201,6 +202,7 @@ module _ {K T V : Type 0} (same : K → K → Bool) (key_of : T → K) (told : O
       (objects_by same key_of told count s) key 0) (sym gone) (record {
         count_is = ap (λ f. option_map_or count f 0) (sym (no_place (of_key key) old.items place));
         out = λ other. count-end (λ o. same o other) old.out key;
+        handed = refl;
         told = λ other n. refl;
         faults = λ other n. refl;
       })
@@ -227,6 +229,7 @@ module _ {K T V : Type 0} (same : K → K → Bool) (key_of : T → K) (told : O
         count_is = ap (λ f. option_map_or count f 0) (returned_first old.items key item e);
         out = λ other. ap (λ k. count_by (λ o. same o other) (remove old.out at) + at_key same k 1 other)
             (sym (key_stands same decides old.out at key place)) ∙ count-remove (λ o. same o other) old.out at key found.0;
+        handed = refl;
         told = λ other n. ap told (stays other n);
         faults = λ other n. ap (λ f. option_map_or count f 0) (stays other n);
       })

@@ -6,7 +6,7 @@ use Rattle.kr_kms.specs.Calls.{key_in, Wraps}
 use Rattle.kr_base.specs.InMemory.{after_call}
 use Rattle.kr_base.specs.Limits.{IsShort}
 use Rattle.kr_kms.specs.Limits.{IsWithinLimits}
-use Rattle.kr_kms.specs.Table.{Table, xor_of, annotations_mask, salt_pair, wrapped_by_table, table_truth, link_of}
+use Rattle.kr_kms.specs.Table.{Table, xor_of, annotations_mask, salt_pair, wrapped_by_table, table_opens, link_of}
 use Rattle.kr_kms.specs.declared.plugin.Wrapped.{Wrapped}
 
 pub xor_twice : (mask : ℕ) (bytes : List ℕ) → xor_of mask (xor_of mask bytes) ≡ bytes
@@ -20,7 +20,7 @@ current_mask table = annotations_mask table.key_id (salt_pair table.salt)
 
 -- what the plugin wrapped opens to the plain bytes
 pub opens_wrapped : (name : List ℕ) (table : Table) (plain : List ℕ)
-    → table_truth.opens (key_in name (wrapped_by_table table plain)) ≡ Some plain
+    → table_opens (key_in name (wrapped_by_table table plain)) ≡ Some plain
 opens_wrapped name table plain = ap Some (xor_twice (current_mask table) plain)
 
 -- it is within the limits where the plain bytes and the key id are
@@ -41,21 +41,20 @@ within_back table plain w = (
   w.key_id,
 )
 
--- an answer that it gave is as a link's must be
+-- an answer that it gave is as a link's must be: within the limits
 pub wraps : (old new : Table) (plain : List ℕ) (wrapped : Wrapped)
     → IsWithinLimits (wrapped_by_table old plain) → new ≡ record old { calls = after_call old.calls }
     → wrapped ≡ wrapped_by_table new plain
-    → Wraps table_truth (link_of old) plain (Ok wrapped) (link_of new)
+    → Wraps (link_of old) (Ok wrapped) (link_of new)
 wraps old new plain wrapped limits after is =
-    subst (λ t. Wraps table_truth (link_of old) plain (Ok wrapped) (link_of t)) (sym after)
-    (subst (λ w. Wraps table_truth (link_of old) plain (Ok w)
-    (link_of (record old { calls = after_call old.calls })))
+    subst (λ t. Wraps (link_of old) (Ok wrapped) (link_of t)) (sym after)
+    (subst (λ w. Wraps (link_of old) (Ok w) (link_of (record old { calls = after_call old.calls })))
     (sym (is ∙ ap (λ t. wrapped_by_table t plain) after)) (
       record {
         same = record { name = refl; status = refl; later = omega arith };
         failed = λ e. cc;
       },
-      (λ t. opens_wrapped old.name old plain, limits),
+      limits,
     ))
 
 -- what was tested and isn't denied is so

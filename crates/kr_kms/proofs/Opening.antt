@@ -6,8 +6,8 @@ use Rattle.lru.proofs.Splits.{Contains-cons}
 use Rattle.kr_kms.specs.Cache.{CacheState, AreOpenBy, FetchesBy, kept, no_memory, unwrapped, GivesSeed, KeepsAnswer, key_eq, with_used, with_seed}
 use Rattle.kr_kms.specs.Exchanges.{Exchange, StatusCall, WrapCall, UnwrapCall, AgreesWith, AgreeAll}
 use Rattle.kr_kms.specs.Seeds.{MakesSeedBy, no_status, unhealthy, no_memory as no_seed_memory, dice_failed, not_wrapped, made}
-use Rattle.kr_kms.specs.Table.{Table, TableStep, table_truth}
-use Rattle.kr_kms.specs.Truth.{Opens, key_of}
+use Rattle.kr_kms.specs.Table.{Table, TableStep, table_opens}
+use Rattle.kr_kms.specs.Opens.{Opens, key_of}
 use Rattle.kr_kms.specs.Calls.{key_in}
 use Rattle.kr_kms.specs.declared.plugin.KmsNo.{KmsNo}
 use Rattle.kr_kms.specs.declared.plugin.Wrapped.{Wrapped}
@@ -67,10 +67,10 @@ module _ (opens : Opens) where
   seed_opens left count name dice result after _ (made status seed wrapped well draws is) agree = subst OpensSeed (sym is) agree.1.0
 
 -- a plugin in memory meets what is supposed of plugins
-pub table_agrees : (old : Table) (exchange : Exchange) (new : Table) → TableStep old exchange new → AgreesWith table_truth.opens exchange
+pub table_agrees : (old : Table) (exchange : Exchange) (new : Table) → TableStep old exchange new → AgreesWith table_opens exchange
 table_agrees old (StatusCall name answer) new h = tt
 table_agrees old (WrapCall name plain (Ok wrapped)) new h =
-    ap (λ (w : Wrapped). table_truth.opens (key_in name w)) h.answers.2 ∙ opens_wrapped name old plain
+    ap (λ (w : Wrapped). table_opens (key_in name w)) h.answers.2 ∙ opens_wrapped name old plain
 table_agrees old (WrapCall name plain (Err why)) new h = tt
 table_agrees old (UnwrapCall key (Ok bytes)) new h = ap Some (sym h.answers.2)
 table_agrees old (UnwrapCall key (Err why)) new h = tt

@@ -1,12 +1,12 @@
 -- Unwrapped seeds that are kept, and what is fetched through them.
-use Rattle.std.specs.Prelude.{◌≡◌, ℕ, ◌-◌, ◌≤◌, ◌&&◌, ◌⊎◌, Bool, List, [], ◌∷◌, take, length, Contains, IfOk, Option, Some, None, Result, Ok, Err, ⊤}
+use Rattle.std.specs.Prelude.{◌≡◌, ℕ, ◌-◌, ◌≤◌, ◌&&◌, ◌⊎◌, Bool, List, [], ◌∷◌, take, length, Contains, Option, Some, None, Result, Ok, Err, ⊤}
 use Rattle.std.specs.Map.{lookup}
 use Rattle.std.specs.Str.{bytes_eq}
 use Rattle.lru.specs.LruCache.{promoted}
 use Rattle.kr_base.specs.Pairs.{pairs_eq}
-use Rattle.kr_kms.specs.Calls.{Link, AsksLink, Unwraps}
+use Rattle.kr_kms.specs.Calls.{Link, AsksLink}
 use Rattle.kr_kms.specs.Exchanges.{Exchange, UnwrapCall}
-use Rattle.kr_kms.specs.Truth.{Opens, Truth, TellsOf}
+use Rattle.kr_kms.specs.Opens.{Opens}
 use Rattle.kr_kms.specs.declared.plugin.KmsNo.{KmsNo}
 use Rattle.kr_kms.specs.declared.plugin.KmsNo.TheVariants.{Failed, NoMemory}
 use Rattle.kr_kms.specs.declared.seeds.SeedKey.{SeedKey}
@@ -25,11 +25,6 @@ key_eq a b = bytes_eq a.name b.name && (bytes_eq a.key_id b.key_id
 abbrev pub seed_at : List (SeedKey × List ℕ) → SeedKey → Option (List ℕ)
 seed_at rows key = lookup (key_eq key) rows
 
--- where the truth is told, each kept seed is the one that its key opens to
-abbrev pub AreOpen : Truth → List (SeedKey × List ℕ) → Type 0
-AreOpen truth rows =
-    (key : SeedKey) (seed : List ℕ) → Contains rows (key, seed) → TellsOf truth key seed
-
 -- this seed is given, as far as there is memory for it
 abbrev pub GivesSeed : List ℕ → Result (List ℕ) KmsNo → Type 0
 GivesSeed seed (Ok bytes) = bytes ≡ seed
@@ -37,20 +32,15 @@ GivesSeed seed (Err Failed) = ⊥
 GivesSeed seed (Err NoMemory) = ⊤
 
 -- how a call through the cache answers
-pub record Fetches {L : Type 0} (truth : Truth) (link : L → Link) (old : L) (cache : CacheState)
+pub record Fetches {L : Type 0} (link : L → Link) (old : L) (cache : CacheState)
     (key : SeedKey) (result : Result (List ℕ) KmsNo) (new : L) (after : CacheState) : Type 0 where
   -- a kept seed is given, and the link isn't asked
   pub kept : (seed : List ℕ) → seed_at cache.rows key ≡ Some seed
       → (new ≡ old) × GivesSeed seed result
-  -- where none is kept, the link unwraps the source, as far as there is memory for the question
-  pub asked : seed_at cache.rows key ≡ None
-      → Unwraps truth (link old) key.key_id key.annotations key.source result (link new)
   pub asks : AsksLink (link old) result (link new)
-  pub opens : AreOpen truth cache.rows → IfOk result (λ seed. TellsOf truth key seed)
   -- what is kept was kept before, or is this answer under this key
   pub rows : (other : SeedKey) (seed : List ℕ) → Contains after.rows (other, seed)
       → Contains cache.rows (other, seed) ⊎ ((other ≡ key) × (result ≡ Ok seed))
-  pub still_open : AreOpen truth cache.rows → AreOpen truth after.rows
   pub size : after.size ≡ cache.size
   pub fits : length after.rows ≤ after.size
 

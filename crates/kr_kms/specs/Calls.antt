@@ -4,7 +4,6 @@ use Rattle.kr_base.specs.Faults.{Rose}
 use Rattle.kr_base.specs.Told.{Agrees}
 use Rattle.kr_base.specs.Pairs.{Pairs}
 use Rattle.kr_kms.specs.Limits.{IsWithinLimits}
-use Rattle.kr_kms.specs.Truth.{Truth, TellsOf}
 use Rattle.kr_kms.specs.declared.plugin.Status.{Status}
 use Rattle.kr_kms.specs.declared.plugin.Wrapped.{Wrapped}
 use Rattle.kr_kms.specs.declared.plugin.KmsNo.{KmsNo}
@@ -41,10 +40,9 @@ key_in name wrapped = record {
   source = wrapped.cipher;
 }
 
--- what was wrapped opens to the plain bytes, and is within the limits
-abbrev pub Wraps : Truth → Link → List ℕ → Result Wrapped KmsNo → Link → Type 0
-Wraps truth old plain result new = AsksLink old result new × IfOk result
-    (λ wrapped. TellsOf truth (key_in old.name wrapped) plain × IsWithinLimits wrapped)
+-- what was wrapped is within the limits
+abbrev pub Wraps : Link → Result Wrapped KmsNo → Link → Type 0
+Wraps old result new = AsksLink old result new × IfOk result IsWithinLimits
 
 -- what names the seed that is asked for
 abbrev pub asked_key : List ℕ → List ℕ → Pairs → List ℕ → SeedKey
@@ -54,8 +52,3 @@ asked_key name key_id annotations source = record {
   annotations = annotations;
   source = source;
 }
-
--- the bytes are those that the source opens to
-abbrev pub Unwraps : Truth → Link → List ℕ → Pairs → List ℕ → Result (List ℕ) KmsNo → Link → Type 0
-Unwraps truth old key_id annotations source result new = AsksLink old result new × IfOk result
-    (λ bytes. TellsOf truth (asked_key old.name key_id annotations source) bytes)

@@ -5,7 +5,7 @@ use Rattle.kr_base.specs.Faults.{counted}
 use Rattle.kr_base.specs.Told.{Agrees}
 use Rattle.kr_kms.specs.Calls.{Link, key_in}
 use Rattle.kr_kms.specs.Limits.{IsWithinLimits}
-use Rattle.kr_kms.specs.Truth.{Opens, Truth, TellsOf}
+use Rattle.kr_kms.specs.Opens.{Opens}
 use Rattle.kr_kms.specs.declared.plugin.Status.{Status}
 use Rattle.kr_kms.specs.declared.plugin.Wrapped.{Wrapped}
 use Rattle.kr_kms.specs.declared.plugin.KmsNo.{KmsNo}
@@ -60,16 +60,14 @@ pub record KeepsLink (old : Link) (exchange : Exchange) (new : Link) : Type 0 wh
   pub tells : new.status ≡ old.status
   pub counts : new.count ≡ counted (is_fault exchange) old.count
 
--- a status is the one that the link tells; what was wrapped is within the limits, and opens to the
--- plain bytes; what was unwrapped is what the source opens to; all this where it is told
-abbrev pub TellsAnswer : Truth → (status : Option Status) → Exchange → Type 0
-TellsAnswer truth status (StatusCall name (Ok answer)) = Agrees status answer
-TellsAnswer truth status (StatusCall name (Err why)) = ⊤
-TellsAnswer truth status (WrapCall name plain (Ok wrapped)) =
-    TellsOf truth (key_in name wrapped) plain × IsWithinLimits wrapped
-TellsAnswer truth status (WrapCall name plain (Err why)) = ⊤
-TellsAnswer truth status (UnwrapCall key (Ok bytes)) = TellsOf truth key bytes
-TellsAnswer truth status (UnwrapCall key (Err why)) = ⊤
+-- a status is the one that the link tells, where it tells one; what was wrapped is within the
+-- limits
+abbrev pub TellsAnswer : (status : Option Status) → Exchange → Type 0
+TellsAnswer status (StatusCall name (Ok answer)) = Agrees status answer
+TellsAnswer status (StatusCall name (Err why)) = ⊤
+TellsAnswer status (WrapCall name plain (Ok wrapped)) = IsWithinLimits wrapped
+TellsAnswer status (WrapCall name plain (Err why)) = ⊤
+TellsAnswer status (UnwrapCall key answer) = ⊤
 
 -- a link's count of faults behind these exchanges
 abbrev pub counted_all : List Exchange → ℕ → ℕ

@@ -5,8 +5,8 @@ use Rattle.kr_kms.specs.Cache.{CacheState, AreOpenBy, FetchesBy}
 use Rattle.kr_kms.specs.Exchanges.{Exchange, AgreesWith, AgreeAll}
 use Rattle.kr_kms.specs.Outside.{same_seat, same_name, same_link}
 use Rattle.kr_kms.specs.Seeds.{MakesSeedBy}
-use Rattle.kr_kms.specs.Table.{Table, TableStep, table_truth}
-use Rattle.kr_kms.specs.Truth.{Opens, key_of}
+use Rattle.kr_kms.specs.Table.{Table, TableStep, table_opens}
+use Rattle.kr_kms.specs.Opens.{Opens, key_of}
 use Rattle.kr_kms.specs.declared.plugin.KmsNo.{KmsNo}
 use Rattle.kr_kms.specs.declared.health.SeedNo.{SeedNo}
 use Rattle.kr_kms.specs.declared.seeds.SeedKey.{SeedKey}
@@ -37,4 +37,4 @@ MadeSeedsOpen {D} left count = (opens : Opens) (name : List ℕ) (dice : D)
 -- what plugins in memory answer agrees with what their sources are masked by
 abbrev pub TablesAgree : Type 0
 TablesAgree = (old : Table) (exchange : Exchange) (new : Table) → TableStep old exchange new
-    → AgreesWith table_truth.opens exchange
+    → AgreesWith table_opens exchange

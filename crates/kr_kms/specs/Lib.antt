@@ -6,8 +6,8 @@ pub mod Health
 pub mod Laws
 pub mod Limits
 pub mod MemWorld
+pub mod Opens
 pub mod Outside
 pub mod Seeds
 pub mod Table
-pub mod Truth
 pub mod inner

@@ -37,13 +37,15 @@ abbrev pub without_first : {K T : Type 0} → (same : K → K → Bool) (key_of 
 without_first same key_of items key =
     option_map_or (remove items) (place_of same key_of items key) items
 
--- what the first object of a key tells and counts; how many of a key are out
+-- what the first object of a key tells and counts; how many of a key are out. What was handed out
+-- isn't told
 abbrev pub objects_by : {K T V : Type 0} → (same : K → K → Bool) (key_of : T → K)
     (told : Option T → V) (count : T → ℕ) → ShelfState K T → Objects K V
 objects_by same key_of told count shelf = record {
   told = λ key. told (first_object same key_of shelf.items key);
   faults = λ key. option_map_or count (first_object same key_of shelf.items key) 0;
   out = λ key. count_by (λ other. same other key) shelf.out;
+  handed = None;
 }
 
 -- ---- random sources, tapes and links

@@ -14,12 +14,14 @@ use Rattle.kr_kms.specs.declared.world.WorldCall.{WorldCall}
 use Rattle.kr_kms.specs.declared.world.FileNo.{FileNo}
 use Rattle.kr_kms.specs.declared.world.FileNo.TheVariants.{Absent, TooLong, Failed, NoMemory}
 
--- objects that are lent by a key: what is told of each, its count of faults, and how many with the
--- key are handed out. What is told of an object that is out is told by it alone
+-- objects that are lent by a key: what is told of each, its count of faults, how many with the key
+-- are out, and the keys of all that were handed out so far, one behind another, where it tells
+-- that. What is told of an object that is out is told by it alone
 pub record Objects (K V : Type 0) : Type 0 where
   pub told : K → V
   pub faults : K → ℕ
   pub out : K → ℕ
+  pub handed : Option (List K)
 
 pub record Outside : Type 0 where
   -- a file by its name: none where the world doesn't tell; else absent, or its bytes
@@ -97,11 +99,16 @@ NotesCall old new call result = new.asked ≡ with_call call old.asked
 abbrev pub at_key : {K : Type 0} → (same : K → K → Bool) → K → ℕ → K → ℕ
 at_key same key n other = if same key other then n else 0
 
+-- one more key
+abbrev pub with_handed : {K : Type 0} → K → Option (List K) → Option (List K)
+with_handed key handed = option_map (λ keys. keys ++ key ∷ []) handed
+
 -- an object with the key and this count was handed out; all others stay
 pub record HandsOut {K V : Type 0} (same : K → K → Bool) (old new : Objects K V) (key : K)
     (count : ℕ) : Type 0 where
   pub count_is : count ≡ old.faults key
   pub out : (other : K) → new.out other ≡ old.out other + at_key same key 1 other
+  pub handed : new.handed ≡ with_handed key old.handed
   pub told : (other : K) → other ≢ key → new.told other ≡ old.told other
   pub faults : (other : K) → other ≢ key → new.faults other ≡ old.faults other
 
@@ -110,6 +117,7 @@ pub record TakesBack {K V : Type 0} (same : K → K → Bool) (old new : Objects
     (count : ℕ) : Type 0 where
   pub count_is : new.faults key ≡ count
   pub out : (other : K) → new.out other + at_key same key 1 other ≡ old.out other
+  pub handed : new.handed ≡ old.handed
   pub told : (other : K) → other ≢ key → new.told other ≡ old.told other
   pub faults : (other : K) → other ≢ key → new.faults other ≡ old.faults other
 

@@ -9,7 +9,6 @@ use Rattle.kr_base.specs.Pairs.{IsSortedByKey}
 use Rattle.kr_kms.specs.Calls.{Link}
 use Rattle.kr_kms.specs.Exchanges.{Exchange, StatusCall, WrapCall}
 use Rattle.kr_kms.specs.Health.{HasBreach, breach_in, seed_no}
-use Rattle.kr_kms.specs.Truth.{Truth, TellsOf, key_of}
 use Rattle.kr_kms.specs.declared.plugin.Status.{Status}
 use Rattle.kr_kms.specs.declared.plugin.Wrapped.{Wrapped}
 use Rattle.kr_kms.specs.declared.plugin.KmsNo.{KmsNo}
@@ -47,17 +46,16 @@ module _ {D : Type 0} (left : D → Option (List ℕ)) (count : D → ℕ) where
 
   -- a seed that was drawn and wrapped once the plugin was healthy, or why there is none: the status
   -- is asked first, then the seed is drawn, then it is wrapped
-  abbrev pub MakesSeed : Truth → Link → D → Result SeedRow SeedNo → Link → D → Type 0
-  MakesSeed truth old dice (Ok row) new after = HasBreach old None × (row.name ≡ old.name)
-      × IsSeedRow row × TellsOf truth (key_of row) row.seed
-      × Consumes (left dice) (left after) row.seed
-  MakesSeed truth old dice (Err (Unhealthy field text)) new after =
+  abbrev pub MakesSeed : Link → D → Result SeedRow SeedNo → Link → D → Type 0
+  MakesSeed old dice (Ok row) new after = HasBreach old None × (row.name ≡ old.name)
+      × IsSeedRow row × Consumes (left dice) (left after) row.seed
+  MakesSeed old dice (Err (Unhealthy field text)) new after =
       HasBreach old (Some (field, text)) × (after ≡ dice)
-  MakesSeed truth old dice (Err DiceFailed) new after = HasBreach old None
+  MakesSeed old dice (Err DiceFailed) new after = HasBreach old None
       × Rose (count dice) (count after) × Keeps (left dice) (left after)
-  MakesSeed truth old dice (Err Failed) new after = Rose old.count new.count
+  MakesSeed old dice (Err Failed) new after = Rose old.count new.count
       × ((after ≡ dice) ⊎ (HasBreach old None × DrawsSeed dice after))
-  MakesSeed truth old dice (Err NoMemory) new after =
+  MakesSeed old dice (Err NoMemory) new after =
       (after ≡ dice) ⊎ (HasBreach old None × DrawsSeed dice after)
 
   -- ---- by which exchanges

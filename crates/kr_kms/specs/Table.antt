@@ -2,18 +2,17 @@
 -- and a salt.
 use Rattle.std.specs.Prelude.{◌≡◌, ℕ, ◌+◌, ◌%◌, ◌⊎◌, Bool, true, false, if◌then◌else◌, List, [], ◌∷◌, map, sum, codes, bit_xor, Some, Result, Ok, Err, refl}
 use Rattle.std.proofs.Common.{◌∙◌, ap, subst, sym}
-use Rattle.std.specs.Int.Bits.{xor_assoc, xor_self, xor_zero_r}
 use Rattle.std.specs.Option.{unwrap_or}
 use Rattle.std.specs.Str.{bytes_eq}
 use Rattle.std.specs.Map.{lookup}
 use Rattle.kr_base.specs.Faults.{counted}
 use Rattle.kr_base.specs.Pairs.{Pairs}
 use Rattle.kr_base.specs.InMemory.{Calls, IsListed, after_call, after_fault}
-use Rattle.kr_kms.specs.Calls.{Link, key_in}
+use Rattle.kr_kms.specs.Calls.{Link}
 use Rattle.kr_kms.specs.Exchanges.{Exchange, StatusCall, WrapCall, UnwrapCall, KeepsLink, TellsAnswer}
 use Rattle.kr_kms.specs.Exchanges.{asked_name, has_failed, is_fault}
 use Rattle.kr_kms.specs.Limits.{IsWithinLimits}
-use Rattle.kr_kms.specs.Truth.{Truth, TellsOf}
+use Rattle.kr_kms.specs.Opens.{Opens}
 use Rattle.kr_kms.specs.declared.plugin.Status.{Status}
 use Rattle.kr_kms.specs.declared.plugin.Wrapped.{Wrapped}
 use Rattle.kr_kms.specs.declared.plugin.KmsNo.{KmsNo}
@@ -45,12 +44,9 @@ annotations_mask key_id annotations = (sum key_id + sum (annotated_salt annotati
 abbrev pub xor_of : ℕ → List ℕ → List ℕ
 xor_of mask bytes = map (λ byte. bit_xor byte mask) bytes
 
--- the truth of all plugins in memory: whatever is unwrapped is masked by what stands with it
-abbrev pub table_truth : Truth
-table_truth = record {
-  told = true;
-  opens = λ key. Some (xor_of (annotations_mask key.key_id key.annotations) key.source);
-}
+-- what sources open to over plugins in memory: each is masked by what stands with it
+abbrev pub table_opens : Opens
+table_opens key = Some (xor_of (annotations_mask key.key_id key.annotations) key.source)
 
 -- the one annotation with the salt
 abbrev pub salt_pair : ℕ → Pairs
@@ -142,22 +138,11 @@ table_keeps old exchange new h = let is = after_exchange old exchange new h.answ
   counts = ap (λ (t : Table). t.calls.faults) is ∙ faults_after (is_fault exchange) old.calls;
 }
 
--- a mask that is put on twice is off again
-xor_twice : (mask : ℕ) (bytes : List ℕ) → xor_of mask (xor_of mask bytes) ≡ bytes
-xor_twice mask [] = refl
-xor_twice mask (byte ∷ bytes) =
-    ap (λ b. b ∷ xor_of mask (xor_of mask bytes))
-    (xor_assoc byte mask mask ∙ ap (bit_xor byte) (xor_self mask) ∙ xor_zero_r byte)
-    ∙ ap (λ l. byte ∷ l) (xor_twice mask bytes)
-
 pub table_tells : (old : Table) (exchange : Exchange) (new : Table) → TableStep old exchange new
-    → TellsAnswer table_truth (link_of old).status exchange
+    → TellsAnswer (link_of old).status exchange
 table_tells old (StatusCall name (Ok status)) new h = sym h.answers.2
 table_tells old (StatusCall name (Err why)) new h = tt
 table_tells old (WrapCall name plain (Ok wrapped)) new h =
-    let mask = annotations_mask old.key_id (salt_pair old.salt) in
-    subst (λ w. TellsOf table_truth (key_in name w) plain × IsWithinLimits w)
-    (sym h.answers.2) (λ told. ap Some (xor_twice mask plain), h.answers.1)
+    subst IsWithinLimits (sym h.answers.2) h.answers.1
 table_tells old (WrapCall name plain (Err why)) new h = tt
-table_tells old (UnwrapCall key (Ok bytes)) new h = λ told. ap Some (sym h.answers.2)
-table_tells old (UnwrapCall key (Err why)) new h = tt
+table_tells old (UnwrapCall key answer) new h = tt

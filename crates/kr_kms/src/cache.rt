@@ -13,8 +13,7 @@ use std::alloc::Global;
 use std::marker::Model;
 use std::num::NonZeroUsize;
 
-/// Unwrapped seeds, at most as many as it was made for. It is for links of one type: what its seeds
-/// say of the truth is what the links say that it was used with.
+/// Unwrapped seeds, at most as many as it was made for.
 #[derive(Drop)]
 pub struct SeedCache {
     inner: LruCache<SeedKey, Bytes>,
@@ -52,7 +51,7 @@ impl SeedCache {
         annotations: &Annotations,
         source: &[u8],
     ) -> Result<Bytes, KmsNo>
-        ensures fetched { Fetches L.truth L.link link.old self.old
+        ensures fetched { Fetches L.link link.old self.old
             (asked_key (L.link link.old).name key_id.now annotations.now source.now)
             result link.new self.new }
         ensures asked { Talk L.step link.old link.new (FetchesBy

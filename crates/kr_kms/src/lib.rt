@@ -1,6 +1,6 @@
-//! Plugins that wrap and unwrap seeds, as the crates above see them: a link to a plugin, what it
-//! answers, and what its type tells of the truth; seeds, which links make and a cache keeps; and
-//! the world that a command runs in, which gives files, and lends tapes, random sources and links.
+//! Plugins that wrap and unwrap seeds, as the crates above see them: a link to a plugin and what it
+//! answers; seeds, which links make and a cache keeps; and the world that a command runs in, which
+//! gives files, and lends tapes, random sources and links.
 #![tactic(auto)]
 
 mod cache;

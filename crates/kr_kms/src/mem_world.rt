@@ -365,6 +365,33 @@ impl<L: Kms + Send> World for MemWorld<L> {
         self.back_tape(name, tape);
     }
 
+    fn back_read(&mut self, name: &str, tape: MemTape)
+        requires { 0 < (⟦<MemWorld<L> as World>⟧.told self.old).tapes.out name.now }
+        ensures put { self.new.tapes.items ≡ (name.now, tape) ∷ self.old.tapes.items }
+        ensures others { (self.new.files ≡ self.old.files) × (self.new.dice ≡ self.old.dice)
+            × (self.new.links ≡ self.old.links) × (self.new.room ≡ self.old.room)
+            × (self.new.faults ≡ self.old.faults) }
+
+        // As the trait says.
+        ensures back { TakesBack same_name (⟦<MemWorld<L> as World>⟧.told self.old).tapes
+            (⟦<MemWorld<L> as World>⟧.told self.new).tapes name.now (faults_of tape) }
+        ensures tape { (⟦<MemWorld<L> as World>⟧.told self.new).tapes.told name.now ≡ option_map
+            Some (Some tape.bytes) }
+        ensures asked { (⟦<MemWorld<L> as World>⟧.told self.new).asked
+            ≡ with_call (WorldCall.Returned name.now)
+            (⟦<MemWorld<L> as World>⟧.told self.old).asked }
+        ensures file { (⟦<MemWorld<L> as World>⟧.told self.new).file ≡
+            (⟦<MemWorld<L> as World>⟧.told self.old).file }
+        ensures faults { (⟦<MemWorld<L> as World>⟧.told self.new).faults ≡
+            (⟦<MemWorld<L> as World>⟧.told self.old).faults }
+        ensures dice { (⟦<MemWorld<L> as World>⟧.told self.new).dice ≡
+            (⟦<MemWorld<L> as World>⟧.told self.old).dice }
+        ensures links { (⟦<MemWorld<L> as World>⟧.told self.new).links ≡
+            (⟦<MemWorld<L> as World>⟧.told self.old).links }
+    {
+        self.back_tape(name, tape);
+    }
+
     fn back_dice(&mut self, seat: u32, dice: MemDice)
         requires { 0 < (⟦<MemWorld<L> as World>⟧.told self.old).dice.out seat }
         ensures put { self.new.dice.items ≡ (seat, dice) ∷ self.old.dice.items }

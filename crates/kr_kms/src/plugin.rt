@@ -1,7 +1,6 @@
 //! A link to a plugin, which keeps the keys and wraps short secrets with them.
 ghost use Rattle.std.specs.Prelude.{◌≡◌, ◌↔◌, IsTrue};
-ghost use Rattle.kr_kms.specs.Truth.{Truth};
-ghost use Rattle.kr_kms.specs.Calls.{Link, Says, Wraps, Unwraps, asked_key};
+ghost use Rattle.kr_kms.specs.Calls.{AsksLink, Link, Says, Wraps, asked_key};
 ghost use Rattle.kr_kms.specs.Exchanges.{Exchange, StatusCall, WrapCall, UnwrapCall, KeepsLink, TellsAnswer};
 ghost use Rattle.kr_kms.specs.Limits.{IsWithinLimits};
 
@@ -47,9 +46,6 @@ pub enum KmsNo {
 /// A link to a plugin. No call changes its name or the status that it tells, and each that fails
 /// counts once.
 pub trait Kms {
-    // What the type tells of the truth: one function for all links of it.
-    ghost truth: { Truth };
-
     ghost link: { Self → Link };
 
     // From the one state to the other the link was asked this, once, and answered it.
@@ -71,7 +67,7 @@ pub trait Kms {
     /// Wraps plain bytes with the plugin's current key. An answer that passes a limit of wrapped
     /// sources is a fault.
     fn wrap(&mut self, alloc: Global, plain: &[u8]) -> Result<Wrapped, KmsNo>
-        ensures wraps { Wraps truth (link self.old) plain.now result (link self.new) }
+        ensures wraps { Wraps (link self.old) result (link self.new) }
         ensures asked { step self.old (WrapCall (link self.old).name plain.now result) self.new };
 
     /// Unwraps what was wrapped under this key id with these annotations.
@@ -82,8 +78,7 @@ pub trait Kms {
         annotations: &Annotations,
         source: &[u8],
     ) -> Result<Bytes, KmsNo>
-        ensures unwraps { Unwraps truth (link self.old) key_id.now annotations.now source.now result
-            (link self.new) }
+        ensures unwraps { AsksLink (link self.old) result (link self.new) }
         ensures asked { step self.old (UnwrapCall (asked_key (link self.old).name key_id.now
             annotations.now source.now) result) self.new };
 
@@ -92,7 +87,8 @@ pub trait Kms {
     ghost keeps: { (old : Self) (exchange : Exchange) (new : Self) → step old exchange new
         → KeepsLink (link old) exchange (link new) };
 
-    /// Any answer is what is told: the status, and what sources open to.
+    /// A status that is answered is the one that the link tells, where it tells one; and what was
+    /// wrapped is within the limits.
     ghost tells: { (old : Self) (exchange : Exchange) (new : Self) → step old exchange new
-        → TellsAnswer truth (link old).status exchange };
+        → TellsAnswer (link old).status exchange };
 }

@@ -81,7 +81,7 @@ pub fn make_seed<L: Kms, D: Dice>(
     dice: &mut D,
 ) -> Result<SeedRow, SeedNo>
     ensures same { IsSameLink (L.link link.old) (L.link link.new) }
-    ensures made { MakesSeed D.left D.count L.truth (L.link link.old) dice.old result
+    ensures made { MakesSeed D.left D.count (L.link link.old) dice.old result
         (L.link link.new) dice.new }
     ensures later { D.count dice.old ≤ D.count dice.new }
     ensures asked { Talk L.step link.old link.new
@@ -117,7 +117,7 @@ fn draw_seed<D: Dice>(alloc: Global, dice: &mut D) -> Result<Bytes, SeedNo>
 fn wrap_seed<L: Kms>(alloc: Global, link: &mut L, seed: Bytes) -> Result<SeedRow, KmsNo>
     requires size { length seed ≡ 32 }
     ensures asks { AsksLink (L.link link.old) result (L.link link.new) }
-    ensures row { IfOk result (λ row. IsRowOf L.truth (L.link link.old).name seed row) }
+    ensures row { IfOk result (λ row. IsRowOf (L.link link.old).name seed row) }
     ensures asked { Talk L.step link.old link.new
         (WrapsSeedBy (L.link link.old).name seed result) }
 {

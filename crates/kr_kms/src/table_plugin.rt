@@ -4,11 +4,11 @@ ghost use Rattle.std.specs.Prelude.{if◌then◌else◌};
 ghost use Rattle.std.specs.Bool.{OnTrue};
 ghost use Rattle.kr_base.specs.Faults.{Rose};
 ghost use Rattle.kr_base.specs.InMemory.{IsListed, after_call, after_fault};
-ghost use Rattle.kr_kms.specs.Calls.{Says, Wraps, Unwraps, asked_key};
+ghost use Rattle.kr_kms.specs.Calls.{AsksLink, Says, Wraps, asked_key};
 ghost use Rattle.kr_kms.specs.Exchanges.{StatusCall, WrapCall, UnwrapCall};
 ghost use Rattle.kr_kms.specs.Limits.{IsWithinLimits};
 ghost use Rattle.kr_kms.specs.Table.{AnswersByTable, annotated_salt, annotations_mask, xor_of, salt_pair, wrapped_by_table};
-ghost use Rattle.kr_kms.specs.Table.{table_status, table_truth, link_of, TableStep, table_keeps};
+ghost use Rattle.kr_kms.specs.Table.{table_status, link_of, TableStep, table_keeps};
 ghost use Rattle.kr_kms.specs.Table.{table_tells};
 
 use crate::plugin::{Kms, KmsNo, Status, Wrapped};
@@ -97,8 +97,6 @@ impl TablePlugin {
 }
 
 impl Kms for TablePlugin {
-    ghost truth = { table_truth };
-
     ghost link = { link_of };
 
     ghost step = { TableStep };
@@ -145,7 +143,7 @@ impl Kms for TablePlugin {
             (wrapped_by_table self.old plain.now) result self.new }
 
         // As the trait says.
-        ensures wraps { Wraps table_truth (link_of self.old) plain.now result (link_of self.new) }
+        ensures wraps { Wraps (link_of self.old) result (link_of self.new) }
         ensures asked { TableStep self.old (WrapCall self.old.name plain.now result) self.new }
     {
         if self.fails(serves(self, plain)) {
@@ -168,8 +166,7 @@ impl Kms for TablePlugin {
             (xor_of (annotations_mask key_id.now annotations.now) source.now) result self.new }
 
         // As the trait says.
-        ensures unwraps { Unwraps table_truth (link_of self.old) key_id.now annotations.now
-            source.now result (link_of self.new) }
+        ensures unwraps { AsksLink (link_of self.old) result (link_of self.new) }
         ensures asked { TableStep self.old (UnwrapCall (asked_key self.old.name key_id.now
             annotations.now source.now) result) self.new }
     {

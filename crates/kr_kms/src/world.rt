@@ -66,6 +66,8 @@ pub enum WorldCall {
     },
     /// That the tape of a name is back, with all that it holds on the device.
     Settled(Text),
+    /// That the tape of a name is back, which was read.
+    Returned(Text),
 }
 
 /// Files and tapes by their names, random sources by the numbers of seats, and links by seat and
@@ -201,6 +203,20 @@ pub trait World {
             ≡ option_map Some (Self.Tap.told tape) }
         ensures asked { (told self.new).asked
             ≡ with_call (WorldCall.Settled name.now) (told self.old).asked }
+        ensures file { (told self.new).file ≡ (told self.old).file }
+        ensures faults { (told self.new).faults ≡ (told self.old).faults }
+        ensures dice { (told self.new).dice ≡ (told self.old).dice }
+        ensures links { (told self.new).links ≡ (told self.old).links };
+
+    /// Takes the tape of the name back, which was read, and notes that.
+    fn back_read(&mut self, name: &str, tape: Self::Tap)
+        requires { 0 < (told self.old).tapes.out name.now }
+        ensures back { TakesBack same_name (told self.old).tapes (told self.new).tapes name.now
+            (Self.Tap.count tape) }
+        ensures tape { (told self.new).tapes.told name.now
+            ≡ option_map Some (Self.Tap.told tape) }
+        ensures asked { (told self.new).asked
+            ≡ with_call (WorldCall.Returned name.now) (told self.old).asked }
         ensures file { (told self.new).file ≡ (told self.old).file }
         ensures faults { (told self.new).faults ≡ (told self.old).faults }
         ensures dice { (told self.new).dice ≡ (told self.old).dice }

@@ -11,7 +11,6 @@ use Rattle.kr_envelope.specs.Limits.{ReadsMessage}
 use Rattle.kr_envelope.proofs.OneReading as objects
 use Rattle.kr_kms.specs.Cache.{CacheState, GivesSeed, seed_at}
 use Rattle.kr_kms.specs.Calls.{Link}
-use Rattle.kr_kms.specs.Truth.{Truth}
 use Rattle.kr_kms.specs.declared.plugin.KmsNo.{KmsNo}
 use Rattle.kr_kms.specs.declared.seeds.SeedKey.{SeedKey}
 use Rattle.kr_kms.specs.declared.seeds.SeedRow.{SeedRow}
@@ -30,13 +29,13 @@ use Rattle.kr_provider.proofs.Places.{stale_by_plugin}
 
 -- ---- the source
 
-pub fetched_kept : {L : Type 0} (truth : Truth) (link : L → Link) (name : List ℕ)
+pub fetched_kept : {L : Type 0} (link : L → Link) (name : List ℕ)
     (found : EncryptedObject) (olds news : List L) (cache after : CacheState)
     (result : Result (List ℕ) KmsNo)
-    → IsFetched truth link name found olds news cache after result → (source : List ℕ)
+    → IsFetched link name found olds news cache after result → (source : List ℕ)
     → seed_at cache.rows (seed_key name found) ≡ Some source
     → (news ≡ olds) × GivesSeed source result
-fetched_kept truth link name found olds news cache after result a source is = (
+fetched_kept link name found olds news cache after result a source is = (
   a.news_are ∙ ap (λ n. a.front ++ n ∷ a.behind) (a.asks.kept source is).0 ∙ sym a.olds_are,
   (a.asks.kept source is).1,
 )

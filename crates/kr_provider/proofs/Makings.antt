@@ -11,7 +11,6 @@ use Rattle.kr_config.specs.Nexts.{IsNextName, name_cmp}
 use Rattle.kr_kms.specs.Calls.{Link}
 use Rattle.kr_kms.specs.Health.{HasBreach}
 use Rattle.kr_kms.specs.Seeds.{DrawsSeed, IsSeedRow, MakesSeed}
-use Rattle.kr_kms.specs.Truth.{Truth, TellsOf, key_of}
 use Rattle.kr_kms.specs.declared.health.SeedNo.{SeedNo}
 use Rattle.kr_kms.specs.declared.health.SeedNo.TheVariants as seed
 use Rattle.kr_kms.specs.declared.seeds.SeedRow.{SeedRow}
@@ -44,11 +43,11 @@ unpassed : (b : Bool) → b ≡ false → not b ≡ true
 unpassed true e = absurd (cc)
 unpassed false e = refl
 
-module _ {L : Type 0} (truth : Truth) (link : L
+module _ {L : Type 0} (link : L
     → Link) (links : List L) (names : List (List ℕ)) where
   -- none is made yet, and no name is passed
   pub seeds_none : ((name : List ℕ) → Contains names name → comes_earlier [] name ≡ true)
-      → AreSeedsOf truth link links names (is_passed []) []
+      → AreSeedsOf link links names (is_passed []) []
   seeds_none all = record {
     ascend = IsStrictlySortedBy-none;
     named = λ name. (
@@ -57,7 +56,6 @@ module _ {L : Type 0} (truth : Truth) (link : L
           let f = passed (comes_earlier [] name) c.1 in absurd (cc),
     );
     rows = All-nil IsSeedRow;
-    opens = All-nil (λ row. TellsOf truth (key_of row) row.seed);
     healthy = All-nil (λ row. HasLinkWith link row.name IsHealthy links);
   }
 
@@ -65,7 +63,7 @@ module _ {L : Type 0} (truth : Truth) (link : L
   pub seeds_by : (p q : List ℕ → Bool) (made : List SeedRow)
       → ((name : List ℕ) → Contains names name → p name ≡ true → q name ≡ true)
       → ((name : List ℕ) → Contains names name → q name ≡ true → p name ≡ true)
-      → AreSeedsOf truth link links names p made → AreSeedsOf truth link links names q made
+      → AreSeedsOf link links names p made → AreSeedsOf link links names q made
   seeds_by p q made there back s = record {
     ascend = s.ascend;
     named = λ name. (
@@ -73,14 +71,13 @@ module _ {L : Type 0} (truth : Truth) (link : L
       λ c. (s.named name).1 (c.0, back name c.0 c.1),
     );
     rows = s.rows;
-    opens = s.opens;
     healthy = s.healthy;
   }
 
   -- at the next name, the seeds are those of the names before it
   pub seeds_before : (after next : List ℕ) (made : List SeedRow)
-      → IsNextName names after (Some next) → AreSeedsOf truth link links names
-      (is_passed after) made → AreSeedsOf truth link links names
+      → IsNextName names after (Some next) → AreSeedsOf link links names
+      (is_passed after) made → AreSeedsOf link links names
       (λ other. comes_earlier other next) made
   seeds_before after next made n s = seeds_by (is_passed after) (λ other. comes_earlier other next) made
       (λ other c e. before_next after next other n.1 (passed (comes_earlier after other) e))
@@ -88,8 +85,8 @@ module _ {L : Type 0} (truth : Truth) (link : L
 
   -- where no name is next, they are those of all
   pub seeds_all : (after : List ℕ) (made : List SeedRow) → IsNextName names after None
-      → AreSeedsOf truth link links names (is_passed after) made
-      → AreSeedsOf truth link links names (λ name. true) made
+      → AreSeedsOf link links names (is_passed after) made
+      → AreSeedsOf link links names (λ name. true) made
   seeds_all after made n s = seeds_by (is_passed after) (λ name. true) made (λ other c e. refl)
       (λ other c e. unpassed (comes_earlier after other)
       (All-contains (λ x. comes_earlier after x ≡ false) names other n c)) s
@@ -97,10 +94,10 @@ module _ {L : Type 0} (truth : Truth) (link : L
   -- the seed of the next joins them
   pub seeds_more : (after next : List ℕ) (made : List SeedRow) (row : SeedRow)
       → IsNextName names after (Some next) → row.name ≡ next → IsSeedRow row
-      → TellsOf truth (key_of row) row.seed → HasLinkWith link next IsHealthy links
-      → AreSeedsOf truth link links names (is_passed after) made
-      → AreSeedsOf truth link links names (is_passed next) (made ++ row ∷ [])
-  seeds_more after next made row n is keeps opens healthy s =
+      → HasLinkWith link next IsHealthy links
+      → AreSeedsOf link links names (is_passed after) made
+      → AreSeedsOf link links names (is_passed next) (made ++ row ∷ [])
+  seeds_more after next made row n is keeps healthy s =
       let joined : map (λ r. r.name) (made ++ row ∷ []) ≡ map (λ r. r.name) made ++ next ∷ [] =
       map-append (λ (r : SeedRow). r.name) made (row ∷ [])
       ∙ ap (λ m. map (λ (r : SeedRow). r.name) made ++ m ∷ []) is in
@@ -132,7 +129,6 @@ module _ {L : Type 0} (truth : Truth) (link : L
               (found other c.0 (passed (comes_earlier next other) c.1) (comes_earlier after other) refl),
         );
         rows = All-push IsSeedRow made row s.rows keeps;
-        opens = All-push (λ r. TellsOf truth (key_of r) r.seed) made row s.opens opens;
         healthy = All-push (λ r. HasLinkWith link r.name IsHealthy links) made row s.healthy
             (subst (λ m. HasLinkWith link m IsHealthy links) (sym is) healthy);
       }
@@ -159,12 +155,12 @@ bytes_more [] row = append-nil row.seed
 bytes_more (first ∷ made) row = ap (λ l. first.seed ++ l) (bytes_more made row)
     ∙ sym (append_assoc first.seed (bytes_of_seeds made) row.seed)
 
-module _ {L D : Type 0} (truth : Truth) (link : L → Link) (left : D → Option (List ℕ)) (count : D
+module _ {L D : Type 0} (link : L → Link) (left : D → Option (List ℕ)) (count : D
     → ℕ) where
   -- how far publishing has come
   pub record ComesTo (rows : List ConfigEntry) (links : List L) (dice : D) (name : List ℕ)
       (made : List SeedRow) (mids : List L) (mid : D) : Type 0 where
-    pub seeds : AreSeedsOf truth link links (plugins_in rows) (is_passed name) made
+    pub seeds : AreSeedsOf link links (plugins_in rows) (is_passed name) made
     pub asked : AskedOnly link (plugins_in rows) links mids
     pub drawn : Consumes (left dice) (left mid) (bytes_of_seeds made)
     pub later : count dice ≤ count mid
@@ -173,7 +169,7 @@ module _ {L D : Type 0} (truth : Truth) (link : L → Link) (left : D → Option
       → ((name : List ℕ) → Contains (plugins_in rows) name → comes_earlier [] name ≡ true)
       → ComesTo rows links dice [] [] links dice
   begins_at rows links dice all = record {
-    seeds = seeds_none truth link links (plugins_in rows) all;
+    seeds = seeds_none link links (plugins_in rows) all;
     asked = asked_none link (plugins_in rows) links;
     drawn = Consumes-nil (left dice);
     later = omega arith;
@@ -183,37 +179,37 @@ module _ {L D : Type 0} (truth : Truth) (link : L → Link) (left : D → Option
       (mids news : List L) (mid after : D) where
     healthy_before : (breach : _) (answer : Result SeedRow SeedNo)
         → ComesTo rows links dice name made mids mid
-        → (a : MakesOne truth link left count next mids mid answer news after)
+        → (a : MakesOne link left count next mids mid answer news after)
         → HasBreach (link a.old) breach → HasLinkWith link next (λ l. HasBreach l breach) links
     healthy_before breach answer to a h = had link (plugins_in rows) next
         (λ l. HasBreach l breach) links mids (breach_back breach) to.asked
-        (has_at link next (λ old new. MakesSeed left count truth (link old) mid answer
+        (has_at link next (λ old new. MakesSeed left count (link old) mid answer
         (link new) after) mids news (λ l. HasBreach l breach) a h)
 
     pub goes_on : (row : SeedRow) → IsNextName (plugins_in rows) name (Some next)
         → ComesTo rows links dice name made mids mid → count mid ≤ count after
-        → MakesAt truth link left count next mids mid (Ok row) news after
+        → MakesAt link left count next mids mid (Ok row) news after
         → ComesTo rows links dice next (made ++ row ∷ []) news after
     goes_on row n to l a = record {
-      seeds = seeds_more truth link links (plugins_in rows) name next made row n
-          (a.asks.1 ∙ a.named) a.asks.2 a.asks.3
+      seeds = seeds_more link links (plugins_in rows) name next made row n
+          (a.asks.1 ∙ a.named) a.asks.2
           (healthy_before None (Ok row) to a a.asks.0) to.seeds;
       asked = asked_then link (plugins_in rows) links mids news to.asked
-          (asked_one link next (λ old new. MakesSeed left count truth (link old) mid (Ok row)
+          (asked_one link next (λ old new. MakesSeed left count (link old) mid (Ok row)
           (link new) after) mids news (plugins_in rows) a n.0);
       drawn = subst (Consumes (left dice) (left after)) (sym (bytes_more made row))
           (Consumes-trans (left dice) (left mid) (left after)
-          (bytes_of_seeds made) row.seed to.drawn a.asks.4);
+          (bytes_of_seeds made) row.seed to.drawn a.asks.3);
       later = omega (arith, to.later, l);
     }
 
     ends_at : (drawn : List ℕ) → IsNextName (plugins_in rows) name (Some next)
         → ComesTo rows links dice name made mids mid → Consumes (left mid) (left after) drawn
-        → EndsAt truth link left count rows links dice after next drawn
+        → EndsAt link left count rows links dice after next drawn
     ends_at drawn n to c = record {
       there = n.0;
       made = made;
-      seeds = seeds_before truth link links (plugins_in rows) name next made n to.seeds;
+      seeds = seeds_before link links (plugins_in rows) name next made n to.seeds;
       draws = Consumes-trans (left dice) (left mid) (left after)
           (bytes_of_seeds made) drawn to.drawn c;
     }
@@ -224,9 +220,9 @@ module _ {L D : Type 0} (truth : Truth) (link : L → Link) (left : D → Option
     -- where the next plugin ended it, whatever that answered
     within_by : (answer : Result SeedRow SeedNo) → IsNextName (plugins_in rows) name (Some next)
         → ComesTo rows links dice name made mids mid
-        → (a : MakesOne truth link left count next mids mid answer news after)
+        → (a : MakesOne link left count next mids mid answer news after)
         → (after ≡ mid) ⊎ (HasBreach (link a.old) None × DrawsSeed left count mid after)
-        → EndsWithin truth link left count rows links dice after next
+        → EndsWithin link left count rows links dice after next
     within_by answer n to a (inl e) = inl (ends_at [] n to (undrawn e))
     within_by answer n to a (inr d) = inr (
       d.1.0,
@@ -240,10 +236,10 @@ module _ {L D : Type 0} (truth : Truth) (link : L → Link) (left : D → Option
 
     pub within : (answer : Result SeedRow SeedNo) → IsNextName (plugins_in rows) name (Some next)
         → ComesTo rows links dice name made mids mid
-        → MakesOne truth link left count next mids mid answer news after
-        → EndsWithin truth link left count rows links dice after next
+        → MakesOne link left count next mids mid answer news after
+        → EndsWithin link left count rows links dice after next
     within (Ok row) n to a =
-        within_by (Ok row) n to a (inr (a.asks.0, (row.seed, a.asks.2.seed, a.asks.4)))
+        within_by (Ok row) n to a (inr (a.asks.0, (row.seed, a.asks.2.seed, a.asks.3)))
     within (Err seed.Failed) n to a = within_by (Err seed.Failed) n to a a.asks.1
     within (Err seed.DiceFailed) n to a = inl (ends_at [] n to (still a.asks.2))
     within (Err (seed.Unhealthy field text)) n to a = inl (ends_at [] n to (undrawn a.asks.1))
@@ -251,13 +247,13 @@ module _ {L D : Type 0} (truth : Truth) (link : L → Link) (left : D → Option
 
     pub ends : (why : PublishNo) → IsNextName (plugins_in rows) name (Some next)
         → ComesTo rows links dice name made mids mid
-        → MakesAt truth link left count next mids mid (Err why) news after
-        → Publishes truth link left count rows links dice (Err why) news after
+        → MakesAt link left count next mids mid (Err why) news after
+        → Publishes link left count rows links dice (Err why) news after
     ends (PluginFailed other) n to (is, a) =
         let rose = rose_later link (plugins_in rows) next links mids news to.asked
-        (rose_at link next (λ old new. MakesSeed left count truth (link old) mid
+        (rose_at link next (λ old new. MakesSeed left count (link old) mid
         (Err seed.Failed) (link new) after) mids news a a.asks.0) in
-        subst (λ m. Publishes truth link left count rows links dice
+        subst (λ m. Publishes link left count rows links dice
         (Err (PluginFailed m)) news after) (sym is) (rose, within (Err seed.Failed) n to a)
     ends DiceFailed n to a = (
       next,
@@ -266,7 +262,7 @@ module _ {L D : Type 0} (truth : Truth) (link : L → Link) (left : D → Option
       rose_from (count dice) (count mid) (count after) to.later a.asks.1,
     )
     ends (Unhealthy other field text) n to (is, a) =
-        subst (λ m. Publishes truth link left count rows links dice
+        subst (λ m. Publishes link left count rows links dice
         (Err (Unhealthy m field text)) news after) (sym is) (
           ends_at [] n to (undrawn a.asks.1),
           healthy_before (Some (field, text)) (Err (seed.Unhealthy field text)) to a a.asks.0,
@@ -276,19 +272,19 @@ module _ {L D : Type 0} (truth : Truth) (link : L → Link) (left : D → Option
     -- every answer asked the next plugin alone
     pub asked_next : (answer : Result SeedRow PublishNo)
         → IsNextName (plugins_in rows) name (Some next) → ComesTo rows links dice name made mids mid
-        → MakesAt truth link left count next mids mid answer news after
+        → MakesAt link left count next mids mid answer news after
         → AskedOnly link (plugins_in rows) links news
     asked_next answer n to a = asked_then link (plugins_in rows) links mids news to.asked
         (by answer a)
       where
-        one : (r : Result SeedRow SeedNo) → MakesOne truth link left count next mids mid r news
+        one : (r : Result SeedRow SeedNo) → MakesOne link left count next mids mid r news
             after → AskedOnly link (plugins_in rows) mids news
         one r a = asked_one link next (λ old new.
-            MakesSeed left count truth (link old) mid r (link new) after) mids news
+            MakesSeed left count (link old) mid r (link new) after) mids news
             (plugins_in rows) a n.0
 
         by : (answer : Result SeedRow PublishNo)
-            → MakesAt truth link left count next mids mid answer news after
+            → MakesAt link left count next mids mid answer news after
             → AskedOnly link (plugins_in rows) mids news
         by (Ok row) a = one (Ok row) a
         by (Err (PluginFailed other)) a = one (Err seed.Failed) a.1
@@ -300,30 +296,30 @@ module _ {L D : Type 0} (truth : Truth) (link : L → Link) (left : D → Option
   pub all_made : (rows : List ConfigEntry) (links : List L) (dice : D) (name : List ℕ) (made : List SeedRow)
       (news : List L) (after : D) → IsNextName (plugins_in rows) name None
       → ComesTo rows links dice name made news after
-      → Publishes truth link left count rows links dice
+      → Publishes link left count rows links dice
       (Ok (record { rows = rows; seeds = made })) news after
   all_made rows links dice name made news after n to =
-      (refl, seeds_all truth link links (plugins_in rows) name made n to.seeds, to.drawn)
+      (refl, seeds_all link links (plugins_in rows) name made n to.seeds, to.drawn)
 
   -- the answer of one plugin, with its name where it refuses
   pub answers_at : (name : List ℕ) (links : List L) (dice : D) (why : SeedNo) (refusal : PublishNo)
       (news : List L) (after : D) → IsRefusalAt name why refusal
-      → MakesOne truth link left count name links dice (Err why) news after
-      → MakesAt truth link left count name links dice (Err refusal) news after
+      → MakesOne link left count name links dice (Err why) news after
+      → MakesAt link left count name links dice (Err refusal) news after
   answers_at name links dice why refusal news after told a = by_told (told_or name why refusal told)
     where
-      by : (why : SeedNo) → MakesOne truth link left count name links dice (Err why) news after
-          → MakesAt truth link left count name links dice (Err (plugin_refusal name why)) news after
+      by : (why : SeedNo) → MakesOne link left count name links dice (Err why) news after
+          → MakesAt link left count name links dice (Err (plugin_refusal name why)) news after
       by seed.Failed a = (refl, a)
       by seed.DiceFailed a = a
       by (seed.Unhealthy field text) a = (refl, a)
       by seed.NoMemory a = (Err seed.NoMemory, a)
 
       by_told : (refusal ≡ plugin_refusal name why) ⊎ (refusal ≡ NoMemory)
-          → MakesAt truth link left count name links dice (Err refusal) news after
+          → MakesAt link left count name links dice (Err refusal) news after
       by_told (inr e) =
-          subst (λ r. MakesAt truth link left count name links dice (Err r) news after) (sym e)
+          subst (λ r. MakesAt link left count name links dice (Err r) news after) (sym e)
           (Err why, a)
       by_told (inl e) =
-          subst (λ r. MakesAt truth link left count name links dice (Err r) news after) (sym e)
+          subst (λ r. MakesAt link left count name links dice (Err r) news after) (sym e)
           (by why a)

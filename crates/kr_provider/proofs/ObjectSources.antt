@@ -5,14 +5,14 @@ use Rattle.kr_envelope.specs.declared.object.EncryptedObject.{EncryptedObject}
 use Rattle.kr_envelope.specs.Limits.{ReadsMessage}
 use Rattle.kr_envelope.specs.Messages.{WireItem, IsItem, encrypted, key_id, source, annotation, kind, other, encrypted_in, last_or, of_bytes}
 use Rattle.kr_envelope.specs.Wire.{IsField, Spells}
-use Rattle.kr_kms.specs.Cache.{AreOpen, CacheState, Fetches, key_eq}
+use Rattle.kr_kms.specs.Cache.{CacheState, Fetches, key_eq}
 use Rattle.kr_kms.specs.Calls.{Link, asked_key}
-use Rattle.kr_kms.specs.Truth.{Truth, TellsOf, key_of}
+use Rattle.kr_kms.specs.Opens.{key_of}
 use Rattle.kr_kms.specs.declared.plugin.KmsNo.{KmsNo}
 use Rattle.kr_kms.specs.declared.plugin.KmsNo.TheVariants as kms
 use Rattle.kr_kms.specs.declared.seeds.SeedRow.{SeedRow}
 use Rattle.kr_kms.proofs.Keys.{same_key}
-use Rattle.kr_provider.specs.AskedLinks.{AsksOne}
+use Rattle.kr_provider.specs.AskedLinks.{AskedOnly, AsksOne}
 use Rattle.kr_provider.specs.Envelopes.{seed_key}
 use Rattle.kr_provider.specs.Reading.{source_reading}
 use Rattle.kr_provider.specs.Unsealing.{IsSeedOf}
@@ -101,27 +101,21 @@ pub another_seed : (row : SeedRow) (name : List ℕ) (found : EncryptedObject) (
 another_seed row name found b e f s =
     let t = (same_key (key_of row) (seed_key name found)).1 s in cc
 
-module _ {L : Type 0} (truth : Truth) (link : L → Link) (row : SeedRow) (name : List ℕ)
+module _ {L : Type 0} (link : L → Link) (row : SeedRow) (name : List ℕ)
     (found : EncryptedObject) (path : List ℕ) where
   pub seed_taken : (links : List L) (result : Result (List ℕ) UnsealNo) → IsSeedOf row name found
       → Gives (source_reading found.kind row.seed path found.encrypted) result
-      → UnsealsObject truth link row name found path links result links
+      → UnsealsObject link row name found path links result links
   seed_taken links (Ok plain) is g = record {
     source = row.seed;
-    is = record {
-      published = λ s. refl;
-      told = λ t. subst (λ key. TellsOf truth key row.seed) is t;
-    };
+    is = λ s. refl;
     gives = g;
     asked = asked_none link (name ∷ []) links;
     unasked = inl refl;
   }
   seed_taken links (Err (Refused why)) is g = record {
     source = row.seed;
-    is = record {
-      published = λ s. refl;
-      told = λ t. subst (λ key. TellsOf truth key row.seed) is t;
-    };
+    is = λ s. refl;
     gives = g;
     asked = asked_none link (name ∷ []) links;
     unasked = inl refl;
@@ -130,29 +124,29 @@ module _ {L : Type 0} (truth : Truth) (link : L → Link) (row : SeedRow) (name 
   seed_taken links (Err NoMemory) is g = (asked_none link (name ∷ []) links, inl refl)
 
   pub source_opened : (olds news : List L) (opened : List ℕ) (result : Result (List ℕ) UnsealNo)
-      → (IsSeedOf row name found → ⊥) → OpensSource truth link name found olds (Ok opened) news
+      → (IsSeedOf row name found → ⊥) → OpensSource link name found olds (Ok opened) news
       → Gives (source_reading found.kind opened path found.encrypted) result
-      → UnsealsObject truth link row name found path olds result news
+      → UnsealsObject link row name found path olds result news
   source_opened olds news opened (Ok plain) n o g = record {
     source = opened;
-    is = record { published = λ s. absurd (n s); told = λ t. o.0 };
+    is = λ s. absurd (n s);
     gives = g;
-    asked = o.1;
+    asked = o;
     unasked = inr n;
   }
   source_opened olds news opened (Err (Refused why)) n o g = record {
     source = opened;
-    is = record { published = λ s. absurd (n s); told = λ t. o.0 };
+    is = λ s. absurd (n s);
     gives = g;
-    asked = o.1;
+    asked = o;
     unasked = inr n;
   }
   source_opened olds news opened (Err (PluginFailed failed)) n o g = absurd g
-  source_opened olds news opened (Err NoMemory) n o g = (o.1, inr n)
+  source_opened olds news opened (Err NoMemory) n o g = (o, inr n)
 
   pub source_fails : (olds news : List L) (why : UnsealNo) → (IsSeedOf row name found → ⊥)
-      → OpensSource truth link name found olds (Err why) news
-      → UnsealsObject truth link row name found path olds (Err why) news
+      → OpensSource link name found olds (Err why) news
+      → UnsealsObject link row name found path olds (Err why) news
   source_fails olds news (Refused why) n o = absurd o
   source_fails olds news (PluginFailed failed) n o =
       record { name_is = o.0; other = n; rose = o.1; asked = o.2 }
@@ -160,32 +154,23 @@ module _ {L : Type 0} (truth : Truth) (link : L → Link) (row : SeedRow) (name 
 
 -- ---- what a fetch through the cache tells
 
-module _ {L : Type 0} (truth : Truth) (link : L → Link) (name : List ℕ) (found : EncryptedObject)
+module _ {L : Type 0} (link : L → Link) (name : List ℕ) (found : EncryptedObject)
     (olds news : List L) (cache after : CacheState) where
   abbrev pub IsFetched : Result (List ℕ) KmsNo → Type 0
-  IsFetched result = AsksOne link name (λ old new. Fetches truth link old cache
+  IsFetched result = AsksOne link name (λ old new. Fetches link old cache
       (asked_key name found.key_id found.annotations found.source) result new after) olds news
 
-  pub fetched_opens : (opened : List ℕ) → IsFetched (Ok opened) → AreOpen truth cache.rows
-      → OpensSource truth link name found olds (Ok opened) news
-  fetched_opens opened a o = (
-    a.asks.opens o,
-    asked_alone link name (λ old new. Fetches truth link
-        old cache (asked_key name found.key_id found.annotations found.source) (Ok opened) new
-        after) olds news a,
-  )
-
-  pub fetched_asks : (why : KmsNo) → IsFetched (Err why)
-      → OpensSource truth link name found olds (Err NoMemory) news
-  fetched_asks why a = asked_alone link name (λ old new. Fetches truth link old cache
-      (asked_key name found.key_id found.annotations found.source) (Err why) new after) olds news a
+  pub fetched_asks : (result : Result (List ℕ) KmsNo) → IsFetched result
+      → AskedOnly link (name ∷ []) olds news
+  fetched_asks result a = asked_alone link name (λ old new. Fetches link old cache
+      (asked_key name found.key_id found.annotations found.source) result new after) olds news a
 
   pub fetched_fails : (failed : List ℕ) → failed ≡ name → IsFetched (Err kms.Failed)
-      → OpensSource truth link name found olds (Err (PluginFailed failed)) news
+      → OpensSource link name found olds (Err (PluginFailed failed)) news
   fetched_fails failed e a = (
     e,
-    rose_at link name (λ old new. Fetches truth link old cache
+    rose_at link name (λ old new. Fetches link old cache
         (asked_key name found.key_id found.annotations found.source) (Err kms.Failed) new after)
         olds news a (a.asks.asks.failed refl),
-    fetched_asks kms.Failed a,
+    fetched_asks (Err kms.Failed) a,
   )

@@ -1,4 +1,4 @@
--- A value's reading: it is one, and where no plugin reads it, no truth of plugins matters.
+-- A value's reading: it is one, and where no plugin reads it, it is one whatever sources open to.
 use Rattle.std.proofs.Common.{◌≡◌, ◌≢◌, ℕ, inl, inr, Bool, true, false, List, [], ◌∷◌, Some, None, Err, Option, Result, refl, sym, ◌∙◌, ap}
 use Rattle.std.specs.Prelude.{⊤, cond, find}
 use Rattle.std.specs.List.{list_any}
@@ -10,7 +10,7 @@ use Rattle.kr_envelope.proofs.OneReading as objects
 use Rattle.kr_config.specs.declared.who.Who.{Who}
 use Rattle.kr_config.specs.declared.who.Who.TheVariants.{Identity, Aescbc, Aesgcm, Kms}
 use Rattle.kr_config.specs.Providers.{is_kms}
-use Rattle.kr_kms.specs.Truth.{Opens}
+use Rattle.kr_kms.specs.Opens.{Opens}
 use Rattle.kr_provider.specs.Envelopes.{Envelope, HasEnvelope, HasObject, source_by, unknown}
 use Rattle.kr_provider.specs.Laws.{HasOneReading, ReadsSomehow, ReadsWithoutPlugin}
 use Rattle.kr_provider.specs.Readers.{body_by, is_reader, reader_in}

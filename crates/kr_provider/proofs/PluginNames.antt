@@ -16,7 +16,6 @@ use Rattle.kr_config.specs.Patterns.{matches}
 use Rattle.kr_config.specs.Providers.{is_provider, plugin_of, plugins_among}
 use Rattle.kr_config.proofs.Inversions.{left as and_left, right as and_right}
 use Rattle.kr_kms.specs.Calls.{Link}
-use Rattle.kr_kms.specs.Truth.{Truth}
 use Rattle.kr_kms.specs.declared.seeds.SeedRow.{SeedRow}
 use Rattle.kr_provider.specs.Publication.{IsPublished, Publication, seed_of}
 use Rattle.kr_provider.specs.Publishing.{AreSeedsOf}
@@ -175,11 +174,11 @@ writer_seeded seeds (who ∷ rest) a = a.0
 
 -- ---- what was made for all names is published
 
-pub all_published : {L : Type 0} (truth : Truth) (link : L → Link) (links : List L)
+pub all_published : {L : Type 0} (link : L → Link) (links : List L)
     (rows : List ConfigEntry) (seeds : List SeedRow) → IsTrue (keeps rows)
-    → AreSeedsOf truth link links (plugins_in rows) (λ name. true) seeds
+    → AreSeedsOf link links (plugins_in rows) (λ name. true) seeds
     → IsPublished (record { rows = rows; seeds = seeds })
-all_published truth link links rows seeds k s = record {
+all_published link links rows seeds k s = record {
   kept = k;
   ascend = s.ascend;
   names = λ name. (λ c. ((s.named name).0 c).0, λ c. (s.named name).1 (c, refl));

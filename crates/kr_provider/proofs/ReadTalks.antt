@@ -12,7 +12,6 @@ use Rattle.kr_envelope.specs.Limits.{ReadsMessage}
 use Rattle.kr_kms.specs.Cache.{CacheState}
 use Rattle.kr_kms.specs.Calls.{Link}
 use Rattle.kr_kms.specs.Exchanges.{Exchange}
-use Rattle.kr_kms.specs.Truth.{Truth}
 use Rattle.kr_kms.specs.declared.plugin.KmsNo.{KmsNo}
 use Rattle.kr_kms.specs.declared.plugin.KmsNo.TheVariants as kms
 use Rattle.kr_kms.specs.declared.seeds.SeedRow.{SeedRow}
@@ -67,15 +66,15 @@ no_asking seeds (Some (Kms name)) found n m = absurd (cc)
 
 module _ (seeds : List SeedRow) (list : List Who) (path bytes : List ℕ) (cache : CacheState) where
   -- no plugin reads it
-  pub read_bare : {L : Type 0} (truth : Truth) (link : L → Link) (links : List L) (result : Result Opened UnsealNo) → IsNoPlugin (reader_in list bytes)
-      → UnsealsBy truth link seeds list path bytes links result links → ReadsBy seeds list path bytes cache result cache []
-  read_bare truth link links (Ok opened) n u =
+  pub read_bare : {L : Type 0} (link : L → Link) (links : List L) (result : Result Opened UnsealNo) → IsNoPlugin (reader_in list bytes)
+      → UnsealsBy link seeds list path bytes links result links → ReadsBy seeds list path bytes cache result cache []
+  read_bare link links (Ok opened) n u =
       unasked u.envelope u.object u.published u.unsourced (no_asking seeds (reader_in list bytes) u.envelope.object n) u.is refl
-  read_bare truth link links (Err (Refused why)) n u =
+  read_bare link links (Err (Refused why)) n u =
       unasked u.envelope u.object u.published u.unsourced (no_asking seeds (reader_in list bytes) u.envelope.object n) u.is refl
-  read_bare truth link links (Err (PluginFailed name)) n u =
+  read_bare link links (Err (PluginFailed name)) n u =
       let no : IsNoPlugin (Some (Kms name)) = subst IsNoPlugin u.reader n in absurd (cc)
-  read_bare truth link links (Err NoMemory) n u = no_memory refl refl
+  read_bare link links (Err NoMemory) n u = no_memory refl refl
 
   module _ (name body : List ℕ) (first : Bool) (r : IsReadBy list bytes (Kms name) body first) where
     by_reader : (envelope : Envelope) → value_reading envelope list path bytes ≡ provider_reading envelope (Kms name) path body

@@ -15,7 +15,7 @@ use Rattle.kr_config.specs.declared.who.Who.{Who}
 use Rattle.kr_config.specs.declared.who.Who.TheVariants.{Identity, Aescbc, Aesgcm, Kms}
 use Rattle.kr_kms.specs.Seeds.{IsSeedRow}
 use Rattle.kr_kms.specs.declared.seeds.SeedRow.{SeedRow}
-use Rattle.kr_kms.specs.Truth.{Opens, key_of}
+use Rattle.kr_kms.specs.Opens.{Opens, key_of}
 use Rattle.kr_provider.specs.Envelopes.{Envelope, HasEnvelope, sealed_object, seed_key, source_by, unknown}
 use Rattle.kr_provider.specs.Laws.{IsSealedEnvelope, SealingReads}
 use Rattle.kr_provider.specs.Publication.{SeedOpens, seed_of, writer_at}

@@ -1,7 +1,6 @@
 -- How an answer stands to the value's reading, by the provider that reads the value.
-use Rattle.std.proofs.Common.{◌≡◌, ◌≢◌, ℕ, Bool, false, List, [], ◌∷◌, Option, Some, None, Result, Ok, Err, refl, sym, ◌∙◌, ap, subst, inl, inr, Contains}
+use Rattle.std.proofs.Common.{◌≡◌, ◌≢◌, ℕ, Bool, false, List, [], ◌∷◌, Option, Some, None, Result, Ok, Err, refl, sym, ◌∙◌, ap, subst, inl, inr}
 use Rattle.std.specs.Prelude.{◌&&◌, not}
-use Rattle.std.specs.Str.{bytes_eq}
 use Rattle.kr_config.specs.declared.who.Who.{Who}
 use Rattle.kr_config.specs.declared.who.Who.TheVariants.{Identity, Aescbc, Aesgcm, Kms}
 use Rattle.kr_config.specs.Providers.{is_kms}
@@ -10,10 +9,9 @@ use Rattle.kr_envelope.specs.declared.object.ObjectNo.{ObjectNo}
 use Rattle.kr_envelope.specs.declared.object.ObjectNo.TheVariants as object
 use Rattle.kr_envelope.specs.Limits.{ReadsMessage}
 use Rattle.kr_kms.specs.Calls.{Link}
-use Rattle.kr_kms.specs.Truth.{Truth, key_of}
 use Rattle.kr_kms.specs.declared.seeds.SeedRow.{SeedRow}
 use Rattle.kr_provider.specs.AskedLinks.{AskedOnly}
-use Rattle.kr_provider.specs.Envelopes.{Envelope, HasEnvelope, HasObject, IsObjectOf, unknown}
+use Rattle.kr_provider.specs.Envelopes.{Envelope, HasObject, IsObjectOf, unknown}
 use Rattle.kr_provider.specs.Publication.{seed_of}
 use Rattle.kr_provider.specs.Readers.{reader_in}
 use Rattle.kr_provider.specs.Reading.{Unseals, is_current, provider_reading, reader_reading}
@@ -24,9 +22,8 @@ use Rattle.kr_provider.specs.declared.refusal.UnsealNo.TheVariants.{Refused, Plu
 use Rattle.kr_provider.specs.declared.refusal.ValueNo.TheVariants as value
 use Rattle.kr_provider.specs.inner.Sources.{Gives, IsObjectIn, IsReadBy, ReadsObject, UnsealsObject}
 use Rattle.kr_provider.proofs.AskedLists.{asked_none}
-use Rattle.kr_provider.proofs.OneReading.{IsNoPlugin, has_unknown}
+use Rattle.kr_provider.proofs.OneReading.{IsNoPlugin}
 use Rattle.kr_provider.proofs.Places.{stale_by_first, stale_by_plugin}
-use Rattle.kr_provider.proofs.SealedSizes.{found, of_all}
 
 -- an object that was read
 abbrev is_ok_of : EncryptedObject → Result EncryptedObject ObjectNo
@@ -48,25 +45,24 @@ no_seed seeds (Some (Aescbc name secret)) n = tt
 no_seed seeds (Some (Aesgcm name secret)) n = tt
 no_seed seeds (Some (Kms name)) n = absurd (cc)
 
-module _ {L : Type 0} (truth : Truth) (link : L → Link) (seeds : List SeedRow) (list : List Who)
+module _ {L : Type 0} (link : L → Link) (seeds : List SeedRow) (list : List Who)
     (path bytes : List ℕ) where
   -- where no plugin reads the value no link is asked, and any envelope serves
   unasked_reading : (links : List L) (result : Result Opened UnsealNo)
       → IsNoPlugin (reader_in list bytes) → Unseals unknown seeds list path bytes result
-      → IsReading truth link seeds list path bytes links result links
+      → IsReading link seeds list path bytes links result links
   unasked_reading links result n u = record {
     envelope = unknown;
     object = no_object (reader_in list bytes) bytes n;
     published = no_seed seeds (reader_in list bytes) n;
     unsourced = λ why is. refl;
-    told = λ t all. has_unknown truth.opens (reader_in list bytes) bytes n;
     is = u;
     asked = asked_none link (plugin_reading (reader_in list bytes)) links;
     unasked = λ m. refl;
   }
 
   pub no_reader : (links : List L) → reader_in list bytes ≡ None
-      → UnsealsBy truth link seeds list path bytes links (Err (Refused value.NoProvider)) links
+      → UnsealsBy link seeds list path bytes links (Err (Refused value.NoProvider)) links
   no_reader links e = unasked_reading links (Err (Refused value.NoProvider))
       (subst IsNoPlugin (sym e) tt) (ap (λ o. reader_reading unknown o path bytes) e)
 
@@ -79,7 +75,7 @@ module _ {L : Type 0} (truth : Truth) (link : L → Link) (seeds : List SeedRow)
 
     pub key_opens : (plain : List ℕ) → is_kms who ≡ false → IsReadBy list bytes who body first
         → Gives (provider_reading unknown who path body) (Ok plain)
-        → UnsealsBy truth link seeds list path bytes links
+        → UnsealsBy link seeds list path bytes links
         (Ok (record { plain = plain; stale = not first })) links
     key_opens plain k r g = unasked_reading links (Ok (record { plain = plain; stale = not first }))
         (subst IsNoPlugin (sym r.reader) k)
@@ -87,7 +83,7 @@ module _ {L : Type 0} (truth : Truth) (link : L → Link) (seeds : List SeedRow)
 
     pub key_refuses : (why : UnsealNo) → is_kms who ≡ false → IsReadBy list bytes who body first
         → Gives (provider_reading unknown who path body) (Err why)
-        → UnsealsBy truth link seeds list path bytes links (Err why) links
+        → UnsealsBy link seeds list path bytes links (Err why) links
     key_refuses (Refused why) k r g = unasked_reading links (Err (Refused why))
         (subst IsNoPlugin (sym r.reader) k) (by_reader unknown r ∙ g)
     key_refuses (PluginFailed name) k r g = absurd g
@@ -109,7 +105,7 @@ module _ {L : Type 0} (truth : Truth) (link : L → Link) (seeds : List SeedRow)
 
     pub object_refuses : (links : List L) (why : UnsealNo)
         → IsReadBy list bytes (Kms name) body first → IsObjectIn body (Err why)
-        → UnsealsBy truth link seeds list path bytes links (Err why) links
+        → UnsealsBy link seeds list path bytes links (Err why) links
     object_refuses links (Refused why) r (breach, s, (is, n)) =
         let envelope : Envelope = record { object = Err breach; source = None } in
         let there = spelled (Err breach) r s (λ e. n (cc)) in record {
@@ -118,8 +114,6 @@ module _ {L : Type 0} (truth : Truth) (link : L → Link) (seeds : List SeedRow)
           published = subst (λ o. TakesSeed seeds o envelope) (sym r.reader)
               (λ found row e. absurd (cc));
           unsourced = λ why is. refl;
-          told = λ t all.
-              subst (λ o. HasEnvelope truth.opens o bytes envelope) (sym r.reader) (there, refl);
           is = by_reader links (Kms name) body first envelope r ∙ is;
           asked = asked_none link (plugin_reading (reader_in list bytes)) links;
           unasked = λ m. refl;
@@ -143,27 +137,21 @@ module _ {L : Type 0} (truth : Truth) (link : L → Link) (seeds : List SeedRow)
       object_is : IsObjectOf name bytes (Ok found_object)
       object_is = spelled (Ok found_object) r s (λ e. cc)
 
-      row_there : Contains seeds row
-      row_there = (found (λ o. bytes_eq o.name name) seeds row is_row).1
-
       reading_by : (olds news : List L) (gave : Result (List ℕ) UnsealNo)
           (result : Result Opened UnsealNo)
-          → (o : ReadsObject truth link row name found_object path olds gave news)
+          → (o : ReadsObject link row name found_object path olds gave news)
           → Unseals (record { object = Ok found_object; source = Some o.source }) seeds list path
           bytes result
-          → IsReading truth link seeds list path bytes olds result news
+          → IsReading link seeds list path bytes olds result news
       reading_by olds news gave result o u =
-          let envelope : Envelope = record { object = Ok found_object; source = Some o.source } in
-          let P : SeedRow → Type 0 = λ q. truth.opens (key_of q) ≡ Some q.seed in record {
+          let envelope : Envelope = record { object = Ok found_object; source = Some o.source } in record {
             envelope = envelope;
             object = subst (λ w. HasObject w bytes (Ok found_object)) (sym r.reader) object_is;
             published = subst (λ w. TakesSeed seeds w envelope) (sym r.reader)
                 (λ other q e f is. ap (λ x. Some x)
-                (o.is.published (same_seed other q e f is)
+                (o.is (same_seed other q e f is)
                 ∙ ap (λ p. p.seed) (sym (one_row q f))));
             unsourced = λ why is. absurd (cc);
-            told = λ t all. subst (λ w. HasEnvelope truth.opens w bytes envelope) (sym r.reader)
-                (object_is, sym (o.is.told (λ t. of_all P seeds row all row_there) t));
             is = u;
             asked = asked_by olds news r o.asked;
             unasked = λ m. elim o.unasked [
@@ -183,8 +171,8 @@ module _ {L : Type 0} (truth : Truth) (link : L → Link) (seeds : List SeedRow)
               (subst (λ p. IsSeedOf q name p) one is)
 
       pub object_opens : (olds news : List L) (plain : List ℕ)
-          → UnsealsObject truth link row name found_object path olds (Ok plain) news
-          → UnsealsBy truth link seeds list path bytes olds (Ok (record {
+          → UnsealsObject link row name found_object path olds (Ok plain) news
+          → UnsealsBy link seeds list path bytes olds (Ok (record {
             plain = plain;
             stale = not (first && is_current (Some row) (Ok found_object));
           })) news
@@ -199,14 +187,14 @@ module _ {L : Type 0} (truth : Truth) (link : L → Link) (seeds : List SeedRow)
       )
 
       pub object_fails : (olds news : List L) (why : UnsealNo)
-          → UnsealsObject truth link row name found_object path olds (Err why) news
-          → UnsealsBy truth link seeds list path bytes olds (Err why) news
+          → UnsealsObject link row name found_object path olds (Err why) news
+          → UnsealsBy link seeds list path bytes olds (Err why) news
       object_fails olds news (Refused why) o =
           reading_by olds news (Err (Refused why)) (Err (Refused why)) o
           (by_reader olds (Kms name) body first
           (record { object = Ok found_object; source = Some o.source }) r ∙ o.gives)
       object_fails olds news (PluginFailed failed) o =
-          subst (λ n. UnsealsBy truth link seeds list path bytes olds (Err (PluginFailed n)) news)
+          subst (λ n. UnsealsBy link seeds list path bytes olds (Err (PluginFailed n)) news)
           (sym o.name_is) (record {
             object = found_object;
             reader = r.reader;

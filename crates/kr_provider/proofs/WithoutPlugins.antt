@@ -8,7 +8,6 @@ use Rattle.kr_config.specs.Kept.{ConfigEntry}
 use Rattle.kr_config.specs.Lists.{list_of}
 use Rattle.kr_config.specs.Providers.{is_kms}
 use Rattle.kr_kms.specs.Calls.{Link}
-use Rattle.kr_kms.specs.Truth.{Truth}
 use Rattle.kr_kms.specs.declared.seeds.SeedRow.{SeedRow}
 use Rattle.kr_provider.specs.AskedLinks.{AskedOnly}
 use Rattle.kr_provider.specs.Envelopes.{Envelope}
@@ -76,7 +75,7 @@ same_stale e f seeds list bytes n =
     ap (λ b. not (is_reader bytes (writer_of list)) || b)
     (not_rotated e seeds (writer_of list) writer ∙ sym (not_rotated f seeds (writer_of list) writer))
 
-module _ {L : Type 0} (truth : Truth) (link : L → Link) (seeds : List SeedRow) (list : List Who)
+module _ {L : Type 0} (link : L → Link) (seeds : List SeedRow) (list : List Who)
     (path bytes : List ℕ) (olds news : List L) where
   by_any : (e : Envelope) (result : Result Opened UnsealNo) → list_any is_kms list ≡ false
       → Unseals e seeds list path bytes result → (f : Envelope)
@@ -91,7 +90,7 @@ module _ {L : Type 0} (truth : Truth) (link : L → Link) (seeds : List SeedRow)
   by_any e (Err NoMemory) n u f = tt
 
   pub read_by_any : (result : Result Opened UnsealNo) → list_any is_kms list ≡ false
-      → UnsealsBy truth link seeds list path bytes olds result news → (envelope : Envelope)
+      → UnsealsBy link seeds list path bytes olds result news → (envelope : Envelope)
       → Unseals envelope seeds list path bytes result
   read_by_any (Ok opened) n u envelope = by_any u.envelope (Ok opened) n u.is envelope
   read_by_any (Err (Refused why)) n u envelope =
@@ -102,8 +101,8 @@ module _ {L : Type 0} (truth : Truth) (link : L → Link) (seeds : List SeedRow)
   read_by_any (Err NoMemory) n u envelope = tt
 
   pub unasked : (result : Result Opened UnsealNo) → list_any is_kms list ≡ false
-      → UnsealsBy truth link seeds list path bytes olds result news → news ≡ olds
+      → UnsealsBy link seeds list path bytes olds result news → news ≡ olds
   unasked result n u = none_asked link olds news
       (subst (λ names. AskedOnly link names olds news)
       (no_name (reader_in list bytes) (no_plugin list bytes n))
-      (unsealed_asks link truth seeds list path bytes olds news result u))
+      (unsealed_asks link seeds list path bytes olds news result u))

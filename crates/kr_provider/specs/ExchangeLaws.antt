@@ -3,7 +3,7 @@ use Rattle.std.specs.Prelude.{ℕ, List, Option, Result, Ok, Err, IfOk, ⊤}
 use Rattle.kr_config.specs.declared.who.Who.{Who}
 use Rattle.kr_kms.specs.Cache.{AreOpenBy, CacheState}
 use Rattle.kr_kms.specs.Exchanges.{AgreeAll, Exchange}
-use Rattle.kr_kms.specs.Truth.{OpenAll, Opens}
+use Rattle.kr_kms.specs.Opens.{OpenAll, Opens}
 use Rattle.kr_kms.specs.declared.seeds.SeedRow.{SeedRow}
 use Rattle.kr_provider.specs.Envelopes.{Envelope, IsEnvelopeOf}
 use Rattle.kr_provider.specs.Exchanges.{MakesSeedsBy, ReadsBy}

@@ -14,7 +14,7 @@ use Rattle.kr_config.specs.Lists.{list_of}
 use Rattle.kr_config.specs.Providers.{is_kms}
 use Rattle.kr_kms.specs.declared.seeds.SeedRow.{SeedRow}
 use Rattle.kr_kms.specs.Calls.{Link, IsSameLink}
-use Rattle.kr_kms.specs.Truth.{Opens, Truth}
+use Rattle.kr_kms.specs.Opens.{Opens}
 use Rattle.kr_provider.specs.AskedLinks.{AskedOnly, FaultRose}
 use Rattle.kr_provider.specs.Ciphers.{cipher_under}
 use Rattle.kr_provider.specs.Envelopes.{Envelope, sealed_object, unknown, value_key}
@@ -75,35 +75,35 @@ abbrev pub HasOneReading : Type 0
 HasOneReading = (opens : Opens) (list : List Who) (path bytes : List ℕ) (a b : Reading)
     → HasReading opens list path bytes a → HasReading opens list path bytes b → a ≡ b
 
--- where a list names no plugin, the truth of plugins doesn't matter
+-- where a list names no plugin, what sources open to doesn't matter
 abbrev pub ReadsWithoutPlugin : Type 0
 ReadsWithoutPlugin = (opens : Opens) (list : List Who) (path bytes : List ℕ) (reading : Reading)
     → list_any is_kms list ≡ false
     → HasReading opens list path bytes reading ↔ (value_reading unknown list path bytes ≡ reading)
 
 -- where settings name no plugin, no link is asked, and any envelope serves
-pub record UnsealsWithoutPlugin {L : Type 0} (truth : Truth) (link : L → Link) : Type 0 where
+pub record UnsealsWithoutPlugin {L : Type 0} (link : L → Link) : Type 0 where
   pub reads : (seeds : List SeedRow) (rows : List ConfigEntry) (resource path bytes : List ℕ)
       (olds news : List L) (result : Result Opened UnsealNo) → names_plugin rows ≡ false
-      → UnsealsBy truth link seeds (list_of rows resource) path bytes olds result news
+      → UnsealsBy link seeds (list_of rows resource) path bytes olds result news
       → (envelope : Envelope)
       → Unseals envelope seeds (list_of rows resource) path bytes result
   pub stay : (seeds : List SeedRow) (rows : List ConfigEntry) (resource path bytes : List ℕ)
       (olds news : List L) (result : Result Opened UnsealNo) → names_plugin rows ≡ false
-      → UnsealsBy truth link seeds (list_of rows resource) path bytes olds result news
+      → UnsealsBy link seeds (list_of rows resource) path bytes olds result news
       → news ≡ olds
 
 -- publishing goes through the plugins by the order of their names: it makes the seeds of all, or
 -- those of the names before the one that ended it
-pub record PublishesInOrder {L D : Type 0} (truth : Truth) (link : L → Link)
+pub record PublishesInOrder {L D : Type 0} (link : L → Link)
     (left : D → Option (List ℕ)) (count : D → ℕ) : Type 0 where
   pub all : (rows : List ConfigEntry) (links : List L) (dice after : D) (made : List SeedRow)
-      → AreSeedsOf truth link links (plugins_in rows) (λ name. true) made
+      → AreSeedsOf link links (plugins_in rows) (λ name. true) made
       → Consumes (left dice) (left after) (bytes_of_seeds made)
-      → MakesEach truth link links (plugin_order rows) made (left dice) (left after)
+      → MakesEach link links (plugin_order rows) made (left dice) (left after)
   pub some : (rows : List ConfigEntry) (links : List L) (dice after : D) (name drawn : List ℕ)
-      → EndsAt truth link left count rows links dice after name drawn
-      → MakesBefore truth link links (plugin_order rows) name drawn (left dice) (left after)
+      → EndsAt link left count rows links dice after name drawn
+      → MakesBefore link links (plugin_order rows) name drawn (left dice) (left after)
 
 -- links that were asked are those of before: what is known of one after some calls, where it goes
 -- by what stays, was known before them, and calls one after another are calls
@@ -116,7 +116,7 @@ pub record LinksStay {L : Type 0} (link : L → Link) (names : List (List ℕ)) 
   pub rose : (name : List ℕ) (olds mids news : List L) → AskedOnly link names olds mids
       → FaultRose link name mids news → FaultRose link name olds news
 
--- what a value reads as by the truth it reads as with some unwrapped source
+-- what a value reads as by what sources open to, it reads as with some unwrapped source
 abbrev pub ReadsSomehow : Type 0
 ReadsSomehow = (opens : Opens) (list : List Who) (path bytes : List ℕ) (reading : Reading)
     → HasReading opens list path bytes reading → HasSomeReading list path bytes reading

@@ -7,7 +7,6 @@ use Rattle.kr_config.specs.Kept.{ConfigEntry, plugins_in}
 use Rattle.kr_config.specs.Nexts.{name_cmp}
 use Rattle.kr_kms.specs.Calls.{Link}
 use Rattle.kr_kms.specs.Seeds.{IsSeedRow}
-use Rattle.kr_kms.specs.Truth.{Truth, TellsOf, key_of}
 use Rattle.kr_kms.specs.declared.seeds.SeedRow.{SeedRow}
 use Rattle.kr_provider.specs.AskedLinks.{HasLinkWith}
 use Rattle.kr_provider.specs.Publishing.{IsHealthy}
@@ -27,13 +26,12 @@ names_in_order (name ∷ names) = insert_name name (names_in_order names)
 abbrev pub plugin_order : List ConfigEntry → List (List ℕ)
 plugin_order rows = names_in_order (plugins_in rows)
 
-module _ {L : Type 0} (truth : Truth) (link : L → Link) (links : List L) where
-  -- a seed of the plugin of this name, which was healthy and wrapped it
+module _ {L : Type 0} (link : L → Link) (links : List L) where
+  -- a seed of the plugin of this name, which was healthy
   pub record IsSeedBy (name : List ℕ) (row : SeedRow) : Type 0 where
     pub name_is : row.name ≡ name
     pub healthy : HasLinkWith link name IsHealthy links
     pub row_is : IsSeedRow row
-    pub opens : TellsOf truth (key_of row) row.seed
 
   -- one for each of the names, of the bytes that come next
   abbrev pub MakesEach : List (List ℕ) → List SeedRow → (old new : Option (List ℕ)) → Type 0

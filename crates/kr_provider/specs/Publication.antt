@@ -12,7 +12,7 @@ use Rattle.kr_config.specs.Lists.{list_of}
 use Rattle.kr_config.specs.Providers.{is_kms, is_provider}
 use Rattle.kr_kms.specs.declared.seeds.SeedRow.{SeedRow}
 use Rattle.kr_kms.specs.Seeds.{IsSeedRow}
-use Rattle.kr_kms.specs.Truth.{Opens, key_of}
+use Rattle.kr_kms.specs.Opens.{Opens, key_of}
 use Rattle.kr_provider.specs.Readers.{writer_of}
 
 -- the entries of the settings, and the seeds

@@ -11,7 +11,6 @@ use Rattle.kr_config.specs.Nexts.{name_cmp}
 use Rattle.kr_kms.specs.Calls.{Link}
 use Rattle.kr_kms.specs.Health.{HasBreach, TellsKeyId}
 use Rattle.kr_kms.specs.Seeds.{IsSeedRow}
-use Rattle.kr_kms.specs.Truth.{Truth, TellsOf, key_of}
 use Rattle.kr_kms.specs.declared.health.SeedNo.{SeedNo}
 use Rattle.kr_kms.specs.declared.health.SeedNo.TheVariants as seed
 use Rattle.kr_kms.specs.declared.seeds.SeedRow.{SeedRow}
@@ -29,17 +28,16 @@ abbrev pub IsHealthy : Link → Type 0
 IsHealthy link = HasBreach link None
 
 -- the seeds that were made: one for each of these names that passes the test, by the bytes of the
--- name; each is wrapped, and its plugin was healthy
-pub record AreSeedsOf {L : Type 0} (truth : Truth) (link : L → Link) (links : List L)
+-- name; of each, the plugin was healthy
+pub record AreSeedsOf {L : Type 0} (link : L → Link) (links : List L)
     (names : List (List ℕ)) (passes : List ℕ → Bool) (made : List SeedRow) : Type 0 where
   pub ascend : IsStrictlySortedBy name_cmp (map (λ row. row.name) made)
   pub named : (name : List ℕ) → Contains (map (λ row. row.name) made) name
       ↔ (Contains names name × (passes name ≡ true))
   pub rows : All IsSeedRow made
-  pub opens : All (λ row. TellsOf truth (key_of row) row.seed) made
   pub healthy : All (λ row. HasLinkWith link row.name IsHealthy links) made
 
-module _ {L D : Type 0} (truth : Truth) (link : L → Link) (left : D → Option (List ℕ))
+module _ {L D : Type 0} (link : L → Link) (left : D → Option (List ℕ))
     (count : D → ℕ) where
   -- the plugin of this name ended it: there are seeds of those before, for which bytes were drawn,
   -- and these bytes behind them
@@ -48,7 +46,7 @@ module _ {L D : Type 0} (truth : Truth) (link : L → Link) (left : D → Option
       : Type 0 where
     pub there : Contains (plugins_in rows) name
     pub made : List SeedRow
-    pub seeds : AreSeedsOf truth link links (plugins_in rows)
+    pub seeds : AreSeedsOf link links (plugins_in rows)
         (λ other. is_lt (name_cmp other name)) made
     pub draws : Consumes (left dice) (left after) (bytes_of_seeds made ++ drawn)
 
@@ -61,7 +59,7 @@ module _ {L D : Type 0} (truth : Truth) (link : L → Link) (left : D → Option
   abbrev pub Publishes : List ConfigEntry → List L → D → Result Publication PublishNo → List L → D
       → Type 0
   Publishes rows links dice (Ok p) new after = (p.rows ≡ rows)
-      × AreSeedsOf truth link links (plugins_in rows) (λ name. true) p.seeds
+      × AreSeedsOf link links (plugins_in rows) (λ name. true) p.seeds
       × Consumes (left dice) (left after) (bytes_of_seeds p.seeds)
   Publishes rows links dice (Err (Unhealthy name field text)) new after =
       EndsAt rows links dice after name []

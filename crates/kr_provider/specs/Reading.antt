@@ -14,7 +14,7 @@ use Rattle.kr_envelope.specs.declared.object.SourceKind.TheVariants.{Key, Seed}
 use Rattle.kr_config.specs.declared.who.Who.{Who}
 use Rattle.kr_config.specs.declared.who.Who.TheVariants.{Identity, Aescbc, Aesgcm, Kms}
 use Rattle.kr_kms.specs.declared.seeds.SeedRow.{SeedRow}
-use Rattle.kr_kms.specs.Truth.{Opens}
+use Rattle.kr_kms.specs.Opens.{Opens}
 use Rattle.kr_provider.specs.Ciphers.{cipher_under, inverse_under}
 use Rattle.kr_provider.specs.Envelopes.{Envelope, HasObject, IsEnvelopeOf, value_key}
 use Rattle.kr_provider.specs.Publication.{seed_of}

@@ -8,11 +8,11 @@ use Rattle.kr_envelope.specs.declared.object.EncryptedObject.{EncryptedObject}
 use Rattle.kr_envelope.specs.declared.object.ObjectNo.{ObjectNo}
 use Rattle.kr_kms.specs.Cache.{seed_at}
 use Rattle.kr_kms.specs.Calls.{Link}
-use Rattle.kr_kms.specs.Truth.{Truth, OpenAll, key_of}
+use Rattle.kr_kms.specs.Opens.{key_of}
 use Rattle.kr_kms.specs.declared.seeds.SeedKey.{SeedKey}
 use Rattle.kr_kms.specs.declared.seeds.SeedRow.{SeedRow}
 use Rattle.kr_provider.specs.AskedLinks.{AskedOnly, FaultRose}
-use Rattle.kr_provider.specs.Envelopes.{Envelope, HasObject, IsEnvelopeOf, IsObjectOf, seed_key}
+use Rattle.kr_provider.specs.Envelopes.{Envelope, HasObject, IsObjectOf, seed_key}
 use Rattle.kr_provider.specs.Publication.{seed_of}
 use Rattle.kr_provider.specs.Readers.{reader_in}
 use Rattle.kr_provider.specs.Reading.{Unseals}
@@ -59,18 +59,14 @@ abbrev pub HasNoSource : Envelope → Type 0
 HasNoSource envelope = (why : ObjectNo) → envelope.object ≡ Err why → envelope.source ≡ None
 
 -- the answer is the reading of an envelope: the object is the value's, whatever the links tell; its
--- source is a published seed where one is the object's, and an object that is refused has none; and
--- where the truth is told and the published seeds open to what stands with them, it is what the
--- object's source opens to
-pub record IsReading {L : Type 0} (truth : Truth) (link : L → Link) (seeds : List SeedRow)
+-- source is a published seed where one is the object's, and an object that is refused has none
+pub record IsReading {L : Type 0} (link : L → Link) (seeds : List SeedRow)
     (list : List Who) (path bytes : List ℕ) (old : List L) (result : Result Opened UnsealNo)
     (new : List L) : Type 0 where
   pub envelope : Envelope
   pub object : HasObject (reader_in list bytes) bytes envelope.object
   pub published : TakesSeed seeds (reader_in list bytes) envelope
   pub unsourced : HasNoSource envelope
-  pub told : truth.told ≡ true → OpenAll truth.opens seeds
-      → IsEnvelopeOf truth.opens list bytes envelope
   pub is : Unseals envelope seeds list path bytes result
   -- no link is asked but that to the reader, and that one only where it may be asked
   pub asked : AskedOnly link (plugin_reading (reader_in list bytes)) old new
@@ -95,13 +91,13 @@ pub record LacksMemory {L : Type 0} (link : L → Link) (seeds : List SeedRow) (
       × MayAskPlugin seeds (reader_in list bytes) object)
 
 -- each answer, in the order in which a refusal comes
-module _ {L : Type 0} (truth : Truth) (link : L → Link) where
+module _ {L : Type 0} (link : L → Link) where
   abbrev pub UnsealsBy : List SeedRow → List Who → (path bytes : List ℕ) → List L
       → Result Opened UnsealNo → List L → Type 0
   UnsealsBy seeds list path bytes old (Ok opened) new =
-      IsReading truth link seeds list path bytes old (Ok opened) new
+      IsReading link seeds list path bytes old (Ok opened) new
   UnsealsBy seeds list path bytes old (Err (Refused why)) new =
-      IsReading truth link seeds list path bytes old (Err (Refused why)) new
+      IsReading link seeds list path bytes old (Err (Refused why)) new
   UnsealsBy seeds list path bytes old (Err (PluginFailed name)) new =
       FailsAtSource link seeds list bytes old name new
   UnsealsBy seeds list path bytes old (Err NoMemory) new =

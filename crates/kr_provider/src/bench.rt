@@ -37,7 +37,6 @@ pub struct Bench<L: Kms, D: Dice> {
 }
 
 impl<L: Kms, D: Dice> Model for Bench<L, D> {
-    ghost use Rattle.kr_kms.specs.Cache.{AreOpen};
     ghost use Rattle.kr_provider.specs.BenchState.{BenchState};
     ghost use Rattle.kr_provider.specs.Names.{HasAdoptedLinks, names_of};
 
@@ -51,10 +50,9 @@ impl<L: Kms, D: Dice> Model for Bench<L, D> {
       cache = bench.cache;
     } };
 
-    // There is a link to each plugin of the configuration, and what is kept is what the truth says.
+    // There is a link to each plugin of the configuration.
     ghost invariant = { λ bench. HasAdoptedLinks
-        (names_of L.link bench.links) bench.adoption.published
-        × AreOpen L.truth bench.cache.rows };
+        (names_of L.link bench.links) bench.adoption.published };
 }
 
 impl<L: Kms, D: Dice> Bench<L, D> {
@@ -214,7 +212,7 @@ impl<L: Kms, D: Dice> Bench<L, D> {
         requires adopted { IsSome self.old.published }
         requires path { length path.now ≤ path_limit }
         requires fits { length bytes.now ≤ value_limit }
-        ensures opened { IfSome self.old.published (λ p. UnsealsBy L.truth L.link p.seeds
+        ensures opened { IfSome self.old.published (λ p. UnsealsBy L.link p.seeds
             (list_at p resource.now) path.now bytes.now self.old.links result self.new.links) }
         ensures cached { IfSome self.old.published (λ p. HeedsCache self.old.cache.rows
             p.seeds (list_at p resource.now) path.now bytes.now self.old.links result
@@ -242,7 +240,7 @@ impl<L: Kms, D: Dice> Bench<L, D> {
         requires adopted { IsSome self.old.published }
         requires path { length path.now ≤ path_limit }
         requires fits { length value ≤ value_limit }
-        ensures opened { IfSome self.old.published (λ p. UnsealsBy L.truth L.link p.seeds
+        ensures opened { IfSome self.old.published (λ p. UnsealsBy L.link p.seeds
             (list_at p resource.now) path.now value self.old.links result self.new.links) }
         ensures cached { IfSome self.old.published (λ p. HeedsCache self.old.cache.rows
             p.seeds (list_at p resource.now) path.now value self.old.links result
@@ -284,7 +282,7 @@ impl<L: Kms, D: Dice> Bench<L, D> {
         settings: Shared<Settings>,
     ) -> Result<Published, PublishNo>
         requires links { HasLinks (names_of L.link self.old.links) (rows_of settings.entries.0) }
-        ensures published { Publishes L.truth L.link D.left D.count (rows_of settings.entries.0)
+        ensures published { Publishes L.link D.left D.count (rows_of settings.entries.0)
             self.old.links self.old.dice result self.new.links self.new.dice }
         ensures asked { AskedOnly L.link (plugins_in (rows_of settings.entries.0)) self.old.links
             self.new.links }

@@ -33,10 +33,10 @@ pub fn reading_without_plugin()
 
 /// Where settings name no plugin, a bench asks no link, and reads values with any envelope.
 pub fn unsealing_without_plugin<L: Kms>()
-    ensures { UnsealsWithoutPlugin L.truth L.link }
+    ensures { UnsealsWithoutPlugin L.link }
 {}
 
-/// What a value reads as by the truth of plugins, it reads as with some unwrapped source.
+/// What a value reads as by what sources open to, it reads as with some unwrapped source.
 pub fn some_reading()
     ensures { ReadsSomehow }
 {}
@@ -49,7 +49,7 @@ pub fn tag_of_path()
 
 /// Publishing goes through the plugins by the order of their names.
 pub fn publishing_in_order<L: Kms, D: Dice>()
-    ensures { PublishesInOrder L.truth L.link D.left D.count }
+    ensures { PublishesInOrder L.link D.left D.count }
 {}
 
 /// Links that were asked are those of before. Proofs that cite this law may cite the lemmas of

@@ -126,7 +126,7 @@ impl<L: Kms> Links<L> {
     ) -> Result<SeedRow, SeedNo>
         requires { Contains (names_of L.link self.old) name.now }
         ensures made { AsksOne L.link name.now
-            (λ old new. MakesSeed D.left D.count L.truth (L.link old) dice.old result (L.link new)
+            (λ old new. MakesSeed D.left D.count (L.link old) dice.old result (L.link new)
             dice.new) self.old self.new }
         ensures later { D.count dice.old ≤ D.count dice.new }
         ensures exchanged { Talk (Among L.step) self.old self.new
@@ -144,7 +144,7 @@ impl<L: Kms> Links<L> {
         object: &EncryptedObject,
     ) -> Result<Bytes, KmsNo>
         requires { Contains (names_of L.link self.old) name.now }
-        ensures fetched { AsksOne L.link name.now (λ old new. Fetches L.truth L.link old cache.old
+        ensures fetched { AsksOne L.link name.now (λ old new. Fetches L.link old cache.old
             (asked_key name.now object.now.key_id object.now.annotations object.now.source)
             result new cache.new) self.old self.new }
         ensures exchanged { Talk (Among L.step) self.old self.new (FetchesBy

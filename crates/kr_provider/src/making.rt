@@ -23,7 +23,7 @@ pub(crate) fn make_seeds<L: Kms, D: Dice>(
     dice: &mut D,
 ) -> Result<List<SeedRow>, PublishNo>
     requires links { HasLinks (names_of L.link links.old) (rows_of settings.now.entries.0) }
-    ensures made { MakesAll L.truth L.link D.left D.count (rows_of settings.now.entries.0)
+    ensures made { MakesAll L.link D.left D.count (rows_of settings.now.entries.0)
         links.old dice.old result links.new dice.new }
     ensures asked { AskedOnly L.link (plugins_in (rows_of settings.now.entries.0)) links.old
         links.new }
@@ -56,7 +56,7 @@ fn make_one<L: Kms, D: Dice>(
     dice: &mut D,
 ) -> Result<SeedRow, PublishNo>
     requires { Contains (names_of L.link links.old) name.now }
-    ensures made { MakesAt L.truth L.link D.left D.count name.now links.old dice.old result
+    ensures made { MakesAt L.link D.left D.count name.now links.old dice.old result
         links.new
         dice.new }
     ensures later { D.count dice.old ≤ D.count dice.new }

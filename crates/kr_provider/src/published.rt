@@ -129,7 +129,7 @@ pub fn publish<L: Kms, D: Dice>(
     dice: &mut D,
 ) -> Result<Published, PublishNo>
     requires links { HasLinks (names_of L.link links.old) (rows_of settings.entries.0) }
-    ensures published { Publishes L.truth L.link D.left D.count (rows_of settings.entries.0)
+    ensures published { Publishes L.link D.left D.count (rows_of settings.entries.0)
         links.old dice.old result links.new dice.new }
     ensures asked { AskedOnly L.link (plugins_in (rows_of settings.entries.0)) links.old links.new }
     ensures later { D.count dice.old ≤ D.count dice.new }

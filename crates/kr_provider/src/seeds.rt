@@ -2,7 +2,7 @@
 ghost use Rattle.std.specs.Prelude.{◌≡◌, ◌&&◌, not, MatchOption, None, Some, Ok, position};
 ghost use Rattle.std.specs.Str.{bytes_eq};
 ghost use Rattle.kr_kms.specs.Cache.{key_eq};
-ghost use Rattle.kr_kms.specs.Truth.{key_of};
+ghost use Rattle.kr_kms.specs.Opens.{key_of};
 ghost use Rattle.kr_provider.specs.Envelopes.{seed_key};
 ghost use Rattle.kr_provider.specs.Publication.{seed_of};
 ghost use Rattle.kr_provider.specs.Reading.{is_current, is_seed};

@@ -2,7 +2,7 @@
 ghost use Rattle.std.specs.Prelude.{◌≡◌, ℕ, ◌≤◌, List, length, All, Contains, Some, None, IsSome, Ok, IfSome};
 ghost use Rattle.kr_base.specs.Limits.{path_limit, value_limit};
 ghost use Rattle.kr_config.specs.declared.who.Who.{Who};
-ghost use Rattle.kr_kms.specs.Cache.{AreOpen, seed_at};
+ghost use Rattle.kr_kms.specs.Cache.{seed_at};
 ghost use Rattle.kr_kms.specs.Seeds.{IsSeedRow};
 ghost use Rattle.kr_kms.specs.declared.seeds.SeedRow.{SeedRow};
 ghost use Rattle.kr_base.specs.Walks.{Talk};
@@ -43,16 +43,14 @@ pub(crate) fn unseal_for_resource<L: Kms>(
 ) -> Result<Opened, UnsealNo>
     requires adopted { IsSome adoption.now.published }
     requires links { HasAdoptedLinks (names_of L.link links.old) adoption.now.published }
-    requires kept { AreOpen L.truth cache.old.rows }
     requires path { length path.now ≤ path_limit }
     requires fits { length value ≤ value_limit }
-    ensures opened { IfSome adoption.now.published (λ p. UnsealsBy L.truth L.link p.seeds
+    ensures opened { IfSome adoption.now.published (λ p. UnsealsBy L.link p.seeds
         (list_at p resource.now) path.now value links.old result links.new) }
     ensures cached { IfSome adoption.now.published (λ p. HeedsCache cache.old.rows
         p.seeds (list_at p resource.now) path.now value links.old result links.new) }
     ensures exchanged { IfSome adoption.now.published (λ p. Talk (Among L.step) links.old links.new
         (ReadsBy p.seeds (list_at p resource.now) path.now value cache.old result cache.new)) }
-    ensures kept { AreOpen L.truth cache.new.rows }
 {
     let published = adoption.published();
     let list = published.listed(resource);
@@ -76,16 +74,14 @@ fn unseal_by_list<L: Kms>(
     requires list { IsProviderList list.now }
     requires seeds { HaveSeeds seeds.now list.now }
     requires links { AreNamedIn (names_of L.link links.old) list.now }
-    requires kept { AreOpen L.truth cache.old.rows }
     requires path { length path.now ≤ path_limit }
     requires fits { length value ≤ value_limit }
-    ensures opened { UnsealsBy L.truth L.link seeds.now list.now path.now value links.old result
+    ensures opened { UnsealsBy L.link seeds.now list.now path.now value links.old result
         links.new }
     ensures cached { HeedsCache cache.old.rows seeds.now list.now path.now value links.old
         result links.new }
     ensures exchanged { Talk (Among L.step) links.old links.new
         (ReadsBy seeds.now list.now path.now value cache.old result cache.new) }
-    ensures kept { AreOpen L.truth cache.new.rows }
 {
     let bytes = value.as_slice();
     let Some(place) = find_reader(list, bytes) else {
@@ -128,13 +124,12 @@ fn by_plugin<L: Kms>(
     body: &[u8],
 ) -> Result<Opened, UnsealNo>
     requires link { Contains (names_of L.link links.old) name.now }
-    requires kept { AreOpen L.truth cache.old.rows }
     requires path { length path.now ≤ path_limit }
     requires fits { length body.now ≤ value_limit }
     ensures opened { (seeds : List SeedRow) (list : List Who) (bytes : List ℕ)
         → seed_of name.now seeds ≡ Some row.now
         → IsReadBy list bytes (Who.Kms name.now) body.now first
-        → UnsealsBy L.truth L.link seeds list path.now bytes links.old result links.new }
+        → UnsealsBy L.link seeds list path.now bytes links.old result links.new }
     ensures cached { (seeds : List SeedRow) (list : List Who) (bytes : List ℕ)
         → seed_of name.now seeds ≡ Some row.now
         → IsReadBy list bytes (Who.Kms name.now) body.now first
@@ -144,7 +139,6 @@ fn by_plugin<L: Kms>(
         → IsReadBy list bytes (Who.Kms name.now) body.now first
         → Talk (Among L.step) links.old links.new
         (ReadsBy seeds list path.now bytes cache.old result cache.new) }
-    ensures kept { AreOpen L.truth cache.new.rows }
 {
     let object = read_object(alloc, body)?;
     let stale = is_stale(first, row, &object);
@@ -164,10 +158,9 @@ fn unseal_object<L: Kms>(
     path: &str,
 ) -> Result<Bytes, UnsealNo>
     requires link { Contains (names_of L.link links.old) name.now }
-    requires kept { AreOpen L.truth cache.old.rows }
     requires path { length path.now ≤ path_limit }
     requires fits { length object.encrypted ≤ value_limit }
-    ensures opened { UnsealsObject L.truth L.link row.now name.now object path.now links.old
+    ensures opened { UnsealsObject L.link row.now name.now object path.now links.old
         result links.new }
     ensures cached { (source : List ℕ)
         → seed_at cache.old.rows (seed_key name.now object) ≡ Some source
@@ -175,7 +168,6 @@ fn unseal_object<L: Kms>(
         → Gives (source_reading object.kind source path.now object.encrypted) result) }
     ensures exchanged { Talk (Among L.step) links.old links.new
         (UnsealsObjectBy row.now name.now object path.now cache.old result cache.new) }
-    ensures kept { AreOpen L.truth cache.new.rows }
 {
     if is_object_seed(row, name, &object) {
         return by_source(object.kind, row.seed.as_slice(), path, object.encrypted);
@@ -194,14 +186,12 @@ fn open_source<L: Kms>(
     cache: &mut SeedCache,
 ) -> Result<Bytes, UnsealNo>
     requires link { Contains (names_of L.link links.old) name.now }
-    requires kept { AreOpen L.truth cache.old.rows }
-    ensures opened { OpensSource L.truth L.link name.now object.now links.old result links.new }
+    ensures opened { OpensSource L.link name.now object.now links.old result links.new }
     ensures cached { (source : List ℕ)
         → seed_at cache.old.rows (seed_key name.now object.now) ≡ Some source
         → (links.new ≡ links.old) × GivesSource source result }
     ensures exchanged { Talk (Among L.step) links.old links.new
         (OpensSourceBy name.now object.now cache.old result cache.new) }
-    ensures kept { AreOpen L.truth cache.new.rows }
 {
     let asked = match Text::copy(alloc, name) {
         Ok(asked) => asked,

@@ -4,7 +4,7 @@ use Rattle.std.specs.Prelude.{⊤}
 use Rattle.std.proofs.Common.{◌≡◌, inl, inr, ℕ, Bool, true, false, List, [], ◌∷◌, Option, Some, Result, Ok, Err, refl, sym, subst, ◌∙◌}
 use Rattle.kr_kms.specs.Cache.{AreOpenBy, CacheState}
 use Rattle.kr_kms.specs.Exchanges.{AgreeAll, Exchange}
-use Rattle.kr_kms.specs.Truth.{OpenAll, Opens}
+use Rattle.kr_kms.specs.Opens.{OpenAll, Opens}
 use Rattle.kr_kms.proofs.Opening.{agree_parts}
 use Rattle.kr_provider.specs.ExchangeLaws.{IsAnswerBy}
 use Rattle.kr_provider.specs.Publication.{Publication, list_at}
@@ -34,7 +34,7 @@ use Rattle.kr_rewrite.specs.Rewrites.{FindsNone, IsStepOver, ResealsBy, Rewrites
 use Rattle.kr_rewrite.specs.declared.outcome.Report.{Report}
 use Rattle.kr_rewrite.specs.declared.outcome.Step.{Step}
 use Rattle.kr_rewrite.specs.declared.outcome.Step.TheVariants as step
-use Rattle.kr_rewrite.proofs.Replacing.{ReadsWhereOpen, keeps_replace_by}
+use Rattle.kr_rewrite.proofs.Replacing.{ReadsWhereOpen, keeps_replace}
 
 module _ (opens : Opens) where
   -- ---- what is read
@@ -109,7 +109,7 @@ module _ (opens : Opens) where
     reseal_stays plain reads (Ok stored) result (inl r) = record {
       caller = caller_next old new (event.Replace row.path row.revision stored) r.given
           r.replaces k;
-      honest = keeps_replace_by opens old new number p row plain row.path stored r.given k held
+      honest = keeps_replace opens old new number p row plain row.path stored r.given k held
           found reads r.sealing refl r.replaces;
     }
     reseal_stays plain reads (Ok stored) result (inr n) = stays_same old new k n.0.same

@@ -4,7 +4,7 @@ use Rattle.std.proofs.Common.{◌≡◌, inl, inr, ℕ, ◌<◌, List, ◌++◌,
 use Rattle.std.specs.Option.{option_map}
 use Rattle.std.proofs.lemmas.Option.{same_Some}
 use Rattle.kr_base.specs.Rules.{IsPath}
-use Rattle.kr_kms.specs.Truth.{OpenAll, Opens, Truth}
+use Rattle.kr_kms.specs.Opens.{OpenAll, Opens}
 use Rattle.kr_provider.specs.Publication.{Publication, list_at, writer_at}
 use Rattle.kr_provider.specs.Reading.{HasReading, HasSomeReading, data_of}
 use Rattle.kr_provider.specs.Sealing.{IsSealing, Seals}
@@ -21,7 +21,7 @@ use Rattle.kr_rollout.specs.declared.opening.Entry.{Entry}
 use Rattle.kr_rollout.specs.declared.opening.Opening.{Opening}
 use Rattle.kr_history.specs.Acting.{Caller, AddsEntry, IsCaller}
 use Rattle.kr_rollout.specs.Callers.{MayAsk, found_in, gave_of, holding}
-use Rattle.kr_history.specs.Calls.{AddsNothing, KeepsHonestBy, KeepsToldHonesty}
+use Rattle.kr_history.specs.Calls.{AddsNothing, KeepsHonestBy}
 use Rattle.kr_history.specs.Honesty.{HonestBy, IsHonest, KeepsData}
 use Rattle.kr_history.proofs.FoundRows.{replaced_is_live}
 use Rattle.kr_history.proofs.HeldFacts.{found_is_named, held_is_named, held_opens}
@@ -29,7 +29,7 @@ use Rattle.kr_history.proofs.KeptHonest.{honesty_follows}
 use Rattle.kr_history.proofs.Nexts.{front_own, legal_now}
 use Rattle.kr_rewrite.specs.declared.outcome.Step.{Step}
 use Rattle.kr_rewrite.specs.Rewrites.{IsStepTo, ReplacesBy, unsealed_step}
-use Rattle.kr_rewrite.specs.inner.Stages.{ReadsData, ResealsRow}
+use Rattle.kr_rewrite.specs.inner.Stages.{ResealsRow}
 
 -- ---- what may be asked
 
@@ -118,28 +118,16 @@ module _ (opens : Opens) (old new : Caller) (number : ℕ) (p : Publication) (ro
   honest_entry (answer.Departed n) a front = tt
   honest_entry answer.NoMemory a front = tt
 
-pub keeps_replace_by : (opens : Opens) (old new : Caller) (number : ℕ) (p : Publication) (row : Row)
+pub keeps_replace : (opens : Opens) (old new : Caller) (number : ℕ) (p : Publication) (row : Row)
     (plain copy stored : List ℕ) (given : Answer) → IsCaller old
     → holding old.mine ≡ Some (number, p) → found_in old.mine ≡ Some row
     → ReadsWhereOpen opens p row plain → IsSealing p row.resource row.path plain stored
     → copy ≡ row.path → AddsEntry old (event.Replace copy row.revision stored) given new
     → KeepsHonestBy opens old new
-keeps_replace_by opens old new number p row plain copy stored given k held found reads sealing
-    is a =
+keeps_replace opens old new number p row plain copy stored given k held found reads sealing is a =
     let b = subst (λ q. AddsEntry old (event.Replace q row.revision stored) given new) is a in
     honesty_follows opens old new (event.Replace row.path row.revision stored) given b
     (honest_entry opens old new number p row plain stored k held found reads sealing given b)
-
-pub keeps_replace : (truth : Truth) (old new : Caller) (number : ℕ) (p : Publication) (row : Row)
-    (plain copy stored : List ℕ) (given : Answer) → IsCaller old
-    → holding old.mine ≡ Some (number, p) → found_in old.mine ≡ Some row
-    → ReadsData truth p row plain → IsSealing p row.resource row.path plain stored
-    → copy ≡ row.path → AddsEntry old (event.Replace copy row.revision stored) given new
-    → KeepsToldHonesty truth old new
-keeps_replace truth old new number p row plain copy stored given k held found reads sealing is a
-    told =
-    keeps_replace_by truth.opens old new number p row plain copy stored given k held found
-    (reads.told told) sealing is a
 
 -- ---- what becomes of the row
 

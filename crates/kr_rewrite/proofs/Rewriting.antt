@@ -3,8 +3,8 @@ use Rattle.std.specs.Prelude.{IfOk, IfSome}
 use Rattle.std.proofs.Common.{◌≡◌, inl, inr, ℕ, true, false, List, Option, None, Some, Result, Ok, Err, refl, sym, ap, subst, ◌∙◌}
 use Rattle.kr_base.specs.Rules.{IsPath}
 use Rattle.kr_kms.specs.Calls.{Link}
-use Rattle.kr_kms.specs.Truth.{Truth}
-use Rattle.kr_provider.specs.Publication.{Publication}
+use Rattle.kr_provider.specs.Publication.{Publication, list_at}
+use Rattle.kr_provider.specs.Reading.{HasSomeReading, data_of}
 use Rattle.kr_provider.specs.declared.refusal.Opened.{Opened}
 use Rattle.kr_provider.specs.declared.refusal.UnsealNo.{UnsealNo}
 use Rattle.kr_provider.specs.declared.refusal.UnsealNo.TheVariants as unsealing
@@ -18,7 +18,7 @@ use Rattle.kr_history.specs.Calls.{LetsGo}
 use Rattle.kr_rewrite.specs.declared.outcome.Step.{Step}
 use Rattle.kr_rewrite.specs.declared.outcome.Step.TheVariants as step
 use Rattle.kr_rewrite.specs.Rewrites.{IsStepOver, IsStepTo, RewritesData, RewritesOver, ReadsFoundRow, StepsOver, UnsealsRow, unread_step}
-use Rattle.kr_rewrite.specs.inner.Stages.{LooksAbove, ReadsData, ResealsRow}
+use Rattle.kr_rewrite.specs.inner.Stages.{LooksAbove, ResealsRow}
 
 -- ---- the value that was found
 
@@ -32,13 +32,10 @@ pub unread_to : (path own : List ℕ) (why : UnsealNo) (result : Result Step Cal
 unread_to path own why result same is d =
     subst (λ r. IfOk r IsStepTo) (sym d) (unread_at path why (subst IsPath (sym same) is))
 
-pub reads_data : {L : Type 0} (truth : Truth) (link : L → Link) (p : Publication) (row : Row)
-    (olds news : List L) (opened : Opened) → UnsealsRow truth link p row olds (Ok opened) news
-    → ReadsData truth p row opened.plain
-reads_data truth link p row olds news opened u = record {
-  some = (u.envelope, u.object, u.is.0);
-  told = λ told opens. (u.envelope, u.told told opens, u.is.0);
-}
+pub reads_data : {L : Type 0} (link : L → Link) (p : Publication) (row : Row)
+    (olds news : List L) (opened : Opened) → UnsealsRow link p row olds (Ok opened) news
+    → HasSomeReading (list_at p row.resource) row.path row.stored (data_of opened.plain)
+reads_data link p row olds news opened u = (u.envelope, u.object, u.is.0)
 
 module _ {S D : Type 0} (Reads : ReadsFoundRow S) (left : D → Option (List ℕ)) (count : D → ℕ)
     (p : Publication) (row : Row) (from to : S) (path : List ℕ) (path_is : path ≡ row.path)

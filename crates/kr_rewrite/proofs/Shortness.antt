@@ -20,7 +20,6 @@ use Rattle.kr_history.specs.Parts.{AddsWithin}
 use Rattle.kr_history.proofs.PartsAdd.{nothing_within}
 use Rattle.kr_opening.proofs.Walking.{count_less, itself, lt_is}
 use Rattle.kr_kms.specs.Calls.{Link}
-use Rattle.kr_kms.specs.Truth.{Truth}
 use Rattle.kr_rewrite.specs.DriveLaws.{DrivesNeedFew, LiveAmong}
 use Rattle.kr_rewrite.specs.Drives.{EndsByOver, FindsRow, StayLinks, WalksOver, last_of, path_of}
 use Rattle.kr_rewrite.specs.Rewrites.{ReadsFoundRow, UnsealsRow}
@@ -153,26 +152,26 @@ abbrev why_in : CallNo → Result Report (Report × CallNo) → CallNo
 why_in other (Ok report) = other
 why_in other (Err cut) = cut.1
 
-pub drives_need_few : {L D : Type 0} (truth : Truth) (link : L → Link)
-    (left : D → Option (List ℕ)) (count : D → ℕ) → DrivesNeedFew truth link left count
-drives_need_few {L} {D} truth link left count replica above old olds dice (Ok report) new news
+pub drives_need_few : {L D : Type 0} (link : L → Link)
+    (left : D → Option (List ℕ)) (count : D → ℕ) → DrivesNeedFew link left count
+drives_need_few {L} {D} link left count replica above old olds dice (Ok report) new news
     after paths d among = record {
-      few = adds_few paths (UnsealsRow truth link) left count replica (StayLinks link) above
+      few = adds_few paths (UnsealsRow link) left count replica (StayLinks link) above
           d.steps old olds dice (Ok step.End)
           report new news after d.ends among;
       spent = λ r e. cc e;
     }
-drives_need_few {L} {D} truth link left count replica above old olds dice (Err cut) new news after
+drives_need_few {L} {D} link left count replica above old olds dice (Err cut) new news after
     paths (inl c) among = record {
-      few = adds_few paths (UnsealsRow truth link) left count replica (StayLinks link) above
+      few = adds_few paths (UnsealsRow link) left count replica (StayLinks link) above
           c.steps old olds dice (Err cut.1)
           cut.0 new news after c.ends among;
-      spent = λ r e. (spends_few paths (UnsealsRow truth link) left count replica (StayLinks link)
+      spent = λ r e. (spends_few paths (UnsealsRow link) left count replica (StayLinks link)
           above c.steps old olds dice
           (Err cut.1) cut.0 new news after c.ends among).spent
           (ap (λ why. Err why) (ap (why_in cut.1) e));
     }
-drives_need_few {L} {D} truth link left count replica above old olds dice (Err cut) new news after
+drives_need_few {L} {D} link left count replica above old olds dice (Err cut) new news after
     paths (inr n) among = record {
       few = subst (λ (c : Caller). AddsWithin (4 * length paths + 3) 0 [] old c) (sym n.same)
           (nothing_within (4 * length paths + 3) 0 [] old);

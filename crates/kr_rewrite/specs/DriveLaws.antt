@@ -3,7 +3,7 @@ use Rattle.std.specs.Prelude.{◌≡◌, ◌<◌, ◌+◌, ◌*◌, ℕ, List, [
 use Rattle.kr_kms.specs.Cache.{AreOpenBy, CacheState}
 use Rattle.kr_kms.specs.Calls.{Link}
 use Rattle.kr_kms.specs.Exchanges.{AgreeAll, Exchange}
-use Rattle.kr_kms.specs.Truth.{Opens, Truth}
+use Rattle.kr_kms.specs.Opens.{Opens}
 use Rattle.kr_store.specs.Rows.{live}
 use Rattle.kr_history.specs.declared.call.CallNo.{CallNo}
 use Rattle.kr_history.specs.declared.call.CallNo.TheVariants as refusal
@@ -30,13 +30,13 @@ pub record NeedsFew (paths : List (List ℕ)) (old : Caller)
   pub spent : (report : Report) → result ≡ Err (report, refusal.Spent)
       → old.left < 4 * length paths + 3
 
-abbrev pub DrivesNeedFew : {L D : Type 0} → Truth → (link : L → Link)
+abbrev pub DrivesNeedFew : {L D : Type 0} → (link : L → Link)
     → (left : D → Option (List ℕ)) → (count : D → ℕ) → Type 0
-DrivesNeedFew {L} {D} truth link left count =
+DrivesNeedFew {L} {D} link left count =
     (replica : ℕ) (above : List ℕ) (old : Caller) (olds : List L) (dice : D)
     (result : Result Report (Report × CallNo)) (new : Caller) (news : List L) (after : D)
     (paths : List (List ℕ))
-    → IsDrive truth link left count replica above old olds dice result new news after
+    → IsDrive link left count replica above old olds dice result new news after
     → LiveAmong paths new → NeedsFew paths old result new
 
 -- ---- by which exchanges

@@ -5,7 +5,6 @@ use Rattle.std.specs.declared.cmp.Ordering.TheVariants.{Less}
 use Rattle.std.specs.Ordering.{nat_cmp}
 use Rattle.std.specs.Cmp.Lexicographic.{slice_cmp}
 use Rattle.kr_kms.specs.Calls.{Link}
-use Rattle.kr_kms.specs.Truth.{Truth}
 use Rattle.kr_provider.specs.AskedLinks.{AskedOnly}
 use Rattle.kr_provider.specs.Names.{names_of}
 use Rattle.kr_store.specs.Rows.{live}
@@ -172,38 +171,38 @@ module _ {S D : Type 0} (Reads : ReadsFoundRow S) (Meanwhile : S → S → Type 
       IsCutOver above old from dice cut.1 cut.0 new to after
       ⊎ CopiesNoPath old from dice cut.1 cut.0 new to after
 
--- ---- by the links, as a truth has it
+-- ---- over links
 
 module _ {L : Type 0} (link : L → Link) where
   -- each link stays the same plugin's
   abbrev pub StayLinks : List L → List L → Type 0
   StayLinks olds news = AskedOnly link (names_of link olds) olds news
 
-module _ {L D : Type 0} (truth : Truth) (link : L → Link) (left : D → Option (List ℕ))
+module _ {L D : Type 0} (link : L → Link) (left : D → Option (List ℕ))
     (count : D → ℕ) (replica : ℕ) where
   abbrev pub Walks : (above : List ℕ) → List Step → Caller → List L → D → Caller → List L → D
       → Type 0
-  Walks above steps old olds dice new news after = WalksOver (UnsealsRow truth link) left count
+  Walks above steps old olds dice new news after = WalksOver (UnsealsRow link) left count
       replica above steps old olds dice new news after
 
   abbrev pub EndsBy : (above : List ℕ) → List Step → Caller → List L → D → Result Step CallNo
       → Report → Caller → List L → D → Type 0
-  EndsBy above steps old olds dice ended report new news after = EndsByOver (UnsealsRow truth link)
+  EndsBy above steps old olds dice ended report new news after = EndsByOver (UnsealsRow link)
       (StayLinks link) left count replica above steps old olds dice ended report new news after
 
   abbrev pub Drives : (above : List ℕ) → Caller → List L → D → Report → Caller → List L → D
       → Type 0
-  Drives above old olds dice report new news after = DrivesOver (UnsealsRow truth link)
+  Drives above old olds dice report new news after = DrivesOver (UnsealsRow link)
       (StayLinks link) left count replica above old olds dice report new news after
 
   abbrev pub IsCut : (above : List ℕ) → Caller → List L → D → CallNo → Report → Caller → List L
       → D → Type 0
-  IsCut above old olds dice why report new news after = IsCutOver (UnsealsRow truth link)
+  IsCut above old olds dice why report new news after = IsCutOver (UnsealsRow link)
       (StayLinks link) left count replica above old olds dice why report new news after
 
   abbrev pub IsDrive : (above : List ℕ) → Caller → List L → D → Result Report (Report × CallNo)
       → Caller → List L → D → Type 0
-  IsDrive above old olds dice result new news after = IsDriveOver (UnsealsRow truth link)
+  IsDrive above old olds dice result new news after = IsDriveOver (UnsealsRow link)
       (StayLinks link) left count replica above old olds dice result new news after
 
 -- afterwards the seat holds nothing, unless it could add no more lines

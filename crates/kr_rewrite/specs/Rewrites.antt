@@ -3,7 +3,6 @@
 use Rattle.std.specs.Prelude.{◌≡◌, ◌⊎◌, ℕ, Bool, true, false, List, Option, Result, Ok, Err, ⊤}
 use Rattle.kr_base.specs.Rules.{IsPath}
 use Rattle.kr_kms.specs.Calls.{Link}
-use Rattle.kr_kms.specs.Truth.{Truth}
 use Rattle.kr_provider.specs.Publication.{Publication, list_at, writer_at}
 use Rattle.kr_provider.specs.Sealing.{Seals, IsSealing}
 use Rattle.kr_provider.specs.Unsealing.{UnsealsBy}
@@ -155,32 +154,32 @@ module _ {S D : Type 0} (Reads : ReadsFoundRow S) (left : D → Option (List ℕ
       (λ number p start done end. StepsOver p above start from dice done end to after) replica old
       result new
 
--- ---- by the links, as a truth has it
+-- ---- over links
 
-module _ {L : Type 0} (truth : Truth) (link : L → Link) where
+module _ {L : Type 0} (link : L → Link) where
   abbrev pub UnsealsRow : ReadsFoundRow (List L)
-  UnsealsRow p row olds opened news = UnsealsBy truth link p.seeds (list_at p row.resource) row.path
+  UnsealsRow p row olds opened news = UnsealsBy link p.seeds (list_at p row.resource) row.path
       row.stored olds opened news
 
-module _ {L D : Type 0} (truth : Truth) (link : L → Link) (left : D → Option (List ℕ))
+module _ {L D : Type 0} (link : L → Link) (left : D → Option (List ℕ))
     (count : D → ℕ) where
   abbrev pub Rewrites : Publication → Row → Caller → List L → D → Result Step CallNo → Caller
       → List L → D → Type 0
   Rewrites p row old olds dice result new news after =
-      RewritesOver (UnsealsRow truth link) left count p row old olds dice result new news after
+      RewritesOver (UnsealsRow link) left count p row old olds dice result new news after
 
   abbrev pub FindsNext : Publication → (above : List ℕ) → Caller → List L → D
       → Result Step CallNo → Caller → List L → D → Type 0
   FindsNext p above old olds dice result new news after =
-      FindsNextOver (UnsealsRow truth link) left count p above old olds dice result new news after
+      FindsNextOver (UnsealsRow link) left count p above old olds dice result new news after
 
   abbrev pub Steps : Publication → (above : List ℕ) → Caller → List L → D → Result Step CallNo
       → Caller → List L → D → Type 0
   Steps p above old olds dice result new news after =
-      StepsOver (UnsealsRow truth link) left count p above old olds dice result new news after
+      StepsOver (UnsealsRow link) left count p above old olds dice result new news after
 
   abbrev pub IsStep : (replica : ℕ) → (above : List ℕ) → Caller → List L → D
       → Result Step CallNo → Caller → List L → D → Type 0
   IsStep replica above old olds dice result new news after =
-      IsStepOver (UnsealsRow truth link) left count replica above old olds dice result new news
+      IsStepOver (UnsealsRow link) left count replica above old olds dice result new news
       after

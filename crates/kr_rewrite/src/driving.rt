@@ -7,7 +7,7 @@ ghost use Rattle.kr_provider.specs.BenchKeys.{LeavesKeys, adoption_of};
 ghost use Rattle.kr_provider.specs.KeyPages.{size_of};
 ghost use Rattle.kr_provider.specs.Names.{names_of};
 ghost use Rattle.kr_rollout.specs.Callers.{holding};
-ghost use Rattle.kr_history.specs.Calls.{AreServed, KeepsToldHonesty};
+ghost use Rattle.kr_history.specs.Calls.{AreServed};
 ghost use Rattle.kr_history.specs.KeyMoments.{Happens, call_moments, has_adopted};
 ghost use Rattle.kr_rewrite.specs.DriveExchanges.{IsDriveBy};
 ghost use Rattle.kr_rewrite.specs.Drives.{IsDrive, IsIdleAtEnd, report_at};
@@ -35,12 +35,11 @@ pub fn drive<A: Acts, L: Kms, D: Dice>(
     requires path { (after.now ≡ []) ⊎ IsPath after.now }
     requires links { AreServed (A.caller acts.old).opening.names (names_of L.link bench.old.links) }
     requires pages { 64 ≤ size_of bench.old.pages }
-    ensures drives { IsDrive L.truth L.link D.left D.count replica after.now (A.caller acts.old)
+    ensures drives { IsDrive L.link D.left D.count replica after.now (A.caller acts.old)
         bench.old.links bench.old.dice result (A.caller acts.new) bench.new.links bench.new.dice }
     ensures exchanged { Talk (Among L.step) bench.old.links bench.new.links (IsDriveBy D.left
         D.count replica after.now (A.caller acts.old) bench.old.cache bench.old.dice result
         (A.caller acts.new) bench.new.cache bench.new.dice) }
-    ensures honest { KeepsToldHonesty L.truth (A.caller acts.old) (A.caller acts.new) }
     ensures idle { IsIdleAtEnd result (A.caller acts.new) }
     ensures asked { AskedOnly L.link (names_of L.link bench.old.links) bench.old.links
         bench.new.links }
@@ -72,13 +71,12 @@ fn take_steps<A: Acts, L: Kms, D: Dice>(
     requires none { report ≡ report_at report.last }
     requires links { AreServed (A.caller acts.old).opening.names (names_of L.link bench.old.links) }
     requires pages { 64 ≤ size_of bench.old.pages }
-    ensures goes_on { GoesOn L.truth L.link D.left D.count replica report.last
+    ensures goes_on { GoesOn L.link D.left D.count replica report.last
         (A.caller acts.old) bench.old.links bench.old.dice result (A.caller acts.new)
         bench.new.links bench.new.dice }
     ensures exchanged { Talk (Among L.step) bench.old.links bench.new.links (GoesOnBy D.left
         D.count replica report.last (A.caller acts.old) bench.old.cache bench.old.dice result
         (A.caller acts.new) bench.new.cache bench.new.dice) }
-    ensures honest { KeepsToldHonesty L.truth (A.caller acts.old) (A.caller acts.new) }
     ensures idle { IsIdleAtEnd result (A.caller acts.new) }
     ensures asked { AskedOnly L.link (names_of L.link bench.old.links) bench.old.links
         bench.new.links }

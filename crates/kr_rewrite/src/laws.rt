@@ -6,7 +6,7 @@ use kr_kms::Kms;
 
 /// A drive finds each path that has a live row at most once, so it needs few entries.
 pub fn drives_need_few<L: Kms, D: Dice>()
-    ensures { DrivesNeedFew L.truth L.link D.left D.count }
+    ensures { DrivesNeedFew L.link D.left D.count }
 {}
 
 /// By whatever agrees with the exchanges of a step, what is kept opens as it should, and the

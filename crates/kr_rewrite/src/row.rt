@@ -3,12 +3,13 @@ ghost use Rattle.std.specs.Prelude.{◌≡◌, ◌≤◌, [], length, IfOk, IfSo
 ghost use Rattle.kr_base.specs.Walks.{Talk};
 ghost use Rattle.kr_provider.specs.AskedLinks.{Among, AskedOnly};
 ghost use Rattle.kr_provider.specs.Names.{names_of};
+ghost use Rattle.kr_provider.specs.Publication.{list_at};
+ghost use Rattle.kr_provider.specs.Reading.{HasSomeReading, data_of};
 ghost use Rattle.kr_store.specs.Rows.{IsRow};
 ghost use Rattle.kr_rollout.specs.Callers.{found_in, holding};
-ghost use Rattle.kr_history.specs.Calls.{KeepsToldHonesty};
 ghost use Rattle.kr_history.specs.Parts.{AddsWithin};
 ghost use Rattle.kr_rewrite.specs.Rewrites.{IsStepTo, ReplacesBy, Rewrites, unread_step, unsealed_step};
-ghost use Rattle.kr_rewrite.specs.inner.Stages.{AnswersReplace, HoldsAdopted, ReadsData, ResealsRow, RewritesRowBy};
+ghost use Rattle.kr_rewrite.specs.inner.Stages.{AnswersReplace, HoldsAdopted, ResealsRow, RewritesRowBy};
 
 use crate::outcome::Step;
 use kr_base::{Bytes, Dice, Spent, Text};
@@ -29,7 +30,7 @@ pub(crate) fn rewrite<A: Acts, L: Kms, D: Dice>(
     requires held { HoldsAdopted bench.old.published (A.caller acts.old).mine }
     requires found { found_in (A.caller acts.old).mine ≡ Some row.now }
     requires rules { IsRow (A.caller acts.old).opening.format row.now }
-    ensures rewrites { IfSome bench.old.published (λ p. Rewrites L.truth L.link D.left D.count p
+    ensures rewrites { IfSome bench.old.published (λ p. Rewrites L.link D.left D.count p
         row.now (A.caller acts.old) bench.old.links bench.old.dice result (A.caller acts.new)
         bench.new.links bench.new.dice) }
     ensures exchanged { IfSome bench.old.published (λ p. Talk (Among L.step) bench.old.links
@@ -38,7 +39,6 @@ pub(crate) fn rewrite<A: Acts, L: Kms, D: Dice>(
         bench.new.dice)) }
     ensures path { IfOk result IsStepTo }
     ensures adds { AddsWithin 1 0 [] (A.caller acts.old) (A.caller acts.new) }
-    ensures honest { KeepsToldHonesty L.truth (A.caller acts.old) (A.caller acts.new) }
     ensures holds { holding (A.caller acts.new).mine ≡ holding (A.caller acts.old).mine }
     ensures asked { AskedOnly L.link (names_of L.link bench.old.links) bench.old.links
         bench.new.links }
@@ -78,12 +78,12 @@ fn reseal<A: Acts, L: Kms, D: Dice>(
     requires found { found_in (A.caller acts.old).mine ≡ Some row.now }
     requires rules { IsRow (A.caller acts.old).opening.format row.now }
     requires path { path ≡ row.now.path }
-    requires reads { IfSome bench.old.published (λ p. ReadsData L.truth p row.now plain) }
+    requires reads { IfSome bench.old.published (λ p. HasSomeReading (list_at p row.now.resource)
+        row.now.path row.now.stored (data_of plain)) }
     ensures reseals { IfSome bench.old.published (λ p. ResealsRow D.left D.count p row.now plain
         (A.caller acts.old) bench.old.dice result (A.caller acts.new) bench.new.dice) }
     ensures path { IfOk result IsStepTo }
     ensures adds { AddsWithin 1 0 [] (A.caller acts.old) (A.caller acts.new) }
-    ensures honest { KeepsToldHonesty L.truth (A.caller acts.old) (A.caller acts.new) }
     ensures holds { holding (A.caller acts.new).mine ≡ holding (A.caller acts.old).mine }
     ensures later { D.count bench.old.dice ≤ D.count bench.new.dice }
     ensures kept { bench.new ≡ record bench.old { dice = bench.new.dice } }

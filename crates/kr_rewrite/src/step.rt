@@ -8,7 +8,7 @@ ghost use Rattle.kr_provider.specs.KeyPages.{size_of};
 ghost use Rattle.kr_provider.specs.Names.{names_of};
 ghost use Rattle.kr_store.specs.Rows.{IsRow};
 ghost use Rattle.kr_rollout.specs.Callers.{found_in, holding};
-ghost use Rattle.kr_history.specs.Calls.{AreServed, IsIdle, KeepsHonesty, KeepsToldHonesty};
+ghost use Rattle.kr_history.specs.Calls.{AreServed, IsIdle, KeepsHonesty};
 ghost use Rattle.kr_history.specs.KeyMoments.{Happens, call_moments, has_adopted};
 ghost use Rattle.kr_history.specs.Parts.{AddsWithin};
 ghost use Rattle.kr_rewrite.specs.DriveExchanges.{IsStepBy};
@@ -40,14 +40,13 @@ pub fn rewrite_next<A: Acts, L: Kms, D: Dice>(
     requires path { (after.now ≡ []) ⊎ IsPath after.now }
     requires links { AreServed (A.caller acts.old).opening.names (names_of L.link bench.old.links) }
     requires pages { 64 ≤ size_of bench.old.pages }
-    ensures steps { IsStep L.truth L.link D.left D.count replica after.now (A.caller acts.old)
+    ensures steps { IsStep L.link D.left D.count replica after.now (A.caller acts.old)
         bench.old.links bench.old.dice result (A.caller acts.new) bench.new.links bench.new.dice }
     ensures exchanged { Talk (Among L.step) bench.old.links bench.new.links (IsStepBy D.left
         D.count replica after.now (A.caller acts.old) bench.old.cache bench.old.dice result
         (A.caller acts.new) bench.new.cache bench.new.dice) }
     ensures path { IfOk result IsStepTo }
     ensures adds { AddsWithin 4 0 [] (A.caller acts.old) (A.caller acts.new) }
-    ensures honest { KeepsToldHonesty L.truth (A.caller acts.old) (A.caller acts.new) }
     ensures idle { IsIdle result (A.caller acts.new) }
     ensures asked { AskedOnly L.link (names_of L.link bench.old.links) bench.old.links
         bench.new.links }
@@ -81,7 +80,7 @@ fn step<A: Acts, L: Kms, D: Dice>(
 ) -> Result<Step, CallNo>
     requires path { (above ≡ []) ⊎ IsPath above }
     requires held { HoldsAdopted bench.old.published (A.caller acts.old).mine }
-    ensures steps { IfSome bench.old.published (λ p. Steps L.truth L.link D.left D.count p above
+    ensures steps { IfSome bench.old.published (λ p. Steps L.link D.left D.count p above
         (A.caller acts.old) bench.old.links bench.old.dice result (A.caller acts.new)
         bench.new.links bench.new.dice) }
     ensures exchanged { IfSome bench.old.published (λ p. Talk (Among L.step) bench.old.links
@@ -89,7 +88,6 @@ fn step<A: Acts, L: Kms, D: Dice>(
         bench.old.dice result (A.caller acts.new) bench.new.cache bench.new.dice)) }
     ensures path { IfOk result IsStepTo }
     ensures adds { AddsWithin 2 0 [] (A.caller acts.old) (A.caller acts.new) }
-    ensures honest { KeepsToldHonesty L.truth (A.caller acts.old) (A.caller acts.new) }
     ensures holds { holding (A.caller acts.new).mine ≡ holding (A.caller acts.old).mine }
     ensures asked { AskedOnly L.link (names_of L.link bench.old.links) bench.old.links
         bench.new.links }

@@ -18,7 +18,8 @@ ghost use Rattle.kr_cmd_messages.specs.declared.load_words.LoadWords.{LoadWords}
 ghost use Rattle.kr_cmd_messages.specs.declared.watch_words.WatchWords.{WatchWords};
 ghost use Rattle.kr_cmd_messages.specs.inner.Asking.{KeepsRules};
 ghost use Rattle.kr_cmd_steps.specs.inner.Reporting.{DoesAll, saying};
-ghost use Rattle.kr_top.specs.Asked.{AloneHearing, listening};
+ghost use Rattle.kr_cmd_laws.specs.VerifyLaws.{listening};
+ghost use Rattle.kr_top.specs.Asked.{AloneHearing};
 ghost use Rattle.kr_top.specs.Run.{Runs};
 ghost use Rattle.kr_top.specs.inner.Parts.{RunsAlone, RunsOther, RunsUnloaded};
 
@@ -62,11 +63,11 @@ pub fn run<R: Threads + Wait + Sync, W: World, I: Source, O: Sink, E: Sink>(
     output: &mut O,
     errors: &mut E,
 ) -> u8
-    ensures { Runs W.Tap W.Link.truth W.Link.link W.Link.step W.lent W.took W.Rand.left
+    ensures { Runs W.Tap W.Link.link W.Link.step W.lent W.took W.Rand.left
         W.Rand.count
         (texts words.now)
-        (around W.Link.truth (W.told world.old) (I.left input.old) (I.count input.old))
-        (around W.Link.truth (W.told world.new) (I.left input.new) (I.count input.new))
+        (around (W.told world.old) (I.left input.old) (I.count input.old))
+        (around (W.told world.new) (I.left input.new) (I.count input.new))
         (receipt (O.held output.old) (O.held output.new) (O.count output.old) (O.count output.new))
         (receipt (E.held errors.old) (E.held errors.new) (E.count errors.old) (E.count errors.new))
         result }
@@ -92,11 +93,11 @@ fn run_other<R: Threads + Wait + Sync, W: World, I: Source, O: Sink, E: Sink>(
     output: &mut O,
     errors: &mut E,
 ) -> u8
-    ensures { RunsOther W.Tap W.Link.truth W.Link.link W.Link.step W.lent W.took W.Rand.left
+    ensures { RunsOther W.Tap W.Link.link W.Link.step W.lent W.took W.Rand.left
         W.Rand.count
         (texts words.now)
-        (around W.Link.truth (W.told world.old) (I.left input.old) (I.count input.old))
-        (around W.Link.truth (W.told world.new) (I.left input.new) (I.count input.new))
+        (around (W.told world.old) (I.left input.old) (I.count input.old))
+        (around (W.told world.new) (I.left input.new) (I.count input.new))
         (receipt (O.held output.old) (O.held output.new) (O.count output.old) (O.count output.new))
         (receipt (E.held errors.old) (E.held errors.new) (E.count errors.old) (E.count errors.new))
         result }
@@ -122,11 +123,11 @@ fn run_unloaded<R: Threads + Wait + Sync, W: World, I: Source, O: Sink, E: Sink>
     output: &mut O,
     errors: &mut E,
 ) -> u8
-    ensures { RunsUnloaded W.Tap W.Link.truth W.Link.link W.Link.step W.lent W.took W.Rand.left
+    ensures { RunsUnloaded W.Tap W.Link.link W.Link.step W.lent W.took W.Rand.left
         W.Rand.count
         (texts words.now)
-        (around W.Link.truth (W.told world.old) (I.left input.old) (I.count input.old))
-        (around W.Link.truth (W.told world.new) (I.left input.new) (I.count input.new))
+        (around (W.told world.old) (I.left input.old) (I.count input.old))
+        (around (W.told world.new) (I.left input.new) (I.count input.new))
         (receipt (O.held output.old) (O.held output.new) (O.count output.old) (O.count output.new))
         (receipt (E.held errors.old) (E.held errors.new) (E.count errors.old) (E.count errors.new))
         result }
@@ -153,12 +154,12 @@ fn run_watch<R: Threads + Wait + Sync, W: World, O: Sink, E: Sink>(
     errors: &mut E,
 ) -> u8
     requires means { AsksWatch (texts words.now) asked.now }
-    ensures { (a : Around) → IsUnheard W.Link.truth a
-        → RanWatch W.Tap W.Link.truth W.Link.link W.Link.step W.Rand.left W.Rand.count asked.now
-        (with_world (W.told world.old) a) (with_world (W.told world.new) a)
+    ensures { (es : List Exchange) × ((a : Around)
+        → RanWatch W.Tap W.Link.link W.Link.step W.lent W.took W.Rand.left W.Rand.count asked.now
+        (with_world (W.told world.old) a) (with_world (W.told world.new) (with_exchanges es a))
         (receipt (O.held output.old) (O.held output.new) (O.count output.old) (O.count output.new))
         (receipt (E.held errors.old) (E.held errors.new) (E.count errors.old) (E.count errors.new))
-        result }
+        result) }
 {
     match watch(rt, alloc, asked, world, output) {
         Ok(ending) => ending.status(),
@@ -175,8 +176,8 @@ fn run_load<R: Threads + Wait + Sync, W: World, O: Sink, E: Sink>(
     output: &mut O,
     errors: &mut E,
 ) -> u8
-    ensures { (a : Around) → IsUnheard W.Link.truth a
-        → RanLoad W.Tap W.Link.truth W.Link.link W.Link.step asked.now
+    ensures { (a : Around) → IsUnheard a
+        → RanLoad W.Tap W.Link.link W.Link.step asked.now
         (with_world (W.told world.old) a) (with_world (W.told world.new) a)
         (receipt (O.held output.old) (O.held output.new) (O.count output.old) (O.count output.new))
         (receipt (E.held errors.old) (E.held errors.new) (E.count errors.old) (E.count errors.new))
@@ -199,14 +200,14 @@ pub fn run_alone<W: World, I: Source, O: Sink, E: Sink>(
     errors: &mut E,
 ) -> Option<u8>
     ensures ran { RanAlone (texts words.now)
-        (around W.Link.truth (W.told world.old) (I.left input.old) (I.count input.old))
-        (around W.Link.truth (W.told world.new) (I.left input.new) (I.count input.new))
+        (around (W.told world.old) (I.left input.old) (I.count input.old))
+        (around (W.told world.new) (I.left input.new) (I.count input.new))
         (receipt (O.held output.old) (O.held output.new) (O.count output.old) (O.count output.new))
         (receipt (E.held errors.old) (E.held errors.new) (E.count errors.old) (E.count errors.new))
         result }
-    ensures asked { AloneHearing W.lent W.took W.Link.step (texts words.now)
-        (around W.Link.truth (W.told world.old) (I.left input.old) (I.count input.old))
-        (around W.Link.truth (W.told world.new) (I.left input.new) (I.count input.new))
+    ensures asked { AloneHearing W.Link.link W.lent W.took W.Link.step (texts words.now)
+        (around (W.told world.old) (I.left input.old) (I.count input.old))
+        (around (W.told world.new) (I.left input.new) (I.count input.new))
         (receipt (O.held output.old) (O.held output.new) (O.count output.old) (O.count output.new))
         (receipt (E.held errors.old) (E.held errors.new) (E.count errors.old) (E.count errors.new))
         result }
@@ -232,14 +233,14 @@ fn other_alone<W: World, I: Source, O: Sink, E: Sink>(
 ) -> Option<u8>
     requires { AskNoFleet (texts words.now) }
     ensures ran { RanAlone (texts words.now)
-        (around W.Link.truth (W.told world.old) (I.left input.old) (I.count input.old))
-        (around W.Link.truth (W.told world.new) (I.left input.new) (I.count input.new))
+        (around (W.told world.old) (I.left input.old) (I.count input.old))
+        (around (W.told world.new) (I.left input.new) (I.count input.new))
         (receipt (O.held output.old) (O.held output.new) (O.count output.old) (O.count output.new))
         (receipt (E.held errors.old) (E.held errors.new) (E.count errors.old) (E.count errors.new))
         result }
-    ensures asked { AloneHearing W.lent W.took W.Link.step (texts words.now)
-        (around W.Link.truth (W.told world.old) (I.left input.old) (I.count input.old))
-        (around W.Link.truth (W.told world.new) (I.left input.new) (I.count input.new))
+    ensures asked { AloneHearing W.Link.link W.lent W.took W.Link.step (texts words.now)
+        (around (W.told world.old) (I.left input.old) (I.count input.old))
+        (around (W.told world.new) (I.left input.new) (I.count input.new))
         (receipt (O.held output.old) (O.held output.new) (O.count output.old) (O.count output.new))
         (receipt (E.held errors.old) (E.held errors.new) (E.count errors.old) (E.count errors.new))
         result }
@@ -266,14 +267,14 @@ fn unloaded_alone<W: World, I: Source, O: Sink, E: Sink>(
     requires fleet { AskNoFleet (texts words.now) }
     requires load { AskNoLoad (texts words.now) }
     ensures ran { RanAlone (texts words.now)
-        (around W.Link.truth (W.told world.old) (I.left input.old) (I.count input.old))
-        (around W.Link.truth (W.told world.new) (I.left input.new) (I.count input.new))
+        (around (W.told world.old) (I.left input.old) (I.count input.old))
+        (around (W.told world.new) (I.left input.new) (I.count input.new))
         (receipt (O.held output.old) (O.held output.new) (O.count output.old) (O.count output.new))
         (receipt (E.held errors.old) (E.held errors.new) (E.count errors.old) (E.count errors.new))
         result }
-    ensures asked { AloneHearing W.lent W.took W.Link.step (texts words.now)
-        (around W.Link.truth (W.told world.old) (I.left input.old) (I.count input.old))
-        (around W.Link.truth (W.told world.new) (I.left input.new) (I.count input.new))
+    ensures asked { AloneHearing W.Link.link W.lent W.took W.Link.step (texts words.now)
+        (around (W.told world.old) (I.left input.old) (I.count input.old))
+        (around (W.told world.new) (I.left input.new) (I.count input.new))
         (receipt (O.held output.old) (O.held output.new) (O.count output.old) (O.count output.new))
         (receipt (E.held errors.old) (E.held errors.new) (E.count errors.old) (E.count errors.new))
         result }
@@ -297,9 +298,8 @@ fn run_fleet<R: Threads + Wait + Sync, W: World, O: Sink, E: Sink>(
     output: &mut O,
     errors: &mut E,
 ) -> u8
-    ensures { (es : List Exchange) × ((a : Around) → a.truth ≡ W.Link.truth
-        → RanFleet W.Tap W.Link.truth W.Link.link W.Link.step W.lent W.took W.Rand.left
-        W.Rand.count asked.now
+    ensures { (es : List Exchange) × ((a : Around)
+        → RanFleet W.Tap W.Link.link W.Link.step W.lent W.took W.Rand.left W.Rand.count asked.now
         (with_world (W.told world.old) a) (with_world (W.told world.new) (with_exchanges es a))
         (receipt (O.held output.old) (O.held output.new) (O.count output.old) (O.count output.new))
         (receipt (E.held errors.old) (E.held errors.new) (E.count errors.old) (E.count errors.new))
@@ -321,9 +321,10 @@ fn alone<W: World, I: Source, O: Sink, E: Sink>(
     output: &mut O,
     errors: &mut E,
 ) -> u8
-    ensures { RunsAlone W.Link.step W.lent W.took (texts words.now)
-        (around W.Link.truth (W.told world.old) (I.left input.old) (I.count input.old))
-        (around W.Link.truth (W.told world.new) (I.left input.new) (I.count input.new))
+    ensures { RunsAlone W.Link.link W.Link.step W.lent W.took
+        (texts words.now)
+        (around (W.told world.old) (I.left input.old) (I.count input.old))
+        (around (W.told world.new) (I.left input.new) (I.count input.new))
         (receipt (O.held output.old) (O.held output.new) (O.count output.old) (O.count output.new))
         (receipt (E.held errors.old) (E.held errors.new) (E.count errors.old) (E.count errors.new))
         result }
@@ -341,14 +342,15 @@ fn answer<W: World, I: Source, O: Sink>(
     output: &mut O,
 ) -> Result<Done, Stop>
     ensures answers { Answers (texts words.now)
-        (around W.Link.truth (W.told world.old) (I.left input.old) (I.count input.old))
-        (around W.Link.truth (W.told world.new) (I.left input.new) (I.count input.new))
+        (around (W.told world.old) (I.left input.old) (I.count input.old))
+        (around (W.told world.new) (I.left input.new) (I.count input.new))
         (receipt (O.held output.old) (O.held output.new) (O.count output.old) (O.count output.new))
         result }
-    ensures asked { Heard W.lent W.took W.Link.step 0 [] [] (λ es. Answers (texts words.now)
-        (listening (around W.Link.truth (W.told world.old) (I.left input.old) (I.count input.old)))
+    ensures asked { Heard W.Link.link W.lent W.took W.Link.step 0
+        (W.told world.old) (W.told world.new) [] [] (λ es. Answers (texts words.now)
+        (listening (around (W.told world.old) (I.left input.old) (I.count input.old)))
         (with_exchanges es (listening
-        (around W.Link.truth (W.told world.new) (I.left input.new) (I.count input.new))))
+        (around (W.told world.new) (I.left input.new) (I.count input.new))))
         (receipt (O.held output.old) (O.held output.new) (O.count output.old) (O.count output.new))
         result) }
     ensures later { O.count output.old ≤ O.count output.new }
@@ -371,14 +373,15 @@ fn perform<W: World, I: Source>(
 ) -> Ended
     requires path { KeepsRules (Some command.now) }
     ensures does { DoesAll command.now
-        (around W.Link.truth (W.told world.old) (I.left input.old) (I.count input.old))
+        (around (W.told world.old) (I.left input.old) (I.count input.old))
         (saying result.said
-        (around W.Link.truth (W.told world.new) (I.left input.new) (I.count input.new)))
+        (around (W.told world.new) (I.left input.new) (I.count input.new)))
         result.made }
-    ensures asked { Heard W.lent W.took W.Link.step 0 [] [] (λ es. DoesAll command.now
-        (listening (around W.Link.truth (W.told world.old) (I.left input.old) (I.count input.old)))
+    ensures asked { Heard W.Link.link W.lent W.took W.Link.step 0
+        (W.told world.old) (W.told world.new) [] [] (λ es. DoesAll command.now
+        (listening (around (W.told world.old) (I.left input.old) (I.count input.old)))
         (saying result.said (with_exchanges es (listening
-        (around W.Link.truth (W.told world.new) (I.left input.new) (I.count input.new)))))
+        (around (W.told world.new) (I.left input.new) (I.count input.new)))))
         result.made) }
 {
     match command {

@@ -4,7 +4,6 @@ use Rattle.std.proofs.lemmas.List.{take_more, map-append, take-append-drop}
 use Rattle.kr_base.specs.declared.errors.Spent.{Spent}
 use Rattle.kr_kms.specs.Calls.{Link}
 use Rattle.kr_kms.specs.Exchanges.{Exchange}
-use Rattle.kr_kms.specs.Truth.{Truth}
 use Rattle.kr_provider.specs.AskedLinks.{AskedOnly}
 use Rattle.kr_provider.specs.BenchKeys.{adoption_of}
 use Rattle.kr_provider.specs.BenchState.{BenchState}
@@ -13,7 +12,7 @@ use Rattle.kr_provider.proofs.AskedLists.{asked_none, asked_then, names_stay}
 use Rattle.kr_rollout.specs.declared.opening.Opening.{Opening}
 use Rattle.kr_history.specs.Acting.{Caller, IsCaller}
 use Rattle.kr_rollout.specs.Callers.{reloads_in}
-use Rattle.kr_history.specs.Calls.{AreServed, KeepsToldHonesty}
+use Rattle.kr_history.specs.Calls.{AreServed}
 use Rattle.kr_history.proofs.PartsAdd.{parts_sum_to_whole}
 use Rattle.kr_script.specs.declared.script.ScriptLine.{ScriptLine}
 use Rattle.kr_script.specs.declared.told.Told.{Told}
@@ -27,21 +26,21 @@ use Rattle.kr_workers.specs.inner.Going.{IsGoing}
 use Rattle.kr_workers.proofs.Making.{made}
 use Rattle.kr_workers.proofs.MovedKeys.{moves_on}
 
-module _ {L D : Type 0} (truth : Truth) (link : L → Link) (step : L → Exchange → L → Type 0) (left : D → Option (List ℕ))
+module _ {L D : Type 0} (link : L → Link) (step : L → Exchange → L → Type 0) (left : D → Option (List ℕ))
     (count : D → ℕ) (files : List SettingsFile) (replica : ℕ) where
   pub does_more : (old : Workplace L D) (run : List LineDone) (middle : Workplace L D)
       (done : LineDone) (new : Workplace L D)
-      → DoesAll truth link step left count files replica old run middle
-      → IsDone truth link step left count files replica middle done new
-      → DoesAll truth link step left count files replica old (run ++ done ∷ []) new
+      → DoesAll link step left count files replica old run middle
+      → IsDone link step left count files replica middle done new
+      → DoesAll link step left count files replica old (run ++ done ∷ []) new
   does_more old [] middle done new all one =
-      (new, subst (λ m. IsDone truth link step left count files replica m done new) all one, refl)
+      (new, subst (λ m. IsDone link step left count files replica m done new) all one, refl)
   does_more old (first ∷ run) middle done new all one =
       (all.0, all.1, does_more all.0 run middle done new all.2 one)
 
   module _ (lines : List ScriptLine) (old : Caller) (bench : BenchState L D)
       (ready : AreReady link files replica lines old bench) where
-    pub begins : IsGoing truth link step left count files replica lines 0 old bench [] old bench
+    pub begins : IsGoing link step left count files replica lines 0 old bench [] old bench
     begins = record {
       run = [];
       replies_are = refl;
@@ -51,7 +50,6 @@ module _ {L D : Type 0} (truth : Truth) (link : L → Link) (step : L → Exchan
       seat = refl;
       idle = ready.idle;
       room = ready.room;
-      honest = λ told kept. kept;
       asked_only = asked_none link (names_of link bench.links) bench.links;
       later = omega arith;
       pages = refl;
@@ -61,7 +59,7 @@ module _ {L D : Type 0} (truth : Truth) (link : L → Link) (step : L → Exchan
     module _ (asked : ScriptLine) (k : ℕ) (below : k < length lines)
         (at : asked ≡ get_or lines k asked) (replies : List Told) (c : Caller)
         (now : BenchState L D)
-        (going : IsGoing truth link step left count files replica lines k old bench replies c now)
+        (going : IsGoing link step left count files replica lines k old bench replies c now)
       where
         rest_is : drop k lines ≡ asked ∷ drop (suc k) lines
         rest_is = drop-cons lines k asked below
@@ -94,7 +92,7 @@ module _ {L D : Type 0} (truth : Truth) (link : L → Link) (step : L → Exchan
 
         module _ (new : Caller) (after : BenchState L D) where
           asked_on : (reply : Result Told Spent)
-              → Serves truth link step left count files replica asked c now reply new after
+              → Serves link step left count files replica asked c now reply new after
               → AskedOnly link (names_of link bench.links) bench.links after.links
           asked_on reply s = asked_then link (names_of link bench.links) bench.links now.links
               after.links going.asked_only (subst
@@ -102,15 +100,10 @@ module _ {L D : Type 0} (truth : Truth) (link : L → Link) (step : L → Exchan
               (names_stay link (names_of link bench.links) bench.links now.links going.asked_only)
               s.asked_only)
 
-          honest_on : (reply : Result Told Spent)
-              → Serves truth link step left count files replica asked c now reply new after
-              → KeepsToldHonesty truth old new
-          honest_on reply s = λ told kept. s.honest told (going.honest told kept)
-
           -- it was done
           pub goes_on : (reply : Told) → IsCaller c
-              → Serves truth link step left count files replica asked c now (Ok reply) new after
-              → IsGoing truth link step left count files replica lines (k + 1) old bench
+              → Serves link step left count files replica asked c now (Ok reply) new after
+              → IsGoing link step left count files replica lines (k + 1) old bench
               (replies ++ reply ∷ []) new after
           goes_on reply is_caller s =
               let part = s.adds.0 in
@@ -135,7 +128,7 @@ module _ {L D : Type 0} (truth : Truth) (link : L → Link) (step : L → Exchan
                       does = s.does;
                       known = is_caller;
                       idle = going.idle;
-                      made = made truth link left count files replica asked reply
+                      made = made link left count files replica asked reply
                           (place_of c now) (place_of new after) part is_caller s.adds.1 s.does;
                       adds = s.adds.1;
                       within = s.adds.2;
@@ -151,7 +144,6 @@ module _ {L D : Type 0} (truth : Truth) (link : L → Link) (step : L → Exchan
                     ≤ get_or old.opening.reloads old.seat 0)
                     (let one : suc k ≡ k + 1 = omega arith in
                     one) (omega (arith, room_is, brought, s.adds.2.brings_few));
-                honest = honest_on (Ok reply) s;
                 asked_only = asked_on (Ok reply) s;
                 later = omega (arith, going.later, s.later);
                 pages = s.pages ∙ going.pages;
@@ -161,9 +153,9 @@ module _ {L D : Type 0} (truth : Truth) (link : L → Link) (step : L → Exchan
               }
 
           -- it was cut short
-          pub cut_short : Serves truth link step left count files replica asked c now
+          pub cut_short : Serves link step left count files replica asked c now
               (Err (record {})) new after
-              → Runs truth link step left count files replica lines old bench replies (Err (record {}))
+              → Runs link step left count files replica lines old bench replies (Err (record {}))
               new
               after
           cut_short s = record {
@@ -185,7 +177,6 @@ module _ {L D : Type 0} (truth : Truth) (link : L → Link) (step : L → Exchan
             };
             opening = ap (λ (d : Caller). d.opening) s.adds.1.new_is ∙ going.opening;
             seat = ap (λ (d : Caller). d.seat) s.adds.1.new_is ∙ going.seat;
-            honest = honest_on (Err (record {})) s;
             asked_only = asked_on (Err (record {})) s;
             later = omega (arith, going.later, s.later);
             pages = s.pages ∙ going.pages;
@@ -195,8 +186,8 @@ module _ {L D : Type 0} (truth : Truth) (link : L → Link) (step : L → Exchan
     -- all were done
     pub ends_well : (k : ℕ) (replies : List Told) (new : Caller) (after : BenchState L D)
         → take k lines ≡ lines
-        → IsGoing truth link step left count files replica lines k old bench replies new after
-        → Runs truth link step left count files replica lines old bench replies (Ok tt) new after
+        → IsGoing link step left count files replica lines k old bench replies new after
+        → Runs link step left count files replica lines old bench replies (Ok tt) new after
     ends_well k replies new after whole going = record {
       run = going.run;
       replies_are = going.replies_are;
@@ -205,7 +196,6 @@ module _ {L D : Type 0} (truth : Truth) (link : L → Link) (step : L → Exchan
       ends = (going.lines_are ∙ whole, refl);
       opening = going.opening;
       seat = going.seat;
-      honest = going.honest;
       asked_only = going.asked_only;
       later = going.later;
       pages = going.pages;

@@ -12,7 +12,7 @@ use Rattle.kr_base.specs.Walks.{Walk}
 use Rattle.kr_base.specs.declared.errors.Spent.{Spent}
 use Rattle.kr_kms.specs.Calls.{Link}
 use Rattle.kr_kms.specs.Exchanges.{Exchange}
-use Rattle.kr_kms.specs.Truth.{Opens, Truth}
+use Rattle.kr_kms.specs.Opens.{Opens}
 use Rattle.kr_provider.specs.AskedLinks.{AskedOnly}
 use Rattle.kr_provider.specs.BenchKeys.{adoption_of}
 use Rattle.kr_provider.specs.BenchState.{BenchState}
@@ -29,12 +29,12 @@ use Rattle.kr_rollout.specs.Callers.{holding, reloads_in}
 use Rattle.kr_history.specs.Calls.{AreServed}
 use Rattle.kr_rollout.specs.Entries.{seat_of}
 use Rattle.kr_rollout.specs.Histories.{IsLegal}
-use Rattle.kr_history.specs.Honesty.{IsHonest, KeepsHonest}
+use Rattle.kr_history.specs.Honesty.{KeepsHonest}
 use Rattle.kr_history.specs.KeyMoments.{Happens}
 use Rattle.kr_history.specs.Parts.{written_puts}
 use Rattle.kr_script.specs.declared.script.Part.{Part}
 use Rattle.kr_script.specs.declared.told.Told.{Told}
-use Rattle.kr_fleet.specs.Fleets.{AreAdded, HonestIfSeatsAre, IsFleetSeat, caller_of}
+use Rattle.kr_fleet.specs.Fleets.{AreAdded, IsFleetSeat, caller_of}
 use Rattle.kr_fleet.specs.declared.shared_core.SharedCore.{SharedCore}
 use Rattle.kr_turn.specs.Keys.{Home}
 use Rattle.kr_turn.specs.Seats.{AreAll, AreFresh, IsFresh, left_of, mine, number_of, lines_seen}
@@ -95,24 +95,24 @@ module _ {S L D : Type 0} where
 
 -- ---- a run in the history
 
-module _ {L D : Type 0} (truth : Truth) (link : L → Link) (step : L → Exchange → L → Type 0) (left : D → Option (List ℕ))
+module _ {L D : Type 0} (link : L → Link) (step : L → Exchange → L → Type 0) (left : D → Option (List ℕ))
     (count : D → ℕ) (files : List SettingsFile) (history : List Entry) where
   -- a run stands in the history, and this happened to the keys meanwhile
   pub record StandsMoved (part : Part) (first : Workplace L D) (bench : BenchState L D)
       (replies : List Told) (after : BenchState L D) : Type 0 where
-    pub stands : StandsIn truth link step left count files history part first replies after
+    pub stands : StandsIn link step left count files history part first replies after
     pub keys : Walk Happens (adoption_of bench) (run_moments stands.run) (adoption_of after)
 
   -- so does a run from the first place that wasn't cut short
   pub run_stands : (part : Part) (first : Workplace L D) (old new : Caller)
       (bench after : BenchState L D) (replies : List Told)
-      → Runs truth link step left count files part.replica part.lines.0 old bench replies (Ok tt) new
+      → Runs link step left count files part.replica part.lines.0 old bench replies (Ok tt) new
       after → place_of old bench ≡ first → old.mine ≡ []
       → Stands seat_of history new.seat new.seen new.mine → new.seat ≡ first.caller.seat
       → StandsMoved part first bench replies after
   run_stands part first old new bench after replies runs from none stands seat =
       let last : place_of new after ≡ runs.middle = runs.ends.1 in
-      let added = parts_added truth link step left count files part.replica (place_of old bench) runs.run
+      let added = parts_added link step left count files part.replica (place_of old bench) runs.run
       runs.middle runs.does in
       record {
         stands = record {
@@ -120,7 +120,7 @@ module _ {L D : Type 0} (truth : Truth) (link : L → Link) (step : L → Exchan
           lines_are = runs.ends.0;
           replies_are = runs.replies_are;
           last = runs.middle;
-          does = subst (λ (w : Workplace L D). DoesAll truth link step left count files part.replica w
+          does = subst (λ (w : Workplace L D). DoesAll link step left count files part.replica w
               runs.run runs.middle) from runs.does;
           links_are = ap (λ (w : Workplace L D). w.links) last;
           dice_are = ap (λ (w : Workplace L D). w.dice) last;
@@ -272,14 +272,14 @@ module _ {T L D : Type 0} (link : L → Link) (files : List SettingsFile) (parts
 -- ---- after they have worked
 
 -- each has its seat again
-pub done_seated : {T L D : Type 0} (truth : Truth) (link : L → Link) (step : L → Exchange → L → Type 0) (left : D → Option (List ℕ))
+pub done_seated : {T L D : Type 0} (link : L → Link) (step : L → Exchange → L → Type 0) (left : D → Option (List ℕ))
     (count : D → ℕ) (files : List SettingsFile) (parts : List Part) (home : Home Opening)
     (sitting done : List (Worker T L D)) → length done ≡ length sitting
     → ((i : ℕ) (d : Worker T L D) → i < length sitting
-    → HasWorked home files parts truth link step left count (slice_index_or sitting i d)
+    → HasWorked home files parts link step left count (slice_index_or sitting i d)
     (slice_index_or done i d))
     → All (λ (w : Worker T L D). IsSome w.seat) done
-done_seated truth link step left count files parts home sitting done long worked = λ k d l.
+done_seated link step left count files parts home sitting done long worked = λ k d l.
     let h = worked k d (omega (arith, l, long)) in
     subst (λ s. IsSome s) (sym h.after_is) refl
 
@@ -288,7 +288,7 @@ pub budgets_many : (rows : List LogRow) (parts : List Part) (budgets : List ℕ)
 budgets_many rows parts budgets are = ap length are.2
     ∙ length-map parts (λ (p : Part). budget_of (are.0 + put_lines parts) p.lines.0)
 
-module _ {T L D : Type 0} (truth : Truth) (link : L → Link) (step : L → Exchange → L → Type 0) (left : D → Option (List ℕ))
+module _ {T L D : Type 0} (link : L → Link) (step : L → Exchange → L → Type 0) (left : D → Option (List ℕ))
     (count : D → ℕ) (files : List SettingsFile) (parts : List Part) (home : Home Opening)
     (o : Opening) (budgets : List ℕ) (seats : List (Place (SharedCore T) Entry Opening))
     (workers done : List (Worker T L D)) (back : List (Place (SharedCore T) Entry Opening)) where
@@ -301,7 +301,7 @@ module _ {T L D : Type 0} (truth : Truth) (link : L → Link) (step : L → Exch
     pub many : length workers ≡ length parts
     pub long : length done ≡ length (with_seats seats workers)
     pub worked : (i : ℕ) (d : Worker T L D) → i < length (with_seats seats workers)
-        → HasWorked home files parts truth link step left count
+        → HasWorked home files parts link step left count
         (slice_index_or (with_seats seats workers) i d) (slice_index_or done i d)
     pub back_are : map Some back ≡ map (λ (w : Worker T L D). w.seat) done
 
@@ -311,7 +311,7 @@ module _ {T L D : Type 0} (truth : Truth) (link : L → Link) (step : L → Exch
       → length workers ≡ length parts → sitting ≡ with_seats seats workers
       → length done ≡ length sitting
       → ((i : ℕ) (d : Worker T L D) → i < length sitting
-      → HasWorked home files parts truth link step left count (slice_index_or sitting i d)
+      → HasWorked home files parts link step left count (slice_index_or sitting i d)
       (slice_index_or done i d))
       → map Some back ≡ map (λ (w : Worker T L D). w.seat) done → HaveWorked
   have_worked rows room sitting terms are fresh many is long worked back_are = record {
@@ -322,16 +322,16 @@ module _ {T L D : Type 0} (truth : Truth) (link : L → Link) (step : L → Exch
     many = many;
     long = long ∙ ap length is;
     worked = subst (λ ws. (i : ℕ) (d : Worker T L D) → i < length ws
-        → HasWorked home files parts truth link step left count (slice_index_or ws i d)
+        → HasWorked home files parts link step left count (slice_index_or ws i d)
         (slice_index_or done i d)) is worked;
     back_are = back_are;
   }
 
-module _ {T L D : Type 0} (truth : Truth) (link : L → Link) (step : L → Exchange → L → Type 0) (left : D → Option (List ℕ))
+module _ {T L D : Type 0} (link : L → Link) (step : L → Exchange → L → Type 0) (left : D → Option (List ℕ))
     (count : D → ℕ) (files : List SettingsFile) (parts : List Part) (home : Home Opening)
     (o : Opening) (budgets : List ℕ) (seats : List (Place (SharedCore T) Entry Opening))
     (workers done : List (Worker T L D)) (back : List (Place (SharedCore T) Entry Opening))
-    (all : HaveWorked truth link step left count files parts home o budgets seats workers done back)
+    (all : HaveWorked link step left count files parts home o budgets seats workers done back)
   where
     these_long : length (with_seats seats workers) ≡ length parts
     these_long = seated_long seats workers
@@ -347,7 +347,7 @@ module _ {T L D : Type 0} (truth : Truth) (link : L → Link) (step : L → Exch
     -- a worker with its number
     record WorkedAt (k : ℕ) (d : Worker T L D) : Type 0 where
       bench : (get_or (with_seats seats workers) k d).bench ≡ (get_or workers k d).bench
-      has : HasWorked home files parts truth link step left count (get_or (with_seats seats workers) k d)
+      has : HasWorked home files parts link step left count (get_or (with_seats seats workers) k d)
           (get_or done k d)
       number : number_of has.before ≡ k
       fresh : IsFresh home has.before
@@ -440,18 +440,6 @@ module _ {T L D : Type 0} (truth : Truth) (link : L → Link) (step : L → Exch
           );
     }
 
-    -- a seat that saw honest entries alone keeps the history honest
-    pub back_keeps : truth.told ≡ true
-        → All (λ (seat : Place (SharedCore T) Entry Opening). KeepsHonest truth.opens
-        home.terms.basis (number_of seat) (lines_seen seat)) back
-    back_keeps told k s l =
-        let b = is_back (get_or back k s) k l s refl in
-        let h = b.at.has in
-        subst (λ (p : Place (SharedCore T) Entry Opening). KeepsHonest truth.opens
-        home.terms.basis (number_of p) (lines_seen p)) b.is
-        (h.runs.honest told (fresh_keeps truth.opens home.terms.basis (number_of h.before)
-        (lines_seen h.before) b.at.fresh.none_seen))
-
     module _ (history : List Entry) (legal : IsLegal o history)
         (stand : All (λ (seat : Place (SharedCore T) Entry Opening).
         Stands seat_of history (number_of seat) (lines_seen seat) (mine seat)) back)
@@ -478,7 +466,7 @@ module _ {T L D : Type 0} (truth : Truth) (link : L → Link) (step : L → Exch
           let h = b.at.has in
           let own = puts_with_entry (mine a.0) p.entry d a.3 p.puts in
           put_in_part parts (number_of h.before) h.part path h.part_is
-          (runs_put path resource plain truth link step left count files h.part.replica h.part.lines.0
+          (runs_put path resource plain link step left count files h.part.replica h.part.lines.0
           (caller_of home h.before) (get_or (with_seats seats workers) a.1.0 b.worker).bench
           (get_or done a.1.0 b.worker).told.0 (caller_of home h.after)
           (get_or done a.1.0 b.worker).bench b.at.fresh.none_mine
@@ -502,7 +490,7 @@ module _ {T L D : Type 0} (truth : Truth) (link : L → Link) (step : L → Exch
 
         -- a worker stands in the history with what it did
         worker_stands : (i : ℕ) (part : Part) (d : Worker T L D) → i < length parts
-            → StandsMoved truth link step left count files history (get_or parts i part)
+            → StandsMoved link step left count files history (get_or parts i part)
             (first_place o i (slice_index budgets i) (get_or workers i d).bench)
             (get_or workers i d).bench (get_or done i d).told.0 (get_or done i d).bench
         worker_stands i part d l =
@@ -522,10 +510,10 @@ module _ {T L D : Type 0} (truth : Truth) (link : L → Link) (step : L → Exch
             (get_or (with_seats seats workers) i d).bench all.basis w.number w.fresh.none_seen
             w.fresh.none_mine w.left_is
             ∙ ap (first_place o i (slice_index budgets i)) w.bench in
-            subst (λ p. StandsMoved truth link step left count files history p
+            subst (λ p. StandsMoved link step left count files history p
             (first_place o i (slice_index budgets i) (get_or workers i d).bench)
             (get_or workers i d).bench (get_or done i d).told.0 (get_or done i d).bench) (sym there)
-            (subst (λ b. StandsMoved truth link step left count files history h.part
+            (subst (λ b. StandsMoved link step left count files history h.part
             (first_place o i (slice_index budgets i) (get_or workers i d).bench) b
             (get_or done i d).told.0 (get_or done i d).bench) w.bench
             (ended i d h w.fresh w.number from stands (budget_at i part h.part l there)
@@ -544,7 +532,7 @@ module _ {T L D : Type 0} (truth : Truth) (link : L → Link) (step : L → Exch
                 let f = ap (λ n. budget_of n there.lines.0) paths_long in
                 omega (arith, e, f)
 
-            ended : (i : ℕ) (d : Worker T L D) (h : HasWorked home files parts truth link step left count
+            ended : (i : ℕ) (d : Worker T L D) (h : HasWorked home files parts link step left count
                 (get_or (with_seats seats workers) i d) (get_or done i d))
                 → IsFresh home h.before → number_of h.before ≡ i
                 → place_of (caller_of home h.before) (get_or (with_seats seats workers) i d).bench
@@ -552,30 +540,30 @@ module _ {T L D : Type 0} (truth : Truth) (link : L → Link) (step : L → Exch
                 → Stands seat_of history (number_of h.after) (lines_seen h.after) (mine h.after)
                 → budget_of (length paths) h.part.lines.0 ≤ slice_index budgets i
                 → (end : Result (Unit {0}) Spent)
-                → Runs truth link step left count files h.part.replica h.part.lines.0
+                → Runs link step left count files h.part.replica h.part.lines.0
                 (caller_of home h.before) (get_or (with_seats seats workers) i d).bench
                 (get_or done i d).told.0 end (caller_of home h.after) (get_or done i d).bench
-                → StandsMoved truth link step left count files history h.part
+                → StandsMoved link step left count files history h.part
                 (first_place o i (slice_index budgets i) (get_or workers i d).bench)
                 (get_or (with_seats seats workers) i d).bench (get_or done i d).told.0
                 (get_or done i d).bench
             ended i d h fresh number from stands fits (Ok ok) runs =
-                run_stands truth link step left count files history h.part
+                run_stands link step left count files history h.part
                 (first_place o i (slice_index budgets i) (get_or workers i d).bench)
                 (caller_of home h.before) (caller_of home h.after)
                 (get_or (with_seats seats workers) i d).bench (get_or done i d).bench
                 (get_or done i d).told.0 runs from fresh.none_mine stands (h.same ∙ number)
             ended i d h fresh number from stands fits (Err spent) runs =
-                absurd (none_cut truth link step left count files h.part.replica paths o history lives
+                absurd (none_cut link step left count files h.part.replica paths o history lives
                 h.part.lines.0
                 (first_place o i (slice_index budgets i) (get_or workers i d).bench) runs.middle
                 (place_of (caller_of home h.after) (get_or done i d).bench) runs.run fits
-                (subst (λ (w : Workplace L D). DoesAll truth link step left count files h.part.replica w
+                (subst (λ (w : Workplace L D). DoesAll link step left count files h.part.replica w
                 runs.run runs.middle) from runs.does) runs.ends all.basis stands.front)
 
         -- so it does when it has no seat any more
         worker_moved : (i : ℕ) (part : Part) (d : Worker T L D) → i < length parts
-            → StandsMoved truth link step left count files history (get_or parts i part)
+            → StandsMoved link step left count files history (get_or parts i part)
             (first_place o i (slice_index budgets i) (get_or workers i d).bench)
             (get_or workers i d).bench (get_or (map without_seat done) i d).told.0
             (get_or (map without_seat done) i d).bench
@@ -583,21 +571,16 @@ module _ {T L D : Type 0} (truth : Truth) (link : L → Link) (step : L → Exch
             let done_is = done_long in
             let same : get_or (map without_seat done) i d ≡ without_seat (get_or done i d) =
             get_or-map without_seat done i d d (omega (arith, l, done_is)) in
-            subst (λ (w : Worker T L D). StandsMoved truth link step left count files history
+            subst (λ (w : Worker T L D). StandsMoved link step left count files history
             (get_or parts i part)
             (first_place o i (slice_index budgets i) (get_or workers i d).bench)
             (get_or workers i d).bench w.told.0 w.bench) (sym same) (worker_stands i part d l)
 
         -- the history with all workers' lines
-        pub one_history : HonestIfSeatsAre home back history
-            → IsOneHistory truth link step left count files history o parts budgets workers
+        pub one_history : IsOneHistory link step left count files history o parts budgets workers
             (map without_seat done)
-        one_history honest = record {
+        one_history = record {
           legal = legal;
-          honest = λ told opening. subst (λ (p : Opening). IsHonest truth.opens p history) all.basis
-              (honest truth.opens
-              (subst (λ (p : Opening). IsHonest truth.opens p []) (sym all.basis) opening) back_its
-              (back_keeps told));
           many = length-map done without_seat ∙ done_long ∙ sym all.many;
           whole = all.many;
           each = λ i part worker l. (worker_moved i part worker l).stands;

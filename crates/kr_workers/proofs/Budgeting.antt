@@ -4,7 +4,6 @@ use Rattle.std.proofs.Common.{◌≡◌, ℕ, ◌<◌, ◌≤◌, ◌+◌, List,
 use Rattle.std.proofs.lemmas.List.{append_assoc}
 use Rattle.kr_kms.specs.Calls.{Link}
 use Rattle.kr_kms.specs.Exchanges.{Exchange}
-use Rattle.kr_kms.specs.Truth.{Truth}
 use Rattle.kr_history.specs.declared.call.CallNo.{CallNo}
 use Rattle.kr_history.specs.declared.call.CallNo.TheVariants as refusal
 use Rattle.kr_rollout.specs.declared.opening.Entry.{Entry}
@@ -64,17 +63,17 @@ adds_front : (old : Caller) (part : List Entry) (new : Caller) → Adds old part
     → IsPrefix old.seen new.seen
 adds_front old part new a = (a.more, sym (ap (λ (c : Caller). c.seen) a.new_is))
 
-module _ {L D : Type 0} (truth : Truth) (link : L → Link) (step : L → Exchange → L → Type 0) (left : D → Option (List ℕ))
+module _ {L D : Type 0} (link : L → Link) (step : L → Exchange → L → Type 0) (left : D → Option (List ℕ))
     (count : D → ℕ) (files : List SettingsFile) (replica : ℕ) where
   does_opening : (first : Workplace L D) (run : List LineDone) (last : Workplace L D)
-      → DoesAll truth link step left count files replica first run last
+      → DoesAll link step left count files replica first run last
       → last.caller.opening ≡ first.caller.opening
   does_opening first [] last same = ap (λ (w : Workplace L D). w.caller.opening) same
   does_opening first (done ∷ run) last does = does_opening does.0 run last does.2
       ∙ ap (λ (c : Caller). c.opening) does.1.adds.new_is
 
   does_front : (first : Workplace L D) (run : List LineDone) (last : Workplace L D)
-      → DoesAll truth link step left count files replica first run last
+      → DoesAll link step left count files replica first run last
       → IsPrefix first.caller.seen last.caller.seen
   does_front first [] last same = (
     [],
@@ -88,7 +87,7 @@ module _ {L D : Type 0} (truth : Truth) (link : L → Link) (step : L → Exchan
   module _ (paths : List (List ℕ)) where
     -- a line that was done is within its bound
     bounded : (asked : ScriptLine) (old new : Workplace L D) (reply : Told) (part : List Entry)
-        → Does truth link left count files replica asked old (Ok reply) new
+        → Does link left count files replica asked old (Ok reply) new
         → Adds old.caller part new.caller
         → IsPartWithin (line_entries (length part) asked) (brought_count asked) (puts_of asked) part
         → LiveAmong paths new.caller → length part ≤ line_entries (length paths) asked
@@ -96,7 +95,7 @@ module _ {L D : Type 0} (truth : Truth) (link : L → Link) (step : L → Exchan
     bounded (line.Get path) old new reply part does adds within among = within.few
     bounded (line.Delete path) old new reply part does adds within among = within.few
     bounded line.Rewrite old new reply part does adds within among =
-        let needs = drives_need_few truth link left count replica [] old.caller old.links old.dice
+        let needs = drives_need_few link left count replica [] old.caller old.links old.dice
         does.0 new.caller new.links new.dice paths does.2 among in
         let all = needs.few.1.left_is in
         let few = needs.few.2.few in
@@ -108,7 +107,7 @@ module _ {L D : Type 0} (truth : Truth) (link : L → Link) (step : L → Exchan
 
     -- one that was cut short had fewer entries left
     short : (asked : ScriptLine) (old new : Workplace L D)
-        → Does truth link left count files replica asked old (Err (record {})) new
+        → Does link left count files replica asked old (Err (record {})) new
         → IsShortFor asked old.caller → LiveAmong paths new.caller
         → old.caller.left < line_entries (length paths) asked
     short (line.Put resource path plain) old new does few among = few
@@ -116,7 +115,7 @@ module _ {L D : Type 0} (truth : Truth) (link : L → Link) (step : L → Exchan
     short (line.Delete path) old new does few among = few
     short line.Rewrite old new does few among =
         let cut = drive_spent old.caller.seat does.0 does.1 in
-        (drives_need_few truth link left count replica [] old.caller old.links old.dice does.0
+        (drives_need_few link left count replica [] old.caller old.links old.dice does.0
         new.caller new.links new.dice paths does.2 among).spent cut.0 cut.1
     short (line.Reload named file) old new does few among = few
     short line.Refresh old new does few among = few
@@ -133,7 +132,7 @@ module _ {L D : Type 0} (truth : Truth) (link : L → Link) (step : L → Exchan
     module _ (o : Opening) (history : List Entry) (lives : LivesIn o history paths) where
       -- what was added is no more than the lines' budget
       left_enough : (first : Workplace L D) (run : List LineDone) (last : Workplace L D)
-          → DoesAll truth link step left count files replica first run last
+          → DoesAll link step left count files replica first run last
           → last.caller.opening ≡ o → IsPrefix last.caller.seen history
           → first.caller.left ≤ last.caller.left + budget_of (length paths) (lines_in run)
       left_enough first [] last same opening front =
@@ -153,8 +152,8 @@ module _ {L D : Type 0} (truth : Truth) (link : L → Link) (step : L → Exchan
 
       pub none_cut : (lines : List ScriptLine) (first middle new : Workplace L D)
           (run : List LineDone) → budget_of (length paths) lines ≤ first.caller.left
-          → DoesAll truth link step left count files replica first run middle
-          → IsCutShort truth link step left count files replica lines run middle new
+          → DoesAll link step left count files replica first run middle
+          → IsCutShort link step left count files replica lines run middle new
           → new.caller.opening ≡ o → IsPrefix new.caller.seen history → ⊥
       none_cut lines first middle new run fits does cut opening front =
           let same : new.caller.opening ≡ middle.caller.opening =

@@ -7,7 +7,6 @@ use Rattle.kr_base.proofs.Counting.{Rose-later}
 use Rattle.kr_base.specs.Faults.{Rose}
 use Rattle.kr_kms.specs.Calls.{Link}
 use Rattle.kr_kms.specs.Health.{HasBreach}
-use Rattle.kr_kms.specs.Truth.{Truth}
 use Rattle.kr_provider.specs.AskedLinks.{AskedOnly, FaultRose, HasLinkWith}
 use Rattle.kr_provider.specs.Publication.{Publication}
 use Rattle.kr_provider.specs.declared.refusal.ValueNo.TheVariants as value
@@ -309,7 +308,7 @@ module _ {L D : Type 0} (link : L → Link) (count : D → ℕ) (asked : ScriptL
 
 -- ---- a put
 
-module _ {L D : Type 0} (truth : Truth) (link : L → Link) (left : D → Option (List ℕ))
+module _ {L D : Type 0} (link : L → Link) (left : D → Option (List ℕ))
     (count : D → ℕ) where
   puts_caused : (resource path plain : List ℕ) (p : Publication) (old new : Caller)
       (olds news : List L) (dice after : D) (why : CallNo)
@@ -405,7 +404,7 @@ module _ {L D : Type 0} (truth : Truth) (link : L → Link) (left : D → Option
   -- ---- a get
 
   finds_caused : (path : List ℕ) (p : Publication) (old new : Caller) (olds news : List L)
-      (dice after : D) (why : CallNo) → Finds truth link path p old olds (Err why) new news
+      (dice after : D) (why : CallNo) → Finds link path p old olds (Err why) new news
       → Causes link count (line.Get path) old olds dice why new news after
   finds_caused path p old new olds news dice after (refusal.Refused why) d = d.1.content.0
   finds_caused path p old new olds news dice after (refusal.PluginFailed name) d =
@@ -420,41 +419,41 @@ module _ {L D : Type 0} (truth : Truth) (link : L → Link) (left : D → Option
 
   read_caused : (path : List ℕ) (replica : ℕ) (old new : Caller) (olds news : List L)
       (dice after : D) (why : CallNo)
-      → IsRead truth link path replica old olds (Err why) new news
+      → IsRead link path replica old olds (Err why) new news
       → Causes link count (line.Get path) old olds dice why new news after
   read_caused path replica old new olds news dice after why (inl e) =
       early_caused link count (line.Get path) tt tt replica old new olds news dice after why e.0
   read_caused path replica old new olds news dice after why (inr h) =
       held_caused link count (line.Get path)
       (λ (number : ℕ) (p : Publication) (from : Caller) (done : Result Read CallNo) (to : Caller).
-      Finds truth link path p from olds done to news) replica old new olds news dice after why h
+      Finds link path p from olds done to news) replica old new olds news dice after why h
       (λ number p from to d. finds_caused path p from to olds news dice after why d)
 
   absent_gave : (path : List ℕ) (replica : ℕ) (old new : Caller) (olds news : List L)
-      → IsRead truth link path replica old olds (Ok found.Absent) new news
+      → IsRead link path replica old olds (Ok found.Absent) new news
       → OwnGave old new.seen (TellsAnswer told.Absent)
   absent_gave path replica old new olds news (inl e) = absurd e
   absent_gave path replica old new olds news (inr h) = held_gave
       (λ (number : ℕ) (p : Publication) (from : Caller) (done : Result Read CallNo) (to : Caller).
-      Finds truth link path p from olds done to news) replica old new (Ok found.Absent)
+      Finds link path p from olds done to news) replica old new (Ok found.Absent)
       (TellsAnswer told.Absent) refl h (λ number p from to d.
       own_gave from to (event.Fetch path) answer.Absent (TellsAnswer told.Absent) d.0.absent refl)
 
   found_gave : (path : List ℕ) (replica : ℕ) (old new : Caller) (olds news : List L)
       (revision : ℕ) (plain : List ℕ) (stale : Bool)
-      → IsRead truth link path replica old olds (Ok (found.Value revision plain stale)) new news
+      → IsRead link path replica old olds (Ok (found.Value revision plain stale)) new news
       → OwnGave old new.seen (TellsAnswer (told.Got revision plain))
   found_gave path replica old new olds news revision plain stale (inl e) = absurd e
   found_gave path replica old new olds news revision plain stale (inr h) = held_gave
       (λ (number : ℕ) (p : Publication) (from : Caller) (done : Result Read CallNo) (to : Caller).
-      Finds truth link path p from olds done to news) replica old new
+      Finds link path p from olds done to news) replica old new
       (Ok (found.Value revision plain stale)) (TellsAnswer (told.Got revision plain)) refl h
       (λ number p from to d. own_gave from to (event.Fetch path) (answer.Found d.0)
       (TellsAnswer (told.Got revision plain)) d.1.found (ap (λ n. gave.Found n) d.2))
 
   pub get_caused : (path : List ℕ) (replica : ℕ) (old new : Workplace L D) (reply : Told)
       (result : Result Read CallNo) → Ok reply ≡ told_of_read old.caller.seat result
-      → IsRead truth link path replica old.caller old.links result new.caller new.links
+      → IsRead link path replica old.caller old.links result new.caller new.links
       → HasCauseAt link count (line.Get path) old reply new
   get_caused path replica old new reply (Ok found.Absent) is r =
       told_caused link count (line.Get path) old new reply told.Absent is

@@ -13,7 +13,6 @@ use Rattle.kr_base.specs.Faults.{Rose}
 use Rattle.kr_base.specs.Lines.{of_seat}
 use Rattle.kr_kms.specs.Calls.{IsSameLink, Link}
 use Rattle.kr_kms.specs.Exchanges.{Exchange}
-use Rattle.kr_kms.specs.Truth.{Truth}
 use Rattle.kr_provider.specs.AskedLinks.{AskedOnly, FaultRose}
 use Rattle.kr_provider.specs.BenchState.{BenchState}
 use Rattle.kr_provider.specs.Names.{AreDistinct, names_of}
@@ -210,10 +209,10 @@ stores_more false rest part more named l = omega (arith, l)
 
 -- ---- all replies of a run
 
-module _ {L D : Type 0} (truth : Truth) (link : L → Link) (step : L → Exchange → L → Type 0) (left : D → Option (List ℕ))
+module _ {L D : Type 0} (link : L → Link) (step : L → Exchange → L → Type 0) (left : D → Option (List ℕ))
     (count : D → ℕ) (files : List SettingsFile) (replica : ℕ) where
   dice_counted : (first : Workplace L D) (run : List LineDone) (last : Workplace L D)
-      → DoesAll truth link step left count files replica first run last
+      → DoesAll link step left count files replica first run last
       → CountsFaults (count_by names_dice (replies_in run)) (count first.dice) (count last.dice)
   dice_counted first [] last same = λ small.
       omega (arith, ap (λ (w : Workplace L D). count w.dice) same)
@@ -224,11 +223,11 @@ module _ {L D : Type 0} (truth : Truth) (link : L → Link) (step : L → Exchan
       (counts_more (names_dice done.reply) (count_by names_dice (replies_in run))
       (count first.dice) (count next.dice) (count last.dice)
       (dice_rose link count done.line first next done.reply
-      (line_caused truth link left count files replica done.line first next done.reply
+      (line_caused link left count files replica done.line first next done.reply
       all.1.does)) all.1.later (dice_counted next run last all.2))
 
   stores_counted : (first : Workplace L D) (run : List LineDone) (last : Workplace L D)
-      → DoesAll truth link step left count files replica first run last
+      → DoesAll link step left count files replica first run last
       → count_by names_store (replies_in run) ≤ count_by has_store_failed (entries_in run)
   stores_counted first [] last same = omega arith
   stores_counted first (done ∷ run) last all =
@@ -236,7 +235,7 @@ module _ {L D : Type 0} (truth : Truth) (link : L → Link) (step : L → Exchan
       let named : names_store done.reply ≡ true → 1 ≤ count_by has_store_failed done.part =
       λ is. failed_in first.caller next.caller done.part all.1.adds
       (store_fails link count done.line first next done.reply
-      (line_caused truth link left count files replica done.line first next done.reply
+      (line_caused link left count files replica done.line first next done.reply
       all.1.does) is) in
       let most : cond (names_store done.reply) 1 0 + count_by names_store (replies_in run)
       ≤ count_by has_store_failed done.part + count_by has_store_failed (entries_in run) =
@@ -255,7 +254,7 @@ module _ {L D : Type 0} (truth : Truth) (link : L → Link) (step : L → Exchan
       all_told
 
   plugins_counted : (first : Workplace L D) (run : List LineDone) (last : Workplace L D)
-      → DoesAll truth link step left count files replica first run last → AreDistinct link first.links
+      → DoesAll link step left count files replica first run last → AreDistinct link first.links
       → (at : ℕ) (it now : L) → slice_get first.links at ≡ Some it
       → slice_get last.links at ≡ Some now
       → CountsFaults (count_by (tells_plugin (link it).name) (replies_in run)) (link it).count
@@ -282,17 +281,17 @@ module _ {L D : Type 0} (truth : Truth) (link : L → Link) (step : L → Exchan
       (link now).count
       (λ is. rose_there link names first.links next.links it m.0 at all.1.asked_only d it_is m.1 m.2
       (plugin_rose link count done.line first next (link it).name done.reply
-      (line_caused truth link left count files replica done.line first next done.reply
+      (line_caused link left count files replica done.line first next done.reply
       all.1.does) is)) m.2.later rest)
 
-pub often_caused : {L D : Type 0} → (truth : Truth) (link : L → Link) (step : L → Exchange → L → Type 0)
+pub often_caused : {L D : Type 0} → (link : L → Link) (step : L → Exchange → L → Type 0)
     (left : D → Option (List ℕ)) (count : D → ℕ) (files : List SettingsFile)
     (history : List Entry) (part : Part) (first : Workplace L D) (replies : List Told)
     (after : BenchState L D)
-    → (stands : StandsIn truth link step left count files history part first replies after)
+    → (stands : StandsIn link step left count files history part first replies after)
     → AreCounted link count replies (of_seat seat_of first.caller.seat history) first.links
     first.dice after.links after.dice
-often_caused {L} {D} truth link step left count files history part first replies after stands =
+often_caused {L} {D} link step left count files history part first replies after stands =
     let its = of_seat seat_of first.caller.seat history in
     subst (λ (ts : List Told). AreCounted link count ts its first.links first.dice after.links
     after.dice) (sym stands.replies_are)
@@ -302,10 +301,10 @@ often_caused {L} {D} truth link step left count files history part first replies
     stands.last.links d) (sym stands.dice_are) (record {
       stored = subst (λ (es : List Entry). count_by names_store (replies_in stands.run)
           ≤ count_by has_store_failed es) stands.parts_are
-          (stores_counted truth link step left count files part.replica first stands.run stands.last
+          (stores_counted link step left count files part.replica first stands.run stands.last
           stands.does);
-      drawn = dice_counted truth link step left count files part.replica first stands.run stands.last
+      drawn = dice_counted link step left count files part.replica first stands.run stands.last
           stands.does;
-      asked = plugins_counted truth link step left count files part.replica first stands.run stands.last
+      asked = plugins_counted link step left count files part.replica first stands.run stands.last
           stands.does;
     })))

@@ -4,7 +4,6 @@ use Rattle.std.proofs.lemmas.Bool.{false≢true}
 use Rattle.std.proofs.lemmas.List.{append_assoc}
 use Rattle.kr_config.specs.Kept.{ConfigEntry}
 use Rattle.kr_kms.specs.Calls.{Link}
-use Rattle.kr_kms.specs.Truth.{Truth}
 use Rattle.kr_kms.specs.declared.health.Field.{Field}
 use Rattle.kr_provider.specs.Publication.{Publication}
 use Rattle.kr_history.specs.declared.call.CallNo.{CallNo}
@@ -33,7 +32,7 @@ use Rattle.kr_workers.specs.Replies.{told_of_join, told_of_refresh, told_of_relo
 use Rattle.kr_workers.specs.ScriptLines.{DoesJoin, DoesReload, IfRead, Workplace}
 use Rattle.kr_workers.proofs.Causing.{Causes, HasCauseAt, caused_later, early_caused, held_caused, held_gave, is_done, own_gave, refused_caused, told_caused}
 
-module _ {L D : Type 0} (truth : Truth) (link : L → Link) (left : D → Option (List ℕ))
+module _ {L D : Type 0} (link : L → Link) (left : D → Option (List ℕ))
     (count : D → ℕ) where
   -- what is published and brought, at lines that ask plugins, draw and may want memory, and that
   -- may tell an unhealthy plugin and a replica that isn't in
@@ -48,7 +47,7 @@ module _ {L D : Type 0} (truth : Truth) (link : L → Link) (left : D → Option
   brings_caused : (asked : ScriptLine) → MayBringFile asked → (rows : List ConfigEntry)
       (brings : Publication → Event) (replica : ℕ) (old new : Caller) (olds news : List L)
       (dice after : D) (why : CallNo)
-      → BringsBy truth link left count rows brings replica old olds dice why new news after
+      → BringsBy link left count rows brings replica old olds dice why new news after
       → Causes link count asked old olds dice why new news after
   brings_caused asked may rows brings replica old new olds news dice after (refusal.Refused why)
       b = absurd b
@@ -76,7 +75,7 @@ module _ {L D : Type 0} (truth : Truth) (link : L → Link) (left : D → Option
   reload_caused : (named : ℕ) (file : List ℕ) (rows : List ConfigEntry) (old new : Workplace L D)
       (reply : Told) (result : Result Loaded CallNo)
       → Ok reply ≡ told_of_reload old.caller.seat result
-      → IsReload truth link left count rows named old.caller old.links old.dice result new.caller
+      → IsReload link left count rows named old.caller old.links old.dice result new.caller
       new.links new.dice → HasCauseAt link count (line.Reload named file) old reply new
   reload_caused named file rows old new reply (Ok (loaded.Generation number)) is r = told_caused
       link count (line.Reload named file) old new reply (told.Reloaded number) is (
@@ -105,7 +104,7 @@ module _ {L D : Type 0} (truth : Truth) (link : L → Link) (left : D → Option
 
   pub reloaded_caused : (named : ℕ) (file : List ℕ) (found : Option (List ConfigEntry))
       (old new : Workplace L D) (reply : Told)
-      → IfRead found (λ rows. DoesReload truth link left count named rows old (Ok reply) new)
+      → IfRead found (λ rows. DoesReload link left count named rows old (Ok reply) new)
       → HasCauseAt link count (line.Reload named file) old reply new
   reloaded_caused named file None old new reply d = absurd d
   reloaded_caused named file (Some rows) old new reply (inl none) = told_caused link count
@@ -117,7 +116,7 @@ module _ {L D : Type 0} (truth : Truth) (link : L → Link) (left : D → Option
 
   joins_caused : (named : ℕ) (file : List ℕ) (rows : List ConfigEntry) (old new : Caller)
       (olds news : List L) (dice after : D) (why : CallNo)
-      → IsJoin truth link left count rows named old olds dice (Err why) new news after
+      → IsJoin link left count rows named old olds dice (Err why) new news after
       → Causes link count (line.Join named file) old olds dice why new news after
   joins_caused named file rows old new olds news dice after (refusal.Refused why) b = absurd b
   joins_caused named file rows old new olds news dice after (refusal.PluginFailed name) b =
@@ -134,7 +133,7 @@ module _ {L D : Type 0} (truth : Truth) (link : L → Link) (left : D → Option
   join_caused : (named : ℕ) (file : List ℕ) (rows : List ConfigEntry) (old new : Workplace L D)
       (reply : Told) (result : Result Joining CallNo)
       → Ok reply ≡ told_of_join old.caller.seat result
-      → IsJoin truth link left count rows named old.caller old.links old.dice result new.caller
+      → IsJoin link left count rows named old.caller old.links old.dice result new.caller
       new.links new.dice → HasCauseAt link count (line.Join named file) old reply new
   join_caused named file rows old new reply (Ok (joining.Generation number)) is j = told_caused
       link count (line.Join named file) old new reply (told.Joined number) is (
@@ -161,7 +160,7 @@ module _ {L D : Type 0} (truth : Truth) (link : L → Link) (left : D → Option
 
   pub joined_caused : (named : ℕ) (file : List ℕ) (found : Option (List ConfigEntry))
       (old new : Workplace L D) (reply : Told)
-      → IfRead found (λ rows. DoesJoin truth link left count named rows old (Ok reply) new)
+      → IfRead found (λ rows. DoesJoin link left count named rows old (Ok reply) new)
       → HasCauseAt link count (line.Join named file) old reply new
   joined_caused named file None old new reply d = absurd d
   joined_caused named file (Some rows) old new reply (inl none) = told_caused link count
@@ -187,7 +186,7 @@ module _ {L D : Type 0} (truth : Truth) (link : L → Link) (left : D → Option
 
   refreshes_caused : (replica number : ℕ) (p : Publication) (old new : Caller)
       (olds news : List L) (dice after : D) (why : CallNo)
-      → Refreshes truth link left count replica number p old olds dice (Err why) new news after
+      → Refreshes link left count replica number p old olds dice (Err why) new news after
       → Causes link count line.Refresh old olds dice why new news after
   refreshes_caused replica number p old new olds news dice after why (inl a) =
       vain_caused p old new olds news dice after why a.0
@@ -205,14 +204,14 @@ module _ {L D : Type 0} (truth : Truth) (link : L → Link) (left : D → Option
 
   refresh_ends : (replica : ℕ) (old new : Caller) (olds news : List L) (dice after : D)
       (why : CallNo)
-      → IsRefresh truth link left count replica old olds dice (Err why) new news after
+      → IsRefresh link left count replica old olds dice (Err why) new news after
       → Causes link count line.Refresh old olds dice why new news after
   refresh_ends replica old new olds news dice after why (inl e) =
       early_caused link count line.Refresh tt tt replica old new olds news dice after why e.0
   refresh_ends replica old new olds news dice after why (inr h) =
       held_caused link count line.Refresh
       (λ (number : ℕ) (p : Publication) (from : Caller) (done : Result Loaded CallNo)
-      (to : Caller). Refreshes truth link left count replica number p from olds dice done to news
+      (to : Caller). Refreshes link left count replica number p from olds dice done to news
       after × AskedOnly link (plugin_names p.seeds) olds news) replica old new olds news dice after
       why h
       (λ number p from to d.
@@ -222,14 +221,14 @@ module _ {L D : Type 0} (truth : Truth) (link : L → Link) (left : D → Option
   refresh_gave : (replica : ℕ) (old new : Caller) (olds news : List L) (dice after : D)
       (done : Loaded) (given : Answer) (Is : Gave → Type 0) → Is (gave_of given)
       → ((number : ℕ) (p : Publication) (from to : Caller)
-      → Refreshes truth link left count replica number p from olds dice (Ok done) to news after
-      → RenewsBy truth link left count replica number p from olds dice given to news after)
-      → IsRefresh truth link left count replica old olds dice (Ok done) new news after
+      → Refreshes link left count replica number p from olds dice (Ok done) to news after
+      → RenewsBy link left count replica number p from olds dice given to news after)
+      → IsRefresh link left count replica old olds dice (Ok done) new news after
       → OwnGave old new.seen Is
   refresh_gave replica old new olds news dice after done given Is is renews (inl e) = absurd e
   refresh_gave replica old new olds news dice after done given Is is renews (inr h) = held_gave
       (λ (number : ℕ) (p : Publication) (from : Caller) (done : Result Loaded CallNo)
-      (to : Caller). Refreshes truth link left count replica number p from olds dice done to news
+      (to : Caller). Refreshes link left count replica number p from olds dice done to news
       after × AskedOnly link (plugin_names p.seeds) olds news) replica old new (Ok done) Is refl h
       (λ number p from to d.
       let r = renews number p from to d.0 in
@@ -237,7 +236,7 @@ module _ {L D : Type 0} (truth : Truth) (link : L → Link) (left : D → Option
 
   -- no key has changed, by the configuration that was adopted
   unchanged_caused : (replica : ℕ) (old new : Caller) (olds news : List L) (dice after : D)
-      (number : ℕ) → IsRefresh truth link left count replica old olds dice
+      (number : ℕ) → IsRefresh link left count replica old olds dice
       (Ok (loaded.Unchanged number)) new news after
       → (p : Publication) × OwnAdopted old new.seen p × AreKeysSame link olds p.seeds
   unchanged_caused replica old new olds news dice after number (inl e) = absurd e
@@ -246,7 +245,7 @@ module _ {L D : Type 0} (truth : Truth) (link : L → Link) (left : D → Option
       go : LetsGo h.acted h.done (Ok (loaded.Unchanged number)) new
           → (p : Publication) × OwnAdopted old new.seen p × AreKeysSame link olds p.seeds
       go (inl g) =
-          let d = subst (λ (d : Result Loaded CallNo). Refreshes truth link left count replica
+          let d = subst (λ (d : Result Loaded CallNo). Refreshes link left count replica
           h.number h.p h.adopted olds dice d h.acted news after
           × AskedOnly link (plugin_names h.p.seeds) olds news) (sym g.1) h.does in
           let tail : List Entry = g.0.others ++ g.0.entry ∷ [] in (
@@ -271,7 +270,7 @@ module _ {L D : Type 0} (truth : Truth) (link : L → Link) (left : D → Option
 
   pub refresh_caused : (replica : ℕ) (old new : Workplace L D) (reply : Told)
       (result : Result Loaded CallNo) → Ok reply ≡ told_of_refresh old.caller.seat result
-      → IsRefresh truth link left count replica old.caller old.links old.dice result new.caller
+      → IsRefresh link left count replica old.caller old.links old.dice result new.caller
       new.links new.dice → HasCauseAt link count line.Refresh old reply new
   refresh_caused replica old new reply (Ok (loaded.Generation number)) is r = told_caused
       link count line.Refresh old new reply (told.Refreshed number) is (
@@ -285,7 +284,7 @@ module _ {L D : Type 0} (truth : Truth) (link : L → Link) (left : D → Option
       absurd (never_refused h.lets_go)
     where
       never_refused : LetsGo h.acted h.done (Ok (loaded.Refused verdict)) new.caller → ⊥
-      never_refused (inl g) = (subst (λ (d : Result Loaded CallNo). Refreshes truth link left count
+      never_refused (inl g) = (subst (λ (d : Result Loaded CallNo). Refreshes link left count
           replica h.number h.p h.adopted old.links old.dice d h.acted new.links new.dice
           × AskedOnly link (plugin_names h.p.seeds) old.links new.links) (sym g.1) h.does).0
       never_refused (inr n) = absurd (false≢true (sym (ap is_done n.1)))

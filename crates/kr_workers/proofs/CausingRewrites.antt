@@ -2,7 +2,6 @@
 use Rattle.std.proofs.Common.{◌≡◌, ℕ, Bool, true, false, List, [], ◌∷◌, Option, Result, Ok, Err, inl, inr, refl, ap, sym, subst}
 use Rattle.std.proofs.lemmas.Bool.{false≢true}
 use Rattle.kr_kms.specs.Calls.{Link}
-use Rattle.kr_kms.specs.Truth.{Truth}
 use Rattle.kr_provider.specs.Names.{names_of}
 use Rattle.kr_provider.specs.Publication.{Publication, list_at, writer_at}
 use Rattle.kr_provider.specs.Sealing.{Seals}
@@ -37,7 +36,7 @@ use Rattle.kr_workers.specs.ScriptLines.{Does, Workplace}
 use Rattle.kr_workers.proofs.Causing.{Causes, HasCauseAt, caused_later, caused_within, deleted_caused, early_caused, get_caused, held_caused, is_done, left_caused, own_gave, put_caused, refused_caused, spent_caused, store_failed, told_caused}
 use Rattle.kr_workers.proofs.CausingLoads.{joined_caused, refresh_caused, reloaded_caused}
 
-module _ {L D : Type 0} (truth : Truth) (link : L → Link) (left : D → Option (List ℕ))
+module _ {L D : Type 0} (link : L → Link) (left : D → Option (List ℕ))
     (count : D → ℕ) where
   -- why a step was cut short
   abbrev CausesStep : Caller → List L → D → CallNo → Caller → List L → D → Type 0
@@ -127,7 +126,7 @@ module _ {L D : Type 0} (truth : Truth) (link : L → Link) (left : D → Option
 
   opens_caused : (p : Publication) (row : Row) (old new : Caller) (olds news : List L)
       (dice after : D) (why : CallNo) (opened : Result Opened UnsealNo)
-      → UnsealsBy truth link p.seeds (list_at p row.resource) row.path row.stored olds opened news
+      → UnsealsBy link p.seeds (list_at p row.resource) row.path row.stored olds opened news
       → RewritesBy left count p row opened old dice (Err why) new after
       → CausesStep old olds dice why new news after
   opens_caused p row old new olds news dice after why (Ok opened) u r = rewrites_caused p row
@@ -141,7 +140,7 @@ module _ {L D : Type 0} (truth : Truth) (link : L → Link) (left : D → Option
 
   row_caused : (p : Publication) (row : Row) (old new : Caller) (olds news : List L)
       (dice after : D) (why : CallNo)
-      → Rewrites truth link left count p row old olds dice (Err why) new news after
+      → Rewrites link left count p row old olds dice (Err why) new news after
       → CausesStep old olds dice why new news after
   row_caused p row old new olds news dice after why (inl o) = opens_caused p row old new olds news
       dice after why o.opened o.unseals o.rewrites
@@ -163,7 +162,7 @@ module _ {L D : Type 0} (truth : Truth) (link : L → Link) (left : D → Option
 
   steps_caused : (p : Publication) (above : List ℕ) (old new : Caller) (olds news : List L)
       (dice after : D) (why : CallNo)
-      → Steps truth link left count p above old olds dice (Err why) new news after
+      → Steps link left count p above old olds dice (Err why) new news after
       → CausesStep old olds dice why new news after
   steps_caused p above old new olds news dice after why (inl n) =
       none_caused above old new olds news dice after why n.0
@@ -175,20 +174,20 @@ module _ {L D : Type 0} (truth : Truth) (link : L → Link) (left : D → Option
 
   step_caused : (replica : ℕ) (above : List ℕ) (old new : Caller) (olds news : List L)
       (dice after : D) (why : CallNo)
-      → IsStep truth link left count replica above old olds dice (Err why) new news after
+      → IsStep link left count replica above old olds dice (Err why) new news after
       → CausesStep old olds dice why new news after
   step_caused replica above old new olds news dice after why (inl e) =
       early_caused link count line.Rewrite tt tt replica old new olds news dice after why e.0
   step_caused replica above old new olds news dice after why (inr h) =
       held_caused link count line.Rewrite
       (λ (number : ℕ) (p : Publication) (from : Caller) (done : Result Step CallNo) (to : Caller).
-      Steps truth link left count p above from olds dice done to news after) replica old new olds
+      Steps link left count p above from olds dice done to news after) replica old new olds
       news dice after why h
       (λ number p from to d. steps_caused p above from to olds news dice after why d)
 
   cut_caused : (replica : ℕ) (above : List ℕ) (old new : Caller) (olds news : List L)
       (dice after : D) (why : CallNo) (report : Report)
-      → IsCut truth link left count replica above old olds dice why report new news after
+      → IsCut link left count replica above old olds dice why report new news after
       → CausesStep old olds dice why new news after
   cut_caused replica above old new olds news dice after why report cut =
       let e = cut.ends in
@@ -202,7 +201,7 @@ module _ {L D : Type 0} (truth : Truth) (link : L → Link) (left : D → Option
   rewrite_caused : (replica : ℕ) (old new : Workplace L D) (reply : Told)
       (result : Result Report (Report × CallNo))
       → Ok reply ≡ told_of_drive old.caller.seat result
-      → IsDrive truth link left count replica [] old.caller old.links old.dice result new.caller
+      → IsDrive link left count replica [] old.caller old.links old.dice result new.caller
       new.links new.dice → HasCauseAt link count line.Rewrite old reply new
   rewrite_caused replica old new reply (Ok report) is d =
       told_caused link count line.Rewrite old new reply
@@ -220,21 +219,21 @@ module _ {L D : Type 0} (truth : Truth) (link : L → Link) (left : D → Option
 
   pub line_caused : (files : List SettingsFile) (replica : ℕ) (asked : ScriptLine)
       (old new : Workplace L D) (reply : Told)
-      → Does truth link left count files replica asked old (Ok reply) new
+      → Does link left count files replica asked old (Ok reply) new
       → HasCauseAt link count asked old reply new
   line_caused files replica (line.Put resource path plain) old new reply d =
-      put_caused truth link left count resource path plain replica old new reply d.0 d.1 d.2
+      put_caused link left count resource path plain replica old new reply d.0 d.1 d.2
   line_caused files replica (line.Get path) old new reply d =
-      get_caused truth link left count path replica old new reply d.0 d.1 d.2
+      get_caused link left count path replica old new reply d.0 d.1 d.2
   line_caused files replica (line.Delete path) old new reply d =
-      deleted_caused truth link left count path old new reply d.0 d.1 d.2
+      deleted_caused link left count path old new reply d.0 d.1 d.2
   line_caused files replica line.Rewrite old new reply d =
       rewrite_caused replica old new reply d.0 d.1 d.2
   line_caused files replica (line.Reload named file) old new reply d =
-      reloaded_caused truth link left count named file (rows_at files file) old new reply d
+      reloaded_caused link left count named file (rows_at files file) old new reply d
   line_caused files replica line.Refresh old new reply d =
-      refresh_caused truth link left count replica old new reply d.0 d.1 d.2
+      refresh_caused link left count replica old new reply d.0 d.1 d.2
   line_caused files replica (line.Join named file) old new reply d =
-      joined_caused truth link left count named file (rows_at files file) old new reply d
+      joined_caused link left count named file (rows_at files file) old new reply d
   line_caused files replica (line.Leave named) old new reply d =
-      left_caused truth link left count named old new reply d.0 d.1 d.2
+      left_caused link left count named old new reply d.0 d.1 d.2

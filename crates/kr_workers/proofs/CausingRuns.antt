@@ -8,7 +8,6 @@ use Rattle.kr_base.specs.Told.{Agrees}
 use Rattle.kr_kms.specs.Calls.{IsSameLink, Link}
 use Rattle.kr_kms.specs.Exchanges.{Exchange}
 use Rattle.kr_kms.specs.Health.{HasBreach}
-use Rattle.kr_kms.specs.Truth.{Truth}
 use Rattle.kr_kms.specs.declared.seeds.SeedRow.{SeedRow}
 use Rattle.kr_provider.specs.AskedLinks.{AskedOnly, FaultRose}
 use Rattle.kr_provider.specs.BenchState.{BenchState}
@@ -198,10 +197,10 @@ module _ {L D : Type 0} (link : L → Link) (count : D → ℕ) where
 
 -- ---- a run
 
-module _ {L D : Type 0} (truth : Truth) (link : L → Link) (step : L → Exchange → L → Type 0) (left : D → Option (List ℕ))
+module _ {L D : Type 0} (link : L → Link) (step : L → Exchange → L → Type 0) (left : D → Option (List ℕ))
     (count : D → ℕ) (files : List SettingsFile) (replica : ℕ) where
   gone_by : (old new : Workplace L D) (done : LineDone)
-      → IsDone truth link step left count files replica old done new → HasGone link count old new
+      → IsDone link step left count files replica old done new → HasGone link count old new
   gone_by old new done d = record {
     part = done.part;
     adds = d.adds;
@@ -210,7 +209,7 @@ module _ {L D : Type 0} (truth : Truth) (link : L → Link) (step : L → Exchan
   }
 
   gone_all : (first : Workplace L D) (run : List LineDone) (last : Workplace L D)
-      → DoesAll truth link step left count files replica first run last
+      → DoesAll link step left count files replica first run last
       → HasGone link count first last
   gone_all first [] last same =
       subst (λ w. HasGone link count first w) (sym same) (gone_none link count first)
@@ -219,7 +218,7 @@ module _ {L D : Type 0} (truth : Truth) (link : L → Link) (step : L → Exchan
 
   run_caused : (first now : Workplace L D) → HasGone link count first now
       → (run : List LineDone) (last : Workplace L D)
-      → DoesAll truth link step left count files replica now run last → (done : LineDone)
+      → DoesAll link step left count files replica now run last → (done : LineDone)
       → Contains run done → (seen : List Entry) (links : List L) (dice : D)
       → IsFurther link count last seen links dice
       → HasCause link count done.line first done.reply seen links dice
@@ -228,7 +227,7 @@ module _ {L D : Type 0} (truth : Truth) (link : L → Link) (step : L → Exchan
       subst (λ (o : LineDone). HasCause link count o.line first o.reply seen links dice) e
       (cause_within link count one.line first now does.0 one.reply seen links dice gone
       (further_then link count does.0 last seen links dice (gone_all does.0 run last does.2) f)
-      (line_caused truth link left count files replica one.line now does.0 one.reply
+      (line_caused link left count files replica one.line now does.0 one.reply
       does.1.does))
   run_caused first now gone (one ∷ run) last does done (suc k, l, e) seen links dice f =
       run_caused first does.0 (gone_then link count first now does.0 gone
@@ -237,12 +236,12 @@ module _ {L D : Type 0} (truth : Truth) (link : L → Link) (step : L → Exchan
 
   whole_caused : (history : List Entry) (part : Part) (first : Workplace L D)
       (replies : List Told) (after : BenchState L D)
-      → (stands : StandsIn truth link step left count files history part first replies after)
+      → (stands : StandsIn link step left count files history part first replies after)
       → part.replica ≡ replica → (done : LineDone) → Contains stands.run done
       → HasCause link count done.line first done.reply history after.links after.dice
   whole_caused history part first replies after stands same done there = run_caused first first
       (gone_none link count first) stands.run stands.last
-      (subst (λ r. DoesAll truth link step left count files r first stands.run stands.last) same
+      (subst (λ r. DoesAll link step left count files r first stands.run stands.last) same
       stands.does) done there history after.links after.dice (record {
         rest = stands.front.0;
         seen_is = sym stands.front.1;
@@ -252,14 +251,14 @@ module _ {L D : Type 0} (truth : Truth) (link : L → Link) (step : L → Exchan
         later = omega (arith, ap count stands.dice_are);
       })
 
-pub replies_have_causes : {L D : Type 0} → (truth : Truth) (link : L → Link) (step : L → Exchange → L → Type 0)
+pub replies_have_causes : {L D : Type 0} → (link : L → Link) (step : L → Exchange → L → Type 0)
     (left : D → Option (List ℕ)) (count : D → ℕ) (files : List SettingsFile)
-    → RepliesHaveCauses truth link step left count files
-replies_have_causes truth link step left count files = record {
-  each = λ replica old new done d. line_caused truth link left count files replica done.line old
+    → RepliesHaveCauses link step left count files
+replies_have_causes link step left count files = record {
+  each = λ replica old new done d. line_caused link left count files replica done.line old
       new done.reply d.does;
-  whole = λ history part first replies after stands done there. whole_caused truth link step left count
+  whole = λ history part first replies after stands done there. whole_caused link step left count
       files part.replica history part first replies after stands refl done there;
-  often = λ history part first replies after stands. often_caused truth link step left count files
+  often = λ history part first replies after stands. often_caused link step left count files
       history part first replies after stands;
 }

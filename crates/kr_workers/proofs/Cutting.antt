@@ -2,7 +2,6 @@
 use Rattle.std.proofs.Common.{◌≡◌, ℕ, ◌<◌, ◌≤◌, ◌+◌, List, Option, Result, Ok, Err, inl, inr, ap, sym, subst, arith}
 use Rattle.kr_config.specs.Kept.{ConfigEntry}
 use Rattle.kr_kms.specs.Calls.{Link}
-use Rattle.kr_kms.specs.Truth.{Truth}
 use Rattle.kr_provider.specs.Publication.{Publication}
 use Rattle.kr_provider.specs.declared.refusal.ValueNo.{ValueNo}
 use Rattle.kr_provider.specs.declared.refusal.ValueNo.TheVariants.{Short, BadBlock, BadPadding, BadTag, Wire, KeyId, Source, Annotations, SourceType, NoData, NotUtf8, NoProvider, LooksEncrypted, TooLarge, SeedLength}
@@ -66,9 +65,9 @@ module _ {T : Type 0}
 
 -- ---- read
 
-module _ {L : Type 0} (truth : Truth) (link : L → Link) (path : List ℕ) where
+module _ {L : Type 0} (link : L → Link) (path : List ℕ) where
   finds_one : (p : Publication) (old : Caller) (olds : List L) (done : Result Read CallNo)
-      (new : Caller) (news : List L) → Finds truth link path p old olds done new news
+      (new : Caller) (news : List L) → Finds link path p old olds done new news
       → old.left ≤ new.left + 1
   finds_one p old olds (Ok found.Absent) new news d = omega (arith, d.0.absent.left_is)
   finds_one p old olds (Ok (found.Value revision plain stale)) new news d =
@@ -86,18 +85,18 @@ module _ {L : Type 0} (truth : Truth) (link : L → Link) (path : List ℕ) wher
   finds_one p old olds (Err refusal.NoMemory) new news (inr d) = omega (arith, d.0.left_is)
 
   spent_read : (replica : ℕ) (old : Caller) (olds : List L) (new : Caller) (news : List L)
-      → IsRead truth link path replica old olds (Err refusal.Spent) new news → old.left < 3
+      → IsRead link path replica old olds (Err refusal.Spent) new news → old.left < 3
   spent_read replica old olds new news (inl e) = omega (arith, e.0.spent)
   spent_read replica old olds new news (inr h) = held_spent {T = Read}
-      (λ number p from done to. Finds truth link path p from olds done to news)
+      (λ number p from done to. Finds link path p from olds done to news)
       (λ number p from done to d. finds_one p from olds done to news d)
       (λ number p from to d. d.0.spent) replica old new h
 
   pub read_spent : (replica : ℕ) (old : Caller) (olds : List L) (new : Caller) (news : List L)
-      (result : Result Read CallNo) → IsRead truth link path replica old olds result new news
+      (result : Result Read CallNo) → IsRead link path replica old olds result new news
       → result ≡ Err refusal.Spent → old.left < 3
   read_spent replica old olds new news result is e = spent_read replica old olds new news
-      (subst (λ (r : Result Read CallNo). IsRead truth link path replica old olds r new news) e is)
+      (subst (λ (r : Result Read CallNo). IsRead link path replica old olds r new news) e is)
 
 -- ---- write
 
@@ -159,29 +158,29 @@ module _ {D : Type 0} (left : D → Option (List ℕ)) (count : D → ℕ)
 
 -- ---- reload, join and refresh
 
-module _ {L D : Type 0} (truth : Truth) (link : L → Link) (left : D → Option (List ℕ))
+module _ {L D : Type 0} (link : L → Link) (left : D → Option (List ℕ))
     (count : D → ℕ) where
   pub reload_spent : (rows : List ConfigEntry) (replica : ℕ) (old : Caller) (olds : List L) (dice : D)
       (new : Caller) (news : List L) (after : D) (result : Result Loaded CallNo)
-      → IsReload truth link left count rows replica old olds dice result new news after
+      → IsReload link left count rows replica old olds dice result new news after
       → result ≡ Err refusal.Spent → old.left < 1
   reload_spent rows replica old olds dice new news after result is e =
       let d = subst (λ (r : Result Loaded CallNo).
-      IsReload truth link left count rows replica old olds dice r new news after) e is in
+      IsReload link left count rows replica old olds dice r new news after) e is in
       omega (arith, d.1.spent)
 
   pub join_spent : (rows : List ConfigEntry) (replica : ℕ) (old : Caller) (olds : List L) (dice : D)
       (new : Caller) (news : List L) (after : D) (result : Result Joining CallNo)
-      → IsJoin truth link left count rows replica old olds dice result new news after
+      → IsJoin link left count rows replica old olds dice result new news after
       → result ≡ Err refusal.Spent → old.left < 1
   join_spent rows replica old olds dice new news after result is e =
       let d = subst (λ (r : Result Joining CallNo).
-      IsJoin truth link left count rows replica old olds dice r new news after) e is in
+      IsJoin link left count rows replica old olds dice r new news after) e is in
       omega (arith, d.1.spent)
 
   brings_one : (rows : List ConfigEntry) (brings : Publication → Event) (replica : ℕ) (old : Caller)
       (olds : List L) (dice : D) (why : CallNo) (new : Caller) (news : List L) (after : D)
-      → BringsBy truth link left count rows brings replica old olds dice why new news after
+      → BringsBy link left count rows brings replica old olds dice why new news after
       → old.left ≤ new.left + 1
   brings_one rows brings replica old olds dice (refusal.Refused why) new news after d = absurd d
   brings_one rows brings replica old olds dice (refusal.PluginFailed name) new news after d =
@@ -206,7 +205,7 @@ module _ {L D : Type 0} (truth : Truth) (link : L → Link) (left : D → Option
 
   stops_one : (replica number : ℕ) (p : Publication) (old : Caller) (olds : List L) (dice : D)
       (why : CallNo) (new : Caller) (news : List L) (after : D)
-      → RefreshesBy truth link left count replica number p old olds dice why new news after
+      → RefreshesBy link left count replica number p old olds dice why new news after
       → old.left ≤ new.left + 1
   stops_one replica number p old olds dice why new news after (inl d) = left_stays old new d.1
   stops_one replica number p old olds dice why new news after (inr d) = brings_one p.rows _ replica
@@ -214,7 +213,7 @@ module _ {L D : Type 0} (truth : Truth) (link : L → Link) (left : D → Option
 
   refreshes_one : (replica number : ℕ) (p : Publication) (old : Caller) (olds : List L) (dice : D)
       (done : Result Loaded CallNo) (new : Caller) (news : List L) (after : D)
-      → Refreshes truth link left count replica number p old olds dice done new news after
+      → Refreshes link left count replica number p old olds dice done new news after
       → old.left ≤ new.left + 1
   refreshes_one replica number p old olds dice (Ok (loaded.Generation made)) new news after d =
       omega (arith, d.brought.brought.left_is)
@@ -229,18 +228,18 @@ module _ {L D : Type 0} (truth : Truth) (link : L → Link) (left : D → Option
 
   none_refreshed : (replica number : ℕ) (p : Publication) (old : Caller) (olds : List L) (dice : D)
       (new : Caller) (news : List L) (after : D)
-      → RefreshesBy truth link left count replica number p old olds dice refusal.Spent new news
+      → RefreshesBy link left count replica number p old olds dice refusal.Spent new news
       after → old.left ≡ 0
   none_refreshed replica number p old olds dice new news after (inl d) = absurd d.0
   none_refreshed replica number p old olds dice new news after (inr d) = d.brought.1.spent
 
   spent_refresh : (replica : ℕ) (old : Caller) (olds : List L) (dice : D) (new : Caller)
       (news : List L) (after : D)
-      → IsRefresh truth link left count replica old olds dice (Err refusal.Spent) new news after
+      → IsRefresh link left count replica old olds dice (Err refusal.Spent) new news after
       → old.left < 3
   spent_refresh replica old olds dice new news after (inl e) = omega (arith, e.0.spent)
   spent_refresh replica old olds dice new news after (inr h) = held_spent {T = Loaded}
-      (λ number p from done to. Refreshes truth link left count replica number p from olds dice done
+      (λ number p from done to. Refreshes link left count replica number p from olds dice done
       to news after × AskedOnly link (plugin_names p.seeds) olds news)
       (λ number p from done to d. refreshes_one replica number p from olds dice done to news after
       d.0)
@@ -249,9 +248,9 @@ module _ {L D : Type 0} (truth : Truth) (link : L → Link) (left : D → Option
 
   pub refresh_spent : (replica : ℕ) (old : Caller) (olds : List L) (dice : D) (new : Caller)
       (news : List L) (after : D) (result : Result Loaded CallNo)
-      → IsRefresh truth link left count replica old olds dice result new news after
+      → IsRefresh link left count replica old olds dice result new news after
       → result ≡ Err refusal.Spent → old.left < 3
   refresh_spent replica old olds dice new news after result is e =
       spent_refresh replica old olds dice new news after
       (subst (λ (r : Result Loaded CallNo).
-      IsRefresh truth link left count replica old olds dice r new news after) e is)
+      IsRefresh link left count replica old olds dice r new news after) e is)

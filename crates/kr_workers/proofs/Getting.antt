@@ -6,7 +6,7 @@ use Rattle.std.proofs.lemmas.List.Elements.{filter-append}
 use Rattle.kr_base.specs.Lines.{of_seat}
 use Rattle.kr_kms.specs.Calls.{Link}
 use Rattle.kr_kms.specs.Exchanges.{Exchange}
-use Rattle.kr_kms.specs.Truth.{Opens, Truth}
+use Rattle.kr_kms.specs.Opens.{Opens}
 use Rattle.kr_provider.specs.BenchState.{BenchState}
 use Rattle.kr_provider.specs.Publication.{Publication}
 use Rattle.kr_provider.specs.Reading.{data_of, refused}
@@ -51,7 +51,7 @@ pub record IsLater {L D : Type 0} (old new : Workplace L D) : Type 0 where
   pub opening : new.caller.opening ≡ old.caller.opening
   pub seat : new.caller.seat ≡ old.caller.seat
 
-module _ {L D : Type 0} (truth : Truth) (link : L → Link) (step : L → Exchange → L → Type 0)
+module _ {L D : Type 0} (link : L → Link) (step : L → Exchange → L → Type 0)
     (left : D → Option (List ℕ))
     (count : D → ℕ) (files : List SettingsFile) (replica : ℕ) where
   then_later : (a b c : Workplace L D) → IsLater a b → IsLater b c → IsLater a c
@@ -64,7 +64,7 @@ module _ {L D : Type 0} (truth : Truth) (link : L → Link) (step : L → Exchan
   }
 
   done_later : (a b : Workplace L D) (done : LineDone)
-      → IsDone truth link step left count files replica a done b → IsLater a b
+      → IsDone link step left count files replica a done b → IsLater a b
   done_later a b done d = record {
     more = d.adds.more;
     seen_is = ap (λ (c : Caller). c.seen) d.adds.new_is;
@@ -73,7 +73,7 @@ module _ {L D : Type 0} (truth : Truth) (link : L → Link) (step : L → Exchan
   }
 
   run_later : (a : Workplace L D) (run : List LineDone) (b : Workplace L D)
-      → DoesAll truth link step left count files replica a run b → IsLater a b
+      → DoesAll link step left count files replica a run b → IsLater a b
   run_later a [] b same = record {
     more = [];
     seen_is = ap (λ (w : Workplace L D). w.caller.seen) same ∙ sym (append-nil a.caller.seen);
@@ -89,13 +89,13 @@ module _ {L D : Type 0} (truth : Truth) (link : L → Link) (step : L → Exchan
     pub before : Workplace L D
     pub after : Workplace L D
     pub ran : Adds first.caller (entries_in ahead) before.caller
-    pub does_ahead : DoesAll truth link step left count files replica first ahead before
-    pub is_done : IsDone truth link step left count files replica before done after
+    pub does_ahead : DoesAll link step left count files replica first ahead before
+    pub is_done : IsDone link step left count files replica before done after
     pub ended : IsLater after last
 
   pub done_behind : (first : Workplace L D) (ahead : List LineDone) (done : LineDone)
       (behind : List LineDone) (last : Workplace L D)
-      → DoesAll truth link step left count files replica first (ahead ++ done ∷ behind) last
+      → DoesAll link step left count files replica first (ahead ++ done ∷ behind) last
       → IsDoneBehind first ahead done last
   done_behind first [] done behind last all = record {
     before = first;
@@ -249,20 +249,20 @@ module _ (history : List Entry) (o : Opening) (seat : ℕ) (ahead part : List En
 
 -- ---- what the reply tells, but for what plugins told
 
-abbrev pub ToldContent : Truth → Opening → (history : List Entry) → (seat : ℕ)
+abbrev pub ToldContent : Opening → (history : List Entry) → (seat : ℕ)
     → (path : List ℕ) → (ahead part : List Entry) → Told → Type 0
-ToldContent truth o history seat path ahead part (told.Got revision plain) =
+ToldContent o history seat path ahead part (told.Got revision plain) =
     FetchesWhere history seat path ahead part (λ front fetch.
-    (fetch.line.gave ≡ gave.Found revision) × ReadsContent truth o path (data_of plain) front fetch)
-ToldContent truth o history seat path ahead part told.Absent =
+    (fetch.line.gave ≡ gave.Found revision) × ReadsContent o path (data_of plain) front fetch)
+ToldContent o history seat path ahead part told.Absent =
     FetchesWhere history seat path ahead part (λ front fetch. (fetch.line.gave ≡ gave.Absent)
     × ((opens : Opens) → IsContent opens o front path None))
-ToldContent truth o history seat path ahead part (told.Value why) =
+ToldContent o history seat path ahead part (told.Value why) =
     FetchesWhere history seat path ahead part (λ front fetch. (revision : ℕ)
-    × (fetch.line.gave ≡ gave.Found revision) × ReadsContent truth o path (refused why) front fetch)
-ToldContent truth o history seat path ahead part reply = ⊤
+    × (fetch.line.gave ≡ gave.Found revision) × ReadsContent o path (refused why) front fetch)
+ToldContent o history seat path ahead part reply = ⊤
 
-module _ {L : Type 0} (truth : Truth) (link : L → Link) (path : List ℕ) (olds news : List L)
+module _ {L : Type 0} (link : L → Link) (path : List ℕ) (olds news : List L)
     (history : List Entry) (o : Opening) (seat : ℕ) (ahead part : List Entry) where
   -- what was found tells the content
   abbrev TellsFound : Result Read CallNo → Type 0
@@ -270,16 +270,16 @@ module _ {L : Type 0} (truth : Truth) (link : L → Link) (path : List ℕ) (old
       (fetch.line.gave ≡ gave.Absent) × ((opens : Opens) → IsContent opens o front path None))
   TellsFound (Ok (found.Value revision plain stale)) = FetchesWhere history seat path ahead part
       (λ front fetch. (fetch.line.gave ≡ gave.Found revision)
-      × ReadsContent truth o path (data_of plain) front fetch)
+      × ReadsContent o path (data_of plain) front fetch)
   TellsFound (Err (refusal.Refused why)) =
       FetchesWhere history seat path ahead part (λ front fetch. (revision : ℕ)
       × (fetch.line.gave ≡ gave.Found revision)
-      × ReadsContent truth o path (refused why) front fetch)
+      × ReadsContent o path (refused why) front fetch)
   TellsFound (Err why) = ⊤
 
   value_read : (p : Publication) (old new : Caller) (row : Row) (opened : Opened)
-      → (f : FindsRow truth link path p old olds row (Ok opened) new news)
-      → ReadsContent truth old.opening path (data_of opened.plain) (old.seen ++ f.found.others)
+      → (f : FindsRow link path p old olds row (Ok opened) new news)
+      → ReadsContent old.opening path (data_of opened.plain) (old.seen ++ f.found.others)
       f.found.entry
   value_read p old new row opened f = record {
     known = f.content;
@@ -296,8 +296,8 @@ module _ {L : Type 0} (truth : Truth) (link : L → Link) (path : List ℕ) (old
   }
 
   value_refused : (p : Publication) (old new : Caller) (row : Row) (why : ValueNo)
-      → (f : FindsRow truth link path p old olds row (Err (unsealing.Refused why)) new news)
-      → ReadsContent truth old.opening path (refused why) (old.seen ++ f.found.others)
+      → (f : FindsRow link path p old olds row (Err (unsealing.Refused why)) new news)
+      → ReadsContent old.opening path (refused why) (old.seen ++ f.found.others)
       f.found.entry
   value_refused p old new row why f = record {
     known = f.content.1;
@@ -315,7 +315,7 @@ module _ {L : Type 0} (truth : Truth) (link : L → Link) (path : List ℕ) (old
 
   found_tells : (p : Publication) (before adopted acted after : Caller)
       → IsLineIn history o seat ahead part p before adopted acted after
-      → (done : Result Read CallNo) → Finds truth link path p adopted olds done acted news
+      → (done : Result Read CallNo) → Finds link path p adopted olds done acted news
       → TellsFound done
   found_tells p before adopted acted after it (Ok found.Absent) d =
       fetch_there history o seat ahead part p before adopted acted after path answer.Absent
@@ -325,14 +325,14 @@ module _ {L : Type 0} (truth : Truth) (link : L → Link) (path : List ℕ) (old
   found_tells p before adopted acted after it (Ok (found.Value revision plain stale)) d =
       fetch_there history o seat ahead part p before adopted acted after path (answer.Found d.0)
       d.1.found it (λ o front fetch. (fetch.line.gave ≡ gave.Found revision)
-      × ReadsContent truth o path (data_of plain) front fetch) (
+      × ReadsContent o path (data_of plain) front fetch) (
         d.1.found.records.gave_is ∙ ap (λ n. gave.Found n) d.2,
         value_read p adopted acted d.0 (record { plain = plain; stale = stale }) d.1,
       )
   found_tells p before adopted acted after it (Err (refusal.Refused why)) d =
       fetch_there history o seat ahead part p before adopted acted after path (answer.Found d.0)
       d.1.found it (λ o front fetch. (revision : ℕ) × (fetch.line.gave ≡ gave.Found revision)
-      × ReadsContent truth o path (refused why) front fetch)
+      × ReadsContent o path (refused why) front fetch)
       (d.0.revision, d.1.found.records.gave_is, value_refused p adopted acted d.0 why d.1)
   found_tells p before adopted acted after it (Err (refusal.PluginFailed name)) d = tt
   found_tells p before adopted acted after it (Err refusal.DiceFailed) d = tt
@@ -356,33 +356,33 @@ module _ {L : Type 0} (truth : Truth) (link : L → Link) (path : List ℕ) (old
 
   refused_tells : (number : ℕ) (why : CallNo) (reply : Told)
       → Ok reply ≡ told_of_refusal number why → TellsFound (Err why)
-      → ToldContent truth o history seat path ahead part reply
+      → ToldContent o history seat path ahead part reply
   refused_tells number (refusal.Refused why) reply is t = subst
-      (λ r. ToldContent truth o history seat path ahead part r) (sym (ap (reply_in reply) is)) t
+      (λ r. ToldContent o history seat path ahead part r) (sym (ap (reply_in reply) is)) t
   refused_tells number (refusal.PluginFailed name) reply is t = subst
-      (λ r. ToldContent truth o history seat path ahead part r) (sym (ap (reply_in reply) is)) tt
+      (λ r. ToldContent o history seat path ahead part r) (sym (ap (reply_in reply) is)) tt
   refused_tells number refusal.DiceFailed reply is t = subst
-      (λ r. ToldContent truth o history seat path ahead part r) (sym (ap (reply_in reply) is)) tt
+      (λ r. ToldContent o history seat path ahead part r) (sym (ap (reply_in reply) is)) tt
   refused_tells number refusal.StoreFailed reply is t = subst
-      (λ r. ToldContent truth o history seat path ahead part r) (sym (ap (reply_in reply) is)) tt
+      (λ r. ToldContent o history seat path ahead part r) (sym (ap (reply_in reply) is)) tt
   refused_tells number (refusal.StoreFull needed) reply is t = subst
-      (λ r. ToldContent truth o history seat path ahead part r) (sym (ap (reply_in reply) is)) tt
+      (λ r. ToldContent o history seat path ahead part r) (sym (ap (reply_in reply) is)) tt
   refused_tells number (refusal.Unhealthy name field text) reply is t = subst
-      (λ r. ToldContent truth o history seat path ahead part r) (sym (ap (reply_in reply) is)) tt
+      (λ r. ToldContent o history seat path ahead part r) (sym (ap (reply_in reply) is)) tt
   refused_tells number refusal.Gone reply is t = subst
-      (λ r. ToldContent truth o history seat path ahead part r) (sym (ap (reply_in reply) is)) tt
+      (λ r. ToldContent o history seat path ahead part r) (sym (ap (reply_in reply) is)) tt
   refused_tells number refusal.Spent reply is t = absurd
       (ok_no_err (Ok reply) (Err (record {})) tt (sym is))
   refused_tells number refusal.NoMemory reply is t = subst
-      (λ r. ToldContent truth o history seat path ahead part r) (sym (ap (reply_in reply) is)) tt
+      (λ r. ToldContent o history seat path ahead part r) (sym (ap (reply_in reply) is)) tt
 
   read_tells : (number : ℕ) (result : Result Read CallNo) (reply : Told)
       → Ok reply ≡ told_of_read number result → TellsFound result
-      → ToldContent truth o history seat path ahead part reply
+      → ToldContent o history seat path ahead part reply
   read_tells number (Ok found.Absent) reply is t = subst
-      (λ r. ToldContent truth o history seat path ahead part r) (sym (ap (reply_in reply) is)) t
+      (λ r. ToldContent o history seat path ahead part r) (sym (ap (reply_in reply) is)) t
   read_tells number (Ok (found.Value revision plain stale)) reply is t = subst
-      (λ r. ToldContent truth o history seat path ahead part r) (sym (ap (reply_in reply) is)) t
+      (λ r. ToldContent o history seat path ahead part r) (sym (ap (reply_in reply) is)) t
   read_tells number (Err why) reply is t = refused_tells number why reply is t
 
 -- ---- a line of a run, in a history
@@ -396,19 +396,19 @@ pub record IsCallIn {L D : Type 0} (history : List Entry) (first : Workplace L D
   pub own : before.caller.seat ≡ first.caller.seat
   pub seen_own : of_seat seat_of before.caller.seat before.caller.seen ≡ ahead
 
-module _ {L D : Type 0} (truth : Truth) (link : L → Link)
+module _ {L D : Type 0} (link : L → Link)
     (step : L → Exchange → L → Type 0) (left : D → Option (List ℕ)) (count : D → ℕ)
     (files : List SettingsFile) (history : List Entry) (part : Part) (first : Workplace L D)
     (replies : List Told) (after : BenchState L D)
-    (stands : StandsIn truth link step left count files history part first replies after)
+    (stands : StandsIn link step left count files history part first replies after)
     (ahead : List LineDone) (done : LineDone) (behind : List LineDone)
     (run_is : stands.run ≡ ahead ++ done ∷ behind) where
   abbrev pub IsThere : Type 0
-  IsThere = IsDoneBehind truth link step left count files part.replica first ahead done stands.last
+  IsThere = IsDoneBehind link step left count files part.replica first ahead done stands.last
 
   pub done_there : IsThere
-  done_there = done_behind truth link step left count files part.replica first ahead done behind
-      stands.last (subst (λ run. DoesAll truth link step left count files part.replica first run
+  done_there = done_behind link step left count files part.replica first ahead done behind
+      stands.last (subst (λ run. DoesAll link step left count files part.replica first run
       stands.last) run_is stands.does)
 
   pub call_there : (w : IsThere) → first.caller.seen ≡ []
@@ -431,23 +431,23 @@ module _ {L D : Type 0} (truth : Truth) (link : L → Link)
       }
 
   pub get_told : (w : IsThere) → first.caller.seen ≡ [] → (path : List ℕ)
-      → done.line ≡ line.Get path → ToldContent truth first.caller.opening history
+      → done.line ≡ line.Get path → ToldContent first.caller.opening history
       first.caller.seat path (entries_in ahead) done.part done.reply
   get_told w nothing path asked =
-      let does = subst (λ l. Does truth link left count files part.replica l w.before
+      let does = subst (λ l. Does link left count files part.replica l w.before
       (Ok done.reply) w.after) asked w.is_done.does in
       let c = call_there w nothing in
       let o = first.caller.opening in
       let seat = first.caller.seat in
       let entries = entries_in ahead in
-      read_tells truth link path w.before.links w.after.links history o seat entries done.part
+      read_tells link path w.before.links w.after.links history o seat entries done.part
       w.before.caller.seat does.0 done.reply does.1
       (call_tells history o seat entries done.part
-      (λ p from found to. Finds truth link path p from w.before.links found to w.after.links)
+      (λ p from found to. Finds link path p from w.before.links found to w.after.links)
       (w.after.links ≡ w.before.links)
-      (TellsFound truth link path w.before.links w.after.links history o seat entries done.part)
-      (found_tells truth link path w.before.links w.after.links history o seat entries done.part)
+      (TellsFound link path w.before.links w.after.links history o seat entries done.part)
+      (found_tells link path w.before.links w.after.links history o seat entries done.part)
       part.replica w.before.caller w.after.caller
-      (early_tells truth link path w.before.links w.after.links history o seat entries done.part
+      (early_tells link path w.before.links w.after.links history o seat entries done.part
       part.replica w.before.caller w.after.caller) tt c.more c.is c.opening c.own c.seen_own
       w.is_done.adds w.is_done.known does.0 does.2)

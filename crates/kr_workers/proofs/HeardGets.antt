@@ -6,7 +6,7 @@ use Rattle.kr_base.specs.Lines.{of_seat}
 use Rattle.kr_kms.specs.Cache.{AreOpenBy, CacheState}
 use Rattle.kr_kms.specs.Calls.{Link}
 use Rattle.kr_kms.specs.Exchanges.{AgreeAll, Exchange}
-use Rattle.kr_kms.specs.Truth.{Opens, Truth}
+use Rattle.kr_kms.specs.Opens.{Opens}
 use Rattle.kr_kms.proofs.Opening.{agree_parts}
 use Rattle.kr_provider.specs.Publication.{Publication}
 use Rattle.kr_provider.specs.Reading.{data_of, refused}
@@ -202,26 +202,26 @@ module _ (history : List Entry) (o : Opening) (seat : ℕ) (ahead part : List En
   read_heard number (Err why) reply is h = refusal_heard number why reply is h
 
   -- with all else that the reply tells
-  all_told : (truth : Truth) (reply : Told)
-      → ToldContent truth o history seat path ahead part reply → HeardContent reply
-      → TellsGotContent truth heard o history seat path ahead part reply
-  all_told truth (told.Got revision plain) t h = both_hold history seat path ahead part
+  all_told : (reply : Told)
+      → ToldContent o history seat path ahead part reply → HeardContent reply
+      → TellsGotContent heard o history seat path ahead part reply
+  all_told (told.Got revision plain) t h = both_hold history seat path ahead part
       {Second = λ front. IsHeardContent heard o path (data_of plain) front}
       (λ front fetch first second. (first.0, first.1, second)) t h
-  all_told truth told.Absent t h = t
-  all_told truth (told.Value why) t h = both_hold history seat path ahead part
+  all_told told.Absent t h = t
+  all_told (told.Value why) t h = both_hold history seat path ahead part
       {Second = λ front. IsHeardContent heard o path (refused why) front}
       (λ front fetch first second. (first.0, first.1, first.2, second)) t h
-  all_told truth reply t h = tt
+  all_told reply t h = tt
 
-pub gets_tell_content : {L D : Type 0} → (truth : Truth) (link : L → Link)
+pub gets_tell_content : {L D : Type 0} → (link : L → Link)
     (step : L → Exchange → L → Type 0) (left : D → Option (List ℕ)) (count : D → ℕ)
-    (files : List SettingsFile) → GetsTellContent truth link step left count files
-gets_tell_content truth link step left count files history part first replies after stands nothing
+    (files : List SettingsFile) → GetsTellContent link step left count files
+gets_tell_content link step left count files history part first replies after stands nothing
     ahead done behind run_is path asked =
-    let w = done_there truth link step left count files history part first replies after stands
+    let w = done_there link step left count files history part first replies after stands
     ahead done behind run_is in
-    let c = call_there truth link step left count files history part first replies after stands
+    let c = call_there link step left count files history part first replies after stands
     ahead done behind run_is w nothing in
     let heard = heard_by first.cache.rows ahead done in
     let o = first.caller.opening in
@@ -233,11 +233,11 @@ gets_tell_content truth link step left count files history part first replies af
     → AgreeAll opens done.exchanges × AreOpenBy opens w.before.cache.rows = λ opens agrees.
     let parts = agree_parts opens (exchanges_in ahead) done.exchanges agrees.answers in (
       parts.1,
-      (run_keeps truth link step left count files opens part.replica first ahead w.before
+      (run_keeps link step left count files opens part.replica first ahead w.before
           w.does_ahead parts.0 agrees.kept).0,
     ) in
-    all_told history o seat entries done.part path heard truth done.reply
-    (get_told truth link step left count files history part first replies after stands ahead done
+    all_told history o seat entries done.part path heard done.reply
+    (get_told link step left count files history part first replies after stands ahead done
     behind run_is w nothing path asked)
     (read_heard history o seat entries done.part path heard w.before.caller.seat asks.0 done.reply
     asks.1 (call_tells history o seat entries done.part

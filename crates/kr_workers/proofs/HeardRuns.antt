@@ -9,7 +9,7 @@ use Rattle.kr_base.specs.Walks.{Walk}
 use Rattle.kr_kms.specs.Cache.{AreOpenBy}
 use Rattle.kr_kms.specs.Calls.{Link}
 use Rattle.kr_kms.specs.Exchanges.{AgreeAll, Exchange}
-use Rattle.kr_kms.specs.Truth.{Opens, Truth}
+use Rattle.kr_kms.specs.Opens.{Opens}
 use Rattle.kr_provider.specs.AskedLinks.{Among}
 use Rattle.kr_rollout.specs.Entries.{seat_of}
 use Rattle.kr_rollout.specs.declared.opening.Entry.{Entry}
@@ -28,11 +28,11 @@ use Rattle.kr_workers.proofs.Assembling.{at_of, fresh_keeps}
 use Rattle.kr_workers.proofs.Hearing.{run_keeps, run_walks}
 use Rattle.kr_workers.proofs.HonestPlugins.{at_middle, run_adds}
 
-module _ {T L D : Type 0} (truth : Truth) (link : L → Link)
+module _ {T L D : Type 0} (link : L → Link)
     (step : L → Exchange → L → Type 0) (left : D → Option (List ℕ)) (count : D → ℕ)
     (files : List SettingsFile) (history : List Entry) (o : Opening) (parts : List Part)
     (budgets : List ℕ) (old new : List (Worker T L D))
-    (one : IsOneHistory truth link step left count files history o parts budgets old new) where
+    (one : IsOneHistory link step left count files history o parts budgets old new) where
   -- the run of the worker of a number, and what was heard in it
   pub record HeardAt (number : ℕ) (heard : Heard) : Type 0 where
     pub part : Part
@@ -41,7 +41,7 @@ module _ {T L D : Type 0} (truth : Truth) (link : L → Link)
     pub part_is : slice_get parts number ≡ Some part
     pub before_is : slice_get old number ≡ Some before
     pub after_is : slice_get new number ≡ Some after
-    pub stands : StandsIn truth link step left count files history part
+    pub stands : StandsIn link step left count files history part
         (first_place o number (slice_index budgets number) before.bench) after.told.0 after.bench
     pub kept : heard.kept ≡ before.bench.cache.rows
     pub exchanges : heard.exchanges ≡ exchanges_in stands.run
@@ -101,7 +101,7 @@ module _ {T L D : Type 0} (truth : Truth) (link : L → Link)
         kept = h.kept;
         walk = subst (λ (ls : List L). Walk (Among step) first.links (heard_in number).exchanges ls)
             (sym s.links_are) (subst (λ es. Walk (Among step) first.links es s.last.links)
-            (sym h.exchanges) (run_walks truth link step left count files h.part.replica first
+            (sym h.exchanges) (run_walks link step left count files h.part.replica first
             s.run s.last s.does));
       }
 
@@ -112,9 +112,9 @@ module _ {T L D : Type 0} (truth : Truth) (link : L → Link)
     keeps_within seat h =
         let s = h.stands in
         let first = first_place o seat (slice_index budgets seat) h.before.bench in
-        let adds = run_adds truth link step left count files h.part.replica first s.run s.last
+        let adds = run_adds link step left count files h.part.replica first s.run s.last
         s.does in
-        let ran = run_keeps truth link step left count files opens h.part.replica first s.run s.last
+        let ran = run_keeps link step left count files opens h.part.replica first s.run s.last
         s.does (subst (AgreeAll opens) h.exchanges (agrees seat).answers)
         (subst (AreOpenBy opens) h.kept (agrees seat).kept) in
         let seen : s.last.caller.seen ≡ adds.more = ap (λ (c : Caller). c.seen) adds.new_is in

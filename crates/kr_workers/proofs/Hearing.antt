@@ -8,7 +8,7 @@ use Rattle.kr_config.specs.Kept.{ConfigEntry as setting}
 use Rattle.kr_kms.specs.Cache.{AreOpenBy, CacheState}
 use Rattle.kr_kms.specs.Calls.{Link}
 use Rattle.kr_kms.specs.Exchanges.{AgreeAll, Exchange}
-use Rattle.kr_kms.specs.Truth.{Opens, Truth}
+use Rattle.kr_kms.specs.Opens.{Opens}
 use Rattle.kr_kms.proofs.Opening.{agree_parts}
 use Rattle.kr_provider.specs.AskedLinks.{Among}
 use Rattle.kr_provider.specs.Publication.{Publication}
@@ -165,7 +165,7 @@ module _ (opens : Opens) (settings_in : (file : List ℕ) → Option (List setti
 
 -- ---- each line
 
-module _ {L D : Type 0} (truth : Truth) (link : L → Link)
+module _ {L D : Type 0} (link : L → Link)
     (step : L → Exchange → L → Type 0) (left : D → Option (List ℕ)) (count : D → ℕ)
     (files : List SettingsFile) (opens : Opens) where
   -- the seeds that are kept stay opened, and what the caller sees honest
@@ -242,7 +242,7 @@ module _ {L D : Type 0} (truth : Truth) (link : L → Link)
   -- ---- a run
 
   pub run_keeps : (replica : ℕ) (first : Workplace L D) (run : List LineDone)
-      (last : Workplace L D) → DoesAll truth link step left count files replica first run last
+      (last : Workplace L D) → DoesAll link step left count files replica first run last
       → AgreeAll opens (exchanges_in run) → AreOpenBy opens first.cache.rows → Keeps first last
   run_keeps replica first [] last same agree opened = nothing_done first last same opened
   run_keeps replica first (done ∷ run) last all agree opened =
@@ -252,12 +252,12 @@ module _ {L D : Type 0} (truth : Truth) (link : L → Link)
       let rest = run_keeps replica all.0 run last all.2 agrees.1 one.0 in
       (rest.0, λ kept. rest.1 (one.1 kept))
 
-module _ {L D : Type 0} (truth : Truth) (link : L → Link)
+module _ {L D : Type 0} (link : L → Link)
     (step : L → Exchange → L → Type 0) (left : D → Option (List ℕ)) (count : D → ℕ)
     (files : List SettingsFile) where
   -- by all of its exchanges its links went on
   pub run_walks : (replica : ℕ) (first : Workplace L D) (run : List LineDone)
-      (last : Workplace L D) → DoesAll truth link step left count files replica first run last
+      (last : Workplace L D) → DoesAll link step left count files replica first run last
       → Walk (Among step) first.links (exchanges_in run) last.links
   run_walks replica first [] last same = ap (λ (w : Workplace L D). w.links) same
   run_walks replica first (done ∷ run) last all = walk_then (Among step) done.exchanges

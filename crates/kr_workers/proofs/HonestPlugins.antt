@@ -1,4 +1,4 @@
--- The history of a fleet is honest by any truth by which plugins unwrap what they wrapped.
+-- The history of a fleet is honest by any openings by which plugins unwrap what they wrapped.
 use Rattle.std.specs.Prelude.{All, IfSome, cond, slice_index, slice_index_or}
 use Rattle.std.specs.Str.{bytes_eq}
 use Rattle.std.proofs.Common.{◌≡◌, ℕ, zero, suc, ◌<◌, ◌+◌, ◌==◌, Bool, true, false, List, [], ◌∷◌, ◌++◌, length, Option, None, Some, Result, Ok, Err, refl, ap, sym, subst, ◌∙◌, append-nil, arith, length-append}
@@ -14,7 +14,7 @@ use Rattle.kr_envelope.specs.declared.object.ObjectNo.{ObjectNo}
 use Rattle.kr_kms.specs.Cache.{key_eq}
 use Rattle.kr_kms.specs.Calls.{Link}
 use Rattle.kr_kms.specs.Exchanges.{Exchange}
-use Rattle.kr_kms.specs.Truth.{OpenAll, Opens, Truth, key_of}
+use Rattle.kr_kms.specs.Opens.{OpenAll, Opens, key_of}
 use Rattle.kr_kms.specs.declared.seeds.SeedRow.{SeedRow}
 use Rattle.kr_kms.proofs.Keys.{same_key}
 use Rattle.kr_provider.specs.Envelopes.{Envelope, HasEnvelope, HasObject, seed_key}
@@ -81,11 +81,11 @@ step_there : (o : Opening) (st : State) (front : List Entry) (e : Entry) (rest :
 step_there o st [] e rest r = r.0
 step_there o st (x ∷ front) e rest r = step_there o (after st x) front e rest r.1
 
-module _ {L D : Type 0} (truth : Truth) (link : L → Link) (step : L → Exchange → L → Type 0)
+module _ {L D : Type 0} (link : L → Link) (step : L → Exchange → L → Type 0)
     (left : D → Option (List ℕ))
     (count : D → ℕ) (files : List SettingsFile) where
   pub run_adds : (replica : ℕ) (first : Workplace L D) (run : List LineDone) (last : Workplace L D)
-      → DoesAll truth link step left count files replica first run last
+      → DoesAll link step left count files replica first run last
       → Adds first.caller (entries_in run) last.caller
   run_adds replica first [] last same =
       subst (λ (w : Workplace L D). Adds first.caller [] w.caller) (sym same)
@@ -95,14 +95,14 @@ module _ {L D : Type 0} (truth : Truth) (link : L → Link) (step : L → Exchan
       all.1.adds (run_adds replica all.0 run last all.2)
 
   run_mine : (replica : ℕ) (first : Workplace L D) (run : List LineDone) (last : Workplace L D)
-      → DoesAll truth link step left count files replica first run last
+      → DoesAll link step left count files replica first run last
       → last.caller.mine ≡ first.caller.mine ++ entries_in run
   run_mine replica first run last all =
       ap (λ (c : Caller). c.mine) (run_adds replica first run last all).new_is
 
   module _ {T : Type 0} (history : List Entry) (o : Opening) (parts : List Part)
       (budgets : List ℕ) (old new : List (Worker T L D))
-      (one : IsOneHistory truth link step left count files history o parts budgets old new) where
+      (one : IsOneHistory link step left count files history o parts budgets old new) where
     seat_known : (seat : ℕ) → seat < length parts → seat < length o.reloads
         → All (IsKnown) (of_seat seat_of seat history)
     seat_known seat within there =
@@ -112,7 +112,7 @@ module _ {L D : Type 0} (truth : Truth) (link : L → Link) (step : L → Exchan
         let replica = (slice_index_or parts seat part).replica in
         let place = first_place o seat (slice_index budgets seat)
         (slice_index_or old seat worker).bench in
-        let known = (run_keeps truth link step left count files replica place s.run s.last
+        let known = (run_keeps link step left count files replica place s.run s.last
         s.does).all
         (record {
           legal = front_law o [] history one.legal;
@@ -357,11 +357,11 @@ module _ (opens : Opens) (o : Opening)
       (All-append (IsHonestEntry opens) front (e ∷ []) before
       (All-cons (IsHonestEntry opens) e [] own (All-nil (IsHonestEntry opens))))
 
-pub honest_of_plugins : (T : Type 0) → {L D : Type 0} → (truth : Truth) (link : L → Link)
+pub honest_of_plugins : (T : Type 0) → {L D : Type 0} → (link : L → Link)
     (step : L → Exchange → L → Type 0)
-    (left : D → Option (List ℕ)) (count : D → ℕ) → HonestOfPlugins T truth link step left count
-honest_of_plugins T truth link step left count files history o parts budgets old new one =
-    let reseals = resealed truth link step left count files history o parts budgets old new one in
+    (left : D → Option (List ℕ)) (count : D → ℕ) → HonestOfPlugins T link step left count
+honest_of_plugins T link step left count files history o parts budgets old new one =
+    let reseals = resealed link step left count files history o parts budgets old new one in
     record {
       reseals = reseals;
       honest = λ opens all unwrapped. record {

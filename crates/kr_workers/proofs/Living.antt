@@ -11,7 +11,6 @@ use Rattle.std.proofs.lemmas.Option.{same_Some}
 use Rattle.kr_base.specs.declared.errors.Spent.{Spent}
 use Rattle.kr_kms.specs.Calls.{Link}
 use Rattle.kr_kms.specs.Exchanges.{Exchange}
-use Rattle.kr_kms.specs.Truth.{Truth}
 use Rattle.kr_provider.specs.BenchState.{BenchState}
 use Rattle.kr_store.specs.declared.rows.Row.{Row}
 use Rattle.kr_store.specs.Rows.{live}
@@ -176,11 +175,11 @@ paths_joined (asked ∷ front) back = ap (λ l. path_put asked ++ l) (paths_join
 
 -- ---- what runs added
 
-module _ {L D : Type 0} (truth : Truth) (link : L → Link) (step : L → Exchange → L → Type 0) (left : D → Option (List ℕ))
+module _ {L D : Type 0} (link : L → Link) (step : L → Exchange → L → Type 0) (left : D → Option (List ℕ))
     (count : D → ℕ) (files : List SettingsFile) (replica : ℕ) where
   -- the parts are what the seat added
   pub parts_added : (first : Workplace L D) (run : List LineDone) (last : Workplace L D)
-      → DoesAll truth link step left count files replica first run last
+      → DoesAll link step left count files replica first run last
       → last.caller.mine ≡ first.caller.mine ++ entries_in run
   parts_added first [] last same = ap (λ (w : Workplace L D). w.caller.mine) same
       ∙ sym (append-nil first.caller.mine)
@@ -217,10 +216,10 @@ module _ (path resource plain : List ℕ) where
   of_part asked puts (inr these) c =
       of_line asked (subst (λ ps. Contains ps this_put) these c)
 
-  module _ {L D : Type 0} (truth : Truth) (link : L → Link) (step : L → Exchange → L → Type 0) (left : D → Option (List ℕ))
+  module _ {L D : Type 0} (link : L → Link) (step : L → Exchange → L → Type 0) (left : D → Option (List ℕ))
       (count : D → ℕ) (files : List SettingsFile) (replica : ℕ) where
     of_run : (first : Workplace L D) (run : List LineDone) (last : Workplace L D)
-        → DoesAll truth link step left count files replica first run last
+        → DoesAll link step left count files replica first run last
         → Contains (written_puts (entries_in run)) this_put
         → Contains (paths_put (lines_in run)) path
     of_run first [] last same c = absurd (none_there this_put c)
@@ -243,14 +242,14 @@ module _ (path resource plain : List ℕ) where
     module _ (lines : List ScriptLine) (old : Caller) (bench : BenchState L D)
         (replies : List Told) (new : Caller) (after : BenchState L D) (none : old.mine ≡ []) where
       ends_put : (ended : Result (Unit {0}) Spent) (run : List LineDone) (middle : Workplace L D)
-          → DoesAll truth link step left count files replica (place_of old bench) run middle
-          → EndsRun truth link step left count files replica lines run middle ended
+          → DoesAll link step left count files replica (place_of old bench) run middle
+          → EndsRun link step left count files replica lines run middle ended
           (place_of new after)
           → Contains (written_puts new.mine) this_put → Contains (paths_put lines) path
       ends_put (Ok done) run middle does ends c =
           let mine : new.mine ≡ entries_in run =
           ap (λ (w : Workplace L D). w.caller.mine) ends.1
-          ∙ parts_added truth link step left count files replica (place_of old bench) run middle does
+          ∙ parts_added link step left count files replica (place_of old bench) run middle does
           ∙ ap (λ l. l ++ entries_in run) none in
           subst (λ ls. Contains (paths_put ls) path) ends.0
           (of_run (place_of old bench) run middle does
@@ -259,7 +258,7 @@ module _ (path resource plain : List ℕ) where
           let mine : new.mine ≡ entries_in run ++ cut.part =
           ap (λ (d : Caller). d.mine) cut.adds.new_is
           ∙ ap (λ l. l ++ cut.part)
-          (parts_added truth link step left count files replica (place_of old bench) run middle does
+          (parts_added link step left count files replica (place_of old bench) run middle does
           ∙ ap (λ l. l ++ entries_in run) none) in
           let puts : written_puts new.mine
           ≡ written_puts (entries_in run) ++ written_puts cut.part =
@@ -282,7 +281,7 @@ module _ (path resource plain : List ℕ) where
               (of_part cut.line (written_puts cut.part) cut.within.puts_are here))
 
       pub runs_put : (ended : Result (Unit {0}) Spent)
-          → Runs truth link step left count files replica lines old bench replies ended new after
+          → Runs link step left count files replica lines old bench replies ended new after
           → Contains (written_puts new.mine) this_put → Contains (paths_put lines) path
       runs_put ended runs c = ends_put ended runs.run runs.middle runs.does runs.ends c
 

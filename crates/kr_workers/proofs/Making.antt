@@ -7,7 +7,6 @@ use Rattle.std.proofs.lemmas.List.{append_assoc, append_cancel_left}
 use Rattle.std.proofs.lemmas.List.Elements.{All-append, All-cons, All-nil}
 use Rattle.kr_config.specs.Kept.{ConfigEntry as setting}
 use Rattle.kr_kms.specs.Calls.{Link}
-use Rattle.kr_kms.specs.Truth.{Truth}
 use Rattle.kr_provider.specs.AskedLinks.{AskedOnly}
 use Rattle.kr_provider.specs.Publication.{Publication}
 use Rattle.kr_provider.specs.declared.refusal.Opened.{Opened}
@@ -110,7 +109,7 @@ module _ (P : Entry → Type 0) where
     all = All-cons P a.entry [] own (All-nil P);
   }
 
-module _ {L D : Type 0} (truth : Truth) (link : L → Link) (left : D → Option (List ℕ))
+module _ {L D : Type 0} (link : L → Link) (left : D → Option (List ℕ))
     (count : D → ℕ) (settings_in : (file : List ℕ) → Option (List setting)) (own : ℕ)
     (asked : ScriptLine) (reply : Told) where
   abbrev pub OfLine : Entry → Type 0
@@ -227,7 +226,7 @@ module _ {L D : Type 0} (truth : Truth) (link : L → Link) (left : D → Option
   -- ---- a get
 
   finds_make : (path : List ℕ) (p : Publication) (old new : Caller) (olds news : List L)
-      (result : Result Read CallNo) → Finds truth link path p old olds result new news
+      (result : Result Read CallNo) → Finds link path p old olds result new news
       → Adding old new
   finds_make path p old new olds news (Ok read.Absent) d =
       event_makes old new (event.Fetch path) answer.Absent d.0.absent tt
@@ -249,14 +248,14 @@ module _ {L D : Type 0} (truth : Truth) (link : L → Link) (left : D → Option
       event_makes old new (event.Fetch path) answer.NoMemory d.0 tt
 
   read_makes : (path : List ℕ) (replica : ℕ) (old new : Caller) (olds news : List L)
-      (result : Result Read CallNo) → IsRead truth link path replica old olds result new news
+      (result : Result Read CallNo) → IsRead link path replica old olds result new news
       → Adding old new
   read_makes path replica old new olds news (Ok found) (inl e) = absurd e
   read_makes path replica old new olds news (Err why) (inl e) =
       early_makes replica old new why e.0
   read_makes path replica old new olds news result (inr h) = held_makes
       (λ (number : ℕ) (p : Publication) (from : Caller) (done : Result Read CallNo) (to : Caller).
-      Finds truth link path p from olds done to news) replica old new result h
+      Finds link path p from olds done to news) replica old new result h
       (finds_make path h.p h.adopted h.acted olds news h.done h.does)
 
   -- ---- a delete and a leave
@@ -306,7 +305,7 @@ module _ {L D : Type 0} (truth : Truth) (link : L → Link) (left : D → Option
 
   brings_make : (rows : List setting) (brings : Publication → Event) (replica : ℕ)
       (old new : Caller) (olds news : List L) (dice after : D) (why : CallNo)
-      → BringsBy truth link left count rows brings replica old olds dice why new news after
+      → BringsBy link left count rows brings replica old olds dice why new news after
       → Adding old new
   brings_make rows brings replica old new olds news dice after (refusal.Refused why) b =
       absurd b
@@ -340,7 +339,7 @@ module _ {L D : Type 0} (truth : Truth) (link : L → Link) (left : D → Option
     reload_makes : asked ≡ line.Reload named file → (seat : ℕ) (old new : Caller)
         (olds news : List L) (dice after : D) (result : Result Loaded CallNo)
         → Ok reply ≡ told_of_reload seat result
-        → IsReload truth link left count rows named old olds dice result new news after
+        → IsReload link left count rows named old olds dice result new news after
         → Adding old new
     reload_makes is seat old new olds news dice after (Ok (loaded.Generation number)) tells b =
         event_makes old new (reload_of named None b.p) (answer.Reloaded number) b.brought
@@ -360,7 +359,7 @@ module _ {L D : Type 0} (truth : Truth) (link : L → Link) (left : D → Option
         (reload_of named None) named old new olds news dice after why b
 
     joins_make : (old new : Caller) (olds news : List L) (dice after : D) (why : CallNo)
-        → IsJoin truth link left count rows named old olds dice (Err why) new news after
+        → IsJoin link left count rows named old olds dice (Err why) new news after
         → Adding old new
     joins_make old new olds news dice after (refusal.Refused why) b = absurd b
     joins_make old new olds news dice after (refusal.PluginFailed name) b = brings_make rows
@@ -381,7 +380,7 @@ module _ {L D : Type 0} (truth : Truth) (link : L → Link) (left : D → Option
     join_makes : asked ≡ line.Join named file → (seat : ℕ) (old new : Caller)
         (olds news : List L) (dice after : D) (result : Result Joining CallNo)
         → Ok reply ≡ told_of_join seat result
-        → IsJoin truth link left count rows named old olds dice result new news after
+        → IsJoin link left count rows named old olds dice result new news after
         → Adding old new
     join_makes is seat old new olds news dice after (Ok (joining.Generation number)) tells b =
         event_makes old new (event.Join named b.p) (answer.Joined number) b.brought (record {
@@ -401,7 +400,7 @@ module _ {L D : Type 0} (truth : Truth) (link : L → Link) (left : D → Option
     refreshes_make : (seat number : ℕ) (p : Publication) (old new : Caller)
         (olds news : List L) (dice after : D) (result : Result Loaded CallNo) → IsCaller old
         → holding old.mine ≡ Some (number, p) → Ok reply ≡ told_of_refresh seat result
-        → Refreshes truth link left count own number p old olds dice result new news after
+        → Refreshes link left count own number p old olds dice result new news after
         → Adding old new
     refreshes_make seat number p old new olds news dice after (Ok (loaded.Unchanged same)) k held
         tells r = same_makes OfLine old new r.2
@@ -433,14 +432,14 @@ module _ {L D : Type 0} (truth : Truth) (link : L → Link) (left : D → Option
 
     refresh_makes : (seat : ℕ) (old new : Caller) (olds news : List L) (dice after : D)
         (result : Result Loaded CallNo) → IsCaller old → Ok reply ≡ told_of_refresh seat result
-        → IsRefresh truth link left count own old olds dice result new news after
+        → IsRefresh link left count own old olds dice result new news after
         → Adding old new
     refresh_makes seat old new olds news dice after (Ok found) k tells (inl e) = absurd e
     refresh_makes seat old new olds news dice after (Err why) k tells (inl e) =
         early_makes own old new why e.0
     refresh_makes seat old new olds news dice after result k tells (inr h) = held_makes
         (λ (number : ℕ) (p : Publication) (from : Caller) (done : Result Loaded CallNo)
-        (to : Caller). Refreshes truth link left count own number p from olds dice done to news
+        (to : Caller). Refreshes link left count own number p from olds dice done to news
         after × AskedOnly link (plugin_names p.seeds) olds news) own old new result h
         (refreshes_make seat h.number h.p h.adopted h.acted olds news dice after h.done
         (caller_next old h.adopted (event.Adopt own) (answer.Adopted h.number h.p) h.adopts k)
@@ -498,7 +497,7 @@ module _ {L D : Type 0} (truth : Truth) (link : L → Link) (left : D → Option
 
     rewrites_make : (p : Publication) (row : Row) (old new : Caller) (olds news : List L)
         (dice after : D) (result : Result Step CallNo)
-        → Rewrites truth link left count p row old olds dice result new news after
+        → Rewrites link left count p row old olds dice result new news after
         → Adding old new
     rewrites_make p row old new olds news dice after result (inl o) =
         opens_make p row old new dice after result o.opened o.rewrites
@@ -526,7 +525,7 @@ module _ {L D : Type 0} (truth : Truth) (link : L → Link) (left : D → Option
 
     steps_make : (p : Publication) (above : List ℕ) (old new : Caller) (olds news : List L)
         (dice after : D) (result : Result Step CallNo)
-        → Steps truth link left count p above old olds dice result new news after
+        → Steps link left count p above old olds dice result new news after
         → Adding old new
     steps_make p above old new olds news dice after result (inl n) =
         none_found above old new result n.0
@@ -537,20 +536,20 @@ module _ {L D : Type 0} (truth : Truth) (link : L → Link) (left : D → Option
 
     step_makes : (replica : ℕ) (above : List ℕ) (old new : Caller) (olds news : List L)
         (dice after : D) (result : Result Step CallNo)
-        → IsStep truth link left count replica above old olds dice result new news after
+        → IsStep link left count replica above old olds dice result new news after
         → Adding old new
     step_makes replica above old new olds news dice after (Ok taken) (inl e) = absurd e
     step_makes replica above old new olds news dice after (Err why) (inl e) =
         early_makes replica old new why e.0
     step_makes replica above old new olds news dice after result (inr h) = held_makes
         (λ (number : ℕ) (p : Publication) (from : Caller) (done : Result Step CallNo)
-        (to : Caller). Steps truth link left count p above from olds dice done to news after)
+        (to : Caller). Steps link left count p above from olds dice done to news after)
         replica old new result h
         (steps_make h.p above h.adopted h.acted olds news dice after h.done h.does)
 
     walks_make : (replica : ℕ) (above : List ℕ) (steps : List Step) (old new : Caller)
         (olds news : List L) (dice after : D)
-        → Walks truth link left count replica above steps old olds dice new news after
+        → Walks link left count replica above steps old olds dice new news after
         → Adding old new
     walks_make replica above [] old new olds news dice after w = same_makes OfLine old new w.0
     walks_make replica above (taken ∷ steps) old new olds news dice after w =
@@ -561,7 +560,7 @@ module _ {L D : Type 0} (truth : Truth) (link : L → Link) (left : D → Option
 
     ends_make : (replica : ℕ) (above : List ℕ) (steps : List Step) (old new : Caller)
         (olds news : List L) (dice after : D) (ended : Result Step CallNo) (report : Report)
-        → EndsBy truth link left count replica above steps old olds dice ended report new news
+        → EndsBy link left count replica above steps old olds dice ended report new news
         after → Adding old new
     ends_make replica above steps old new olds news dice after ended report e =
         then_makes OfLine old e.middle new
@@ -571,7 +570,7 @@ module _ {L D : Type 0} (truth : Truth) (link : L → Link) (left : D → Option
 
     drive_makes : (replica : ℕ) (above : List ℕ) (old new : Caller) (olds news : List L)
         (dice after : D) (result : Result Report (Report × CallNo))
-        → IsDrive truth link left count replica above old olds dice result new news after
+        → IsDrive link left count replica above old olds dice result new news after
         → Adding old new
     drive_makes replica above old new olds news dice after (Ok report) d =
         ends_make replica above d.steps old new olds news dice after (Ok step.End) report d.ends
@@ -584,7 +583,7 @@ module _ {L D : Type 0} (truth : Truth) (link : L → Link) (left : D → Option
 
   reloaded_makes : (named : ℕ) (file : List ℕ) (rows : Option (List setting))
       → settings_in file ≡ rows → asked ≡ line.Reload named file → (old new : Workplace L D)
-      → IfRead rows (λ rows. DoesReload truth link left count named rows old (Ok reply) new)
+      → IfRead rows (λ rows. DoesReload link left count named rows old (Ok reply) new)
       → Adding old.caller new.caller
   reloaded_makes named file None read is old new d = absurd d
   reloaded_makes named file (Some rows) read is old new (inl none) =
@@ -594,7 +593,7 @@ module _ {L D : Type 0} (truth : Truth) (link : L → Link) (left : D → Option
 
   joined_makes : (named : ℕ) (file : List ℕ) (rows : Option (List setting))
       → settings_in file ≡ rows → asked ≡ line.Join named file → (old new : Workplace L D)
-      → IfRead rows (λ rows. DoesJoin truth link left count named rows old (Ok reply) new)
+      → IfRead rows (λ rows. DoesJoin link left count named rows old (Ok reply) new)
       → Adding old.caller new.caller
   joined_makes named file None read is old new d = absurd d
   joined_makes named file (Some rows) read is old new (inl none) =
@@ -602,35 +601,35 @@ module _ {L D : Type 0} (truth : Truth) (link : L → Link) (left : D → Option
   joined_makes named file (Some rows) read is old new (inr d) = join_makes rows named file read
       is old.caller.seat old.caller new.caller old.links new.links old.dice new.dice d.0 d.1 d.2
 
-module _ {L D : Type 0} (truth : Truth) (link : L → Link) (left : D → Option (List ℕ))
+module _ {L D : Type 0} (link : L → Link) (left : D → Option (List ℕ))
     (count : D → ℕ) (files : List SettingsFile) (own : ℕ) (asked : ScriptLine) (reply : Told)
   where
     line_makes : (it : ScriptLine) → asked ≡ it → (old new : Workplace L D) → IsCaller old.caller
-        → Does truth link left count files own it old (Ok reply) new
+        → Does link left count files own it old (Ok reply) new
         → Makes (MayChange (rows_at files) own asked reply) old.caller new.caller
-    line_makes (line.Put resource path plain) is old new k d = write_makes truth link left count
+    line_makes (line.Put resource path plain) is old new k d = write_makes link left count
         (rows_at files) own asked reply resource path plain is old.caller.seat own old.caller
         new.caller old.dice new.dice d.0 d.1 d.2
-    line_makes (line.Get path) is old new k d = read_makes truth link left count (rows_at files)
+    line_makes (line.Get path) is old new k d = read_makes link left count (rows_at files)
         own asked reply path own old.caller new.caller old.links new.links d.0 d.2
-    line_makes (line.Delete path) is old new k d = delete_makes truth link left count
+    line_makes (line.Delete path) is old new k d = delete_makes link left count
         (rows_at files) own asked reply path is old.caller.seat old.caller new.caller d.0 d.1 d.2
-    line_makes line.Rewrite is old new k d = drive_makes truth link left count (rows_at files) own
+    line_makes line.Rewrite is old new k d = drive_makes link left count (rows_at files) own
         asked reply is own [] old.caller new.caller old.links new.links old.dice new.dice d.0 d.2
-    line_makes (line.Reload named file) is old new k d = reloaded_makes truth link left count
+    line_makes (line.Reload named file) is old new k d = reloaded_makes link left count
         (rows_at files) own asked reply named file (rows_at files file) refl is old new d
-    line_makes line.Refresh is old new k d = refresh_makes truth link left count (rows_at files)
+    line_makes line.Refresh is old new k d = refresh_makes link left count (rows_at files)
         own asked reply is old.caller.seat old.caller new.caller old.links new.links old.dice
         new.dice d.0 k d.1 d.2
-    line_makes (line.Join named file) is old new k d = joined_makes truth link left count
+    line_makes (line.Join named file) is old new k d = joined_makes link left count
         (rows_at files) own asked reply named file (rows_at files file) refl is old new d
-    line_makes (line.Leave named) is old new k d = leave_makes truth link left count
+    line_makes (line.Leave named) is old new k d = leave_makes link left count
         (rows_at files) own asked reply named is old.caller.seat old.caller new.caller d.0 d.1 d.2
 
     -- of what a line added each entry may be one of its
     pub made : (old new : Workplace L D) (part : List Entry) → IsCaller old.caller
         → Adds old.caller part new.caller
-        → Does truth link left count files own asked old (Ok reply) new
+        → Does link left count files own asked old (Ok reply) new
         → All (MayChange (rows_at files) own asked reply) part
     made old new part k adds does =
         let m = line_makes asked refl old new k does in

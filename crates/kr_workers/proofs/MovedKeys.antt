@@ -4,7 +4,6 @@ use Rattle.std.specs.Prelude.{if◌then◌else◌}
 use Rattle.kr_base.specs.Walks.{Walk}
 use Rattle.kr_kms.specs.Calls.{Link}
 use Rattle.kr_kms.specs.Exchanges.{Exchange}
-use Rattle.kr_kms.specs.Truth.{Truth}
 use Rattle.kr_provider.specs.BenchKeys.{HoldsExactly}
 use Rattle.kr_provider.specs.BenchState.{Adoption}
 use Rattle.kr_provider.proofs.FollowedPages.{holds_none}
@@ -73,9 +72,9 @@ holds_its_keys size before moments after holds walk = record {
   at_end = keys_at_each_moment size None before moments after holds walk;
 }
 
-pub workers_hold : (T : Type 0) {L D : Type 0} (truth : Truth) (link : L → Link)
+pub workers_hold : (T : Type 0) {L D : Type 0} (link : L → Link)
     (step : L → Exchange → L → Type 0) (left : D → Option (List ℕ)) (count : D → ℕ)
-    → WorkersHoldTheirKeys T truth link step left count
-workers_hold T truth link step left count files history o parts budgets old new one i part worker
+    → WorkersHoldTheirKeys T link step left count
+workers_hold T link step left count files history o parts budgets old new one i part worker
     below size none pages = holds_its_keys size _ _ _ (holds_none size _ none pages)
     (one.keys i part worker below)

@@ -5,7 +5,6 @@ use Rattle.kr_config.specs.Kept.{ConfigEntry, plugins_in}
 use Rattle.kr_base.specs.Walks.{Talk, Walk}
 use Rattle.kr_kms.specs.Calls.{Link}
 use Rattle.kr_kms.specs.Exchanges.{Exchange}
-use Rattle.kr_kms.specs.Truth.{Truth}
 use Rattle.kr_provider.specs.AskedLinks.{Among, AskedOnly}
 use Rattle.kr_provider.specs.BenchKeys.{adoption_of}
 use Rattle.kr_provider.specs.BenchState.{BenchState}
@@ -18,7 +17,7 @@ use Rattle.kr_rollout.specs.Openings.{NamesAmong}
 use Rattle.kr_rollout.specs.declared.line.Did.TheVariants as did
 use Rattle.kr_history.specs.Acting.{Caller}
 use Rattle.kr_rollout.specs.Callers.{holding}
-use Rattle.kr_history.specs.Calls.{IsIdle, KeepsHonesty, KeepsToldHonesty}
+use Rattle.kr_history.specs.Calls.{IsIdle}
 use Rattle.kr_history.specs.KeyMoments.{Happens, call_moments}
 use Rattle.kr_history.specs.Parts.{AddsWithin}
 use Rattle.kr_history.proofs.PartsAdd.{parts_follow}
@@ -81,27 +80,20 @@ drive_for n old new a = (
   },
 )
 
--- ---- honesty
-
-told_honesty : (truth : Truth) (old new : Caller) → KeepsHonesty old new
-    → KeepsToldHonesty truth old new
-told_honesty truth old new h = λ told. h truth.opens
-
-module _ {L D : Type 0} (truth : Truth) (link : L → Link) (step : L → Exchange → L → Type 0) (left : D → Option (List ℕ))
+module _ {L D : Type 0} (link : L → Link) (step : L → Exchange → L → Type 0) (left : D → Option (List ℕ))
     (count : D → ℕ) (files : List SettingsFile) (replica : ℕ) where
   -- nothing was done
   pub serves_nothing : (asked : ScriptLine) (c : Caller) (b : BenchState L D)
-      → Does truth link left count files replica asked (place_of c b) (Ok told.Memory)
+      → Does link left count files replica asked (place_of c b) (Ok told.Memory)
       (place_of c b)
       → DoesBy left count files replica asked (place_of c b) (Ok told.Memory) (place_of c b) []
       → holding c.mine ≡ None
-      → Serves truth link step left count files replica asked c b (Ok told.Memory) c b
+      → Serves link step left count files replica asked c b (Ok told.Memory) c b
   serves_nothing asked c b d asks idle = record {
     does = d;
     asks = record { steps = []; walk = refl; are = asks };
     adds = nothing_for asked c;
     spent = tt;
-    honest = λ told kept. kept;
     idle = idle;
     asked_only = asked_none link (names_of link b.links) b.links;
     later = omega arith;
@@ -113,13 +105,13 @@ module _ {L D : Type 0} (truth : Truth) (link : L → Link) (step : L → Exchan
     pub serves_put : (resource path plain : List ℕ) (result : Result ℕ CallNo)
         → reply ≡ told_of_write old.seat result
         → IsWrite left count resource path plain replica old b.dice result new after.dice
-        → AddsWithin 3 0 (did.Put path resource plain ∷ []) old new → KeepsHonesty old new
+        → AddsWithin 3 0 (did.Put path resource plain ∷ []) old new
         → IsIdle result new → after.links ≡ b.links → count b.dice ≤ count after.dice
         → size_of after.pages ≡ size_of b.pages → after.cache ≡ b.cache
         → Walk Happens (adoption_of b) (call_moments old new) (adoption_of after)
-        → Serves truth link step left count files replica (line.Put resource path plain) old b reply new
+        → Serves link step left count files replica (line.Put resource path plain) old b reply new
         after
-    serves_put resource path plain result is does adds honest idle links later pages cache keys = record {
+    serves_put resource path plain result is does adds idle links later pages cache keys = record {
       does = (result, is, does, links);
       asks = record { steps = []; walk = links; are = (refl, cache) };
       adds = adds;
@@ -127,7 +119,6 @@ module _ {L D : Type 0} (truth : Truth) (link : L → Link) (step : L → Exchan
           (ends_write (line.Put resource path plain) old old.seat result
           (write_spent left count resource path plain replica old b.dice new after.dice result
           does));
-      honest = told_honesty truth old new honest;
       idle = subst (λ r. IsIdleAt r new) (sym is) (idle_write old.seat result new idle);
       asked_only = asked_same link b.links after.links links;
       later = later;
@@ -137,15 +128,15 @@ module _ {L D : Type 0} (truth : Truth) (link : L → Link) (step : L → Exchan
 
     pub serves_get : (path : List ℕ) (result : Result Read CallNo)
         → reply ≡ told_of_read old.seat result
-        → IsRead truth link path replica old b.links result new after.links
-        → AddsWithin 3 0 [] old new → KeepsHonesty old new → IsIdle result new
+        → IsRead link path replica old b.links result new after.links
+        → AddsWithin 3 0 [] old new → IsIdle result new
         → AskedOnly link (names_of link b.links) b.links after.links → after.dice ≡ b.dice
         → size_of after.pages ≡ size_of b.pages
         → Talk (Among step) b.links after.links
         (IsReadBy path replica old b.cache result new after.cache)
         → Walk Happens (adoption_of b) (call_moments old new) (adoption_of after)
-        → Serves truth link step left count files replica (line.Get path) old b reply new after
-    serves_get path result is does adds honest idle asked dice pages talk keys = record {
+        → Serves link step left count files replica (line.Get path) old b reply new after
+    serves_get path result is does adds idle asked dice pages talk keys = record {
       does = (result, is, does, dice);
       asks = record {
         steps = talk.steps;
@@ -155,8 +146,7 @@ module _ {L D : Type 0} (truth : Truth) (link : L → Link) (step : L → Exchan
       adds = adds;
       spent = subst (λ r. EndsFor (line.Get path) old r) (sym is)
           (ends_read (line.Get path) old old.seat result
-          (read_spent truth link path replica old b.links new after.links result does));
-      honest = told_honesty truth old new honest;
+          (read_spent link path replica old b.links new after.links result does));
       idle = subst (λ r. IsIdleAt r new) (sym is) (idle_read old.seat result new idle);
       asked_only = asked;
       later = let e : count after.dice ≡ count b.dice = ap count dice in omega (arith, e);
@@ -165,16 +155,16 @@ module _ {L D : Type 0} (truth : Truth) (link : L → Link) (step : L → Exchan
     }
 
     pub serves_refresh : (result : Result Loaded CallNo) → reply ≡ told_of_refresh old.seat result
-        → IsRefresh truth link left count replica old b.links b.dice result new after.links
-        after.dice → AddsWithin 3 1 [] old new → KeepsToldHonesty truth old new
+        → IsRefresh link left count replica old b.links b.dice result new after.links
+        after.dice → AddsWithin 3 1 [] old new
         → IsIdle result new → AskedOnly link (names_of link b.links) b.links after.links
         → count b.dice ≤ count after.dice
         → after ≡ record b { links = after.links; dice = after.dice }
         → Talk (Among step) b.links after.links
         (IsRefreshBy left count replica old b.dice result new after.dice)
         → adoption_of after ≡ adoption_of b
-        → Serves truth link step left count files replica line.Refresh old b reply new after
-    serves_refresh result is does adds honest idle asked later kept talk keys = record {
+        → Serves link step left count files replica line.Refresh old b reply new after
+    serves_refresh result is does adds idle asked later kept talk keys = record {
       does = (result, is, does);
       asks = record {
         steps = talk.steps;
@@ -184,9 +174,8 @@ module _ {L D : Type 0} (truth : Truth) (link : L → Link) (step : L → Exchan
       adds = adds;
       spent = subst (λ r. EndsFor line.Refresh old r) (sym is)
           (ends_refresh line.Refresh old old.seat result
-          (refresh_spent truth link left count replica old b.links b.dice new after.links after.dice
+          (refresh_spent link left count replica old b.links b.dice new after.links after.dice
           result does));
-      honest = honest;
       idle = subst (λ r. IsIdleAt r new) (sym is) (idle_refresh old.seat result new idle);
       asked_only = asked;
       later = later;
@@ -195,7 +184,7 @@ module _ {L D : Type 0} (truth : Truth) (link : L → Link) (step : L → Exchan
     }
 
     drive_adds : (result : Result Report (Report × CallNo))
-        → IsDrive truth link left count replica [] old b.links b.dice result new after.links
+        → IsDrive link left count replica [] old b.links b.dice result new after.links
         after.dice → AddsFor line.Rewrite old new
     drive_adds (Ok report) d = drive_for (4 * length d.steps + 4) old new d.ends.few
     drive_adds (Err cut) (inl d) = drive_for (4 * length d.steps + 4) old new d.ends.few
@@ -204,15 +193,15 @@ module _ {L D : Type 0} (truth : Truth) (link : L → Link) (step : L → Exchan
 
     pub serves_rewrite : (result : Result Report (Report × CallNo))
         → reply ≡ told_of_drive old.seat result
-        → IsDrive truth link left count replica [] old b.links b.dice result new after.links
-        after.dice → KeepsToldHonesty truth old new → IsIdleAtEnd result new
+        → IsDrive link left count replica [] old b.links b.dice result new after.links
+        after.dice → IsIdleAtEnd result new
         → AskedOnly link (names_of link b.links) b.links after.links
         → count b.dice ≤ count after.dice → size_of after.pages ≡ size_of b.pages
         → Talk (Among step) b.links after.links
         (IsDriveBy left count replica [] old b.cache b.dice result new after.cache after.dice)
         → Walk Happens (adoption_of b) (call_moments old new) (adoption_of after)
-        → Serves truth link step left count files replica line.Rewrite old b reply new after
-    serves_rewrite result is does honest idle asked later pages talk keys = record {
+        → Serves link step left count files replica line.Rewrite old b reply new after
+    serves_rewrite result is does idle asked later pages talk keys = record {
       does = (result, is, does);
       asks = record {
         steps = talk.steps;
@@ -221,7 +210,6 @@ module _ {L D : Type 0} (truth : Truth) (link : L → Link) (step : L → Exchan
       };
       adds = drive_adds result does;
       spent = subst (λ r. EndsFor line.Rewrite old r) (sym is) (ends_drive old old.seat result);
-      honest = honest;
       idle = subst (λ r. IsIdleAt r new) (sym is) (idle_drive old.seat result new idle);
       asked_only = asked;
       later = later;
@@ -232,18 +220,18 @@ module _ {L D : Type 0} (truth : Truth) (link : L → Link) (step : L → Exchan
     pub serves_reload : (named : ℕ) (file : List ℕ) (rows : List ConfigEntry)
         (result : Result Loaded CallNo) → rows_at files file ≡ Some rows
         → reply ≡ told_of_reload old.seat result
-        → IsReload truth link left count rows named old b.links b.dice result new after.links
-        after.dice → AddsWithin 1 1 [] old new → KeepsToldHonesty truth old new
+        → IsReload link left count rows named old b.links b.dice result new after.links
+        after.dice → AddsWithin 1 1 [] old new
         → holding new.mine ≡ None → AskedOnly link (plugins_in rows) b.links after.links
         → count b.dice ≤ count after.dice
         → after ≡ record b { links = after.links; dice = after.dice }
         → Talk (Among step) b.links after.links
         (IsReloadBy left count rows named old b.dice result new after.dice)
-        → Serves truth link step left count files replica (line.Reload named file) old b reply new after
-    serves_reload named file rows result read is does adds honest idle asked later kept talk =
+        → Serves link step left count files replica (line.Reload named file) old b reply new after
+    serves_reload named file rows result read is does adds idle asked later kept talk =
         record {
           does = subst (λ (r : Option (List ConfigEntry)). IfRead r (λ rows.
-              DoesReload truth link left count named rows (place_of old b) reply
+              DoesReload link left count named rows (place_of old b) reply
               (place_of new after)))
               (sym read) (inr (result, is, does, asked));
           asks = record {
@@ -257,9 +245,8 @@ module _ {L D : Type 0} (truth : Truth) (link : L → Link) (step : L → Exchan
           adds = adds;
           spent = subst (λ r. EndsFor (line.Reload named file) old r) (sym is)
               (ends_reload (line.Reload named file) old old.seat result
-              (reload_spent truth link left count rows named old b.links b.dice new after.links
+              (reload_spent link left count rows named old b.links b.dice new after.links
               after.dice result does));
-          honest = honest;
           idle = idle_always reply new idle;
           asked_only = asked_all link (plugins_in rows) b.links after.links asked;
           later = later;
@@ -270,18 +257,18 @@ module _ {L D : Type 0} (truth : Truth) (link : L → Link) (step : L → Exchan
     pub serves_join : (named : ℕ) (file : List ℕ) (rows : List ConfigEntry)
         (result : Result Joining CallNo) → rows_at files file ≡ Some rows
         → reply ≡ told_of_join old.seat result
-        → IsJoin truth link left count rows named old b.links b.dice result new after.links
-        after.dice → AddsWithin 1 1 [] old new → KeepsToldHonesty truth old new
+        → IsJoin link left count rows named old b.links b.dice result new after.links
+        after.dice → AddsWithin 1 1 [] old new
         → holding new.mine ≡ None → AskedOnly link (plugins_in rows) b.links after.links
         → count b.dice ≤ count after.dice
         → after ≡ record b { links = after.links; dice = after.dice }
         → Talk (Among step) b.links after.links
         (IsJoinBy left count rows named old b.dice result new after.dice)
-        → Serves truth link step left count files replica (line.Join named file) old b reply new after
-    serves_join named file rows result read is does adds honest idle asked later kept talk =
+        → Serves link step left count files replica (line.Join named file) old b reply new after
+    serves_join named file rows result read is does adds idle asked later kept talk =
         record {
           does = subst (λ (r : Option (List ConfigEntry)). IfRead r (λ rows.
-              DoesJoin truth link left count named rows (place_of old b) reply
+              DoesJoin link left count named rows (place_of old b) reply
               (place_of new after)))
               (sym read) (inr (result, is, does, asked));
           asks = record {
@@ -295,9 +282,8 @@ module _ {L D : Type 0} (truth : Truth) (link : L → Link) (step : L → Exchan
           adds = adds;
           spent = subst (λ r. EndsFor (line.Join named file) old r) (sym is)
               (ends_join (line.Join named file) old old.seat result
-              (join_spent truth link left count rows named old b.links b.dice new after.links
+              (join_spent link left count rows named old b.links b.dice new after.links
               after.dice result does));
-          honest = honest;
           idle = idle_always reply new idle;
           asked_only = asked_all link (plugins_in rows) b.links after.links asked;
           later = later;
@@ -308,16 +294,15 @@ module _ {L D : Type 0} (truth : Truth) (link : L → Link) (step : L → Exchan
   module _ (old new : Caller) (b : BenchState L D) (reply : Reply) where
     pub serves_delete : (path : List ℕ) (result : Result (Option ℕ) CallNo)
         → reply ≡ told_of_delete old.seat result → IsDelete path old result new
-        → AddsWithin 1 0 [] old new → KeepsHonesty old new → holding new.mine ≡ None
-        → Serves truth link step left count files replica (line.Delete path) old b reply new b
-    serves_delete path result is does adds honest idle = record {
+        → AddsWithin 1 0 [] old new → holding new.mine ≡ None
+        → Serves link step left count files replica (line.Delete path) old b reply new b
+    serves_delete path result is does adds idle = record {
       does = (result, is, does, (refl, refl));
       asks = record { steps = []; walk = refl; are = (refl, refl) };
       adds = adds;
       spent = subst (λ r. EndsFor (line.Delete path) old r) (sym is)
           (ends_delete (line.Delete path) old old.seat result
           (delete_spent path old new result does));
-      honest = told_honesty truth old new honest;
       idle = idle_always reply new idle;
       asked_only = asked_none link (names_of link b.links) b.links;
       later = omega arith;
@@ -327,16 +312,15 @@ module _ {L D : Type 0} (truth : Truth) (link : L → Link) (step : L → Exchan
 
     pub serves_leave : (named : ℕ) (result : Result (Option ℕ) CallNo)
         → reply ≡ told_of_leave old.seat result → IsLeave named old result new
-        → AddsWithin 1 0 [] old new → KeepsHonesty old new → holding new.mine ≡ None
-        → Serves truth link step left count files replica (line.Leave named) old b reply new b
-    serves_leave named result is does adds honest idle = record {
+        → AddsWithin 1 0 [] old new → holding new.mine ≡ None
+        → Serves link step left count files replica (line.Leave named) old b reply new b
+    serves_leave named result is does adds idle = record {
       does = (result, is, does, (refl, refl));
       asks = record { steps = []; walk = refl; are = (refl, refl) };
       adds = adds;
       spent = subst (λ r. EndsFor (line.Leave named) old r) (sym is)
           (ends_leave (line.Leave named) old old.seat result
           (leave_spent named old new result does));
-      honest = told_honesty truth old new honest;
       idle = idle_always reply new idle;
       asked_only = asked_none link (names_of link b.links) b.links;
       later = omega arith;
@@ -352,48 +336,48 @@ pub read_rows : (names : List (List ℕ)) (files : List SettingsFile) (file lent
 read_rows names files file lent rows found same read is h = subst (NamesAmong names)
     (same_Some rows found (sym read ∙ ap (rows_at files) (sym same) ∙ is)) h
 
-module _ {L D : Type 0} (truth : Truth) (link : L → Link) (step : L → Exchange → L → Type 0) (left : D → Option (List ℕ))
+module _ {L D : Type 0} (link : L → Link) (step : L → Exchange → L → Type 0) (left : D → Option (List ℕ))
     (count : D → ℕ) (files : List SettingsFile) (replica : ℕ) (c : Caller) (b : BenchState L D)
   where
     pub unread_reload : (named : ℕ) (file : List ℕ) (rows : List ConfigEntry)
         → rows_at files file ≡ Some rows → holding c.mine ≡ None
-        → Serves truth link step left count files replica (line.Reload named file) c b (Ok told.Memory) c
+        → Serves link step left count files replica (line.Reload named file) c b (Ok told.Memory) c
         b
-    unread_reload named file rows read idle = serves_nothing truth link step left count files replica
+    unread_reload named file rows read idle = serves_nothing link step left count files replica
         (line.Reload named file) c b (subst (λ (r : Option (List ConfigEntry)). IfRead r (λ rows.
-        DoesReload truth link left count named rows (place_of c b) (Ok told.Memory) (place_of c b)))
+        DoesReload link left count named rows (place_of c b) (Ok told.Memory) (place_of c b)))
         (sym read) (inl (refl, refl))) (subst (λ (r : Option (List ConfigEntry)). IfRead r (λ rows.
         DoesReloadBy left count named rows (place_of c b) (Ok told.Memory) (place_of c b) []))
         (sym read) (inl ((refl, refl), refl))) idle
 
     pub unread_join : (named : ℕ) (file : List ℕ) (rows : List ConfigEntry)
         → rows_at files file ≡ Some rows → holding c.mine ≡ None
-        → Serves truth link step left count files replica (line.Join named file) c b (Ok told.Memory) c b
-    unread_join named file rows read idle = serves_nothing truth link step left count files replica
+        → Serves link step left count files replica (line.Join named file) c b (Ok told.Memory) c b
+    unread_join named file rows read idle = serves_nothing link step left count files replica
         (line.Join named file) c b (subst (λ (r : Option (List ConfigEntry)). IfRead r (λ rows.
-        DoesJoin truth link left count named rows (place_of c b) (Ok told.Memory) (place_of c b)))
+        DoesJoin link left count named rows (place_of c b) (Ok told.Memory) (place_of c b)))
         (sym read) (inl (refl, refl))) (subst (λ (r : Option (List ConfigEntry)). IfRead r (λ rows.
         DoesJoinBy left count named rows (place_of c b) (Ok told.Memory) (place_of c b) []))
         (sym read) (inl ((refl, refl), refl))) idle
 
     -- no copy of the data
     pub uncopied_put : (resource path plain : List ℕ) → holding c.mine ≡ None
-        → Serves truth link step left count files replica (line.Put resource path plain) c b
+        → Serves link step left count files replica (line.Put resource path plain) c b
         (Ok told.Memory) c b
-    uncopied_put resource path plain idle = serves_nothing truth link step left count files replica
+    uncopied_put resource path plain idle = serves_nothing link step left count files replica
         (line.Put resource path plain) c b (Err refusal.NoMemory, refl, inl (inl refl, refl), refl)
         (refl, refl) idle
 
     -- what was lent is what stands in the line
     pub put_as_lent : (new : Caller) (after : BenchState L D) (reply : Reply)
         (resource path plain own at it : List ℕ) → resource ≡ own → path ≡ at → plain ≡ it
-        → Serves truth link step left count files replica (line.Put resource path plain) c b reply new
+        → Serves link step left count files replica (line.Put resource path plain) c b reply new
         after
-        → Serves truth link step left count files replica (line.Put own at it) c b reply new after
+        → Serves link step left count files replica (line.Put own at it) c b reply new after
     put_as_lent new after reply resource path plain own at it r p d s = subst
-        (λ x. Serves truth link step left count files replica (line.Put own at x) c b reply new after) d
-        (subst (λ x. Serves truth link step left count files replica (line.Put own x plain) c b reply new
+        (λ x. Serves link step left count files replica (line.Put own at x) c b reply new after) d
+        (subst (λ x. Serves link step left count files replica (line.Put own x plain) c b reply new
         after) p
-        (subst (λ x. Serves truth link step left count files replica (line.Put x path plain) c b reply
+        (subst (λ x. Serves link step left count files replica (line.Put x path plain) c b reply
         new
         after) r s))

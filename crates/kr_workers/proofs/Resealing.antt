@@ -8,7 +8,6 @@ use Rattle.std.proofs.lemmas.Option.{same_Some}
 use Rattle.kr_config.specs.Kept.{ConfigEntry as setting}
 use Rattle.kr_kms.specs.Calls.{Link}
 use Rattle.kr_kms.specs.Exchanges.{Exchange}
-use Rattle.kr_kms.specs.Truth.{Truth}
 use Rattle.kr_provider.specs.Publication.{Publication, list_at}
 use Rattle.kr_provider.specs.Sealing.{IsSealing}
 use Rattle.kr_provider.specs.Unsealing.{UnsealsBy}
@@ -78,7 +77,7 @@ is_written other = false
 abbrev pub IsKnown : Entry → Type 0
 IsKnown e = (path : List ℕ) → IsReplaced path e → Reseals path e
 
-module _ {L D : Type 0} (truth : Truth) (link : L → Link) (step : L → Exchange → L → Type 0) (left : D → Option (List ℕ))
+module _ {L D : Type 0} (link : L → Link) (step : L → Exchange → L → Type 0) (left : D → Option (List ℕ))
     (count : D → ℕ) where
   -- a caller stays one, and each own entry that replaced a row stands on an unsealing still
   pub record Keeps (old new : Caller) : Type 0 where
@@ -227,7 +226,7 @@ module _ {L D : Type 0} (truth : Truth) (link : L → Link) (step : L → Exchan
       puts_keep resource path plain p from to dice after done d)
 
   finds_keep : (path : List ℕ) (p : Publication) (old new : Caller) (olds news : List L)
-      (result : Result Read CallNo) → Finds truth link path p old olds result new news
+      (result : Result Read CallNo) → Finds link path p old olds result new news
       → Keeps old new
   finds_keep path p old new olds news (Ok read.Absent) d =
       quiet_keeps old new (event.Fetch path) answer.Absent refl d.0.absent
@@ -249,14 +248,14 @@ module _ {L D : Type 0} (truth : Truth) (link : L → Link) (step : L → Exchan
       quiet_keeps old new (event.Fetch path) answer.NoMemory refl d.0
 
   read_keeps : (path : List ℕ) (replica : ℕ) (old new : Caller) (olds news : List L)
-      (result : Result Read CallNo) → IsRead truth link path replica old olds result new news
+      (result : Result Read CallNo) → IsRead link path replica old olds result new news
       → Keeps old new
   read_keeps path replica old new olds news (Ok found) (inl e) = absurd e
   read_keeps path replica old new olds news (Err why) (inl e) =
       early_keeps replica old new why e.0
   read_keeps path replica old new olds news result (inr h) = held_keeps
       (λ (number : ℕ) (p : Publication) (from : Caller) (done : Result Read CallNo) (to : Caller).
-      Finds truth link path p from olds done to news) replica old new result h
+      Finds link path p from olds done to news) replica old new result h
       (λ number p from done to k held d. finds_keep path p from to olds news done d)
 
   delete_keeps : (path : List ℕ) (old new : Caller) (result : Result (Option ℕ) CallNo)
@@ -300,7 +299,7 @@ module _ {L D : Type 0} (truth : Truth) (link : L → Link) (step : L → Exchan
   brings_keep : (rows : List setting) (brings : Publication → Event)
       → ((p : Publication) → is_replace (did_of (brings p)) ≡ false) → (replica : ℕ)
       (old new : Caller) (olds news : List L) (dice after : D) (why : CallNo)
-      → BringsBy truth link left count rows brings replica old olds dice why new news after
+      → BringsBy link left count rows brings replica old olds dice why new news after
       → Keeps old new
   brings_keep rows brings quiet replica old new olds news dice after (refusal.Refused why) b =
       absurd b
@@ -328,7 +327,7 @@ module _ {L D : Type 0} (truth : Truth) (link : L → Link) (step : L → Exchan
 
   reload_keeps : (rows : List setting) (replica : ℕ) (old new : Caller) (olds news : List L)
       (dice after : D) (result : Result Loaded CallNo)
-      → IsReload truth link left count rows replica old olds dice result new news after
+      → IsReload link left count rows replica old olds dice result new news after
       → Keeps old new
   reload_keeps rows replica old new olds news dice after (Ok (loaded.Generation number)) b =
       quiet_keeps old new (reload_of replica None b.p) (answer.Reloaded number) refl b.brought
@@ -342,7 +341,7 @@ module _ {L D : Type 0} (truth : Truth) (link : L → Link) (step : L → Exchan
 
   joins_keep : (rows : List setting) (replica : ℕ) (old new : Caller) (olds news : List L)
       (dice after : D) (why : CallNo)
-      → IsJoin truth link left count rows replica old olds dice (Err why) new news after
+      → IsJoin link left count rows replica old olds dice (Err why) new news after
       → Keeps old new
   joins_keep rows replica old new olds news dice after (refusal.Refused why) b = absurd b
   joins_keep rows replica old new olds news dice after (refusal.PluginFailed name) b = brings_keep
@@ -363,7 +362,7 @@ module _ {L D : Type 0} (truth : Truth) (link : L → Link) (step : L → Exchan
 
   join_keeps : (rows : List setting) (replica : ℕ) (old new : Caller) (olds news : List L)
       (dice after : D) (result : Result Joining CallNo)
-      → IsJoin truth link left count rows replica old olds dice result new news after
+      → IsJoin link left count rows replica old olds dice result new news after
       → Keeps old new
   join_keeps rows replica old new olds news dice after (Ok (joining.Generation number)) b =
       quiet_keeps old new (event.Join replica b.p) (answer.Joined number) refl b.brought
@@ -376,7 +375,7 @@ module _ {L D : Type 0} (truth : Truth) (link : L → Link) (step : L → Exchan
 
   refreshes_keep : (replica number : ℕ) (p : Publication) (old new : Caller)
       (olds news : List L) (dice after : D) (result : Result Loaded CallNo)
-      → Refreshes truth link left count replica number p old olds dice result new news after
+      → Refreshes link left count replica number p old olds dice result new news after
       → Keeps old new
   refreshes_keep replica number p old new olds news dice after (Ok (loaded.Unchanged same)) r =
       same_keeps old new r.2
@@ -396,14 +395,14 @@ module _ {L D : Type 0} (truth : Truth) (link : L → Link) (step : L → Exchan
 
   refresh_keeps : (replica : ℕ) (old new : Caller) (olds news : List L) (dice after : D)
       (result : Result Loaded CallNo)
-      → IsRefresh truth link left count replica old olds dice result new news after
+      → IsRefresh link left count replica old olds dice result new news after
       → Keeps old new
   refresh_keeps replica old new olds news dice after (Ok found) (inl e) = absurd e
   refresh_keeps replica old new olds news dice after (Err why) (inl e) =
       early_keeps replica old new why e.0
   refresh_keeps replica old new olds news dice after result (inr h) = held_keeps
       (λ (number : ℕ) (p : Publication) (from : Caller) (done : Result Loaded CallNo)
-      (to : Caller). Refreshes truth link left count replica number p from olds dice done to news
+      (to : Caller). Refreshes link left count replica number p from olds dice done to news
       after × AskedOnly link (plugin_names p.seeds) olds news) replica old new result h
       (λ number p from done to k held d.
       refreshes_keep replica number p from to olds news dice after done d.0)
@@ -413,7 +412,7 @@ module _ {L D : Type 0} (truth : Truth) (link : L → Link) (step : L → Exchan
   module _ (number : ℕ) (p : Publication) (row : Row) (opened : Opened) (olds news : List L)
       (old new : Caller) (k : IsCaller old) (held : holding old.mine ≡ Some (number, p))
       (found : found_in old.mine ≡ Some row)
-      (unseals : UnsealsBy truth link p.seeds (list_at p row.resource) row.path row.stored olds
+      (unseals : UnsealsBy link p.seeds (list_at p row.resource) row.path row.stored olds
       (Ok opened) news) where
     resealed : (stored : List ℕ) (revision : ℕ)
         → IsSealing p row.resource row.path opened.plain stored
@@ -500,7 +499,7 @@ module _ {L D : Type 0} (truth : Truth) (link : L → Link) (step : L → Exchan
   opens_keep : (number : ℕ) (p : Publication) (row : Row) (old new : Caller) (olds news : List L)
       (dice after : D) (result : Result Step CallNo) (opened : Result Opened UnsealNo)
       → IsCaller old → holding old.mine ≡ Some (number, p) → found_in old.mine ≡ Some row
-      → UnsealsBy truth link p.seeds (list_at p row.resource) row.path row.stored olds opened news
+      → UnsealsBy link p.seeds (list_at p row.resource) row.path row.stored olds opened news
       → RewritesBy left count p row opened old dice result new after → Keeps old new
   opens_keep number p row old new olds news dice after result (Ok opened) k held found u r =
       data_keeps number p row opened olds news old new k held found u opened.stale dice after
@@ -511,7 +510,7 @@ module _ {L D : Type 0} (truth : Truth) (link : L → Link) (step : L → Exchan
   rewrites_keep : (number : ℕ) (p : Publication) (row : Row) (old new : Caller)
       (olds news : List L) (dice after : D) (result : Result Step CallNo)
       → IsCaller old → holding old.mine ≡ Some (number, p) → found_in old.mine ≡ Some row
-      → Rewrites truth link left count p row old olds dice result new news after → Keeps old new
+      → Rewrites link left count p row old olds dice result new news after → Keeps old new
   rewrites_keep number p row old new olds news dice after result k held found (inl o) =
       opens_keep number p row old new olds news dice after result o.opened k held found o.unseals
       o.rewrites
@@ -540,7 +539,7 @@ module _ {L D : Type 0} (truth : Truth) (link : L → Link) (step : L → Exchan
   steps_keep : (number : ℕ) (p : Publication) (above : List ℕ) (old new : Caller)
       (olds news : List L) (dice after : D) (result : Result Step CallNo)
       → IsCaller old → holding old.mine ≡ Some (number, p)
-      → Steps truth link left count p above old olds dice result new news after → Keeps old new
+      → Steps link left count p above old olds dice result new news after → Keeps old new
   steps_keep number p above old new olds news dice after result k held (inl n) =
       none_found above old new result n.0
   steps_keep number p above old new olds news dice after result k held (inr f) =
@@ -552,20 +551,20 @@ module _ {L D : Type 0} (truth : Truth) (link : L → Link) (step : L → Exchan
 
   step_keeps : (replica : ℕ) (above : List ℕ) (old new : Caller) (olds news : List L)
       (dice after : D) (result : Result Step CallNo)
-      → IsStep truth link left count replica above old olds dice result new news after
+      → IsStep link left count replica above old olds dice result new news after
       → Keeps old new
   step_keeps replica above old new olds news dice after (Ok taken) (inl e) = absurd e
   step_keeps replica above old new olds news dice after (Err why) (inl e) =
       early_keeps replica old new why e.0
   step_keeps replica above old new olds news dice after result (inr h) = held_keeps
       (λ (number : ℕ) (p : Publication) (from : Caller) (done : Result Step CallNo) (to : Caller).
-      Steps truth link left count p above from olds dice done to news after) replica old new
+      Steps link left count p above from olds dice done to news after) replica old new
       result h (λ number p from done to k held d.
       steps_keep number p above from to olds news dice after done k held d)
 
   walks_keep : (replica : ℕ) (above : List ℕ) (steps : List Step) (old new : Caller)
       (olds news : List L) (dice after : D)
-      → Walks truth link left count replica above steps old olds dice new news after
+      → Walks link left count replica above steps old olds dice new news after
       → Keeps old new
   walks_keep replica above [] old new olds news dice after w = same_keeps old new w.0
   walks_keep replica above (taken ∷ steps) old new olds news dice after w =
@@ -576,7 +575,7 @@ module _ {L D : Type 0} (truth : Truth) (link : L → Link) (step : L → Exchan
 
   ends_keep : (replica : ℕ) (above : List ℕ) (steps : List Step) (old new : Caller)
       (olds news : List L) (dice after : D) (ended : Result Step CallNo) (report : Report)
-      → EndsBy truth link left count replica above steps old olds dice ended report new news after
+      → EndsBy link left count replica above steps old olds dice ended report new news after
       → Keeps old new
   ends_keep replica above steps old new olds news dice after ended report e =
       then_keeps old e.middle new
@@ -586,7 +585,7 @@ module _ {L D : Type 0} (truth : Truth) (link : L → Link) (step : L → Exchan
 
   drive_keeps : (replica : ℕ) (above : List ℕ) (old new : Caller) (olds news : List L)
       (dice after : D) (result : Result Report (Report × CallNo))
-      → IsDrive truth link left count replica above old olds dice result new news after
+      → IsDrive link left count replica above old olds dice result new news after
       → Keeps old new
   drive_keeps replica above old new olds news dice after (Ok report) d =
       ends_keep replica above d.steps old new olds news dice after (Ok taken_step.End) report d.ends
@@ -598,7 +597,7 @@ module _ {L D : Type 0} (truth : Truth) (link : L → Link) (step : L → Exchan
   -- ---- each line
 
   reloaded_keeps : (named : ℕ) (rows : Option (List setting)) (old new : Workplace L D)
-      (reply : Reply) → IfRead rows (λ rows. DoesReload truth link left count named rows old reply
+      (reply : Reply) → IfRead rows (λ rows. DoesReload link left count named rows old reply
       new) → Keeps old.caller new.caller
   reloaded_keeps named None old new reply d = absurd d
   reloaded_keeps named (Some rows) old new reply (inl none) =
@@ -607,7 +606,7 @@ module _ {L D : Type 0} (truth : Truth) (link : L → Link) (step : L → Exchan
       new.caller old.links new.links old.dice new.dice d.0 d.2
 
   joined_keeps : (named : ℕ) (rows : Option (List setting)) (old new : Workplace L D)
-      (reply : Reply) → IfRead rows (λ rows. DoesJoin truth link left count named rows old reply
+      (reply : Reply) → IfRead rows (λ rows. DoesJoin link left count named rows old reply
       new) → Keeps old.caller new.caller
   joined_keeps named None old new reply d = absurd d
   joined_keeps named (Some rows) old new reply (inl none) =
@@ -617,7 +616,7 @@ module _ {L D : Type 0} (truth : Truth) (link : L → Link) (step : L → Exchan
 
   line_keeps : (files : List SettingsFile) (replica : ℕ) (asked : ScriptLine)
       (old new : Workplace L D) (reply : Reply)
-      → Does truth link left count files replica asked old reply new
+      → Does link left count files replica asked old reply new
       → Keeps old.caller new.caller
   line_keeps files replica (line.Put resource path plain) old new reply d = write_keeps resource
       path plain replica old.caller new.caller old.dice new.dice d.0 d.2
@@ -638,7 +637,7 @@ module _ {L D : Type 0} (truth : Truth) (link : L → Link) (step : L → Exchan
 
   pub run_keeps : (files : List SettingsFile) (replica : ℕ) (first : Workplace L D)
       (run : List LineDone) (last : Workplace L D)
-      → DoesAll truth link step left count files replica first run last
+      → DoesAll link step left count files replica first run last
       → Keeps first.caller last.caller
   run_keeps files replica first [] last same =
       same_keeps first.caller last.caller (ap (λ (w : Workplace L D). w.caller) same)

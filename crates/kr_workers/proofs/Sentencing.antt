@@ -7,7 +7,6 @@ use Rattle.std.proofs.lemmas.List.{length-map}
 use Rattle.std.proofs.lemmas.Option.{same_Some}
 use Rattle.kr_kms.specs.Calls.{Link}
 use Rattle.kr_kms.specs.Exchanges.{Exchange}
-use Rattle.kr_kms.specs.Truth.{Truth}
 use Rattle.kr_rollout.specs.declared.opening.Entry.{Entry}
 use Rattle.kr_rollout.specs.declared.opening.Opening.{Opening}
 use Rattle.kr_history.specs.Honesty.{IsHonest}
@@ -68,34 +67,34 @@ done_at (done ∷ run) (suc at) asked reply l r = let d = done_at run at asked r
 
 -- ---- one worker's replies
 
-module _ {L D : Type 0} (truth : Truth) (link : L → Link) (step : L → Exchange → L → Type 0)
+module _ {L D : Type 0} (link : L → Link) (step : L → Exchange → L → Type 0)
     (left : D → Option (List ℕ))
     (count : D → ℕ) (files : List SettingsFile) where
   module _ {T : Type 0} (history : List Entry) (o : Opening) (parts : List Part)
       (budgets : List ℕ) (old new : List (Worker T L D))
-      (one : IsOneHistory truth link step left count files history o parts budgets old new) where
+      (one : IsOneHistory link step left count files history o parts budgets old new) where
     -- the run of a worker, by what stands at its number
     stands_there : (number : ℕ) (part : Part) (before after : Worker T L D)
         → slice_get parts number ≡ Some part → get_or old number before ≡ before
         → slice_get new number ≡ Some after
-        → StandsIn truth link step left count files history part
+        → StandsIn link step left count files history part
         (first_place o number (slice_index budgets number) before.bench) after.told.0 after.bench
     stands_there number part before after part_is before_is after_is = subst
-        (λ (p : Part). StandsIn truth link step left count files history p
+        (λ (p : Part). StandsIn link step left count files history p
         (first_place o number (slice_index budgets number) before.bench) after.told.0 after.bench)
         (there_of parts number part part part_is)
-        (subst (λ (w : Worker T L D). StandsIn truth link step left count files history
+        (subst (λ (w : Worker T L D). StandsIn link step left count files history
         (get_or parts number part)
         (first_place o number (slice_index budgets number) before.bench) w.told.0 w.bench)
         (there_of new number after before after_is)
-        (subst (λ (w : Worker T L D). StandsIn truth link step left count files history
+        (subst (λ (w : Worker T L D). StandsIn link step left count files history
         (get_or parts number part)
         (first_place o number (slice_index budgets number) w.bench)
         (get_or new number before).told.0 (get_or new number before).bench) before_is
         (one.each number part before (below_of parts number part part_is))))
 
     as_many : (part : Part) (before after : Worker T L D) (number : ℕ)
-        → StandsIn truth link step left count files history part
+        → StandsIn link step left count files history part
         (first_place o number (slice_index budgets number) before.bench) after.told.0 after.bench
         → length after.told.0 ≡ length part.lines.0
     as_many part before after number s = ap length s.replies_are
@@ -105,7 +104,7 @@ module _ {L D : Type 0} (truth : Truth) (link : L → Link) (step : L → Exchan
     -- the line at a place of its part was done
     done_there : (number at : ℕ) (asked : ScriptLine) (reply : Told) (before : Worker T L D)
         (r : Replies parts new number at asked reply)
-        → (s : StandsIn truth link step left count files history r.part
+        → (s : StandsIn link step left count files history r.part
         (first_place o number (slice_index budgets number) before.bench) r.worker.told.0
         r.worker.bench) → IsDoneAt s.run asked reply
     done_there number at asked reply before r s = done_at s.run at asked reply
@@ -148,7 +147,7 @@ module _ {L D : Type 0} (truth : Truth) (link : L → Link) (step : L → Exchan
         (subst (λ (t : Told). HasCause link count d.done.line
         (first_place o number (slice_index budgets number) before.bench) t history
         r.worker.bench.links r.worker.bench.dice) d.reply_is
-        ((replies_have_causes truth link step left count files).whole history r.part
+        ((replies_have_causes link step left count files).whole history r.part
         (first_place o number (slice_index budgets number) before.bench) r.worker.told.0
         r.worker.bench s d.done d.there))
 
@@ -156,15 +155,15 @@ module _ {L D : Type 0} (truth : Truth) (link : L → Link) (step : L → Exchan
 
     abbrev heard : (number : ℕ) → Heard
     heard number =
-        heard_in truth link step left count files history o parts budgets old new one number
+        heard_in link step left count files history o parts budgets old new one number
 
     abbrev IsTheirs : ℕ → Heard → Type 0
     IsTheirs number it =
-        HeardAt truth link step left count files history o parts budgets old new one number it
+        HeardAt link step left count files history o parts budgets old new one number it
 
     its_heard : (number : ℕ) → number < length parts → IsTheirs number (heard number)
     its_heard number within =
-        heard_at truth link step left count files history o parts budgets old new one number within
+        heard_at link step left count files history o parts budgets old new one number within
 
     heard_there : (number : ℕ) → IsTheirs number (heard number) → (before after : Worker T L D)
         → slice_get old number ≡ Some before → slice_get new number ≡ Some after
@@ -174,39 +173,39 @@ module _ {L D : Type 0} (truth : Truth) (link : L → Link) (step : L → Exchan
         (same_Some h.before before (sym h.before_is ∙ before_is))
         (subst (λ (w : Worker T L D). WasHeard step (heard number) h.before.bench w.bench)
         (same_Some h.after after (sym h.after_is ∙ after_is))
-        (was_heard truth link step left count files history o parts budgets old new one number h))
+        (was_heard link step left count files history o parts budgets old new one number h))
 
     tells_there : (number : ℕ) → (h : IsTheirs number (heard number))
-        → TellsRun truth link step left count files (heard number) o history number h.part
+        → TellsRun link step left count files (heard number) o history number h.part
         (first_place o number (slice_index budgets number) h.before.bench) h.after.told.0
         h.after.bench
     tells_there number h =
         let first = first_place o number (slice_index budgets number) h.before.bench in record {
           stands = h.stands;
           exchanges = h.exchanges;
-          tell = subst (λ kept. TellContents truth kept o history number h.stands.run) (sym h.kept)
-              (gets_tell_content truth link step left count files history h.part first
+          tell = subst (λ kept. TellContents kept o history number h.stands.run) (sym h.kept)
+              (gets_tell_content link step left count files history h.part first
               h.after.told.0 h.after.bench h.stands refl);
         }
 
     gets_there : (number : ℕ) → IsTheirs number (heard number) → (part : Part)
         (before after : Worker T L D) → slice_get parts number ≡ Some part
         → slice_get old number ≡ Some before → slice_get new number ≡ Some after
-        → TellsRun truth link step left count files (heard number) o history number part
+        → TellsRun link step left count files (heard number) o history number part
         (first_place o number (slice_index budgets number) before.bench) after.told.0 after.bench
     gets_there number h part before after part_is before_is after_is = subst
-        (λ (p : Part). TellsRun truth link step left count files (heard number) o history number p
+        (λ (p : Part). TellsRun link step left count files (heard number) o history number p
         (first_place o number (slice_index budgets number) before.bench) after.told.0 after.bench)
         (same_Some h.part part (sym h.part_is ∙ part_is))
-        (subst (λ (w : Worker T L D). TellsRun truth link step left count files (heard number) o
+        (subst (λ (w : Worker T L D). TellsRun link step left count files (heard number) o
         history number h.part (first_place o number (slice_index budgets number) w.bench)
         after.told.0 after.bench) (same_Some h.before before (sym h.before_is ∙ before_is))
-        (subst (λ (w : Worker T L D). TellsRun truth link step left count files (heard number) o
+        (subst (λ (w : Worker T L D). TellsRun link step left count files (heard number) o
         history number h.part (first_place o number (slice_index budgets number) h.before.bench)
         w.told.0 w.bench) (same_Some h.after after (sym h.after_is ∙ after_is))
         (tells_there number h)))
 
-    pub replies_are_true : RepliesAreTrue truth link step left count files history o parts budgets
+    pub replies_are_true : RepliesAreTrue link step left count files history o parts budgets
         old new
     replies_are_true = record {
       each = all_told;
@@ -215,22 +214,20 @@ module _ {L D : Type 0} (truth : Truth) (link : L → Link) (step : L → Exchan
           let below = below_of old number before before_is in
           heard_there number (its_heard number (omega (arith, below, one.whole))) before after
           before_is after_is;
-      no_more = λ number past. none_heard truth link step left count files history o parts budgets
+      no_more = λ number past. none_heard link step left count files history o parts budgets
           old new one number past;
       gets = λ number part before after part_is before_is after_is.
           gets_there number (its_heard number (below_of parts number part part_is)) part before
           after part_is before_is after_is;
       agreed = λ opens agrees begun front rest is. honest_by_entries.front opens o front rest
           (subst (λ (l : List Entry). IsHonest opens o l) is
-          (agreed_honest truth link step left count files history o parts budgets old new one opens
+          (agreed_honest link step left count files history o parts budgets old new one opens
           agrees begun));
-      honest = λ told begun front rest is. honest_by_entries.front truth.opens o front rest
-          (subst (λ (l : List Entry). IsHonest truth.opens o l) is (one.honest told begun));
-      plugins = honest_of_plugins T truth link step left count files history o parts budgets old new
+      plugins = honest_of_plugins T link step left count files history o parts budgets old new
           one;
       causes = all_caused;
       often = λ number part before after part_is before_is after_is.
-          (replies_have_causes truth link step left count files).often history part
+          (replies_have_causes link step left count files).often history part
           (first_place o number (slice_index budgets number) before.bench) after.told.0 after.bench
           (stands_there number part before after part_is
           (there_of old number before before before_is) after_is);
@@ -238,8 +235,8 @@ module _ {L D : Type 0} (truth : Truth) (link : L → Link) (step : L → Exchan
           all_caused;
     }
 
-pub histories_tell : (T : Type 0) → {L D : Type 0} → (truth : Truth) (link : L → Link)
+pub histories_tell : (T : Type 0) → {L D : Type 0} → (link : L → Link)
     (step : L → Exchange → L → Type 0)
-    (left : D → Option (List ℕ)) (count : D → ℕ) → HistoriesTell T truth link step left count
-histories_tell T truth link step left count files history o parts budgets old new one =
-    replies_are_true truth link step left count files history o parts budgets old new one
+    (left : D → Option (List ℕ)) (count : D → ℕ) → HistoriesTell T link step left count
+histories_tell T link step left count files history o parts budgets old new one =
+    replies_are_true link step left count files history o parts budgets old new one

@@ -9,7 +9,6 @@ use Rattle.kr_base.specs.Faults.{Rose}
 use Rattle.kr_config.specs.Kept.{ConfigEntry as setting}
 use Rattle.kr_kms.specs.Calls.{Link}
 use Rattle.kr_kms.specs.Health.{HasBreach}
-use Rattle.kr_kms.specs.Truth.{Truth}
 use Rattle.kr_kms.specs.declared.health.Field.{Field}
 use Rattle.kr_provider.specs.AskedLinks.{FaultRose, HasLinkWith}
 use Rattle.kr_provider.specs.Publication.{Publication}
@@ -211,7 +210,7 @@ abbrev has_reply : Reply → Bool
 has_reply (Ok reply) = true
 has_reply (Err spent) = false
 
-module _ {L D : Type 0} (truth : Truth) (link : L → Link) (left : D → Option (List ℕ))
+module _ {L D : Type 0} (link : L → Link) (left : D → Option (List ℕ))
     (count : D → ℕ) (own : ℕ) (old new : Caller) (k : IsCaller old)
     (idle : holding old.mine ≡ None) (olds news : List L) (dice after : D)
     (RewriteDone : Told → Type 0) (part : List Entry) (adds : Adds old part new) where
@@ -386,7 +385,7 @@ module _ {L D : Type 0} (truth : Truth) (link : L → Link) (left : D → Option
           (adopted_law old adopted own number p a) f (Is p) is))
 
       gets_part : (result : Result Read CallNo)
-          → Finds truth link path p adopted olds result acted news
+          → Finds link path p adopted olds result acted news
           → IfTold GetsPart (told_of_read old.seat result)
       gets_part (Ok read.Absent) d = get_one answer.Absent d.0.absent (λ p e. ⊤) tt
       gets_part (Ok (read.Value revision plain stale)) d = subst
@@ -416,7 +415,7 @@ module _ {L D : Type 0} (truth : Truth) (link : L → Link) (left : D → Option
           inr (inr (inl (get_one answer.NoMemory d.0 (λ p e. ⊤) tt)))
 
     pub read_part : (result : Result Read CallNo)
-        → IsRead truth link path own old olds result new news
+        → IsRead link path own old olds result new news
         → IfTold GetsPart (told_of_read old.seat result)
     read_part (Ok done) (inl e) = absurd e
     read_part (Err why) (inl e) = early_get why e.0

@@ -5,7 +5,6 @@ use Rattle.kr_config.specs.Kept.{ConfigEntry as setting}
 use Rattle.kr_kms.specs.Calls.{Link}
 use Rattle.kr_kms.specs.Exchanges.{Exchange}
 use Rattle.kr_kms.specs.Health.{HasBreach}
-use Rattle.kr_kms.specs.Truth.{Truth}
 use Rattle.kr_provider.specs.AskedLinks.{FaultRose, HasLinkWith}
 use Rattle.kr_rollout.specs.declared.opening.Entry.{Entry}
 use Rattle.kr_rollout.specs.Callers.{holding}
@@ -16,7 +15,6 @@ use Rattle.kr_rewrite.specs.Drives.{CoversLive}
 use Rattle.kr_script.specs.declared.script.ScriptLine.{ScriptLine}
 use Rattle.kr_script.specs.declared.script.ScriptLine.TheVariants as line
 use Rattle.kr_script.specs.declared.told.Told.{Told}
-use Rattle.kr_script.specs.declared.told.Told.TheVariants as told
 use Rattle.kr_workers.specs.declared.files.SettingsFile.{SettingsFile}
 use Rattle.kr_workers.specs.Files.{rows_at}
 use Rattle.kr_workers.specs.LineParts.{HasShape, PartsHaveShape}
@@ -54,7 +52,7 @@ module _ {L D : Type 0} (link : L → Link) (count : D → ℕ) (own : ℕ) (old
       NamesPlugin CannotBeSealed ReadBy Rewrote
       old.caller.seat own part named rows reply
 
-module _ {L D : Type 0} (truth : Truth) (link : L → Link) (left : D → Option (List ℕ))
+module _ {L D : Type 0} (link : L → Link) (left : D → Option (List ℕ))
     (count : D → ℕ) (files : List SettingsFile) (own : ℕ) (old new : Workplace L D)
     (k : IsCaller old.caller) (idle : holding old.caller.mine ≡ None) (part : List Entry)
     (adds : Adds old.caller part new.caller) (reply : Told) where
@@ -72,13 +70,13 @@ module _ {L D : Type 0} (truth : Truth) (link : L → Link) (left : D → Option
   as_told asked other is s = subst (IfTold (Shaped asked)) (sym is) s
 
   reloaded : (named : ℕ) (file : List ℕ)
-      → IfRead (rows_at files file) (λ rows. DoesReload truth link left count named rows old
+      → IfRead (rows_at files file) (λ rows. DoesReload link left count named rows old
       (Ok reply) new)
       → Shaped (line.Reload named file) reply
   reloaded named file d = by (rows_at files file) refl d
     where
       by : (rows : Option (List setting)) → rows_at files file ≡ rows
-          → IfRead rows (λ rows. DoesReload truth link left count named rows old (Ok reply) new)
+          → IfRead rows (λ rows. DoesReload link left count named rows old (Ok reply) new)
           → Shaped (line.Reload named file) reply
       by None is d = absurd d
       by (Some rows) is (inl none) = (
@@ -92,18 +90,18 @@ module _ {L D : Type 0} (truth : Truth) (link : L → Link) (left : D → Option
         rows,
         is,
         subst (IfTold (λ (r : Told). ReloadShape link count own old new part named rows r)) (sym d.1)
-            (reload_part truth link left count own old.caller new.caller k idle old.links new.links
+            (reload_part link left count own old.caller new.caller k idle old.links new.links
             old.dice new.dice RewriteDone part adds named rows d.0 d.2),
       )
 
   joined : (named : ℕ) (file : List ℕ)
-      → IfRead (rows_at files file) (λ rows. DoesJoin truth link left count named rows old
+      → IfRead (rows_at files file) (λ rows. DoesJoin link left count named rows old
       (Ok reply) new)
       → Shaped (line.Join named file) reply
   joined named file d = by (rows_at files file) refl d
     where
       by : (rows : Option (List setting)) → rows_at files file ≡ rows
-          → IfRead rows (λ rows. DoesJoin truth link left count named rows old (Ok reply) new)
+          → IfRead rows (λ rows. DoesJoin link left count named rows old (Ok reply) new)
           → Shaped (line.Join named file) reply
       by None is d = absurd d
       by (Some rows) is (inl none) = (
@@ -117,36 +115,36 @@ module _ {L D : Type 0} (truth : Truth) (link : L → Link) (left : D → Option
         rows,
         is,
         subst (IfTold (λ (r : Told). JoinShape link count own old new part named rows r)) (sym d.1)
-            (join_part truth link left count own old.caller new.caller k idle old.links new.links
+            (join_part link left count own old.caller new.caller k idle old.links new.links
             old.dice new.dice RewriteDone part adds named rows d.0 d.2),
       )
 
   pub line_part : (asked : ScriptLine)
-      → Does truth link left count files own asked old (Ok reply) new → Shaped asked reply
+      → Does link left count files own asked old (Ok reply) new → Shaped asked reply
   line_part (line.Put resource path plain) d = as_told (line.Put resource path plain) _ d.1
-      (write_part truth link left count own old.caller new.caller k idle old.links new.links
+      (write_part link left count own old.caller new.caller k idle old.links new.links
       old.dice new.dice RewriteDone part adds resource path plain d.0 d.2)
   line_part (line.Get path) d = as_told (line.Get path) _ d.1
-      (read_part truth link left count own old.caller new.caller k idle old.links new.links
+      (read_part link left count own old.caller new.caller k idle old.links new.links
       old.dice new.dice RewriteDone part adds path d.0 d.2)
   line_part (line.Delete path) d = as_told (line.Delete path) _ d.1
-      (delete_part truth link left count own old.caller new.caller k idle old.links new.links
+      (delete_part link left count own old.caller new.caller k idle old.links new.links
       old.dice new.dice RewriteDone part adds path d.0 d.2)
   line_part line.Rewrite d = as_told line.Rewrite _ d.1
-      (drive_part (linked truth link) left count own old.caller new.caller k idle old.links
+      (drive_part (linked link) left count own old.caller new.caller k idle old.links
       new.links tt old.dice new.dice part adds d.0 d.2)
   line_part (line.Reload named file) d = reloaded named file d
   line_part line.Refresh d = as_told line.Refresh _ d.1
-      (refresh_part truth link left count own old.caller new.caller k idle old.links new.links
+      (refresh_part link left count own old.caller new.caller k idle old.links new.links
       old.dice new.dice RewriteDone part adds d.0 d.2)
   line_part (line.Join named file) d = joined named file d
-  line_part (line.Leave named) d = leave_part truth link left count own old.caller new.caller k
+  line_part (line.Leave named) d = leave_part link left count own old.caller new.caller k
       idle old.links new.links old.dice new.dice RewriteDone part adds (rows_at files) named d.0 reply
       d.1 d.2
 
-pub parts_have_shape : {L D : Type 0} → (truth : Truth) (link : L → Link) (step : L → Exchange → L → Type 0)
+pub parts_have_shape : {L D : Type 0} → (link : L → Link) (step : L → Exchange → L → Type 0)
     (left : D → Option (List ℕ)) (count : D → ℕ) (files : List SettingsFile)
-    → PartsHaveShape truth link step left count files
-parts_have_shape truth link step left count files replica old new done d =
-    line_part truth link left count files replica old new d.known d.idle done.part d.adds
+    → PartsHaveShape link step left count files
+parts_have_shape link step left count files replica old new done d =
+    line_part link left count files replica old new d.known d.idle done.part d.adds
     done.reply done.line d.does

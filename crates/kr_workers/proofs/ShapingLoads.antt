@@ -5,7 +5,6 @@ use Rattle.kr_base.specs.Faults.{Rose}
 use Rattle.kr_config.specs.Kept.{ConfigEntry as setting, plugins_in}
 use Rattle.kr_kms.specs.Calls.{Link}
 use Rattle.kr_kms.specs.Health.{HasBreach}
-use Rattle.kr_kms.specs.Truth.{Truth}
 use Rattle.kr_kms.specs.declared.health.Field.{Field}
 use Rattle.kr_provider.specs.AskedLinks.{AskedOnly, FaultRose, HasLinkWith}
 use Rattle.kr_kms.specs.declared.seeds.SeedRow.{SeedRow}
@@ -54,15 +53,15 @@ asked_there link links p name published a = (published.names name).0
     (subst (λ (seeds : List SeedRow). Contains (map (λ (r : SeedRow). r.name) seeds) a.row.name)
     (sym a.seeds_are) (named_there a.before a.row a.rest)))
 
-module _ {L D : Type 0} (truth : Truth) (link : L → Link) (left : D → Option (List ℕ))
+module _ {L D : Type 0} (link : L → Link) (left : D → Option (List ℕ))
     (count : D → ℕ) where
   ends_there : (rows : List setting) (links : List L) (dice after : D) (name : List ℕ)
-      → EndsWithin truth link left count rows links dice after name
+      → EndsWithin link left count rows links dice after name
       → Contains (plugins_in rows) name
   ends_there rows links dice after name (inl e) = e.there
   ends_there rows links dice after name (inr e) = e.2.there
 
-module _ {L D : Type 0} (truth : Truth) (link : L → Link) (left : D → Option (List ℕ))
+module _ {L D : Type 0} (link : L → Link) (left : D → Option (List ℕ))
     (count : D → ℕ) (own : ℕ) (old new : Caller) (k : IsCaller old)
     (idle : holding old.mine ≡ None) (olds news : List L) (dice after : D)
     (RewriteDone : Told → Type 0) (part : List Entry) (adds : Adds old part new) where
@@ -103,7 +102,7 @@ module _ {L D : Type 0} (truth : Truth) (link : L → Link) (left : D → Option
         own part named rows reply
 
     reloaded : (given : Answer)
-        → Brings truth link left count rows (reload_of named None) old olds dice given new news
+        → Brings link left count rows (reload_of named None) old olds dice given new news
         after
         → BringsRows (λ p. did.Reload named p None) rows (gave_of given) part
     reloaded given b = record {
@@ -113,7 +112,7 @@ module _ {L D : Type 0} (truth : Truth) (link : L → Link) (left : D → Option
     }
 
     joined : (given : Answer)
-        → Brings truth link left count rows (event.Join named) old olds dice given new news after
+        → Brings link left count rows (event.Join named) old olds dice given new news after
         → BringsRows (did.Join named) rows (gave_of given) part
     joined given b = record {
       p = b.p;
@@ -122,7 +121,7 @@ module _ {L D : Type 0} (truth : Truth) (link : L → Link) (left : D → Option
     }
 
     pub reload_part : (result : Result Loaded CallNo)
-        → IsReload truth link left count rows named old olds dice result new news after
+        → IsReload link left count rows named old olds dice result new news after
         → IfTold ReloadsPart (told_of_reload old.seat result)
     reload_part (Ok (loaded.Generation number)) b = reloaded (answer.Reloaded number) b
     reload_part (Ok (loaded.Refused verdict)) b = reloaded (answer.Refused verdict) b
@@ -131,7 +130,7 @@ module _ {L D : Type 0} (truth : Truth) (link : L → Link) (left : D → Option
     reload_part (Err (refusal.Refused why)) b = absurd b
     reload_part (Err (refusal.PluginFailed name)) b = (
       b.0.0,
-      ends_there truth link left count rows olds dice after name b.0.1,
+      ends_there link left count rows olds dice after name b.0.1,
       none b.1,
     )
     reload_part (Err refusal.DiceFailed) b = (refl, b.0.3, none b.1)
@@ -146,7 +145,7 @@ module _ {L D : Type 0} (truth : Truth) (link : L → Link) (left : D → Option
     reload_part (Err refusal.NoMemory) (inr (inr b)) = inr (reloaded answer.NoMemory b)
 
     pub join_part : (result : Result Joining CallNo)
-        → IsJoin truth link left count rows named old olds dice result new news after
+        → IsJoin link left count rows named old olds dice result new news after
         → IfTold JoinsPart (told_of_join old.seat result)
     join_part (Ok (joining.Generation number)) b = joined (answer.Joined number) b
     join_part (Ok (joining.Refused verdict)) b = joined (answer.Refused verdict) b
@@ -154,7 +153,7 @@ module _ {L D : Type 0} (truth : Truth) (link : L → Link) (left : D → Option
     join_part (Err (refusal.Refused why)) b = absurd b
     join_part (Err (refusal.PluginFailed name)) b = (
       b.0.0,
-      ends_there truth link left count rows olds dice after name b.0.1,
+      ends_there link left count rows olds dice after name b.0.1,
       none b.1,
     )
     join_part (Err refusal.DiceFailed) b = (refl, b.0.3, none b.1)
@@ -208,7 +207,7 @@ module _ {L D : Type 0} (truth : Truth) (link : L → Link) (left : D → Option
 
     -- the settings were brought anew
     renewed : (given : Answer) (links : List L) → KeyChanged p
-        → Brings truth link left count p.rows (reload_of own (Some number)) adopted links dice given
+        → Brings link left count p.rows (reload_of own (Some number)) adopted links dice given
         acted news after
         → HoldsPart own part (λ p number mids. KeyChanged p × (anew : Publication)
         × (anew.rows ≡ p.rows)
@@ -248,7 +247,7 @@ module _ {L D : Type 0} (truth : Truth) (link : L → Link) (left : D → Option
         (none_between number p (Lacks p number) adopted acted same (inl refl)))
 
     lacks_late : (links : List L)
-        → Brings truth link left count p.rows (reload_of own (Some number)) adopted links dice
+        → Brings link left count p.rows (reload_of own (Some number)) adopted links dice
         answer.NoMemory acted news after
         → HoldsPart own part Lacks
     lacks_late links b =
@@ -295,14 +294,14 @@ module _ {L D : Type 0} (truth : Truth) (link : L → Link) (left : D → Option
     -- or were, and the settings couldn't be published or brought
     renews_not : (links : List L) → AskedOnly link (plugin_names p.seeds) olds links
         → KeyChanged p → (why : CallNo)
-        → BringsBy truth link left count p.rows (reload_of own (Some number)) own adopted links dice
+        → BringsBy link left count p.rows (reload_of own (Some number)) own adopted links dice
         why acted news after
         → IfTold RefreshesPart (told_of_refusal old.seat why)
     renews_not links asked changed (refusal.Refused why) b = absurd b
     renews_not links asked changed (refusal.PluginFailed name) b = (
       rose_later link (plugin_names p.seeds) name olds links news asked b.0.0,
       none_brought (λ p. Contains (plugins_in p.rows) name)
-          (ends_there truth link left count p.rows links dice after name b.0.1) b.1,
+          (ends_there link left count p.rows links dice after name b.0.1) b.1,
     )
     renews_not links asked changed refusal.DiceFailed b = (
       refl,
@@ -326,7 +325,7 @@ module _ {L D : Type 0} (truth : Truth) (link : L → Link) (left : D → Option
         inr (inr (lacks_late links b))
 
     refreshes_part : (result : Result Loaded CallNo)
-        → Refreshes truth link left count own number p adopted olds dice result acted news after
+        → Refreshes link left count own number p adopted olds dice result acted news after
         → IfTold RefreshesPart (told_of_refresh old.seat result)
     refreshes_part (Ok (loaded.Unchanged same)) r = none_brought KeysSame r.1 r.2
     refreshes_part (Ok (loaded.Generation made)) r =
@@ -338,7 +337,7 @@ module _ {L D : Type 0} (truth : Truth) (link : L → Link) (left : D → Option
     refreshes_part (Err why) (inr r) = renews_not r.asked r.links r.changed why r.brought
 
   pub refresh_part : (result : Result Loaded CallNo)
-      → IsRefresh truth link left count own old olds dice result new news after
+      → IsRefresh link left count own old olds dice result new news after
       → IfTold RefreshesPart (told_of_refresh old.seat result)
   refresh_part (Ok found) (inl e) = absurd e
   refresh_part (Err why) (inl e) = early_refresh why e.0

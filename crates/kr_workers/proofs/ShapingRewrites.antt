@@ -5,7 +5,6 @@ use Rattle.std.proofs.lemmas.List.Elements.{All-append}
 use Rattle.kr_base.specs.Faults.{Rose}
 use Rattle.kr_base.proofs.Counting.{Rose-later}
 use Rattle.kr_kms.specs.Calls.{Link}
-use Rattle.kr_kms.specs.Truth.{Truth}
 use Rattle.kr_provider.specs.AskedLinks.{FaultRose}
 use Rattle.kr_provider.specs.Envelopes.{Envelope}
 use Rattle.kr_provider.specs.Names.{names_of}
@@ -628,9 +627,9 @@ module _ (HadSource : Envelope → Publication → Row → Type 0) (p : Publicat
 -- ---- by the links
 
 -- what a row that was unsealed by these links reads as
-module _ {L : Type 0} (truth : Truth) (link : L → Link) where
+module _ {L : Type 0} (link : L → Link) where
   pub linked_makes : (p : Publication) (row : Row) (olds : List L) (opened : Result Opened UnsealNo)
-      (news : List L) → UnsealsRow truth link p row olds opened news
+      (news : List L) → UnsealsRow link p row olds opened news
       → MakesBy IsFresh IsStale IsLeft (λ name. FaultRose link name olds news) p row opened
   linked_makes p row olds (Ok opened) news u =
       makes_data AnySource p row opened.plain opened.stale (
@@ -650,7 +649,7 @@ module _ {L : Type 0} (truth : Truth) (link : L → Link) where
 
   abbrev pub linked : Reader (List L)
   linked = record {
-    Reads = UnsealsRow truth link;
+    Reads = UnsealsRow link;
     Meanwhile = StayLinks link;
     Fails = λ name olds news. FaultRose link name olds news;
     IsSo = λ olds. ⊤;

@@ -7,7 +7,6 @@ use Rattle.std.proofs.lemmas.Option.{same_Some}
 use Rattle.kr_base.specs.declared.errors.Spent.{Spent}
 use Rattle.kr_kms.specs.Calls.{Link}
 use Rattle.kr_kms.specs.Exchanges.{Exchange}
-use Rattle.kr_kms.specs.Truth.{Truth}
 use Rattle.kr_provider.specs.BenchState.{BenchState}
 use Rattle.kr_rollout.specs.declared.opening.Entry.{Entry}
 use Rattle.kr_rollout.specs.declared.opening.Opening.{Opening}
@@ -31,7 +30,7 @@ there_of (y ∷ xs) zero x d is = same_Some y x is
 there_of (y ∷ xs) (suc i) x d is = there_of xs i x d is
 
 module _ {T L D : Type 0} (home : Home Opening) (files : List SettingsFile) (parts : List Part)
-    (truth : Truth) (link : L → Link) (step : L → Exchange → L → Type 0) (left : D → Option (List ℕ)) (count : D → ℕ) where
+    (link : L → Link) (step : L → Exchange → L → Type 0) (left : D → Option (List ℕ)) (count : D → ℕ) where
   module _ (old new : Worker T L D) (ready : IsReadyWorker home files parts link old)
       (before after : Place (SharedCore T) Entry Opening) (had : old.seat ≡ Some before) where
     its_part : slice_get parts (number_of before) ≡ Some ready.part
@@ -49,9 +48,9 @@ module _ {T L D : Type 0} (home : Home Opening) (files : List SettingsFile) (par
         → part ≡ get_or parts at part → risen ≡ without_seat old
         → new ≡ record { seat = Some after; bench = bench; told = told; ended = ended }
         → IsFleetSeat home after → number_of after ≡ number_of before
-        → Runs truth link step left count files part.replica part.lines.0 (caller_of home before)
+        → Runs link step left count files part.replica part.lines.0 (caller_of home before)
         risen.bench told.0 ended (caller_of home after) bench
-        → HasWorked home files parts truth link step left count old new
+        → HasWorked home files parts link step left count old new
     worked risen bench told ended part at at_is is stood sat its same runs = record {
       before = before;
       after = after;
@@ -61,23 +60,23 @@ module _ {T L D : Type 0} (home : Home Opening) (files : List SettingsFile) (par
       same = same;
       part = ready.part;
       part_is = its_part;
-      runs = subst (λ (w : Worker T L D). Runs truth link step left count files ready.part.replica
+      runs = subst (λ (w : Worker T L D). Runs link step left count files ready.part.replica
           ready.part.lines.0 (caller_of home before) old.bench w.told.0 w.ended
           (caller_of home after) w.bench) (sym sat)
-          (subst (λ (p : Part). Runs truth link step left count files p.replica p.lines.0
+          (subst (λ (p : Part). Runs link step left count files p.replica p.lines.0
           (caller_of home before) old.bench told.0 ended (caller_of home after) bench)
           (part_here at part at_is is)
-          (subst (λ (w : Worker T L D). Runs truth link step left count files part.replica part.lines.0
+          (subst (λ (w : Worker T L D). Runs link step left count files part.replica part.lines.0
           (caller_of home before) w.bench told.0 ended (caller_of home after) bench) stood runs));
     }
 
   -- the worker at a place of those that were lent
   pub worked_at : (items lent news whole : List (Worker T L D)) (i : ℕ) (d old new : Worker T L D)
       → lent ≡ items → whole ≡ news → old ≡ get_or lent i d → new ≡ get_or news i d
-      → HasWorked home files parts truth link step left count old new
-      → HasWorked home files parts truth link step left count (get_or items i d) (get_or whole i d)
+      → HasWorked home files parts link step left count old new
+      → HasWorked home files parts link step left count (get_or items i d) (get_or whole i d)
   worked_at items lent news whole i d old new same all was is h =
-      subst (λ (w : Worker T L D). HasWorked home files parts truth link step left count w
+      subst (λ (w : Worker T L D). HasWorked home files parts link step left count w
       (get_or whole i d)) (was ∙ ap (λ l. get_or l i d) same)
-      (subst (λ (w : Worker T L D). HasWorked home files parts truth link step left count old w)
+      (subst (λ (w : Worker T L D). HasWorked home files parts link step left count old w)
       (is ∙ ap (λ l. get_or l i d) (sym all)) h)

@@ -11,7 +11,6 @@ use Rattle.kr_envelope.specs.Prefixes.{is_marked}
 use Rattle.kr_kms.specs.Calls.{Link}
 use Rattle.kr_kms.specs.Exchanges.{Exchange}
 use Rattle.kr_kms.specs.Health.{HasBreach}
-use Rattle.kr_kms.specs.Truth.{Truth}
 use Rattle.kr_provider.specs.AskedLinks.{FaultRose, HasLinkWith}
 use Rattle.kr_provider.specs.BenchState.{BenchState}
 use Rattle.kr_provider.specs.Names.{AreDistinct}
@@ -229,19 +228,19 @@ pub record AreCounted {L D : Type 0} (link : L → Link) (count : D → ℕ) (re
 -- each reply to a line that was done has its cause, while the line was done; and by the whole of
 -- its worker's run too, up to the history and the bench at the end. And the worker's replies name
 -- no object as failed more often than its count rose
-pub record RepliesHaveCauses {L D : Type 0} (truth : Truth) (link : L → Link)
+pub record RepliesHaveCauses {L D : Type 0} (link : L → Link)
     (step : L → Exchange → L → Type 0) (left : D → Option (List ℕ)) (count : D → ℕ)
     (files : List SettingsFile) : Type 0 where
   pub each : (replica : ℕ) (old new : Workplace L D) (done : LineDone)
-      → IsDone truth link step left count files replica old done new
+      → IsDone link step left count files replica old done new
       → HasCause link count done.line old done.reply new.caller.seen new.links new.dice
   pub whole : (history : List Entry) (part : Part) (first : Workplace L D) (replies : List Told)
       (after : BenchState L D)
-      → (stands : StandsIn truth link step left count files history part first replies after)
+      → (stands : StandsIn link step left count files history part first replies after)
       → (done : LineDone) → Contains stands.run done
       → HasCause link count done.line first done.reply history after.links after.dice
   pub often : (history : List Entry) (part : Part) (first : Workplace L D) (replies : List Told)
       (after : BenchState L D)
-      → (stands : StandsIn truth link step left count files history part first replies after)
+      → (stands : StandsIn link step left count files history part first replies after)
       → AreCounted link count replies (of_seat seat_of first.caller.seat history) first.links
       first.dice after.links after.dice

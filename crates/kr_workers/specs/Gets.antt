@@ -3,7 +3,7 @@ use Rattle.std.specs.Prelude.{◌≡◌, ℕ, List, [], ◌∷◌, ◌++◌, Opt
 use Rattle.kr_base.specs.Lines.{of_seat}
 use Rattle.kr_kms.specs.Calls.{Link}
 use Rattle.kr_kms.specs.Exchanges.{Exchange}
-use Rattle.kr_kms.specs.Truth.{Opens, Truth}
+use Rattle.kr_kms.specs.Opens.{Opens}
 use Rattle.kr_kms.specs.declared.seeds.SeedKey.{SeedKey}
 use Rattle.kr_provider.specs.BenchState.{BenchState}
 use Rattle.kr_provider.specs.Envelopes.{Envelope, HasObject}
@@ -49,14 +49,13 @@ pub record FetchesWhere (history : List Entry) (seat : ℕ) (path : List ℕ)
   pub holds : Holds front fetch
 
 -- the row that was fetched reads so by the configuration that the seat held, and so does the
--- content before the fetch: by the truth that is told, where what stands before is honest by it; by
--- any truth, where no configuration names a plugin; and, whatever they name, by any truth by which
--- what stands at the path before is honest and the value's source is what it was unwrapped to. A
--- value that no plugin reads has no source, nor has an object that is refused, and a published seed
--- that is the object's is the source
-pub record ReadsContent (truth : Truth) (o : Opening) (path : List ℕ) (reading : Reading)
+-- content before the fetch: whatever sources open to, where no configuration names a plugin; and,
+-- whatever they name, by any openings by which what stands at the path before is honest and the
+-- value's source is what it was unwrapped to. A value that no plugin reads has no source, nor has
+-- an object that is refused, and a published seed that is the object's is the source
+pub record ReadsContent (o : Opening) (path : List ℕ) (reading : Reading)
     (front : List Entry) (fetch : Entry) : Type 0 where
-  pub known : IsKnownContent truth o front path reading
+  pub known : IsKnownContent o front path reading
   pub p : Publication
   pub row : Row
   pub envelope : Envelope
@@ -68,29 +67,29 @@ pub record ReadsContent (truth : Truth) (o : Opening) (path : List ℕ) (reading
   pub reads : value_reading envelope (list_at p row.resource) path row.stored ≡ reading
   pub by_any : IsContentByAny o front (list_at p row.resource) path row.stored envelope reading
 
--- by any truth that agrees with what plugins told the worker up to this reply, and by which what
+-- by any openings that agree with what plugins told the worker up to this reply, and by which what
 -- stands before is honest, this is the content
 abbrev pub IsHeardContent : Heard → Opening → (path : List ℕ) → Reading → (front : List Entry)
     → Type 0
 IsHeardContent heard o path reading front = (opens : Opens) → AgreesWithHeard opens heard
     → IsHonest opens o front → IsContent opens o front path (Some reading)
 
--- `got` tells the revision that was found and the content, `absent` that there is none, by any
--- truth, and a refusal is that of the content
-abbrev pub TellsGotContent : Truth → Heard → Opening → (history : List Entry) → (seat : ℕ)
+-- `got` tells the revision that was found and the content, `absent` that there is none, whatever
+-- sources open to, and a refusal is that of the content
+abbrev pub TellsGotContent : Heard → Opening → (history : List Entry) → (seat : ℕ)
     → (path : List ℕ) → (ahead part : List Entry) → Told → Type 0
-TellsGotContent truth heard o history seat path ahead part (told.Got revision plain) =
+TellsGotContent heard o history seat path ahead part (told.Got revision plain) =
     FetchesWhere history seat path ahead part (λ front fetch.
-    (fetch.line.gave ≡ gave.Found revision) × ReadsContent truth o path (data_of plain) front fetch
+    (fetch.line.gave ≡ gave.Found revision) × ReadsContent o path (data_of plain) front fetch
     × IsHeardContent heard o path (data_of plain) front)
-TellsGotContent truth heard o history seat path ahead part told.Absent =
+TellsGotContent heard o history seat path ahead part told.Absent =
     FetchesWhere history seat path ahead part (λ front fetch. (fetch.line.gave ≡ gave.Absent)
     × ((opens : Opens) → IsContent opens o front path None))
-TellsGotContent truth heard o history seat path ahead part (told.Value why) =
+TellsGotContent heard o history seat path ahead part (told.Value why) =
     FetchesWhere history seat path ahead part (λ front fetch. (revision : ℕ)
-    × (fetch.line.gave ≡ gave.Found revision) × ReadsContent truth o path (refused why) front fetch
+    × (fetch.line.gave ≡ gave.Found revision) × ReadsContent o path (refused why) front fetch
     × IsHeardContent heard o path (refused why) front)
-TellsGotContent truth heard o history seat path ahead part reply = ⊤
+TellsGotContent heard o history seat path ahead part reply = ⊤
 
 -- what was heard up to a line, where the bench had kept these seeds before the run
 abbrev pub heard_by : (kept : List (SeedKey × List ℕ)) → (ahead : List LineDone) → LineDone → Heard
@@ -98,20 +97,19 @@ heard_by kept ahead done =
     record { kept = kept; exchanges = exchanges_in ahead ++ done.exchanges }
 
 -- so does each reply to a `get` of a seat's run
-abbrev pub TellContents : Truth → (kept : List (SeedKey × List ℕ)) → Opening
+abbrev pub TellContents : (kept : List (SeedKey × List ℕ)) → Opening
     → (history : List Entry) → (seat : ℕ) → List LineDone → Type 0
-TellContents truth kept o history seat run = (ahead : List LineDone) (done : LineDone)
+TellContents kept o history seat run = (ahead : List LineDone) (done : LineDone)
     (behind : List LineDone) → run ≡ ahead ++ done ∷ behind
     → (path : List ℕ) → done.line ≡ line.Get path
-    → TellsGotContent truth (heard_by kept ahead done) o history seat path (entries_in ahead)
-    done.part
-    done.reply
+    → TellsGotContent (heard_by kept ahead done) o history seat path (entries_in ahead)
+    done.part done.reply
 
 -- and of a worker that saw nothing before and whose lines stand in a history
-abbrev pub GetsTellContent : {L D : Type 0} → Truth → (L → Link) → (L → Exchange → L → Type 0)
+abbrev pub GetsTellContent : {L D : Type 0} → (L → Link) → (L → Exchange → L → Type 0)
     → (D → Option (List ℕ)) → (D → ℕ) → List SettingsFile → Type 0
-GetsTellContent {L} {D} truth link step left count files = (history : List Entry) (part : Part)
+GetsTellContent {L} {D} link step left count files = (history : List Entry) (part : Part)
     (first : Workplace L D) (replies : List Told) (after : BenchState L D)
-    → (stands : StandsIn truth link step left count files history part first replies after)
+    → (stands : StandsIn link step left count files history part first replies after)
     → first.caller.seen ≡ []
-    → TellContents truth first.cache.rows first.caller.opening history first.caller.seat stands.run
+    → TellContents first.cache.rows first.caller.opening history first.caller.seat stands.run

@@ -3,7 +3,7 @@ use Rattle.std.specs.Prelude.{◌≡◌, ℕ, List, []}
 use Rattle.kr_base.specs.Walks.{Walk}
 use Rattle.kr_kms.specs.Cache.{AreOpenBy}
 use Rattle.kr_kms.specs.Exchanges.{AgreeAll, Exchange}
-use Rattle.kr_kms.specs.Truth.{Opens}
+use Rattle.kr_kms.specs.Opens.{Opens}
 use Rattle.kr_kms.specs.declared.seeds.SeedKey.{SeedKey}
 use Rattle.kr_provider.specs.AskedLinks.{Among}
 use Rattle.kr_provider.specs.BenchState.{BenchState}
@@ -18,7 +18,7 @@ pub record Heard : Type 0 where
 abbrev pub unheard : Heard
 unheard = record { kept = []; exchanges = [] }
 
--- with all of it this truth of plugins agrees: by it whatever a plugin wrapped is what it was given
+-- with all of it these openings agree: by them whatever a plugin wrapped is what it was given
 -- to wrap, and whatever one unwrapped is what it answered
 pub record AgreesWithHeard (opens : Opens) (heard : Heard) : Type 0 where
   pub kept : AreOpenBy opens heard.kept

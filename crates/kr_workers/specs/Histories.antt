@@ -1,10 +1,9 @@
 -- What the workers of a fleet leave: one history, in which each line of each worker has its part.
-use Rattle.std.specs.Prelude.{◌≡◌, ◌<◌, ◌≤◌, ℕ, true, List, [], length, slice_index, slice_index_or, All, Option}
+use Rattle.std.specs.Prelude.{◌≡◌, ◌<◌, ◌≤◌, ℕ, List, [], length, slice_index, slice_index_or, All, Option}
 use Rattle.kr_base.specs.Lines.{of_seat}
 use Rattle.kr_base.specs.Walks.{Walk}
 use Rattle.kr_kms.specs.Calls.{Link}
 use Rattle.kr_kms.specs.Exchanges.{Exchange}
-use Rattle.kr_kms.specs.Truth.{Truth}
 use Rattle.kr_provider.specs.AskedLinks.{AskedOnly}
 use Rattle.kr_provider.specs.BenchKeys.{adoption_of}
 use Rattle.kr_provider.specs.BenchState.{BenchState}
@@ -13,7 +12,6 @@ use Rattle.kr_rollout.specs.declared.opening.Entry.{Entry}
 use Rattle.kr_rollout.specs.declared.opening.Opening.{Opening}
 use Rattle.kr_rollout.specs.Entries.{seat_of}
 use Rattle.kr_rollout.specs.Histories.{IsLegal}
-use Rattle.kr_history.specs.Honesty.{IsHonest}
 use Rattle.kr_history.specs.KeyMoments.{Happens}
 use Rattle.kr_script.specs.declared.script.Part.{Part}
 use Rattle.kr_script.specs.declared.told.Told.{Told}
@@ -34,7 +32,7 @@ module _ {L D : Type 0} where
     cache = bench.cache;
   }
 
-module _ {L D : Type 0} (truth : Truth) (link : L → Link)
+module _ {L D : Type 0} (link : L → Link)
     (step : L → Exchange → L → Type 0) (left : D → Option (List ℕ)) (count : D → ℕ)
     (files : List SettingsFile) (history : List Entry) where
   -- a worker's lines were done, each once, in order and with one reply, and the history has their
@@ -46,7 +44,7 @@ module _ {L D : Type 0} (truth : Truth) (link : L → Link)
     pub lines_are : lines_in run ≡ part.lines.0
     pub replies_are : replies ≡ replies_in run
     pub last : Workplace L D
-    pub does : DoesAll truth link step left count files part.replica first run last
+    pub does : DoesAll link step left count files part.replica first run last
     pub links_are : after.links ≡ last.links
     pub dice_are : after.dice ≡ last.dice
     pub cache_is : after.cache ≡ last.cache
@@ -75,12 +73,10 @@ module _ {L D : Type 0} (truth : Truth) (link : L → Link)
       (run_moments (each i part worker below).run)
       (adoption_of (slice_index_or new i worker).bench)
 
-  -- One history: legal from the opening; honest, where the truth is told and the opening is;
-  -- with the lines of each worker, and with nothing else.
+  -- one history: legal from the opening, with the lines of each worker, and with nothing else
   pub record IsOneHistory {T : Type 0} (o : Opening) (parts : List Part) (budgets : List ℕ)
       (old new : List (Worker T L D)) : Type 0 where
     pub legal : IsLegal o history
-    pub honest : truth.told ≡ true → IsHonest truth.opens o [] → IsHonest truth.opens o history
     pub many : length new ≡ length old
     pub whole : length old ≡ length parts
     pub each : AllStandIn o parts budgets old new

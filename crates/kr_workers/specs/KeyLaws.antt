@@ -2,7 +2,6 @@
 use Rattle.std.specs.Prelude.{◌≡◌, ℕ, ◌<◌, List, length, slice_index_or, None, Option}
 use Rattle.kr_kms.specs.Calls.{Link}
 use Rattle.kr_kms.specs.Exchanges.{Exchange}
-use Rattle.kr_kms.specs.Truth.{Truth}
 use Rattle.kr_provider.specs.BenchKeys.{adoption_of}
 use Rattle.kr_provider.specs.KeyPages.{free_pages}
 use Rattle.kr_rollout.specs.declared.opening.Entry.{Entry}
@@ -15,12 +14,12 @@ use Rattle.kr_workers.specs.LineMoments.{HoldsItsKeys, run_moments}
 
 -- of each worker that adopted nothing yet, around the events of the lines with which it stands in
 -- the one history
-abbrev pub WorkersHoldTheirKeys : (T : Type 0) → {L D : Type 0} → Truth → (L → Link)
+abbrev pub WorkersHoldTheirKeys : (T : Type 0) → {L D : Type 0} → (L → Link)
     → (L → Exchange → L → Type 0) → (D → Option (List ℕ)) → (D → ℕ) → Type 0
-WorkersHoldTheirKeys T {L} {D} truth link step left count = (files : List SettingsFile)
+WorkersHoldTheirKeys T {L} {D} link step left count = (files : List SettingsFile)
     (history : List Entry) (o : Opening) (parts : List Part) (budgets : List ℕ)
     (old new : List (Worker T L D))
-    (one : IsOneHistory truth link step left count files history o parts budgets old new)
+    (one : IsOneHistory link step left count files history o parts budgets old new)
     (i : ℕ) (part : Part) (worker : Worker T L D) (below : i < length parts) (size : ℕ)
     → (slice_index_or old i worker).bench.published ≡ None
     → (slice_index_or old i worker).bench.pages ≡ free_pages size

@@ -5,7 +5,6 @@ use Rattle.kr_base.specs.Faults.{Rose}
 use Rattle.kr_kms.specs.Calls.{Link}
 use Rattle.kr_kms.specs.Exchanges.{Exchange}
 use Rattle.kr_kms.specs.Health.{HasBreach}
-use Rattle.kr_kms.specs.Truth.{Truth}
 use Rattle.kr_provider.specs.AskedLinks.{FaultRose, HasLinkWith}
 use Rattle.kr_rollout.specs.declared.opening.Entry.{Entry}
 use Rattle.kr_fleet.specs.LoadCalls.{AreKeysSame, IsKeyChanged}
@@ -33,8 +32,8 @@ HasShape link count files replica old new part asked reply =
     (Rose (count old.dice) (count new.dice)) (λ met. CoversLive [] met old.caller new.caller)
     old.caller.seat replica part) old.caller.seat replica part (rows_at files) asked reply
 
-abbrev pub PartsHaveShape : {L D : Type 0} → Truth → (L → Link) → (L → Exchange → L → Type 0)
+abbrev pub PartsHaveShape : {L D : Type 0} → (L → Link) → (L → Exchange → L → Type 0)
     → (D → Option (List ℕ)) → (D → ℕ) → List SettingsFile → Type 0
-PartsHaveShape {L} {D} truth link step left count files = (replica : ℕ) (old new : Workplace L D)
-    (done : LineDone) → IsDone truth link step left count files replica old done new
+PartsHaveShape {L} {D} link step left count files = (replica : ℕ) (old new : Workplace L D)
+    (done : LineDone) → IsDone link step left count files replica old done new
     → HasShape link count files replica old new done.part done.line done.reply

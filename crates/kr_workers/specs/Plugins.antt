@@ -1,8 +1,8 @@
--- Honest histories over plugins whose truth no link tells: what has to be supposed of the plugins.
+-- Honest histories over plugins: what has to be supposed of them.
 use Rattle.std.specs.Prelude.{◌≡◌, ℕ, List, ◌∷◌, ◌++◌, All, Option, None, Some, Ok, ⊤}
 use Rattle.kr_kms.specs.Calls.{Link}
 use Rattle.kr_kms.specs.Exchanges.{Exchange}
-use Rattle.kr_kms.specs.Truth.{Opens, Truth}
+use Rattle.kr_kms.specs.Opens.{Opens}
 use Rattle.kr_config.specs.declared.who.Who.{Who}
 use Rattle.kr_provider.specs.Envelopes.{Envelope, HasObject, IsEnvelopeOf}
 use Rattle.kr_kms.specs.declared.seeds.SeedRow.{SeedRow}
@@ -49,7 +49,7 @@ pub record Reseals (path : List ℕ) (e : Entry) : Type 0 where
   pub is : Unseals envelope p.seeds (list_at p old.resource) path old.stored (Ok opened)
   pub sealing : IsSealing p old.resource path opened.plain new.stored
 
--- by this truth the source of the replaced row opens to the envelope's: a source by which the row
+-- by these openings the source of the replaced row opens to the envelope's: a source by which the row
 -- reads as these data. That is asked only where a plugin read the row and may have been asked for
 -- its source
 abbrev pub UnwrappedBy : {path : List ℕ} → {e : Entry} → Opens → Reseals path e → Type 0
@@ -62,7 +62,7 @@ abbrev pub ReaderOpens : Opens → List SeedRow → Option Who → Type 0
 ReaderOpens opens seeds None = ⊤
 ReaderOpens opens seeds (Some who) = SeedOpens opens seeds who
 
--- by this truth all that was asked for one row, or may have been: the seeds open of the provider
+-- by these openings all that was asked for one row, or may have been: the seeds open of the provider
 -- that read it and of the one that sealed its data anew, and so does its source
 pub record SourcesOpen {path : List ℕ} {e : Entry} (opens : Opens) (r : Reseals path e)
     : Type 0 where
@@ -70,7 +70,7 @@ pub record SourcesOpen {path : List ℕ} {e : Entry} (opens : Opens) (r : Reseal
   pub sealed : SeedOpens opens r.p.seeds (writer_at r.p r.old.resource)
   pub unwrapped : UnwrappedBy opens r
 
--- By any truth by which plugins unwrap what they wrapped the history is honest: by which each seed
+-- By any openings by which plugins unwrap what they wrapped the history is honest: by which each seed
 -- of each configuration is what its source opens to, and each row that was replaced has a source
 -- that opens to the one by which it reads as what was sealed anew. That rewrites keep their data
 -- follows, and of one row by what was asked for that row alone
@@ -88,10 +88,10 @@ pub record FollowsPlugins (o : Opening) (history : List Entry) : Type 0 where
       → SourcesOpen opens (reseals front e rest path is replaced) → KeepsDataSealed opens path e
 
 -- so is that of workers whose lines stand in it
-abbrev pub HonestOfPlugins : (T : Type 0) → {L D : Type 0} → Truth → (L → Link)
+abbrev pub HonestOfPlugins : (T : Type 0) → {L D : Type 0} → (L → Link)
     → (L → Exchange → L → Type 0) → (D → Option (List ℕ)) → (D → ℕ) → Type 0
-HonestOfPlugins T {L} {D} truth link step left count = (files : List SettingsFile)
+HonestOfPlugins T {L} {D} link step left count = (files : List SettingsFile)
     (history : List Entry) (o : Opening) (parts : List Part) (budgets : List ℕ)
     (old new : List (Worker T L D))
-    → IsOneHistory truth link step left count files history o parts budgets old new
+    → IsOneHistory link step left count files history o parts budgets old new
     → FollowsPlugins o history

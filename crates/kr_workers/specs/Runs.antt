@@ -3,7 +3,6 @@ use Rattle.std.specs.Prelude.{◌≡◌, ◌≤◌, ◌+◌, ℕ, List, [], ◌�
 use Rattle.kr_base.specs.Walks.{Walk}
 use Rattle.kr_kms.specs.Calls.{Link}
 use Rattle.kr_kms.specs.Exchanges.{Exchange}
-use Rattle.kr_kms.specs.Truth.{Truth}
 use Rattle.kr_provider.specs.AskedLinks.{Among, AskedOnly}
 use Rattle.kr_provider.specs.Names.{names_of}
 use Rattle.kr_rollout.specs.declared.opening.Entry.{Entry}
@@ -43,7 +42,7 @@ abbrev pub exchanges_in : List LineDone → List Exchange
 exchanges_in [] = []
 exchanges_in (done ∷ run) = done.exchanges ++ exchanges_in run
 
-module _ {L D : Type 0} (truth : Truth) (link : L → Link)
+module _ {L D : Type 0} (link : L → Link)
     (step : L → Exchange → L → Type 0) (left : D → Option (List ℕ)) (count : D → ℕ)
     (files : List SettingsFile) (replica : ℕ) where
   -- the line was done so, by a seat that held nothing; its part is what it added to the history,
@@ -51,7 +50,7 @@ module _ {L D : Type 0} (truth : Truth) (link : L → Link)
   -- line asks and its reply tells. Each link stays the same plugin's, and no count of faults falls.
   -- Plugins were asked just what the line's call asks, and answered so
   pub record IsDone (old : Workplace L D) (done : LineDone) (new : Workplace L D) : Type 0 where
-    pub does : Does truth link left count files replica done.line old (Ok done.reply) new
+    pub does : Does link left count files replica done.line old (Ok done.reply) new
     pub known : IsCaller old.caller
     pub idle : holding old.caller.mine ≡ None
     pub made : All (MayChange (rows_at files) replica done.line done.reply) done.part

@@ -4,7 +4,6 @@ use Rattle.kr_base.specs.Rules.{IsPath, IsResource}
 use Rattle.kr_config.specs.Kept.{ConfigEntry, plugins_in}
 use Rattle.kr_kms.specs.Cache.{CacheState}
 use Rattle.kr_kms.specs.Calls.{Link}
-use Rattle.kr_kms.specs.Truth.{Truth}
 use Rattle.kr_provider.specs.AskedLinks.{AskedOnly}
 use Rattle.kr_history.specs.declared.call.CallNo.{CallNo}
 use Rattle.kr_rollout.specs.declared.opening.Opening.{Opening}
@@ -71,7 +70,7 @@ abbrev pub IfRead : Option (List ConfigEntry) → (List ConfigEntry → Type 0) 
 IfRead None Brings = ⊥
 IfRead (Some rows) Brings = Brings rows
 
-module _ {L D : Type 0} (truth : Truth) (link : L → Link) (left : D → Option (List ℕ))
+module _ {L D : Type 0} (link : L → Link) (left : D → Option (List ℕ))
     (count : D → ℕ) where
   -- the file's settings are published and brought, and their plugins alone are asked, unless memory
   -- lacked for one more owner of them
@@ -79,14 +78,14 @@ module _ {L D : Type 0} (truth : Truth) (link : L → Link) (left : D → Option
       → Type 0
   DoesReload replica rows old reply new = LacksMemory old reply new
       ⊎ ((result : Result Loaded CallNo) × (reply ≡ told_of_reload (seat_at old) result)
-      × IsReload truth link left count rows replica old.caller old.links old.dice result new.caller
+      × IsReload link left count rows replica old.caller old.links old.dice result new.caller
       new.links new.dice × AskedOnly link (plugins_in rows) old.links new.links)
 
   abbrev pub DoesJoin : (replica : ℕ) → List ConfigEntry → Workplace L D → Reply → Workplace L D
       → Type 0
   DoesJoin replica rows old reply new = LacksMemory old reply new
       ⊎ ((result : Result Joining CallNo) × (reply ≡ told_of_join (seat_at old) result)
-      × IsJoin truth link left count rows replica old.caller old.links old.dice result new.caller
+      × IsJoin link left count rows replica old.caller old.links old.dice result new.caller
       new.links new.dice × AskedOnly link (plugins_in rows) old.links new.links)
 
   -- a line of a worker at this replica: a line that isn't of a replica's own speaks of the worker's
@@ -98,20 +97,20 @@ module _ {L D : Type 0} (truth : Truth) (link : L → Link) (left : D → Option
       new.dice × (new.links ≡ old.links)
   Does files replica (line.Get path) old reply new =
       (result : Result Read CallNo) × (reply ≡ told_of_read (seat_at old) result)
-      × IsRead truth link path replica old.caller old.links result new.caller new.links
+      × IsRead link path replica old.caller old.links result new.caller new.links
       × (new.dice ≡ old.dice)
   Does files replica (line.Delete path) old reply new =
       (result : Result (Option ℕ) CallNo) × (reply ≡ told_of_delete (seat_at old) result)
       × IsDelete path old.caller result new.caller × UsesNeither old new
   Does files replica line.Rewrite old reply new =
       (result : Result Report (Report × CallNo)) × (reply ≡ told_of_drive (seat_at old) result)
-      × IsDrive truth link left count replica [] old.caller old.links old.dice result new.caller
+      × IsDrive link left count replica [] old.caller old.links old.dice result new.caller
       new.links new.dice
   Does files replica (line.Reload named file) old reply new =
       IfRead (rows_at files file) (λ rows. DoesReload named rows old reply new)
   Does files replica line.Refresh old reply new =
       (result : Result Loaded CallNo) × (reply ≡ told_of_refresh (seat_at old) result)
-      × IsRefresh truth link left count replica old.caller old.links old.dice result new.caller
+      × IsRefresh link left count replica old.caller old.links old.dice result new.caller
       new.links new.dice
   Does files replica (line.Join named file) old reply new =
       IfRead (rows_at files file) (λ rows. DoesJoin named rows old reply new)

@@ -1,12 +1,12 @@
 -- What the replies of a fleet say, each by its worker and the place of its line.
-use Rattle.std.specs.Prelude.{◌≡◌, ◌⊎◌, ◌≤◌, ℕ, true, List, [], ◌++◌, length, map, slice_index, Contains, Option, Some, ⊤}
+use Rattle.std.specs.Prelude.{◌≡◌, ◌⊎◌, ◌≤◌, ℕ, List, [], ◌++◌, length, map, slice_index, Contains, Option, Some, ⊤}
 use Rattle.std.specs.List.{slice_get}
 use Rattle.kr_base.specs.Faults.{Rose}
 use Rattle.kr_base.specs.Lines.{of_seat}
 use Rattle.kr_kms.specs.Calls.{Link}
 use Rattle.kr_kms.specs.Exchanges.{Exchange}
 use Rattle.kr_kms.specs.Health.{HasBreach}
-use Rattle.kr_kms.specs.Truth.{Opens, Truth}
+use Rattle.kr_kms.specs.Opens.{Opens}
 use Rattle.kr_kms.specs.declared.health.Field.{Field}
 use Rattle.kr_provider.specs.AskedLinks.{FaultRose, HasLinkWith}
 use Rattle.kr_provider.specs.BenchState.{BenchState}
@@ -43,14 +43,14 @@ module _ {T L D : Type 0} (parts : List Part) (workers : List (Worker T L D)) wh
 
 -- a seat's lines stand in the history, by just the exchanges that were heard, and each reply to a
 -- `get` tells the content of its path before the line's own Fetch
-pub record TellsRun {L D : Type 0} (truth : Truth) (link : L → Link)
+pub record TellsRun {L D : Type 0} (link : L → Link)
     (step : L → Exchange → L → Type 0) (left : D → Option (List ℕ)) (count : D → ℕ)
     (files : List SettingsFile) (heard : Heard) (o : Opening) (history : List Entry) (seat : ℕ)
     (part : Part) (first : Workplace L D) (replies : List Told) (after : BenchState L D)
     : Type 0 where
-  pub stands : StandsIn truth link step left count files history part first replies after
+  pub stands : StandsIn link step left count files history part first replies after
   pub exchanges : heard.exchanges ≡ exchanges_in stands.run
-  pub tell : TellContents truth heard.kept o history seat stands.run
+  pub tell : TellContents heard.kept o history seat stands.run
 
 -- ---- what an ending rests on
 
@@ -91,14 +91,13 @@ module _ {T L D : Type 0} (link : L → Link) (count : D → ℕ) (history : Lis
 
 -- ---- the sentences
 
-module _ {T L D : Type 0} (truth : Truth) (link : L → Link)
+module _ {T L D : Type 0} (link : L → Link)
     (step : L → Exchange → L → Type 0) (left : D → Option (List ℕ))
     (count : D → ℕ) (files : List SettingsFile) (history : List Entry) (o : Opening) where
   -- each line has a reply, and one to a `get` tells the content of its path before the line's own
-  -- Fetch; that what stands there is honest, which this asks for, follows by any truth that agrees
-  -- with all that the workers' plugins answered in this run, where the opening is honest by it: so
-  -- by the truth that is told, and else by any by which plugins unwrap what they wrapped. Each
-  -- reply has its cause, no worker's replies name an object as failed more often than its count
+  -- Fetch; that what stands there is honest, which this asks for, follows by any openings that agree
+  -- with all that the workers' plugins answered in this run, where the opening is honest by them.
+  -- Each reply has its cause, no worker's replies name an object as failed more often than its count
   -- rose, and the ending has its cause too
   pub record RepliesAreTrue (parts : List Part) (budgets : List ℕ) (old new : List (Worker T L D))
       : Type 0 where
@@ -113,10 +112,8 @@ module _ {T L D : Type 0} (truth : Truth) (link : L → Link)
     pub gets : (number : ℕ) (part : Part) (before after : Worker T L D)
         → slice_get parts number ≡ Some part → slice_get old number ≡ Some before
         → slice_get new number ≡ Some after
-        → TellsRun truth link step left count files (heard number) o history number part
+        → TellsRun link step left count files (heard number) o history number part
         (first_place o number (slice_index budgets number) before.bench) after.told.0 after.bench
-    pub honest : truth.told ≡ true → IsHonest truth.opens o [] → (front rest : List Entry)
-        → history ≡ front ++ rest → IsHonest truth.opens o front
     pub agreed : (opens : Opens) → ((number : ℕ) → AgreesWithHeard opens (heard number))
         → IsHonest opens o [] → (front rest : List Entry) → history ≡ front ++ rest
         → IsHonest opens o front
@@ -135,10 +132,10 @@ module _ {T L D : Type 0} (truth : Truth) (link : L → Link)
         (map (λ worker. worker.told) new))
 
 -- so are those of workers whose lines stand in one history
-abbrev pub HistoriesTell : (T : Type 0) → {L D : Type 0} → Truth → (L → Link)
+abbrev pub HistoriesTell : (T : Type 0) → {L D : Type 0} → (L → Link)
     → (L → Exchange → L → Type 0) → (D → Option (List ℕ)) → (D → ℕ) → Type 0
-HistoriesTell T {L} {D} truth link step left count = (files : List SettingsFile)
+HistoriesTell T {L} {D} link step left count = (files : List SettingsFile)
     (history : List Entry) (o : Opening) (parts : List Part) (budgets : List ℕ)
     (old new : List (Worker T L D))
-    → IsOneHistory truth link step left count files history o parts budgets old new
-    → RepliesAreTrue truth link step left count files history o parts budgets old new
+    → IsOneHistory link step left count files history o parts budgets old new
+    → RepliesAreTrue link step left count files history o parts budgets old new

@@ -16,7 +16,7 @@ use kr_kms::Kms;
 /// is none.
 pub fn gets_tell_content<L: Kms, D: Dice>()
     ensures { (files : List SettingsFile)
-        → GetsTellContent L.truth L.link L.step D.left D.count files }
+        → GetsTellContent L.link L.step D.left D.count files }
 {}
 
 /// No line is answered otherwise than by one of its defined replies, of which those that tell an
@@ -25,26 +25,26 @@ pub fn gets_tell_content<L: Kms, D: Dice>()
 /// that rose.
 pub fn replies_have_causes<L: Kms, D: Dice>()
     ensures { (files : List SettingsFile)
-        → RepliesHaveCauses L.truth L.link L.step D.left D.count files }
+        → RepliesHaveCauses L.link L.step D.left D.count files }
 {}
 
 /// The part of each line that was done has the shape of its line and reply: which entries it has,
 /// in their order, and by which generation.
 pub fn parts_have_shape<L: Kms, D: Dice>()
     ensures { (files : List SettingsFile)
-        → PartsHaveShape L.truth L.link L.step D.left D.count files }
+        → PartsHaveShape L.link L.step D.left D.count files }
 {}
 
 /// Where the workers' lines stand in one history, as `run_fleet` says, each reply tells true: to a
 /// `get` it tells the content before its line's own Fetch, and each has its cause.
 pub fn replies_are_true<T: Tape, L: Kms, D: Dice>()
-    ensures { HistoriesTell T L.truth L.link L.step D.left D.count }
+    ensures { HistoriesTell T L.link L.step D.left D.count }
 {}
 
-/// Where the workers' lines stand in one history, it is honest by any truth by which plugins unwrap
-/// what they wrapped, whether or not a link tells it.
+/// Where the workers' lines stand in one history, it is honest by any openings by which plugins
+/// unwrap what they wrapped.
 pub fn honest_of_plugins<T: Tape, L: Kms, D: Dice>()
-    ensures { HonestOfPlugins T L.truth L.link L.step D.left D.count }
+    ensures { HonestOfPlugins T L.link L.step D.left D.count }
 {}
 
 /// Where not all was done, some reply is of the kind that the ending tells; where all was, each
@@ -57,5 +57,5 @@ pub fn endings_are_told()
 /// schedules of the configuration that it took up last, and every other page is zero: as before
 /// after an Adopt that was refused, none from before its LetGo on.
 pub fn workers_hold_their_keys<T: Tape, L: Kms, D: Dice>()
-    ensures { WorkersHoldTheirKeys T L.truth L.link L.step D.left D.count }
+    ensures { WorkersHoldTheirKeys T L.link L.step D.left D.count }
 {}

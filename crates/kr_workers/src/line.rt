@@ -31,7 +31,7 @@ pub(crate) fn serve_line<A: Acts, L: Kms, D: Dice>(
     asked: &ScriptLine,
 ) -> Result<Told, Spent>
     requires ready { IsReadyFor L.link files.now replica asked.now (A.caller acts.old) bench.old }
-    ensures serves { Serves L.truth L.link L.step D.left D.count files.now replica asked.now
+    ensures serves { Serves L.link L.step D.left D.count files.now replica asked.now
         (A.caller acts.old) bench.old result (A.caller acts.new) bench.new }
     ensures place { A.place acts.new ≡ A.place acts.old }
 {
@@ -70,7 +70,7 @@ fn put_line<A: Acts, L: Kms, D: Dice>(
 ) -> Result<Told, Spent>
     requires ready { IsReadyFor L.link files.now replica (line.Put resource.now path.now plain.now)
         (A.caller acts.old) bench.old }
-    ensures serves { Serves L.truth L.link L.step D.left D.count files.now replica
+    ensures serves { Serves L.link L.step D.left D.count files.now replica
         (line.Put resource.now path.now plain.now) (A.caller acts.old) bench.old result
         (A.caller acts.new) bench.new }
     ensures place { A.place acts.new ≡ A.place acts.old }
@@ -102,7 +102,7 @@ fn get_line<A: Acts, L: Kms, D: Dice>(
 ) -> Result<Told, Spent>
     requires ready { IsReadyFor L.link files.now replica (line.Get path.now)
         (A.caller acts.old) bench.old }
-    ensures serves { Serves L.truth L.link L.step D.left D.count files.now replica
+    ensures serves { Serves L.link L.step D.left D.count files.now replica
         (line.Get path.now) (A.caller acts.old) bench.old result
         (A.caller acts.new) bench.new }
     ensures place { A.place acts.new ≡ A.place acts.old }
@@ -123,7 +123,7 @@ fn delete_line<A: Acts, L: Kms, D: Dice>(
 ) -> Result<Told, Spent>
     requires ready { IsReadyFor L.link files.now replica (line.Delete path.now)
         (A.caller acts.old) bench.old }
-    ensures serves { Serves L.truth L.link L.step D.left D.count files.now replica
+    ensures serves { Serves L.link L.step D.left D.count files.now replica
         (line.Delete path.now) (A.caller acts.old) bench.old result
         (A.caller acts.new) bench.new }
     ensures place { A.place acts.new ≡ A.place acts.old }
@@ -145,7 +145,7 @@ fn reload_line<A: Acts, L: Kms, D: Dice>(
 ) -> Result<Told, Spent>
     requires ready { IsReadyFor L.link files.now replica (line.Reload named file.now)
         (A.caller acts.old) bench.old }
-    ensures serves { Serves L.truth L.link L.step D.left D.count files.now replica
+    ensures serves { Serves L.link L.step D.left D.count files.now replica
         (line.Reload named file.now) (A.caller acts.old) bench.old result
         (A.caller acts.new) bench.new }
     ensures place { A.place acts.new ≡ A.place acts.old }
@@ -170,7 +170,7 @@ fn join_line<A: Acts, L: Kms, D: Dice>(
 ) -> Result<Told, Spent>
     requires ready { IsReadyFor L.link files.now replica (line.Join named file.now)
         (A.caller acts.old) bench.old }
-    ensures serves { Serves L.truth L.link L.step D.left D.count files.now replica
+    ensures serves { Serves L.link L.step D.left D.count files.now replica
         (line.Join named file.now) (A.caller acts.old) bench.old result
         (A.caller acts.new) bench.new }
     ensures place { A.place acts.new ≡ A.place acts.old }
@@ -193,7 +193,7 @@ fn rewrite_line<A: Acts, L: Kms, D: Dice>(
 ) -> Result<Told, Spent>
     requires ready { IsReadyFor L.link files.now replica line.Rewrite
         (A.caller acts.old) bench.old }
-    ensures serves { Serves L.truth L.link L.step D.left D.count files.now replica
+    ensures serves { Serves L.link L.step D.left D.count files.now replica
         line.Rewrite (A.caller acts.old) bench.old result
         (A.caller acts.new) bench.new }
     ensures place { A.place acts.new ≡ A.place acts.old }
@@ -213,7 +213,7 @@ fn refresh_line<A: Acts, L: Kms, D: Dice>(
 ) -> Result<Told, Spent>
     requires ready { IsReadyFor L.link files.now replica line.Refresh
         (A.caller acts.old) bench.old }
-    ensures serves { Serves L.truth L.link L.step D.left D.count files.now replica
+    ensures serves { Serves L.link L.step D.left D.count files.now replica
         line.Refresh (A.caller acts.old) bench.old result
         (A.caller acts.new) bench.new }
     ensures place { A.place acts.new ≡ A.place acts.old }
@@ -233,7 +233,7 @@ fn leave_line<A: Acts, L: Kms, D: Dice>(
 ) -> Result<Told, Spent>
     requires ready { IsReadyFor L.link files.now replica (line.Leave named)
         (A.caller acts.old) bench.old }
-    ensures serves { Serves L.truth L.link L.step D.left D.count files.now replica
+    ensures serves { Serves L.link L.step D.left D.count files.now replica
         (line.Leave named) (A.caller acts.old) bench.old result
         (A.caller acts.new) bench.new }
     ensures place { A.place acts.new ≡ A.place acts.old }

@@ -26,7 +26,7 @@ pub(crate) fn serve_lines<A: Acts, L: Kms, D: Dice>(
     requires ready { AreReady L.link files.now replica lines.now (A.caller acts.old) bench.old }
     requires none_told { told.old.0 ≡ [] }
     requires room { length lines.now ≤ told.old.1 }
-    ensures runs { Runs L.truth L.link L.step D.left D.count files.now replica lines.now
+    ensures runs { Runs L.link L.step D.left D.count files.now replica lines.now
         (A.caller acts.old) bench.old told.new.0 result (A.caller acts.new) bench.new }
     ensures place { A.place acts.new ≡ A.place acts.old }
 {

@@ -47,7 +47,7 @@ pub fn run_fleet<R: Threads + Wait + Sync, T: Tape + Send, L: Kms + Send, D: Dic
     requires room { sum budgets.now ≤ core.room }
     requires small { sum budgets.now < 2 ^ 64 }
     requires no_lines { core.history ≡ [] }
-    ensures one { IfOk result (λ end. IsOneHistory L.truth L.link L.step D.left D.count files.now
+    ensures one { IfOk result (λ end. IsOneHistory L.link L.step D.left D.count files.now
         end.history core.opening parts.now budgets.now workers.old.items workers.new.items) }
     ensures kept { IfOk result (λ end. (end.opening ≡ core.opening) × (end.room ≡ core.room)) }
     ensures seats { All (λ worker. worker.seat ≡ None) workers.new.items }

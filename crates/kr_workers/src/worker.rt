@@ -99,7 +99,7 @@ pub(crate) fn work<R: Wait, T: Tape, L: Kms, D: Dice>(
     worker: &mut Worker<T, L, D>,
 )
     requires { IsReadyWorker fleet.now files.now parts.now L.link worker.old }
-    ensures { HasWorked fleet.now files.now parts.now L.truth L.link L.step D.left D.count
+    ensures { HasWorked fleet.now files.now parts.now L.link L.step D.left D.count
         worker.old worker.new }
 {
     let seat = worker.release_seat();
@@ -136,7 +136,7 @@ fn work_at_seat<R: Wait, T: Tape, L: Kms, D: Dice>(
     requires room { length part.now.lines.0 ≤ told.old.1 }
     ensures its { IsFleetSeat fleet.now result.0 }
     ensures same { number_of result.0 ≡ number_of seat }
-    ensures runs { Runs L.truth L.link L.step D.left D.count files.now part.now.replica
+    ensures runs { Runs L.link L.step D.left D.count files.now part.now.replica
         part.now.lines.0 (caller_of fleet.now seat) bench.old told.new.0 result.1
         (caller_of fleet.now result.0) bench.new }
 {

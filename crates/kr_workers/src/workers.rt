@@ -28,7 +28,7 @@ pub(crate) fn run_workers<R: Threads + Wait + Sync, T: Tape + Send, L: Kms + Sen
     requires ready { All (IsReadyWorker fleet.now files.now parts.now L.link) workers.old.items }
     ensures length { length workers.new.items ≡ length workers.old.items }
     ensures worked { (i : ℕ) (d : Worker T L D) → i < length workers.old.items
-        → HasWorked fleet.now files.now parts.now L.truth L.link L.step D.left D.count
+        → HasWorked fleet.now files.now parts.now L.link L.step D.left D.count
         (slice_index_or workers.old.items i d) (slice_index_or workers.new.items i d) }
 {
     let threads = workers.len();
@@ -38,7 +38,7 @@ pub(crate) fn run_workers<R: Threads + Wait + Sync, T: Tape + Send, L: Kms + Sen
         threads,
         &|_, worker: &mut Worker<T, L, D>|
             requires { IsReadyWorker fleet.now files.now parts.now L.link worker.old }
-            ensures { HasWorked fleet.entry.now files.entry.now parts.entry.now L.truth L.link
+            ensures { HasWorked fleet.entry.now files.entry.now parts.entry.now L.link
                 L.step D.left D.count worker.entry.now worker.exit.now }
         { work(rt, alloc, fleet, files, parts, worker) },
     );

@@ -12,7 +12,6 @@ use Rattle.kr_config.specs.declared.who.Who.{Who}
 use Rattle.kr_config.specs.declared.who.Who.TheVariants.{Identity, Aescbc, Aesgcm, Kms}
 use Rattle.kr_kms.specs.Calls.{Link}
 use Rattle.kr_kms.specs.Exchanges.{Exchange}
-use Rattle.kr_kms.specs.Truth.{Truth}
 use Rattle.kr_kms.specs.declared.seeds.SeedRow.{SeedRow}
 use Rattle.kr_provider.specs.BenchState.{BenchState}
 use Rattle.kr_provider.specs.Publication.{Publication, writer_at}
@@ -34,7 +33,6 @@ use Rattle.kr_fleet.specs.LoadCalls.{BringsBy, IsReload, reload_of}
 use Rattle.kr_fleet.specs.WriteCalls.{IsWrite, Puts}
 use Rattle.kr_script.specs.declared.script.Part.{Part}
 use Rattle.kr_script.specs.declared.script.ScriptLine.{ScriptLine}
-use Rattle.kr_script.specs.declared.script.ScriptLine.TheVariants as line
 use Rattle.kr_script.specs.declared.told.Told.{Told}
 use Rattle.kr_workers.specs.Files.{rows_at}
 use Rattle.kr_workers.specs.Histories.{StandsIn, first_place}
@@ -59,7 +57,7 @@ no_seeds : (seeds : List SeedRow)
 no_seeds [] none = refl
 no_seeds (row ∷ seeds) none = absurd (none row.name (0, omega arith, refl))
 
-module _ {L D : Type 0} (truth : Truth) (link : L → Link) (left : D → Option (List ℕ))
+module _ {L D : Type 0} (link : L → Link) (left : D → Option (List ℕ))
     (count : D → ℕ) where
   -- at most so many bytes were drawn
   abbrev pub Drew : ℕ → D → D → Type 0
@@ -155,12 +153,12 @@ module _ {L D : Type 0} (truth : Truth) (link : L → Link) (left : D → Option
     none_named : (name : List ℕ) → Contains (plugins_in rows) name → ⊥
     none_named name there = none_within name (subst (λ l. Contains l name) bare there)
 
-    ends_never : (name : List ℕ) → EndsWithin truth link left count rows olds old new name → ⊥
+    ends_never : (name : List ℕ) → EndsWithin link left count rows olds old new name → ⊥
     ends_never name (inl e) = none_named name e.there
     ends_never name (inr e) = none_named name e.2.there
 
     published_draws : (made : Result Publication PublishNo)
-        → Publishes truth link left count rows olds old made news new → Drew 44 old new
+        → Publishes link left count rows olds old made news new → Drew 44 old new
     published_draws (Ok p) s =
         let none : p.seeds ≡ [] = no_seeds p.seeds
         (λ name there. none_named name ((s.1.named name).0 there).0) in (
@@ -175,7 +173,7 @@ module _ {L D : Type 0} (truth : Truth) (link : L → Link) (left : D → Option
     published_draws (Err publishing.NoMemory) s = absurd (ends_never s.0 s.1)
 
     brings_draw : (replica : ℕ) (from to : Caller) (why : CallNo)
-        → BringsBy truth link left count rows (reload_of replica None) replica from olds old why to
+        → BringsBy link left count rows (reload_of replica None) replica from olds old why to
         news new → Drew 44 old new
     brings_draw replica from to (refusal.Refused why) b = absurd b
     brings_draw replica from to (refusal.PluginFailed name) b =
@@ -195,7 +193,7 @@ module _ {L D : Type 0} (truth : Truth) (link : L → Link) (left : D → Option
         published_draws (Ok b.p) b.publishes
 
     reload_draws : (replica : ℕ) (from to : Caller) (result : Result Loaded CallNo)
-        → IsReload truth link left count rows replica from olds old result to news new
+        → IsReload link left count rows replica from olds old result to news new
         → Drew 44 old new
     reload_draws replica from to (Ok (loaded.Generation number)) b =
         published_draws (Ok b.p) b.publishes
@@ -208,7 +206,7 @@ module _ {L D : Type 0} (truth : Truth) (link : L → Link) (left : D → Option
   reloaded_draws : (named : ℕ) (found : Option (List ConfigEntry))
       → ((rows : List ConfigEntry) → found ≡ Some rows → plugins_in rows ≡ [])
       → (old new : Workplace L D) (reply : Reply)
-      → IfRead found (λ rows. DoesReload truth link left count named rows old reply new)
+      → IfRead found (λ rows. DoesReload link left count named rows old reply new)
       → Drew 44 old.dice new.dice
   reloaded_draws named None bare old new reply d = absurd d
   reloaded_draws named (Some rows) bare old new reply (inl none) =
@@ -223,24 +221,24 @@ module _ {L D : Type 0} (truth : Truth) (link : L → Link) (left : D → Option
       (files_are : map named_configuration files ≡ configurations seed) (size worker replica : ℕ) where
     line_draws : (asked : ScriptLine) → IsLoadLine seed size worker asked
         → (old new : Workplace L D) (reply : Reply)
-        → Does truth link left count files replica asked old reply new → Drew 44 old.dice new.dice
+        → Does link left count files replica asked old reply new → Drew 44 old.dice new.dice
     line_draws asked (inl (number, below, is)) old new reply d =
         let w = subst
-        (λ (l : ScriptLine). Does truth link left count files replica l old reply new) is d in
+        (λ (l : ScriptLine). Does link left count files replica l old reply new) is d in
         write_draws _ _ _ replica old.caller new.caller old.dice new.dice w.0 w.2
     line_draws asked (inr (inl (number, below, is))) old new reply d =
         let g = subst
-        (λ (l : ScriptLine). Does truth link left count files replica l old reply new) is d in
+        (λ (l : ScriptLine). Does link left count files replica l old reply new) is d in
         drew_none 44 old.dice new.dice g.3
     line_draws asked (inr (inr (named, file, is, which))) old new reply d =
         reloaded_draws named (rows_at files file) (file_bare seed files files_are file which) old
         new reply
-        (subst (λ (l : ScriptLine). Does truth link left count files replica l old reply new) is d)
+        (subst (λ (l : ScriptLine). Does link left count files replica l old reply new) is d)
 
     module _ (step : L → Exchange → L → Type 0) where
       all_draw : (first : Workplace L D) (run : List LineDone) (last : Workplace L D)
           → All (IsLoadLine seed size worker) (lines_in run)
-          → DoesAll truth link step left count files replica first run last
+          → DoesAll link step left count files replica first run last
           → Drew (44 * length run) first.dice last.dice
       all_draw first [] last all same = drew_none 0 first.dice last.dice
           (ap (λ (w : Workplace L D). w.dice) same)
@@ -259,7 +257,7 @@ module _ {L D : Type 0} (truth : Truth) (link : L → Link) (left : D → Option
       (history : List Entry) (o : Opening) (seed size worker budget : ℕ) (part : Part)
       (bench after : BenchState L D) (replies : List Told)
       → map named_configuration files ≡ configurations seed → part.lines.0 ≡ lines_of seed size worker
-      → StandsIn truth link step left count files history part (first_place o worker budget bench)
+      → StandsIn link step left count files history part (first_place o worker budget bench)
       replies after
       → Drew (44 * (2 * size + 4)) bench.dice after.dice
   worker_draws step files history o seed size worker budget part bench after replies files_are lines

@@ -15,7 +15,6 @@ use Rattle.kr_base.specs.Streams.{TakesAtMost}
 use Rattle.kr_base.proofs.Counting.{Rose-later}
 use Rattle.kr_kms.specs.Calls.{Link}
 use Rattle.kr_kms.specs.Exchanges.{Exchange}
-use Rattle.kr_kms.specs.Truth.{Truth}
 use Rattle.kr_history.specs.ContentLaws.{NamesNoPlugin}
 use Rattle.kr_rollout.specs.Entries.{seat_of}
 use Rattle.kr_rollout.specs.Histories.{IsLegal, IsRun, state_from, state_of}
@@ -173,14 +172,14 @@ two_in = omega arith
 three_in : 3 < 4
 three_in = omega arith
 
-module _ (T : Type 0) {L D : Type 0} (truth : Truth) (link : L → Link)
+module _ (T : Type 0) {L D : Type 0} (link : L → Link)
     (step : L → Exchange → L → Type 0)
     (left : D → Option (List ℕ)) (count : D → ℕ) (seed size : ℕ) (files : List SettingsFile)
     (history : List Entry) (o : Opening) (parts : List Part) (budgets : List ℕ)
     (old new : List (Worker T L D))
-    (r : IsLoadRun truth link step left count seed size files history o parts budgets old new) where
-  pub tells : RepliesAreTrue truth link step left count files history o parts budgets old new
-  tells = histories_tell T truth link step left count files history o parts budgets old new r.one
+    (r : IsLoadRun link step left count seed size files history o parts budgets old new) where
+  pub tells : RepliesAreTrue link step left count files history o parts budgets old new
+  tells = histories_tell T link step left count files history o parts budgets old new r.one
 
   pub four_parts : length parts ≡ 4
   four_parts = sym (length-map parts worker_of) ∙ ap length r.parts_are
@@ -220,20 +219,20 @@ module _ (T : Type 0) {L D : Type 0} (truth : Truth) (link : L → Link)
         ∙ ap (load_worker seed size) (get_or-range_with_len 0 4 worker 0 few ∙ same) in
         ap (λ (v : fleet_worker). v.lines) e
 
-    pub run_of : TellsRun truth link step left count files
+    pub run_of : TellsRun link step left count files
         (tells.heard worker) o history worker its_part.x
         (first_place o worker (slice_index budgets worker) was.x.bench) now.x.told.0 now.x.bench
     run_of = tells.gets worker its_part.x was.x now.x its_part.is was.is now.is
 
     owned : All (λ (e : Entry). IsLoads seed size worker e.line.did)
         (of_seat seat_of worker history)
-    owned = entries_owned truth link step left count files history o seed size worker
+    owned = entries_owned link step left count files history o seed size worker
         (slice_index budgets worker) its_part.x was.x.bench now.x.bench now.x.told.0
         run_of.stands its_lines
         (IsLoads seed size worker) (of_load seed files r.files_are size worker)
 
     few_there : length (of_seat seat_of worker history) ≤ 3 * (2 * size + 4)
-    few_there = seat_few truth link step left count files history o seed size worker
+    few_there = seat_few link step left count files history o seed size worker
         (slice_index budgets worker) its_part.x was.x.bench now.x.bench now.x.told.0
         run_of.stands its_lines
 
@@ -244,7 +243,7 @@ module _ (T : Type 0) {L D : Type 0} (truth : Truth) (link : L → Link)
   draws_few number before after was is =
       let few : number < 4 = omega (arith, slice_get_within new number after is, four_new) in
       let part = its_part number few in
-      worker_draws truth link left count step files history o seed size number
+      worker_draws link left count step files history o seed size number
       (slice_index budgets number) part.x before.bench after.bench after.told.0 r.files_are
       (its_lines number few) (tells.gets number part.x before after part.is was is).stands
 
@@ -307,7 +306,7 @@ module _ (T : Type 0) {L D : Type 0} (truth : Truth) (link : L → Link)
       quiet =
           let t = run_of worker few in
           list_any_none (of_kind ending.Fault) (now worker few).x.told.0
-          (none_failed truth link step left count files history o seed size worker
+          (none_failed link step left count files history o seed size worker
           (slice_index budgets worker) (its_part worker few).x (was worker few).x.bench
           (now worker few).x.bench (now worker few).x.told.0 t.stands (its_lines worker few) t.tell
           b.few few calm all_load no_names)
@@ -326,7 +325,7 @@ module _ (T : Type 0) {L D : Type 0} (truth : Truth) (link : L → Link)
           (λ (d : LineDone). d.reply) s.run
           (subst (λ l. All (λ reply. of_kind ending.Memory reply ≡ false) l) s.replies_are
           (none_passes (of_kind ending.Memory) (now worker few).x.told.0 enough)) in
-          let all = run_full truth link step left count files history o seed size worker
+          let all = run_full link step left count files history o seed size worker
           (slice_index budgets worker) (its_part worker few).x (was worker few).x.bench
           (now worker few).x.bench (now worker few).x.told.0 s (its_lines worker few) t.tell
           b.few few calm all_load no_names p q
@@ -334,7 +333,7 @@ module _ (T : Type 0) {L D : Type 0} (truth : Truth) (link : L → Link)
           (λ (d : LineDone). of_kind ending.Memory d.reply ≡ false) s.run done none c)
           ∙ ap (of_kind ending.Memory) is)) in
           full_worker seed size worker s.run all p q
-          (reloads_lines truth link step left count files history o seed size worker
+          (reloads_lines link step left count files history o seed size worker
           (slice_index budgets worker) (its_part worker few).x (was worker few).x.bench
           (now worker few).x.bench (now worker few).x.told.0 s (its_lines worker few) t.tell
           b.few few calm all_load no_names p q) (now worker few).x.told.0 s.replies_are lines
@@ -449,8 +448,8 @@ module _ (T : Type 0) {L D : Type 0} (truth : Truth) (link : L → Link)
         ⊎ AreFull seed size (map (λ (w : Worker T L D). w.told) new)
     load_is_full = by_memory (some_is ending.Memory all_told) refl
 
-pub loads_are_full : (T : Type 0) → {L D : Type 0} → (truth : Truth) (link : L → Link)
+pub loads_are_full : (T : Type 0) → {L D : Type 0} → (link : L → Link)
     (step : L → Exchange → L → Type 0)
-    (left : D → Option (List ℕ)) (count : D → ℕ) → LoadsAreFull T truth link step left count
-loads_are_full T truth link step left count seed size files history o parts budgets old new r b =
-    load_is_full T truth link step left count seed size files history o parts budgets old new r b
+    (left : D → Option (List ℕ)) (count : D → ℕ) → LoadsAreFull T link step left count
+loads_are_full T link step left count seed size files history o parts budgets old new r b =
+    load_is_full T link step left count seed size files history o parts budgets old new r b

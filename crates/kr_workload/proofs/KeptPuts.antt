@@ -11,7 +11,6 @@ use Rattle.kr_base.specs.Lines.{of_seat}
 use Rattle.kr_config.specs.Kept.{ConfigEntry, rows_of}
 use Rattle.kr_kms.specs.Calls.{Link}
 use Rattle.kr_kms.specs.Exchanges.{Exchange}
-use Rattle.kr_kms.specs.Truth.{Truth}
 use Rattle.kr_provider.specs.Publication.{Publication}
 use Rattle.kr_rollout.specs.Answers.{IsAnswer}
 use Rattle.kr_opening.specs.Checks.{written_check}
@@ -271,35 +270,35 @@ module _ (seed size worker number revision : ℕ) (o : Opening) (front : List En
 
 -- ---- a reply
 
-module _ (T : Type 0) {L D : Type 0} (truth : Truth) (link : L → Link)
+module _ (T : Type 0) {L D : Type 0} (link : L → Link)
     (step : L → Exchange → L → Type 0)
     (left : D → Option (List ℕ)) (count : D → ℕ) (seed size : ℕ) (files : List SettingsFile)
     (history : List Entry) (o : Opening) (parts : List Part) (budgets : List ℕ)
     (old new : List (Worker T L D))
-    (r : IsLoadRun truth link step left count seed size files history o parts budgets old new) where
+    (r : IsLoadRun link step left count seed size files history o parts budgets old new) where
   brought : (worker : ℕ) → worker < 4
       → All (λ (e : Entry). Brings seed e.line.did) (of_seat seat_of worker history)
   brought worker few =
-      let part = its_part T truth link step left count seed size files history o parts budgets old
+      let part = its_part T link step left count seed size files history o parts budgets old
       new
       r worker few in
-      let before = was T truth link step left count seed size files history o parts budgets old new
+      let before = was T link step left count seed size files history o parts budgets old new
       r
       worker few in
-      let after = now T truth link step left count seed size files history o parts budgets old new r
+      let after = now T link step left count seed size files history o parts budgets old new r
       worker few in
-      entries_owned truth link step left count files history o seed size worker
+      entries_owned link step left count files history o seed size worker
       (slice_index budgets worker) part.x before.x.bench after.x.bench after.x.told.0
-      (run_of T truth link step left count seed size files history o parts budgets old new r worker
+      (run_of T link step left count seed size files history o parts budgets old new r worker
       few).stands
-      (its_lines T truth link step left count seed size files history o parts budgets old new r
+      (its_lines T link step left count seed size files history o parts budgets old new r
       worker
       few) (Brings seed)
       (λ asked own done is. brings_of seed files r.files_are asked done is)
 
   all_brought : All (λ (e : Entry). Brings seed e.line.did) history
   all_brought = own_there (λ seat e. Brings seed e.line.did) history
-      (of_four T truth link step left count seed size files history o parts budgets old new r)
+      (of_four T link step left count seed size files history o parts budgets old new r)
       brought
 
   opening : All (LoadGeneration seed) (start_of o).generations
@@ -324,24 +323,24 @@ module _ (T : Type 0) {L D : Type 0} (truth : Truth) (link : L → Link)
     few : worker < 4
     few =
         let l = slice_get_within parts worker rep.part rep.part_is in
-        let four = four_parts T truth link step left count seed size files history o parts budgets
+        let four = four_parts T link step left count seed size files history o parts budgets
         old
         new r in omega (arith, l, four)
 
     kept : HasRow seed size (state_of o history).rows worker number revision
     kept =
-        let part = its_part T truth link step left count seed size files history o parts budgets old
+        let part = its_part T link step left count seed size files history o parts budgets old
         new r worker few in
-        let before = was T truth link step left count seed size files history o parts budgets old
+        let before = was T link step left count seed size files history o parts budgets old
         new
         r worker few in
-        let after = now T truth link step left count seed size files history o parts budgets old new
+        let after = now T link step left count seed size files history o parts budgets old new
         r
         worker few in
-        let stands = (run_of T truth link step left count seed size files history o parts budgets
+        let stands = (run_of T link step left count seed size files history o parts budgets
         old
         new r worker few).stands in
-        let lines = its_lines T truth link step left count seed size files history o parts budgets
+        let lines = its_lines T link step left count seed size files history o parts budgets
         old
         new r worker few in
         let same_part : part.x ≡ rep.part =
@@ -353,7 +352,7 @@ module _ (T : Type 0) {L D : Type 0} (truth : Truth) (link : L → Link)
         ∙ rep.line_is)
         (ap (λ l. slice_get l at) (sym stands.replies_are
         ∙ ap (λ (w : Worker T L D). w.told.0) same_worker) ∙ rep.reply_is) in
-        let tells = put_told truth link step left count files history o seed size worker
+        let tells = put_told link step left count files history o seed size worker
         (slice_index budgets worker) part.x before.x.bench after.x.bench after.x.told.0 stands
         lines d.done d.there number d.line_is in
         let written : HasWritten secrets (object_path worker number)
@@ -361,7 +360,7 @@ module _ (T : Type 0) {L D : Type 0} (truth : Truth) (link : L → Link)
         subst (λ (t : Told). TellsPut secrets (object_path worker number)
         (plain_of seed size worker number) d.done.part t) d.reply_is tells in
         let at_it = parted history written.entry
-        (entry_in truth link step left count files history o seed size worker
+        (entry_in link step left count files history o seed size worker
         (slice_index budgets worker) part.x before.x.bench after.x.bench after.x.told.0 stands
         lines d.done d.there written.entry written.there) in
         subst (λ (l : List Entry). HasRow seed size (state_of o l).rows worker number revision)
@@ -371,10 +370,10 @@ module _ (T : Type 0) {L D : Type 0} (truth : Truth) (link : L → Link)
         (subst (λ l. All (λ (e : Entry). Brings seed e.line.did) l) at_it.is all_brought)
         written.did_is written.gave_is)
 
-pub puts_are_kept : (T : Type 0) → {L D : Type 0} → (truth : Truth) (link : L → Link)
+pub puts_are_kept : (T : Type 0) → {L D : Type 0} → (link : L → Link)
     (step : L → Exchange → L → Type 0)
-    (left : D → Option (List ℕ)) (count : D → ℕ) → PutsAreKept T truth link step left count
-puts_are_kept T truth link step left count seed size files history o parts budgets old new r worker
+    (left : D → Option (List ℕ)) (count : D → ℕ) → PutsAreKept T link step left count
+puts_are_kept T link step left count seed size files history o parts budgets old new r worker
     at
-    number revision rep = kept T truth link step left count seed size files history o parts budgets
+    number revision rep = kept T link step left count seed size files history o parts budgets
     old new r worker at number revision rep

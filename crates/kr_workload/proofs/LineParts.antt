@@ -5,7 +5,6 @@ use Rattle.std.proofs.lemmas.List.{append_assoc}
 use Rattle.std.proofs.lemmas.List.Elements.{All-append, All-cons, All-nil}
 use Rattle.kr_config.specs.Kept.{ConfigEntry}
 use Rattle.kr_kms.specs.Calls.{Link}
-use Rattle.kr_kms.specs.Truth.{Truth}
 use Rattle.kr_provider.specs.Publication.{Publication}
 use Rattle.kr_provider.specs.declared.refusal.ValueNo.TheVariants as value
 use Rattle.kr_rollout.specs.declared.answer.Answer.{Answer}
@@ -88,7 +87,7 @@ module _ (P : Entry → Type 0) where
     all = All-cons P a.entry [] own (All-nil P);
   }
 
-module _ {L D : Type 0} (truth : Truth) (link : L → Link) (left : D → Option (List ℕ))
+module _ {L D : Type 0} (link : L → Link) (left : D → Option (List ℕ))
     (count : D → ℕ) (files : List SettingsFile) (asked : ScriptLine) where
   abbrev pub OfLine : Entry → Type 0
   OfLine e = IsOf files asked e.line.did
@@ -189,7 +188,7 @@ module _ {L D : Type 0} (truth : Truth) (link : L → Link) (left : D → Option
   -- ---- a get
 
   finds_make : (path : List ℕ) (p : Publication) (old new : Caller) (olds news : List L)
-      (result : Result Read CallNo) → Finds truth link path p old olds result new news
+      (result : Result Read CallNo) → Finds link path p old olds result new news
       → Adding old new
   finds_make path p old new olds news (Ok read.Absent) d =
       event_makes old new (event.Fetch path) answer.Absent d.0.absent tt
@@ -211,14 +210,14 @@ module _ {L D : Type 0} (truth : Truth) (link : L → Link) (left : D → Option
       event_makes old new (event.Fetch path) answer.NoMemory d.0 tt
 
   read_makes : (path : List ℕ) (replica : ℕ) (old new : Caller) (olds news : List L)
-      (result : Result Read CallNo) → IsRead truth link path replica old olds result new news
+      (result : Result Read CallNo) → IsRead link path replica old olds result new news
       → Adding old new
   read_makes path replica old new olds news (Ok found) (inl e) = absurd e
   read_makes path replica old new olds news (Err why) (inl e) =
       early_makes replica old new why e.0
   read_makes path replica old new olds news result (inr h) = held_makes
       (λ (number : ℕ) (p : Publication) (from : Caller) (done : Result Read CallNo) (to : Caller).
-      Finds truth link path p from olds done to news) replica old new result h
+      Finds link path p from olds done to news) replica old new result h
       (finds_make path h.p h.adopted h.acted olds news h.done h.does)
 
   -- ---- a reload
@@ -227,13 +226,13 @@ module _ {L D : Type 0} (truth : Truth) (link : L → Link) (left : D → Option
       (there : rows_at files file ≡ Some rows) (replica : ℕ) (old new : Caller)
       (olds news : List L) (dice after : D) where
     brought_makes : (given : Answer)
-        → Brings truth link left count rows (reload_of replica None) old olds dice given new news
+        → Brings link left count rows (reload_of replica None) old olds dice given new news
         after → Adding old new
     brought_makes given b = event_makes old new (reload_of replica None b.p) given b.brought
         (named, file, is, there ∙ ap (λ r. Some r) (sym b.publishes.0))
 
     brings_make : (why : CallNo)
-        → BringsBy truth link left count rows (reload_of replica None) replica old olds dice why
+        → BringsBy link left count rows (reload_of replica None) replica old olds dice why
         new news after → Adding old new
     brings_make (refusal.Refused why) b = absurd b
     brings_make (refusal.PluginFailed name) b = same_makes OfLine old new b.1
@@ -248,7 +247,7 @@ module _ {L D : Type 0} (truth : Truth) (link : L → Link) (left : D → Option
     brings_make refusal.NoMemory (inr (inr b)) = brought_makes answer.NoMemory b
 
     reload_makes : (result : Result Loaded CallNo)
-        → IsReload truth link left count rows replica old olds dice result new news after
+        → IsReload link left count rows replica old olds dice result new news after
         → Adding old new
     reload_makes (Ok (loaded.Generation number)) b = brought_makes (answer.Reloaded number) b
     reload_makes (Ok (loaded.Refused verdict)) b = brought_makes (answer.Refused verdict) b
@@ -258,7 +257,7 @@ module _ {L D : Type 0} (truth : Truth) (link : L → Link) (left : D → Option
 
   reloaded_makes : (named : ℕ) (file : List ℕ) → asked ≡ line.Reload named file
       → (rows : Option (List ConfigEntry)) → rows_at files file ≡ rows → (old new : Workplace L D)
-      (reply : Reply) → IfRead rows (λ rows. DoesReload truth link left count named rows old reply
+      (reply : Reply) → IfRead rows (λ rows. DoesReload link left count named rows old reply
       new) → Adding old.caller new.caller
   reloaded_makes named file is None there old new reply d = absurd d
   reloaded_makes named file is (Some rows) there old new reply (inl none) =
@@ -269,7 +268,7 @@ module _ {L D : Type 0} (truth : Truth) (link : L → Link) (left : D → Option
 
   pub line_makes : (replica : ℕ) (it : ScriptLine) → asked ≡ it → IsSimple it
       → (old new : Workplace L D) (reply : Reply)
-      → Does truth link left count files replica it old reply new
+      → Does link left count files replica it old reply new
       → Makes OfLine old.caller new.caller
   line_makes replica (line.Put resource path plain) is simple old new reply d =
       write_makes resource path plain is replica old.caller new.caller old.dice new.dice d.0 d.2

@@ -8,7 +8,7 @@ use Rattle.kr_base.specs.Lines.{of_seat}
 use Rattle.kr_config.specs.declared.who.Who.{Who}
 use Rattle.kr_config.specs.declared.who.Who.TheVariants.{Aesgcm, Identity}
 use Rattle.kr_kms.specs.Calls.{Link}
-use Rattle.kr_kms.specs.Truth.{Opens, Truth}
+use Rattle.kr_kms.specs.Opens.{Opens}
 use Rattle.kr_provider.specs.Names.{names_of}
 use Rattle.kr_provider.specs.Publication.{Publication}
 use Rattle.kr_provider.specs.Reading.{Reading, data_of, refused, unopened}
@@ -203,7 +203,7 @@ module _ {L D : Type 0} (link : L → Link) (count : D → ℕ) (history : List 
 
       -- ---- a get
 
-      module _ (truth : Truth) (heard : Heard) (o : Opening) (seat : ℕ) (path plain : List ℕ)
+      module _ (heard : Heard) (o : Opening) (seat : ℕ) (path plain : List ℕ)
           (ahead part : List Entry)
           (no_names : (front rest : List Entry) → history ≡ front ++ rest → NamesNoPlugin o front)
           (known : (front : List Entry) (fetch : Entry) (rest : List Entry) (adopt : Entry)
@@ -211,7 +211,7 @@ module _ {L D : Type 0} (link : L → Link) (count : D → ℕ) (history : List 
           → of_seat seat_of seat front ≡ ahead ++ adopt ∷ []
           → last_change front path ≡ Some (puts plain))
           (says : Said path plain) where
-        -- truth doesn't matter
+        -- what sources open to doesn't matter
         any : Opens
         any key = None
 
@@ -232,14 +232,14 @@ module _ {L D : Type 0} (link : L → Link) (count : D → ℕ) (history : List 
         has_data (Some unopened) = false
 
         pub get_ends : (reply : Told) → Caused (line.Get path) reply
-            → TellsGotContent truth heard o history seat path ahead part reply
+            → TellsGotContent heard o history seat path ahead part reply
             → IsReply Said (line.Get path) reply
         get_ends (told.Put revision) c t = absurd c.0
         get_ends (told.Got revision found) c t =
             let now = known t.front t.fetch t.rest t.adopt t.there t.its in
             let same : plain ≡ found = sym (ap (data_in plain) (content_is t.front
             (Some (data_of found)) now
-            (t.holds.1.known.bare any (no_names t.front (t.fetch ∷ t.rest) t.there)))) in
+            (t.holds.1.known any (no_names t.front (t.fetch ∷ t.rest) t.there)))) in
             inr (subst (λ d. Said path d) same says)
         get_ends (told.Deleted revision) c t = absurd c.0
         get_ends told.Absent c t =
@@ -258,7 +258,7 @@ module _ {L D : Type 0} (link : L → Link) (count : D → ℕ) (history : List 
         get_ends (told.Value why) c t =
             let now = known t.front t.fetch t.rest t.adopt t.there t.its in
             absurd (false≢true (ap has_data (content_is t.front (Some (refused why)) now
-            (t.holds.2.known.bare any (no_names t.front (t.fetch ∷ t.rest) t.there)))))
+            (t.holds.2.known any (no_names t.front (t.fetch ∷ t.rest) t.there)))))
         get_ends (told.Unhealthy name field text) c t = absurd c.0
         get_ends (told.FaultPlugin name) c t = absurd (no_link c.1.old c.1.old_there)
         get_ends (told.FaultDice seat) c t = absurd c.0

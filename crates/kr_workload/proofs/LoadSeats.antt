@@ -7,7 +7,6 @@ use Rattle.std.proofs.lemmas.List.Elements.{All-append, All-contains, All-cons, 
 use Rattle.kr_base.specs.Lines.{of_seat}
 use Rattle.kr_kms.specs.Calls.{Link}
 use Rattle.kr_kms.specs.Exchanges.{Exchange}
-use Rattle.kr_kms.specs.Truth.{Truth}
 use Rattle.kr_kms.specs.declared.seeds.SeedKey.{SeedKey}
 use Rattle.kr_provider.specs.BenchState.{BenchState}
 use Rattle.kr_history.specs.ContentLaws.{NamesNoPlugin}
@@ -57,30 +56,30 @@ both_all P Q R xs f p q = λ k d below. f (get_or xs k d) (p k d below) (q k d b
 
 -- ---- the entries of a worker
 
-module _ {L D : Type 0} (truth : Truth) (link : L → Link) (step : L → Exchange → L → Type 0)
+module _ {L D : Type 0} (link : L → Link) (step : L → Exchange → L → Type 0)
     (left : D → Option (List ℕ))
     (count : D → ℕ) (files : List SettingsFile) (history : List Entry) (o : Opening)
     (seed size worker budget : ℕ) (part : Part) (bench after : BenchState L D)
     (replies : List Told)
-    (s : StandsIn truth link step left count files history part (first_place o worker budget bench)
+    (s : StandsIn link step left count files history part (first_place o worker budget bench)
     replies after) (lines : part.lines.0 ≡ lines_of seed size worker) where
   run_lines : All (λ (done : LineDone). IsLoadLine seed size worker done.line) s.run
   run_lines = mapped_all (IsLoadLine seed size worker) (λ (d : LineDone). d.line) s.run
       (subst (λ l. All (IsLoadLine seed size worker) l) (sym (s.lines_are ∙ lines))
       (lines_are seed size worker))
 
-  run_done : All (WasDone truth link step left count files part.replica) s.run
-  run_done = all_done truth link step left count files part.replica
+  run_done : All (WasDone link step left count files part.replica) s.run
+  run_done = all_done link step left count files part.replica
       (first_place o worker budget bench) s.run s.last s.does
 
   -- what each of them does is so, where it is by its line
   module _ (P : Did → Type 0) (of_line : (asked : ScriptLine)
       → IsLoadLine seed size worker asked → (done : Did) → IsOf files asked done → P done) where
     part_owned : (done : LineDone) → IsLoadLine seed size worker done.line
-        → WasDone truth link step left count files part.replica done
+        → WasDone link step left count files part.replica done
         → All (λ (e : Entry). P e.line.did) done.part
     part_owned done own w =
-        let m = line_makes truth link left count files done.line part.replica done.line refl
+        let m = line_makes link left count files done.line part.replica done.line refl
         (load_simple seed size worker done.line own) w.old w.new (Ok done.reply) w.is.does in
         let same : done.part ≡ m.part =
         part_is w.old.caller w.new.caller done.part m.part w.is.adds m.mine_is in
@@ -92,7 +91,7 @@ module _ {L D : Type 0} (truth : Truth) (link : L → Link) (step : L → Exchan
         let Is : Entry → Type 0 = λ e. P e.line.did in
         subst (λ l. All Is l) s.parts_are (all_entries Is s.run
         (both_all (λ (done : LineDone). IsLoadLine seed size worker done.line)
-        (WasDone truth link step left count files part.replica)
+        (WasDone link step left count files part.replica)
         (λ (done : LineDone). All Is done.part) s.run part_owned run_lines run_done))
 
   -- what the reply to a put tells of its line's part
@@ -101,10 +100,10 @@ module _ {L D : Type 0} (truth : Truth) (link : L → Link) (step : L → Exchan
       → TellsPut secrets (object_path worker number) (plain_of seed size worker number) done.part
       done.reply
   put_told done there number is =
-      let w = All-contains (WasDone truth link step left count files part.replica) s.run done
+      let w = All-contains (WasDone link step left count files part.replica) s.run done
       run_done
       there in
-      let does = subst (λ (l : ScriptLine). Does truth link left count files part.replica l w.old
+      let does = subst (λ (l : ScriptLine). Does link left count files part.replica l w.old
       (Ok done.reply) w.new) is w.is.does in
       put_tells left count secrets (object_path worker number) (plain_of seed size worker number)
       part.replica w.old.caller w.new.caller done.part w.is.adds w.old.dice w.new.dice
@@ -117,7 +116,7 @@ module _ {L D : Type 0} (truth : Truth) (link : L → Link) (step : L → Exchan
       (subst (λ l. Contains l e) s.parts_are (entry_there s.run done e there c))
 
   part_few : (done : LineDone) → IsLoadLine seed size worker done.line
-      → WasDone truth link step left count files part.replica done → length done.part ≤ 3
+      → WasDone link step left count files part.replica done → length done.part ≤ 3
   part_few done (inl (number, below, is)) w =
       subst (λ (asked : ScriptLine). length done.part ≤ line_entries (length done.part) asked) is
       w.is.within.few
@@ -136,7 +135,7 @@ module _ {L D : Type 0} (truth : Truth) (link : L → Link) (step : L → Exchan
       sym (length-map s.run (λ (d : LineDone). d.line)) ∙ ap length (s.lines_are ∙ lines) in
       let few = few_entries s.run (both_all
       (λ (done : LineDone). IsLoadLine seed size worker done.line)
-      (WasDone truth link step left count files part.replica)
+      (WasDone link step left count files part.replica)
       (λ (done : LineDone). length done.part ≤ 3) s.run part_few run_lines run_done) in
       omega (arith, few, many, lines_few seed size worker, ap length s.parts_are)
 
@@ -154,14 +153,14 @@ IsFullLine seed size worker done =
 abbrev pub IsLine : (seed size worker : ℕ) → LineDone → Type 0
 IsLine seed size worker done = IsReply (IsSaid seed size worker) done.line done.reply
 
-module _ {L D : Type 0} (truth : Truth) (link : L → Link) (step : L → Exchange → L → Type 0)
+module _ {L D : Type 0} (link : L → Link) (step : L → Exchange → L → Type 0)
     (left : D → Option (List ℕ))
     (count : D → ℕ) (files : List SettingsFile) (history : List Entry) (o : Opening)
     (seed size worker budget : ℕ) (part : Part) (bench after : BenchState L D)
     (replies : List Told)
-    (s : StandsIn truth link step left count files history part (first_place o worker budget bench)
+    (s : StandsIn link step left count files history part (first_place o worker budget bench)
     replies after) (lines : part.lines.0 ≡ lines_of seed size worker)
-    {kept : List (SeedKey × List ℕ)} (tell : TellContents truth kept o history worker s.run)
+    {kept : List (SeedKey × List ℕ)} (tell : TellContents kept o history worker s.run)
     (small : size ≤ 10000)
     (few : worker < 4)
     (calm : IsCalm link count history (first_place o worker budget bench) after.dice)
@@ -170,7 +169,7 @@ module _ {L D : Type 0} (truth : Truth) (link : L → Link) (step : L → Exchan
   where
     caused : (done : LineDone) → Contains s.run done → HasCause link count done.line
         (first_place o worker budget bench) done.reply history after.links after.dice
-    caused done there = (replies_have_causes truth link step left count files).whole history part
+    caused done there = (replies_have_causes link step left count files).whole history part
         (first_place o worker budget bench) replies after s done there
 
     -- none is a fault
@@ -207,13 +206,13 @@ module _ {L D : Type 0} (truth : Truth) (link : L → Link) (step : L → Exchan
             → done.line ≡ put_of seed size worker number
             → TellsPut secrets (object_path worker number) (plain_of seed size worker number) done.part
             done.reply
-        put_part = put_told truth link step left count files history o seed size worker budget part
+        put_part = put_told link step left count files history o seed size worker budget part
             bench
             after replies s lines
 
         inside : (done : LineDone) → Contains s.run done → (e : Entry) → Contains done.part e
             → Contains history e
-        inside = entry_in truth link step left count files history o seed size worker budget part
+        inside = entry_in link step left count files history o seed size worker budget part
             bench
             after replies s lines
 
@@ -341,7 +340,7 @@ module _ {L D : Type 0} (truth : Truth) (link : L → Link) (step : L → Exchan
                   full_of done there (subst
                   (λ (l : ScriptLine). IsReply (IsSaid seed size worker) l done.reply) (sym asked)
                   (get_ends link count history (first_place o worker budget bench) after.links
-                  after.dice calm (IsSaid seed size worker) truth
+                  after.dice calm (IsSaid seed size worker)
                   (heard_by kept (p.front ++ (q.front ++ front)) done) o worker
                   (object_path worker number)
                   (plain_of seed size worker number)

@@ -9,7 +9,6 @@ use Rattle.std.proofs.lemmas.List.Recursion.{is_count_by}
 use Rattle.kr_base.specs.Lines.{of_seat}
 use Rattle.kr_kms.specs.Calls.{Link}
 use Rattle.kr_kms.specs.Exchanges.{Exchange}
-use Rattle.kr_kms.specs.Truth.{Truth}
 use Rattle.kr_rollout.specs.Entries.{seat_of}
 use Rattle.kr_rollout.specs.declared.opening.Entry.{Entry}
 use Rattle.kr_script.specs.declared.script.ScriptLine.{ScriptLine}
@@ -59,17 +58,17 @@ all_by_parts P (x ∷ xs) each = All-cons P x xs (each [] x xs refl)
 
 -- ---- lines one behind another
 
-module _ {L D : Type 0} (truth : Truth) (link : L → Link) (step : L → Exchange → L → Type 0)
+module _ {L D : Type 0} (link : L → Link) (step : L → Exchange → L → Type 0)
     (left : D → Option (List ℕ))
     (count : D → ℕ) (files : List SettingsFile) (replica : ℕ) where
   -- a line was done somewhere
   pub record WasDone (done : LineDone) : Type 0 where
     pub old : Workplace L D
     pub new : Workplace L D
-    pub is : IsDone truth link step left count files replica old done new
+    pub is : IsDone link step left count files replica old done new
 
   pub all_done : (first : Workplace L D) (run : List LineDone) (last : Workplace L D)
-      → DoesAll truth link step left count files replica first run last → All WasDone run
+      → DoesAll link step left count files replica first run last → All WasDone run
   all_done first [] last same = All-nil WasDone
   all_done first (done ∷ run) last all =
       All-cons WasDone done run (record { old = first; new = all.0; is = all.1 })

@@ -5,7 +5,6 @@ use Rattle.kr_base.specs.Faults.{Rose}
 use Rattle.kr_base.specs.Limits.{store_limit}
 use Rattle.kr_kms.specs.Calls.{Link}
 use Rattle.kr_kms.specs.Exchanges.{Exchange}
-use Rattle.kr_kms.specs.Truth.{Truth}
 use Rattle.kr_provider.specs.Names.{names_of}
 use Rattle.kr_rollout.specs.Histories.{state_of}
 use Rattle.kr_rollout.specs.declared.opening.Entry.{Entry}
@@ -71,13 +70,13 @@ module _ {T L D : Type 0} (link : L → Link) (count : D → ℕ) where
         → Rose (count before.bench.dice) (count after.bench.dice) → ⊥
 
 -- memory lacked for some reply, or nothing lacks
-abbrev pub LoadsAreFull : (T : Type 0) → {L D : Type 0} → Truth → (L → Link)
+abbrev pub LoadsAreFull : (T : Type 0) → {L D : Type 0} → (L → Link)
     → (L → Exchange → L → Type 0)
     → (D → Option (List ℕ)) → (D → ℕ) → Type 0
-LoadsAreFull T {L} {D} truth link step left count = (seed size : ℕ) (files : List SettingsFile)
+LoadsAreFull T {L} {D} link step left count = (seed size : ℕ) (files : List SettingsFile)
     (history : List Entry) (o : Opening) (parts : List Part) (budgets : List ℕ)
     (old new : List (Worker T L D))
-    → IsLoadRun truth link step left count seed size files history o parts budgets old new
+    → IsLoadRun link step left count seed size files history o parts budgets old new
     → IsBlankRun link count size history o old new
     → (ending_of_load (map (λ (worker : Worker T L D). worker.told) new) ≡ ending.Memory)
     ⊎ AreFull seed size (map (λ (worker : Worker T L D). worker.told) new)

@@ -2,7 +2,6 @@
 use Rattle.std.specs.Prelude.{◌≡◌, ℕ, List, codes, map, Contains, Option, Some}
 use Rattle.kr_kms.specs.Calls.{Link}
 use Rattle.kr_kms.specs.Exchanges.{Exchange}
-use Rattle.kr_kms.specs.Truth.{Truth}
 use Rattle.kr_provider.specs.Publication.{Publication}
 use Rattle.kr_provider.specs.Sealing.{IsSealing}
 use Rattle.kr_rollout.specs.Histories.{state_of}
@@ -34,13 +33,13 @@ pub record HasRow (seed size : ℕ) (rows : List LogRow) (worker number revision
       (plain_of seed size worker number) stored
 
 -- each put that was done has its row
-abbrev pub PutsAreKept : (T : Type 0) → {L D : Type 0} → Truth → (L → Link)
+abbrev pub PutsAreKept : (T : Type 0) → {L D : Type 0} → (L → Link)
     → (L → Exchange → L → Type 0)
     → (D → Option (List ℕ)) → (D → ℕ) → Type 0
-PutsAreKept T {L} {D} truth link step left count = (seed size : ℕ) (files : List SettingsFile)
+PutsAreKept T {L} {D} link step left count = (seed size : ℕ) (files : List SettingsFile)
     (history : List Entry) (o : Opening) (parts : List Part) (budgets : List ℕ)
     (old new : List (Worker T L D))
-    → IsLoadRun truth link step left count seed size files history o parts budgets old new
+    → IsLoadRun link step left count seed size files history o parts budgets old new
     → (worker at number revision : ℕ)
     → Replies parts new worker at (load.put_of seed size worker number) (told.Put revision)
     → HasRow seed size (state_of o history).rows worker number revision

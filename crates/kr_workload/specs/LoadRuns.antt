@@ -4,7 +4,6 @@ use Rattle.kr_config.specs.Kept.{ConfigEntry}
 use Rattle.kr_config.specs.declared.who.Who.TheVariants.{Identity}
 use Rattle.kr_kms.specs.Calls.{Link}
 use Rattle.kr_kms.specs.Exchanges.{Exchange}
-use Rattle.kr_kms.specs.Truth.{Truth}
 use Rattle.kr_opening.specs.Replicas.{settings_of}
 use Rattle.kr_rollout.specs.declared.opening.Entry.{Entry}
 use Rattle.kr_rollout.specs.declared.opening.Opening.{Opening}
@@ -19,7 +18,7 @@ use Rattle.kr_workload.specs.Loads.{configurations, g1, load_fleet, named_config
 abbrev pub opening_rows : (seed : ℕ) → List ConfigEntry
 opening_rows seed = of_secrets (g1 seed ∷ (Identity ∷ []))
 
-module _ {T L D : Type 0} (truth : Truth) (link : L → Link) (step : L → Exchange → L → Type 0)
+module _ {T L D : Type 0} (link : L → Link) (step : L → Exchange → L → Type 0)
     (left : D → Option (List ℕ))
     (count : D → ℕ) where
   -- they did the lines of the load's fleet, which opened with its configurations
@@ -30,4 +29,4 @@ module _ {T L D : Type 0} (truth : Truth) (link : L → Link) (step : L → Exch
     pub files_are : map named_configuration files ≡ configurations seed
     pub opens : settings_of o.replicas
         ≡ Some (opening_rows seed) ∷ (Some (opening_rows seed) ∷ [])
-    pub one : IsOneHistory truth link step left count files history o parts budgets old new
+    pub one : IsOneHistory link step left count files history o parts budgets old new

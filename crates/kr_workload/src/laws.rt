@@ -15,7 +15,7 @@ pub fn loads_keep_rules()
 /// Where the workers of a load did their lines over a store that had no rows, and no count rose,
 /// memory lacked for some reply, or each put and each `get` was done.
 pub fn loads_are_full<T: Tape, L: Kms, D: Dice>()
-    ensures { LoadsAreFull T L.truth L.link L.step D.left D.count }
+    ensures { LoadsAreFull T L.link L.step D.left D.count }
 {}
 
 /// What was got has one digest, and so the summary of a load of which nothing lacks is one text.
@@ -27,5 +27,5 @@ pub fn summaries_are_one()
 /// Each put of a load that was done has its row: a sealing of its data by a configuration of the
 /// load.
 pub fn puts_are_kept<T: Tape, L: Kms, D: Dice>()
-    ensures { PutsAreKept T L.truth L.link L.step D.left D.count }
+    ensures { PutsAreKept T L.link L.step D.left D.count }
 {}

@@ -5,7 +5,6 @@ use Rattle.std.proofs.lemmas.List.Elements.{All-contains, All-contains_itself}
 use Rattle.kr_config.specs.Kept.{ConfigEntry, plugins_in, rows_of}
 use Rattle.kr_config.specs.declared.settings.Settings.{Settings}
 use Rattle.kr_kms.specs.Calls.{Link}
-use Rattle.kr_kms.specs.Truth.{Truth}
 use Rattle.kr_provider.proofs.AskedLists.{names_stay}
 use Rattle.kr_provider.specs.AskedLinks.{AskedOnly}
 use Rattle.kr_provider.specs.BenchState.{BenchState}
@@ -131,11 +130,11 @@ pub idle_at_end : (driven : Result Report (Report × CallNo)) (new : Caller) (sp
 idle_at_end (Ok report) new spent i e f = i
 idle_at_end (Err cut) new spent i e f = idle_after {T = Unit {0}} (Err cut.1) new spent i e f
 
-module _ {L D : Type 0} (truth : Truth) (link : L → Link) (left : D → Option (List ℕ))
+module _ {L D : Type 0} (link : L → Link) (left : D → Option (List ℕ))
     (count : D → ℕ) (replica : ℕ) where
   pub drive_few : (above : List ℕ) (old : Caller) (olds : List L) (dice : D)
       (driven : Result Report (Report × CallNo)) (new : Caller) (news : List L) (after : D)
-      → IsDrive truth link left count replica above old olds dice driven new news after
+      → IsDrive link left count replica above old olds dice driven new news after
       → (n : ℕ) × AddsWithin n 0 [] old new
   drive_few above old olds dice (Ok report) new news after d =
       (4 * length d.steps + 4, d.ends.few)

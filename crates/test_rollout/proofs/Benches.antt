@@ -2,7 +2,7 @@
 use Rattle.std.proofs.Common.{◌≡◌, ℕ, false, List, Option, None, Some, Result, Ok, IfSome, subst}
 use Rattle.std.specs.Prelude.{IfOk}
 use Rattle.kr_kms.specs.Calls.{Link}
-use Rattle.kr_kms.specs.Truth.{Opens, Truth}
+use Rattle.kr_kms.specs.Opens.{Opens}
 use Rattle.kr_provider.specs.Envelopes.{unknown}
 use Rattle.kr_provider.specs.Publication.{Publication, list_at, names_plugin}
 use Rattle.kr_provider.specs.Reading.{HasSomeReading, data_of}
@@ -16,26 +16,26 @@ use Rattle.kr_provider.proofs.WithoutPlugins.{none_listed, read_by_any}
 no_source : Opens
 no_source key = None
 
-module _ {L : Type 0} (truth : Truth) (link : L → Link) (resource path bytes : List ℕ)
+module _ {L : Type 0} (link : L → Link) (resource path bytes : List ℕ)
     (olds news : List L) (opened : Opened) where
   reads_by : (p : Publication) → names_plugin p.rows ≡ false
-      → UnsealsBy truth link p.seeds (list_at p resource) path bytes olds (Ok opened) news
+      → UnsealsBy link p.seeds (list_at p resource) path bytes olds (Ok opened) news
       → HasSomeReading (list_at p resource) path bytes (data_of opened.plain)
   reads_by p plain u =
       let none = none_listed p.rows resource plain in
-      let by = read_by_any truth link p.seeds (list_at p resource) path bytes olds news (Ok opened)
+      let by = read_by_any link p.seeds (list_at p resource) path bytes olds news (Ok opened)
       none u unknown in
       somehow no_source (list_at p resource) path bytes (data_of opened.plain)
       ((without_plugin no_source (list_at p resource) path bytes (data_of opened.plain) none).1
       by.0)
 
   pub reads : (held : Option Publication) (result : Result Opened UnsealNo) → result ≡ Ok opened
-      → IfSome held (λ p. UnsealsBy truth link p.seeds (list_at p resource) path bytes olds result
+      → IfSome held (λ p. UnsealsBy link p.seeds (list_at p resource) path bytes olds result
       news) → IfSome held (λ p. names_plugin p.rows ≡ false
       → HasSomeReading (list_at p resource) path bytes (data_of opened.plain))
   reads None result is u = tt
   reads (Some p) result is u = λ plain. reads_by p plain
-      (subst (λ r. UnsealsBy truth link p.seeds (list_at p resource) path bytes olds r news) is u)
+      (subst (λ r. UnsealsBy link p.seeds (list_at p resource) path bytes olds r news) is u)
 
 -- what a bench that adopted the configuration tells of the row's texts
 pub opened_by : (held : Option Publication) (given p : Publication)

@@ -1,7 +1,6 @@
 //! A plugin in memory that takes other key ids as it is called.
 ghost use Rattle.std.specs.Prelude.{◌≡◌, None};
 ghost use Rattle.kr_kms.specs.Exchanges.{KeepsLink, TellsAnswer};
-ghost use Rattle.kr_kms.specs.Truth.{untold};
 
 use kr_base::{Annotations, Bytes, List, NoMemory, Text};
 use kr_kms::{Kms, KmsNo, Status, TablePlugin, Wrapped};
@@ -66,8 +65,6 @@ impl TurningPlugin {
 }
 
 impl Kms for TurningPlugin {
-    ghost truth = { untold };
-
     ghost link = { λ it. record {
       name = it.plugin.name;
       count = it.plugin.calls.faults;
@@ -78,7 +75,7 @@ impl Kms for TurningPlugin {
     ghost step = { λ old exchange new. KeepsLink
         (record { name = old.plugin.name; count = old.plugin.calls.faults; status = None }) exchange
         (record { name = new.plugin.name; count = new.plugin.calls.faults; status = None })
-        × TellsAnswer untold None exchange };
+        × TellsAnswer None exchange };
 
     ghost keeps = { λ old exchange new h. h.0 };
 

@@ -71,7 +71,7 @@ impl World for FailingWorld {
     type Link = TurningPlugin;
 
     // It tells nothing of its files, since a load may fail, nor of what it was asked for, since it
-    // has no memory to keep that a tape came back settled.
+    // has no memory to keep that a tape came back.
     ghost told = { λ world. record {
       file = λ name. None;
       asked = None;
@@ -198,6 +198,10 @@ impl World for FailingWorld {
 
     fn back_settled(&mut self, name: &str, tape: MemTape) {
         self.inner.back_settled(name, tape);
+    }
+
+    fn back_read(&mut self, name: &str, tape: MemTape) {
+        self.inner.back_read(name, tape);
     }
 
     fn back_dice(&mut self, seat: u32, dice: MemDice) {

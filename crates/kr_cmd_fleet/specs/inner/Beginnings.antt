@@ -1,9 +1,8 @@
 -- How a fleet comes to its workers: what its replicas publish, and the core that starts.
-use Rattle.std.specs.Prelude.{◌≡◌, ℕ, Bool, false, true, List, [], ◌∷◌, ◌++◌, Option, None, Some, Result, Ok, Err}
+use Rattle.std.specs.Prelude.{◌≡◌, ℕ, false, List, [], ◌∷◌, ◌++◌, Option, Some, Result, Ok, Err}
 use Rattle.std.specs.Str.{bytes_eq}
 use Rattle.kr_config.specs.Kept.{ConfigEntry}
 use Rattle.kr_kms.specs.Calls.{Link}
-use Rattle.kr_kms.specs.Truth.{Truth}
 use Rattle.kr_provider.specs.Names.{HasLinks}
 use Rattle.kr_provider.specs.Publication.{Publication}
 use Rattle.kr_rollout.specs.Cores.{CoreState}
@@ -20,11 +19,6 @@ use Rattle.kr_cmd_steps.specs.inner.Lent.{with_lent_dice, with_lent_links}
 use Rattle.kr_cmd_steps.specs.inner.ProgramNames.{names_in}
 use Rattle.kr_cmd_steps.specs.inner.Phases.{Does}
 use Rattle.kr_cmd_steps.specs.inner.Tapes.{stored_of}
-
--- what plugins are asked may be told; not where someone watches, since it isn't said yet what the
--- reading of the live rows asks
-abbrev pub MayHear : Truth → (watched : Bool) → Around → Type 0
-MayHear truth watched a = (a.truth ≡ truth) × (watched ≡ true → a.heard ≡ None)
 
 -- ---- what the replicas publish
 

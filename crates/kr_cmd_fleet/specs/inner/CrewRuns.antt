@@ -3,7 +3,6 @@ use Rattle.std.specs.Prelude.{◌≡◌, true, ◌⊎◌, ◌≤◌, ℕ, List, 
 use Rattle.kr_base.specs.Faults.{Rose}
 use Rattle.kr_kms.specs.Calls.{Link}
 use Rattle.kr_kms.specs.Exchanges.{Exchange}
-use Rattle.kr_kms.specs.Truth.{Truth}
 use Rattle.kr_rollout.specs.Histories.{state_of}
 use Rattle.kr_rollout.specs.declared.opening.Entry.{Entry}
 use Rattle.kr_rollout.specs.declared.opening.Opening.{Opening}
@@ -29,7 +28,7 @@ pub record KeepsStore (o : Opening) (rows : List LogRow) (store : Kept) : Type 0
   pub torn : store.torn ≡ true → (o.torn ≡ true) ⊎ Rose o.count store.count
   pub holds : Holds store
 
-module _ {T L D : Type 0} (truth : Truth) (link : L → Link) (step : L → Exchange → L → Type 0)
+module _ {T L D : Type 0} (link : L → Link) (step : L → Exchange → L → Type 0)
     (left : D → Option (List ℕ))
     (count : D → ℕ) (plan : LoadedFleet) (budgets : List ℕ) (o : Opening)
     (start : WatchStart) (workers : List (Worker T L D)) where
@@ -38,7 +37,7 @@ module _ {T L D : Type 0} (truth : Truth) (link : L → Link) (step : L → Exch
       : Type 0 where
     pub history : List Entry
     pub ended : List (Worker T L D)
-    pub one : IsOneHistory truth link step left count plan.files.0 history o plan.script.workers.0
+    pub one : IsOneHistory link step left count plan.files.0 history o plan.script.workers.0
         budgets workers ended
     pub start_is : made.start ≡ start
     pub lines_are : made.lines.0 ≡ map (λ (e : Entry). e.line) history

@@ -1,5 +1,6 @@
 -- What the workers of a fleet have of the world, while it is out.
-use Rattle.std.specs.Prelude.{◌≡◌, ◌≢◌, ◌<◌, ◌≤◌, ℕ, ◌+◌, List, [], ◌∷◌, All, Contains, Option, Result, Ok, Err, length, map, ⊤}
+use Rattle.std.specs.Prelude.{◌≡◌, ◌≢◌, ◌<◌, ◌≤◌, ℕ, ◌+◌, List, [], ◌∷◌, ◌++◌, All, Contains, Option, Result, Ok, Err, length, map, ⊤}
+use Rattle.std.specs.Option.{option_map}
 use Rattle.kr_config.specs.Kept.{ConfigEntry}
 use Rattle.kr_kms.specs.Calls.{Link}
 use Rattle.kr_kms.specs.Outside.{Outside, same_seat}
@@ -9,6 +10,7 @@ use Rattle.kr_provider.specs.PluginOrder.{plugin_order}
 use Rattle.kr_cmd_steps.specs.Around.{Around, with_lent, with_world}
 use Rattle.kr_cmd_steps.specs.Plugins.{borrow_links_of}
 use Rattle.kr_cmd_steps.specs.Steps.{Steps, borrow_dice, give}
+use Rattle.kr_cmd_fleet.specs.StartExchanges.{keys_at, keys_of}
 use Rattle.kr_cmd_fleet.specs.declared.outfit.Outfit.{Outfit}
 use Rattle.kr_cmd_steps.specs.declared.programs.Program.{Program}
 use Rattle.kr_cmd_messages.specs.declared.refusal.Stop.{Stop}
@@ -109,6 +111,45 @@ module _ {L D : Type 0} (link : L → Link) (left : D → Option (List ℕ)) (co
       (a : Around) → Does (equipping_one seat programs)
       (with_outfits link left count 0 front (with_world (with_tapes tapes old) a))
       (with_outfits link left count 0 front (with_world (with_tapes tapes new) a)) (Err stop)
+
+-- ---- what was handed out
+
+module _ {L : Type 0} (link : L → Link) (lent took : ℕ → L → Type 0) where
+  -- beside these links of the seat some were handed out, and came back at once
+  pub record LinksHanded (seat : ℕ) (old new : Outside) (links : List L) : Type 0 where
+    pub lost : List L
+    pub handed : new.links.handed
+        ≡ option_map (λ keys. keys ++ keys_at link seat (links ++ lost)) old.links.handed
+    pub lent_are : All (lent seat) lost
+    pub took_are : All (took seat) lost
+
+  -- just these were, or those
+  abbrev pub HandsLinks : (seat : ℕ) → (old new : Outside) → (links : List L)
+      → Result (Unit {0}) Stop → Type 0
+  HandsLinks seat old new links (Ok done) = new.links.handed
+      ≡ option_map (λ keys. keys ++ keys_at link seat links) old.links.handed
+  HandsLinks seat old new links (Err stop) = LinksHanded seat old new links
+
+  -- an outfit's, or all came back
+  abbrev pub HandsOutfit : {D : Type 0} → (seat : ℕ) → (old new : Outside)
+      → Result (Outfit L D) Stop → Type 0
+  HandsOutfit seat old new (Ok outfit) = new.links.handed
+      ≡ option_map (λ keys. keys ++ keys_at link seat outfit.links) old.links.handed
+  HandsOutfit seat old new (Err stop) = LinksHanded seat old new []
+
+  -- beside those of these outfits some of the next seat were handed out, and came back
+  pub record OutfitsHanded (old new : Outside) (links : List (List L)) : Type 0 where
+    pub lost : List L
+    pub handed : new.links.handed
+        ≡ option_map (λ keys. keys ++ keys_of link 0 (links ++ lost ∷ [])) old.links.handed
+    pub lent_are : All (lent (length links)) lost
+    pub took_are : All (took (length links)) lost
+
+  abbrev pub HandsOutfits : (old new : Outside) → (links : List (List L))
+      → Result (Unit {0}) Stop → Type 0
+  HandsOutfits old new links (Ok done) = new.links.handed
+      ≡ option_map (λ keys. keys ++ keys_of link 0 links) old.links.handed
+  HandsOutfits old new links (Err stop) = OutfitsHanded old new links
 
 -- ---- giving back
 

@@ -71,16 +71,18 @@ pub record Covers (old new : List NamedRows) (names : List (List ℕ)) : Type 0 
   pub stays : (name : List ℕ) → IsSome (file_entries old name)
       → file_entries new name ≡ file_entries old name
 
--- these names were gone through: their files are there, and what the rest does completes it; or
--- they ended the command
+-- these names were gone through, and no link was handed out: their files are there, and what the
+-- rest does completes it; or they ended the command
 abbrev pub GoesThrough : (old_files new_files : List NamedRows) (more : List (List ℕ))
     (old new : Outside) → Result (Unit {0}) Stop → Type 0
-GoesThrough old_files new_files more old new (Ok done) = Covers old_files new_files more
+GoesThrough old_files new_files more old new (Ok done) = (new.links ≡ old.links)
+    × Covers old_files new_files more
     × ((a end : Around) (names : List (List ℕ)) (result : Result (List NamedRows) Stop)
     → Does (files_in new_files names) (with_world new a) end result
     → Does (files_in old_files (more ++ names)) (with_world old a) end result)
-GoesThrough old_files new_files more old new (Err stop) = (a : Around) (names : List (List ℕ))
-    → Does (files_in old_files (more ++ names)) (with_world old a) (with_world new a) (Err stop)
+GoesThrough old_files new_files more old new (Err stop) = (new.links ≡ old.links)
+    × ((a : Around) (names : List (List ℕ))
+    → Does (files_in old_files (more ++ names)) (with_world old a) (with_world new a) (Err stop))
 
 -- ---- all of it
 

@@ -1,14 +1,14 @@
 -- The workers at a core that starts with what replicas published.
-use Rattle.std.specs.Prelude.{◌≡◌, false, ℕ, Bool, List, length, Option, Result}
+use Rattle.std.specs.Prelude.{◌≡◌, ℕ, Bool, List, length, Option, Result, Ok, Err, ⊤}
 use Rattle.kr_kms.specs.Calls.{Link}
 use Rattle.kr_kms.specs.Exchanges.{Exchange}
-use Rattle.kr_kms.specs.Truth.{Truth}
+use Rattle.kr_kms.specs.Outside.{Outside}
 use Rattle.kr_store.specs.Stores.{Kept}
 use Rattle.kr_watch.specs.declared.item.Item.{Item}
 use Rattle.kr_workers.specs.declared.worker.Worker.{Worker}
 use Rattle.kr_cmd_steps.specs.Around.{Around}
 use Rattle.kr_cmd_fleet.specs.Fleets.{Begun, Replicas, launching, starting}
-use Rattle.kr_cmd_fleet.specs.StartExchanges.{AsksFirst, BeganWith, WereAsked, links_in}
+use Rattle.kr_cmd_fleet.specs.StartExchanges.{AsksFirst, BeganWith, OpenBy, WereAsked, links_in}
 use Rattle.kr_cmd_fleet.specs.declared.fleet_file.LoadedFleet.{LoadedFleet}
 use Rattle.kr_cmd_fleet.specs.declared.outfit.Outfit.{Outfit}
 use Rattle.kr_cmd_messages.specs.declared.refusal.Stop.{Stop}
@@ -32,10 +32,12 @@ module _ {L D : Type 0} (link : L → Link) (left : D → Option (List ℕ)) (co
       (with_lent_tape name store.told store.count a)
 
   -- the replicas published while the outfits were as they were before, and where someone watches
-  -- the live rows were read: what the core's start does completes it
-  pub record IsPublished (truth : Truth) (watched : Bool) (plan : LoadedFleet) (budgets : List ℕ)
-      (name : List ℕ) (store : Kept) (first a : Around) (olds outfits : Outfits L D)
-      (replicas : Replicas) (items : List Item) : Type 0 where
+  -- the live rows were read, by what the links of the first outfit answered: what the core's start
+  -- does completes it
+  pub record IsPublished (step : L → Exchange → L → Type 0) (watched : Bool) (plan : LoadedFleet)
+      (budgets : List ℕ) (name : List ℕ) (store : Kept) (first a : Around)
+      (olds outfits : Outfits L D) (exchanges : List Exchange) (replicas : Replicas)
+      (items : List Item) : Type 0 where
     pub are_named : AreNamed link (names_in plan.programs) olds
     pub seats : length olds ≡ length plan.script.workers.0
     pub later : AreLater link count olds outfits
@@ -44,44 +46,53 @@ module _ {L D : Type 0} (link : L → Link) (left : D → Option (List ℕ)) (co
         (with_crew name store outfits a) (with_crew name kept outfits a) result
         → Does (launching watched (plan_of plan) (stored_of store) budgets)
         first (with_crew name kept outfits a) result
-    pub known : KnowsItems watched truth store.rows replicas items
+    pub asks : AsksFirst step exchanges (links_of olds) (links_of outfits)
+    pub opens : OpenBy exchanges replicas
+    pub known : KnowsItems watched exchanges store.rows replicas items
 
 -- ---- what is said of the workers
 
-module _ {T L D : Type 0} (told : Option (List Exchange)) where
-  -- they began with these outfits, when this was heard, and left those
+module _ {T L D : Type 0} (told : Option (List Exchange)) (exchanges : List Exchange) where
+  -- they began with these outfits, when this was heard and answered, and left those
   abbrev pub TakesOutfits : (outfits back : Outfits L D) → (heard : Option (List Exchange))
-      → (workers ended : List (Worker T L D)) → Type 0
-  TakesOutfits outfits back heard workers ended =
-      (heard ≡ told) × (outfits_of workers ≡ outfits) × (outfits_of ended ≡ back)
+      → (asked : List Exchange) → (workers ended : List (Worker T L D)) → Type 0
+  TakesOutfits outfits back heard asked workers ended = (heard ≡ told) × (asked ≡ exchanges)
+      × (outfits_of workers ≡ outfits) × (outfits_of ended ≡ back)
 
-  module _ (step : L → Exchange → L → Type 0) (watched : Bool) (exchanges : List Exchange) where
-    -- while no one watches, the first outfit's links had answered just this
-    abbrev pub AsksOutfits : (olds back : Outfits L D) → (heard : Option (List Exchange))
-        → (workers ended : List (Worker T L D)) → Type 0
-    AsksOutfits olds back heard workers ended = (heard ≡ told)
-        × (watched ≡ false → AsksFirst step exchanges (links_of olds) (links_in workers))
-        × (links_in ended ≡ links_of back)
+  -- they began with these links, and left those
+  abbrev pub AsksOutfits : (begun back : List (List L)) → (heard : Option (List Exchange))
+      → (asked : List Exchange) → (workers ended : List (Worker T L D)) → Type 0
+  AsksOutfits begun back heard asked workers ended = (heard ≡ told) × (asked ≡ exchanges)
+      × (links_in workers ≡ begun) × (links_in ended ≡ back)
 
-    -- the links were lent, and come back
-    abbrev pub BeginsLent : (lent took : ℕ → L → Type 0) → (heard : Option (List Exchange))
-        → (workers ended : List (Worker T L D)) → Type 0
-    BeginsLent lent took heard workers ended = (heard ≡ told)
-        × (watched ≡ false → BeganWith lent took step exchanges workers ended)
+  -- the links were lent, where the first seat's had answered just this, and come back
+  abbrev pub BeginsLent : (step : L → Exchange → L → Type 0) → (lent took : ℕ → L → Type 0)
+      → (begun back : List (List L)) → (heard : Option (List Exchange))
+      → (asked : List Exchange) → (workers ended : List (Worker T L D)) → Type 0
+  BeginsLent step lent took begun back heard asked workers ended = (heard ≡ told)
+      × (asked ≡ exchanges) × BeganWith lent took step exchanges workers ended
+      × (links_in workers ≡ begun) × (links_in ended ≡ back)
 
 -- ---- what the start asked
 
 -- the links of these outfits were asked just this, by which this was done
 pub record StartsFrom {L D : Type 0} (step : L → Exchange → L → Type 0) (olds : Outfits L D)
-    (Done : List Exchange → Type 0) : Type 0 where
+    (Done : List Exchange → (begun : List (List L)) → Type 0) : Type 0 where
   pub exchanges : List Exchange
   pub news : List (List L)
   pub asks : AsksFirst step exchanges (links_of olds) news
-  pub done : Done exchanges
+  pub done : Done exchanges news
 
--- links that were lent were
-pub record StartsLent {L : Type 0} (lent : ℕ → L → Type 0) (step : L → Exchange → L → Type 0)
-    (Done : List Exchange → Type 0) : Type 0 where
+-- all links that were handed out were, and came back
+pub record StartsLent {L : Type 0} (link : L → Link) (lent took : ℕ → L → Type 0)
+    (step : L → Exchange → L → Type 0) (old new : Outside)
+    (Done : List Exchange → (begun back : List (List L)) → Type 0) : Type 0 where
   pub exchanges : List Exchange
-  pub asked : WereAsked lent step exchanges
-  pub done : Done exchanges
+  pub asked : WereAsked link lent took step exchanges old new
+  pub done : Done exchanges asked.begun asked.back
+
+-- where it ended before the workers, nothing was asked since
+abbrev pub StaysIdle : {A : Type 0} {L : Type 0} → Result A Stop → (begun back : List (List L))
+    → Type 0
+StaysIdle (Ok made) begun back = ⊤
+StaysIdle (Err stop) begun back = back ≡ begun

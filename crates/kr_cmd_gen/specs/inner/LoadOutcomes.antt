@@ -2,7 +2,6 @@
 use Rattle.std.specs.Prelude.{◌≡◌, ℕ, false, List, [], All, length, map, Result}
 use Rattle.kr_kms.specs.Calls.{Link}
 use Rattle.kr_kms.specs.Exchanges.{Exchange}
-use Rattle.kr_kms.specs.Truth.{Truth}
 use Rattle.kr_workload.specs.Streams.{StreamState, link_faults, left_in}
 use Rattle.kr_cmd_steps.specs.Around.{Around}
 use Rattle.kr_cmd_fleet.specs.FleetFiles.{FleetPlan}
@@ -27,11 +26,11 @@ sources_in {L} outfits = map (λ (outfit : Outfit L StreamState). outfit.dice) o
 
 -- what these steps up to the workers give, where the store is settled behind them; the workers'
 -- sources are left somehow
-abbrev pub SettlesLoad : (T : Type 0) → {L : Type 0} → Truth → (L → Link)
+abbrev pub SettlesLoad : (T : Type 0) → {L : Type 0} → (L → Link)
     → (L → Exchange → L → Type 0) → (seed : ℕ) → Steps Begun → (store : List ℕ) → FleetPlan
     → (old new : Around) → Result Record Stop → Type 0
-SettlesLoad T {L} truth link step seed steps store plan old new result =
-    (sources : List StreamState) × SettlesBy T truth link step left_in link_faults
+SettlesLoad T {L} link step seed steps store plan old new result =
+    (sources : List StreamState) × SettlesBy T link step left_in link_faults
     (Anyhow T L StreamState) false steps store plan (with_streams seed old)
     (with_sources sources new) result
 

@@ -5,7 +5,7 @@ use Rattle.kr_base.specs.Faults.{Rose}
 use Rattle.kr_base.specs.Limits.{store_limit}
 use Rattle.kr_base.specs.Told.{Agrees}
 use Rattle.kr_kms.specs.Outside.{Outside, with_call, file_faults, same_name, KeepsFiles, HandsOut, TakesBack, IsTape, makes}
-use Rattle.kr_kms.specs.declared.world.WorldCall.TheVariants.{Settled, Tape}
+use Rattle.kr_kms.specs.declared.world.WorldCall.TheVariants.{Returned, Settled, Tape}
 use Rattle.kr_kms.specs.declared.world.Access.{Access}
 use Rattle.kr_store.specs.File.{IsFile}
 use Rattle.kr_store.specs.Stores.{Kept}
@@ -71,6 +71,18 @@ ReturnsSettled name object old new told count (Ok made) (Err stop) =
     × ReturnedTape name old new told later
 ReturnsSettled name object old new told count (Err why) result =
     (result ≡ Err why) × ReturnedTape name old new told count
+
+-- a world that was told that a tape of the name is back, which was read
+abbrev pub with_returned : (name : List ℕ) → Outside → Outside
+with_returned name world = record world { asked = with_call (Returned name) world.asked }
+
+-- the tape came back: as one that was read, where something was read of it; or what ended the
+-- command stands
+abbrev pub ReturnsRead : {A : Type 0} → (name : List ℕ) → (old new : Outside)
+    → (told : Option (List ℕ)) (count : ℕ) → (read : Result A Stop) → Type 0
+ReturnsRead name old new told count (Ok x) =
+    ReturnedTape name (with_returned name old) new told count
+ReturnsRead name old new told count (Err why) = ReturnedTape name old new told count
 
 -- why a store wasn't loaded, as a command says it, by the faults of its tape
 abbrev pub load_stop : Object → ℕ → StoreNo → Stop

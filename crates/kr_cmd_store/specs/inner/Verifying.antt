@@ -1,10 +1,9 @@
 -- What the parts of `verify` give to each other.
 use Rattle.std.specs.Prelude.{◌≡◌, ◌≤◌, ℕ, Bool, List, Contains, length, IfErr, IfOk, IfSome, Option, Result, Ok, Err, ⊤, if◌then◌else◌}
 use Rattle.kr_base.specs.Limits.{path_limit, value_limit}
-use Rattle.kr_kms.specs.Cache.{AreOpen}
+use Rattle.kr_kms.specs.Cache.{CacheState}
 use Rattle.kr_kms.specs.Calls.{Link}
 use Rattle.kr_kms.specs.Exchanges.{Exchange}
-use Rattle.kr_kms.specs.Truth.{Truth}
 use Rattle.kr_provider.specs.AskedLinks.{HasLinkWith}
 use Rattle.kr_provider.specs.BenchState.{BenchState}
 use Rattle.kr_provider.specs.declared.refusal.Opened.{Opened}
@@ -20,10 +19,8 @@ use Rattle.kr_cmd_messages.specs.declared.refusal.Stop.TheVariants as stop
 use Rattle.kr_cmd_steps.specs.Around.{Around, with_exchanges}
 use Rattle.kr_cmd_steps.specs.StoreSteps.{row_finding}
 use Rattle.kr_cmd_steps.specs.RowFindings.{findings_outcome}
-use Rattle.kr_cmd_steps.specs.Steps.{hearing}
 use Rattle.kr_cmd_steps.specs.declared.finding.Finding.{Finding}
 use Rattle.kr_cmd_steps.specs.declared.finding.Finding.TheVariants.{Fresh, Stale, Refused}
-use Rattle.kr_cmd_steps.specs.inner.KeptSeeds.{AreHeard}
 use Rattle.kr_cmd_steps.specs.inner.Lent.{with_lent_dice, with_lent_links}
 use Rattle.kr_cmd_steps.specs.inner.Phases.{Does}
 use Rattle.kr_cmd_store.specs.declared.reading.Unread.{Unread}
@@ -69,26 +66,21 @@ IsUnreadStop link links (PluginFailed name) why =
     HasLinkWith link name (λ l. why ≡ stop.Fault (Plugin name) l.count) links
 IsUnreadStop link links NoMemory why = why ≡ stop.NoMemory
 
--- what reading the row by a bench did, by exchanges with its links
-module _ {L D : Type 0} (truth : Truth) (link : L → Link) (left : D → Option (List ℕ))
+-- what reading the row by a bench did, with what it kept before, by exchanges with its links
+module _ {L D : Type 0} (link : L → Link) (left : D → Option (List ℕ))
     (count : D → ℕ) (row : Row) (old new : BenchState L D) where
-  abbrev pub RowDoes : Around → List Exchange → Result Finding Stop → Type 0
-  RowDoes a es result = IfSome old.published (λ p. Does (row_finding p row)
+  abbrev pub RowDoes : Around → List Exchange → Result (Finding × CacheState) Stop → Type 0
+  RowDoes a es result = IfSome old.published (λ p. Does (row_finding p row old.cache)
       (with_lent_links link 0 old.links
       (with_lent_dice 0 (left old.dice) (count old.dice) a))
       (with_lent_links link 0 new.links
       (with_lent_dice 0 (left new.dice) (count new.dice) (with_exchanges es a))) result)
 
-  -- what it keeps was unwrapped, now or before
+  -- what was found, with what it keeps then
   pub record IsRowRead (result : Result Finding Unread) (es : List Exchange) : Type 0 where
-    pub found : IfOk result (λ finding. (a : Around) → a.truth ≡ truth
-        → AreHeard old.cache.rows a.heard → RowDoes a es (Ok finding))
-    pub unread : IfErr result (λ why. (end : Stop) (a : Around) → a.truth ≡ truth
-        → AreHeard old.cache.rows a.heard → IsUnreadStop link new.links why end
-        → RowDoes a es (Err end))
-    pub kept : (heard : Option (List Exchange)) → AreHeard old.cache.rows heard
-        → AreHeard new.cache.rows (hearing es heard)
-    pub opened : AreOpen truth new.cache.rows
+    pub found : IfOk result (λ finding. (a : Around) → RowDoes a es (Ok (finding, new.cache)))
+    pub unread : IfErr result (λ why. (end : Stop) (a : Around)
+        → IsUnreadStop link new.links why end → RowDoes a es (Err end))
 
 -- ---- all of them
 

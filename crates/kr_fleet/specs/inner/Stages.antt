@@ -3,13 +3,14 @@ use Rattle.std.specs.Prelude.{◌≡◌, ◌≢◌, ◌⊎◌, ℕ, Bool, true, 
 use Rattle.kr_config.specs.Kept.{ConfigEntry as settings_row}
 use Rattle.kr_kms.specs.Calls.{Link}
 use Rattle.kr_kms.specs.Exchanges.{Exchange}
-use Rattle.kr_kms.specs.Truth.{Truth}
 use Rattle.kr_provider.specs.Exchanges.{PublishesBy, TellsKeyIdAt}
 use Rattle.kr_provider.specs.Publication.{Publication}
 use Rattle.kr_provider.specs.Publishing.{Publishes}
 use Rattle.kr_provider.specs.declared.refusal.PublishNo.{PublishNo}
 use Rattle.kr_store.specs.declared.rows.Row.{Row}
+use Rattle.kr_rollout.specs.declared.answer.Answer.{Answer}
 use Rattle.kr_rollout.specs.declared.answer.Answer.TheVariants as answer
+use Rattle.kr_rollout.specs.declared.event.Event.{Event}
 use Rattle.kr_rollout.specs.declared.event.Event.TheVariants as event
 use Rattle.kr_rollout.specs.declared.opening.Entry.{Entry}
 use Rattle.kr_history.specs.Acting.{Caller, AddsEntry}
@@ -20,7 +21,9 @@ use Rattle.kr_provider.specs.declared.refusal.SealNo.TheVariants as sealing
 use Rattle.kr_provider.specs.declared.refusal.UnsealNo.{UnsealNo}
 use Rattle.kr_provider.specs.declared.refusal.UnsealNo.TheVariants as unsealing
 use Rattle.kr_provider.specs.declared.refusal.ValueNo.TheVariants.{LooksEncrypted, TooLarge}
-use Rattle.kr_fleet.specs.CallForms.{publish_refusal}
+use Rattle.kr_fleet.specs.CallForms.{BringsNothingWhere, BringsWhere, publish_refusal, reload_of}
+use Rattle.kr_fleet.specs.declared.loading.Way.{Way}
+use Rattle.kr_fleet.specs.declared.loading.Way.TheVariants as way
 use Rattle.kr_fleet.specs.declared.outcome.Read.{Read}
 use Rattle.kr_fleet.specs.declared.outcome.Read.TheVariants.{Value}
 use Rattle.kr_history.specs.declared.call.CallNo.{CallNo}
@@ -69,15 +72,40 @@ module _ (Publishes : Result Publication PublishNo → Type 0) where
   SharesWhere (Ok p) = Publishes (Ok p)
   SharesWhere (Err why) = NotSharedWhere why
 
-abbrev pub SharesPublished : {L D : Type 0} → Truth → (L → Link) → (D → Option (List ℕ)) → (D → ℕ)
+abbrev pub SharesPublished : {L D : Type 0} → (L → Link) → (D → Option (List ℕ)) → (D → ℕ)
     → List settings_row → List L → D → Result Publication CallNo → List L → D → Type 0
-SharesPublished truth link left count rows olds dice result news after = SharesWhere
-    (λ made. Publishes truth link left count rows olds dice made news after) result
+SharesPublished link left count rows olds dice result news after = SharesWhere
+    (λ made. Publishes link left count rows olds dice made news after) result
 
 abbrev pub SharesPublishedBy : {D : Type 0} → (D → Option (List ℕ)) → (D → ℕ)
     → List settings_row → D → Result Publication CallNo → D → List Exchange → Type 0
 SharesPublishedBy left count rows dice result after exchanges = SharesWhere
     (λ made. PublishesBy left count rows dice made after exchanges) result
+
+-- the event that brings a configuration
+abbrev pub brought_by : Way → (replica : ℕ) → Publication → Event
+brought_by (way.Reload expect) replica = reload_of replica expect
+brought_by way.Join replica = event.Join replica
+
+-- settings are published, shared and brought, and this is answered to the event; or they weren't
+-- shared, or there was no event left to bring them
+abbrev pub BringsShared : (Result Publication PublishNo → Type 0) → (Publication → Event) → Caller
+    → Result Answer CallNo → Caller → Type 0
+BringsShared Publishes brings old (Ok given) new = BringsWhere Publishes brings old given new
+BringsShared Publishes brings old (Err why) new = (NotSharedWhere Publishes why × (new ≡ old))
+    ⊎ ((why ≡ refusal.Spent) × BringsNothingWhere Publishes × AddsNothing old new)
+
+abbrev pub IsBrought : {L D : Type 0} → (L → Link) → (D → Option (List ℕ)) → (D → ℕ)
+    → List settings_row → (Publication → Event) → Caller → List L → D → Result Answer CallNo
+    → Caller → List L → D → Type 0
+IsBrought link left count rows brings old olds dice result new news after = BringsShared
+    (λ made. Publishes link left count rows olds dice made news after) brings old result new
+
+abbrev pub IsBroughtBy : {D : Type 0} → (D → Option (List ℕ)) → (D → ℕ) → List settings_row
+    → (Publication → Event) → Caller → D → Result Answer CallNo → Caller → D → List Exchange
+    → Type 0
+IsBroughtBy left count rows brings old dice result new after exchanges = BringsShared
+    (λ made. PublishesBy left count rows dice made after exchanges) brings old result new
 
 -- the plugins' key ids are those of their seeds, or one isn't, or one can't be asked for
 abbrev pub ComparesKeys : {L : Type 0} → (L → Link) → List SeedRow → List L → Result Bool CallNo

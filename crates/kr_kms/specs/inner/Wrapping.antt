@@ -5,7 +5,6 @@ use Rattle.kr_base.specs.Faults.{Rose}
 use Rattle.kr_base.specs.Numbering.{next_number}
 use Rattle.kr_kms.specs.Exchanges.{Exchange, WrapCall}
 use Rattle.kr_kms.specs.Seeds.{IsSeedRow, row_with}
-use Rattle.kr_kms.specs.Truth.{Truth, TellsOf, key_of}
 use Rattle.kr_kms.specs.declared.plugin.Wrapped.{Wrapped}
 use Rattle.kr_kms.specs.declared.plugin.KmsNo.{KmsNo}
 use Rattle.kr_kms.specs.declared.plugin.KmsNo.TheVariants as link
@@ -25,12 +24,11 @@ IsDrawn left count dice (Err NoMemory) after = after ≡ dice
 IsDrawn left count dice (Err Failed) after = ⊥
 IsDrawn left count dice (Err (Unhealthy field text)) after = ⊥
 
--- the row has this seed under this plugin's name, and its source opens to the seed
-pub record IsRowOf (truth : Truth) (name seed : List ℕ) (row : SeedRow) : Type 0 where
+-- the row has this seed under this plugin's name
+pub record IsRowOf (name seed : List ℕ) (row : SeedRow) : Type 0 where
   pub name_is : row.name ≡ name
   pub seed_is : row.seed ≡ seed
   pub row_is : IsSeedRow row
-  pub opens : TellsOf truth (key_of row) row.seed
 
 -- nothing was asked, for want of memory; or one wrap of the seed was
 pub data WrapsSeedBy (name seed : List ℕ) (result : Result SeedRow KmsNo)

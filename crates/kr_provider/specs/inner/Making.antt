@@ -4,7 +4,6 @@ use Rattle.kr_config.specs.Kept.{ConfigEntry, plugins_in}
 use Rattle.kr_kms.specs.Calls.{Link}
 use Rattle.kr_kms.specs.Exchanges.{Exchange}
 use Rattle.kr_kms.specs.Seeds.{MakesSeed, MakesSeedBy}
-use Rattle.kr_kms.specs.Truth.{Truth}
 use Rattle.kr_kms.specs.declared.health.SeedNo.{SeedNo}
 use Rattle.kr_kms.specs.declared.health.SeedNo.TheVariants as seed
 use Rattle.kr_kms.specs.declared.seeds.SeedRow.{SeedRow}
@@ -14,12 +13,12 @@ use Rattle.kr_provider.specs.Publishing.{Publishes}
 use Rattle.kr_provider.specs.declared.refusal.PublishNo.{PublishNo}
 use Rattle.kr_provider.specs.declared.refusal.PublishNo.TheVariants.{PluginFailed, DiceFailed, Unhealthy, NoMemory}
 
-module _ {L D : Type 0} (truth : Truth) (link : L → Link) (left : D → Option (List ℕ))
+module _ {L D : Type 0} (link : L → Link) (left : D → Option (List ℕ))
     (count : D → ℕ) where
   -- the plugin of the name answered so
   abbrev pub MakesOne : List ℕ → List L → D → Result SeedRow SeedNo → List L → D → Type 0
   MakesOne name links dice answer news after = AsksOne link name
-      (λ old new. MakesSeed left count truth (link old) dice answer (link new) after) links news
+      (λ old new. MakesSeed left count (link old) dice answer (link new) after) links news
 
   abbrev pub MakesAt : List ℕ → List L → D → Result SeedRow PublishNo → List L → D → Type 0
   MakesAt name links dice (Ok row) new after = MakesOne name links dice (Ok row) new after
@@ -36,10 +35,10 @@ module _ {L D : Type 0} (truth : Truth) (link : L → Link) (left : D → Option
   abbrev pub MakesAll : List ConfigEntry → List L → D → Result (List SeedRow × ℕ) PublishNo → List L
       → D
       → Type 0
-  MakesAll rows links dice (Ok made) new after = Publishes truth link left count rows links dice
+  MakesAll rows links dice (Ok made) new after = Publishes link left count rows links dice
       (Ok (record { rows = rows; seeds = made.0 })) new after
   MakesAll rows links dice (Err why) new after =
-      Publishes truth link left count rows links dice (Err why) new after
+      Publishes link left count rows links dice (Err why) new after
 
 module _ {D : Type 0} (left : D → Option (List ℕ)) (count : D → ℕ) where
   -- the exchanges with the plugin of this name, and what of it is told

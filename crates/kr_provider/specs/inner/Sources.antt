@@ -9,7 +9,7 @@ use Rattle.kr_kms.specs.Cache.{CacheState, FetchesBy}
 use Rattle.kr_kms.specs.Calls.{Link}
 use Rattle.kr_kms.specs.Exchanges.{Exchange}
 use Rattle.kr_kms.specs.declared.plugin.KmsNo.{KmsNo}
-use Rattle.kr_kms.specs.Truth.{Truth, TellsOf, key_of}
+use Rattle.kr_kms.specs.Opens.{key_of}
 use Rattle.kr_kms.specs.declared.seeds.SeedRow.{SeedRow}
 use Rattle.kr_provider.specs.AskedLinks.{AskedOnly, FaultRose}
 use Rattle.kr_provider.specs.Envelopes.{seed_key}
@@ -41,12 +41,9 @@ IsObjectIn body (Err (Refused refusal)) =
 IsObjectIn body (Err (PluginFailed name)) = ⊥
 IsObjectIn body (Err NoMemory) = ⊤
 
--- the source of an object: a published seed that is the object's; and where the truth is told and
--- that seed is what its source opens to, what the object's source opens to
-pub record IsSourceOf (truth : Truth) (row : SeedRow) (name : List ℕ) (found : EncryptedObject)
-    (source : List ℕ) : Type 0 where
-  pub published : IsSeedOf row name found → source ≡ row.seed
-  pub told : TellsOf truth (key_of row) row.seed → TellsOf truth (seed_key name found) source
+-- the source of an object: where the published seed is the object's, that seed
+abbrev pub IsSourceOf : SeedRow → (name : List ℕ) → EncryptedObject → (source : List ℕ) → Type 0
+IsSourceOf row name found source = IsSeedOf row name found → source ≡ row.seed
 
 -- the plugin failed, which was asked for the source of an object since the published seed is
 -- another
@@ -58,21 +55,20 @@ pub record FailsToOpen {L : Type 0} (link : L → Link) (row : SeedRow) (name : 
   pub asked : AskedOnly link (name ∷ []) old new
 
 -- what an object holds by such a source
-pub record ReadsObject {L : Type 0} (truth : Truth) (link : L → Link) (row : SeedRow)
+pub record ReadsObject {L : Type 0} (link : L → Link) (row : SeedRow)
     (name : List ℕ) (found : EncryptedObject) (path : List ℕ) (old : List L)
     (result : Result (List ℕ) UnsealNo) (new : List L) : Type 0 where
   pub source : List ℕ
-  pub is : IsSourceOf truth row name found source
+  pub is : IsSourceOf row name found source
   pub gives : Gives (source_reading found.kind source path found.encrypted) result
   pub asked : AskedOnly link (name ∷ []) old new
   pub unasked : (new ≡ old) ⊎ (IsSeedOf row name found → ⊥)
 
-module _ {L : Type 0} (truth : Truth) (link : L → Link) (name : List ℕ)
+module _ {L : Type 0} (link : L → Link) (name : List ℕ)
     (found : EncryptedObject) where
-  -- what the plugin unwrapped the source to
+  -- the plugin was asked to unwrap the source
   abbrev pub OpensSource : List L → Result (List ℕ) UnsealNo → List L → Type 0
-  OpensSource old (Ok source) new =
-      TellsOf truth (seed_key name found) source × AskedOnly link (name ∷ []) old new
+  OpensSource old (Ok source) new = AskedOnly link (name ∷ []) old new
   OpensSource old (Err (Refused why)) new = ⊥
   OpensSource old (Err (PluginFailed failed)) new = (failed ≡ name)
       × FaultRose link name old new × AskedOnly link (name ∷ []) old new
@@ -85,13 +81,13 @@ GivesSource source (Err (Refused why)) = ⊥
 GivesSource source (Err (PluginFailed name)) = ⊥
 GivesSource source (Err NoMemory) = ⊤
 
-module _ {L : Type 0} (truth : Truth) (link : L → Link) (row : SeedRow) (name : List ℕ)
+module _ {L : Type 0} (link : L → Link) (row : SeedRow) (name : List ℕ)
     (found : EncryptedObject) where
   abbrev pub UnsealsObject : (path : List ℕ) → List L → Result (List ℕ) UnsealNo → List L → Type 0
   UnsealsObject path old (Ok plain) new =
-      ReadsObject truth link row name found path old (Ok plain) new
+      ReadsObject link row name found path old (Ok plain) new
   UnsealsObject path old (Err (Refused why)) new =
-      ReadsObject truth link row name found path old (Err (Refused why)) new
+      ReadsObject link row name found path old (Err (Refused why)) new
   UnsealsObject path old (Err (PluginFailed failed)) new =
       FailsToOpen link row name found old failed new
   UnsealsObject path old (Err NoMemory) new = AskedOnly link (name ∷ []) old new

@@ -4,9 +4,7 @@ use Rattle.kr_base.specs.Numbering.{next_number}
 use Rattle.kr_kms.specs.Cache.{CacheState}
 use Rattle.kr_kms.specs.Calls.{Link}
 use Rattle.kr_kms.specs.Exchanges.{Exchange}
-use Rattle.kr_kms.specs.Truth.{Truth, OpenAll}
-use Rattle.kr_provider.specs.Publication.{Publication, list_at}
-use Rattle.kr_provider.specs.Reading.{HasReading, HasSomeReading, data_of}
+use Rattle.kr_provider.specs.Publication.{Publication}
 use Rattle.kr_store.specs.declared.rows.Row.{Row}
 use Rattle.kr_rollout.specs.declared.answer.Answer.{Answer}
 use Rattle.kr_rollout.specs.declared.answer.Answer.TheVariants as answer
@@ -63,13 +61,6 @@ AnswersReplace (answer.StoreFull needed) = ⊤
 AnswersReplace answer.NoMemory = ⊤
 AnswersReplace given = ⊥
 
--- the row reads as the data: with some source, and by the truth that is told
-pub record ReadsData (truth : Truth) (p : Publication) (row : Row) (plain : List ℕ)
-    : Type 0 where
-  pub some : HasSomeReading (list_at p row.resource) row.path row.stored (data_of plain)
-  pub told : truth.told ≡ true → OpenAll truth.opens p.seeds
-      → HasReading truth.opens (list_at p row.resource) row.path row.stored (data_of plain)
-
 -- the data of a stale row are sealed anew, unless there is no memory for a copy of its path
 abbrev pub ResealsRow : {D : Type 0} → (D → Option (List ℕ)) → (D → ℕ) → Publication → Row
     → (plain : List ℕ) → Caller → D → Result Step CallNo → Caller → D → Type 0
@@ -101,11 +92,11 @@ module _ {S D : Type 0} (Reads : ReadsFoundRow S) (Meanwhile : S → S → Type 
   GoesOnOver above old from dice (Err cut) new to after =
       IsCutOver Reads Meanwhile left count replica above old from dice cut.1 cut.0 new to after
 
-module _ {L D : Type 0} (truth : Truth) (link : L → Link) (left : D → Option (List ℕ))
+module _ {L D : Type 0} (link : L → Link) (left : D → Option (List ℕ))
     (count : D → ℕ) (replica : ℕ) where
   abbrev pub GoesOn : (above : List ℕ) → Caller → List L → D → Result Report (Report × CallNo)
       → Caller → List L → D → Type 0
-  GoesOn above old olds dice result new news after = GoesOnOver (UnsealsRow truth link)
+  GoesOn above old olds dice result new news after = GoesOnOver (UnsealsRow link)
       (StayLinks link) left count replica above old olds dice result new news after
 
 -- ---- by which exchanges

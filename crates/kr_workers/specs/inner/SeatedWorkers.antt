@@ -3,7 +3,6 @@ use Rattle.std.specs.Prelude.{◌≡◌, ◌≤◌, ℕ, List, [], ◌∷◌, le
 use Rattle.std.specs.List.{slice_get}
 use Rattle.kr_kms.specs.Calls.{Link}
 use Rattle.kr_kms.specs.Exchanges.{Exchange}
-use Rattle.kr_kms.specs.Truth.{Truth}
 use Rattle.kr_rollout.specs.declared.opening.Entry.{Entry}
 use Rattle.kr_rollout.specs.declared.opening.Opening.{Opening}
 use Rattle.kr_script.specs.declared.script.Part.{Part}
@@ -44,7 +43,7 @@ module _ {T L D : Type 0} (home : Home Opening) (files : List SettingsFile)
     pub room : length part.lines.0 ≤ worker.told.1
 
   -- it did them, or was cut short, and has its seat again
-  pub record HasWorked (truth : Truth) (link : L → Link) (step : L → Exchange → L → Type 0)
+  pub record HasWorked (link : L → Link) (step : L → Exchange → L → Type 0)
       (left : D → Option (List ℕ)) (count : D → ℕ) (old new : Worker T L D) : Type 0 where
     pub before : Place (SharedCore T) Entry Opening
     pub after : Place (SharedCore T) Entry Opening
@@ -54,5 +53,5 @@ module _ {T L D : Type 0} (home : Home Opening) (files : List SettingsFile)
     pub same : number_of after ≡ number_of before
     pub part : Part
     pub part_is : slice_get parts (number_of before) ≡ Some part
-    pub runs : Runs truth link step left count files part.replica part.lines.0
+    pub runs : Runs link step left count files part.replica part.lines.0
         (caller_of home before) old.bench new.told.0 new.ended (caller_of home after) new.bench

@@ -3,7 +3,6 @@ use Rattle.std.specs.Prelude.{◌≡◌, ◌<◌, ◌≤◌, ◌+◌, ℕ, Bool,
 use Rattle.kr_base.specs.Walks.{Talk, Walk}
 use Rattle.kr_kms.specs.Calls.{Link}
 use Rattle.kr_kms.specs.Exchanges.{Exchange}
-use Rattle.kr_kms.specs.Truth.{Truth}
 use Rattle.kr_provider.specs.AskedLinks.{Among, AskedOnly}
 use Rattle.kr_provider.specs.BenchKeys.{adoption_of}
 use Rattle.kr_provider.specs.BenchState.{Adoption, BenchState}
@@ -11,7 +10,7 @@ use Rattle.kr_provider.specs.KeyPages.{size_of}
 use Rattle.kr_provider.specs.Names.{names_of}
 use Rattle.kr_history.specs.Acting.{Caller}
 use Rattle.kr_rollout.specs.Callers.{holding, reloads_in}
-use Rattle.kr_history.specs.Calls.{AreServed, KeepsToldHonesty}
+use Rattle.kr_history.specs.Calls.{AreServed}
 use Rattle.kr_rollout.specs.declared.opening.Entry.{Entry}
 use Rattle.kr_history.specs.KeyMoments.{Happens, call_moments}
 use Rattle.kr_history.specs.Parts.{Adds, IsPartWithin}
@@ -78,18 +77,17 @@ MovesKeys true old before new after = Walk Happens before (call_moments old new)
 MovesKeys false old before new after = after ≡ before
 
 -- what a line does and keeps
-pub record Serves {L D : Type 0} (truth : Truth) (link : L → Link)
+pub record Serves {L D : Type 0} (link : L → Link)
     (step : L → Exchange → L → Type 0) (left : D → Option (List ℕ)) (count : D → ℕ)
     (files : List SettingsFile) (replica : ℕ) (asked : ScriptLine) (old : Caller)
     (bench : BenchState L D) (reply : Reply) (new : Caller) (after : BenchState L D)
     : Type 0 where
-  pub does : Does truth link left count files replica asked (place_of old bench) reply
+  pub does : Does link left count files replica asked (place_of old bench) reply
       (place_of new after)
   pub asks : Talk (Among step) bench.links after.links
       (DoesBy left count files replica asked (place_of old bench) reply (place_of new after))
   pub adds : AddsFor asked old new
   pub spent : EndsFor asked old reply
-  pub honest : KeepsToldHonesty truth old new
   pub idle : IsIdleAt reply new
   pub asked_only : AskedOnly link (names_of link bench.links) bench.links after.links
   pub later : count bench.dice ≤ count after.dice

@@ -4,7 +4,6 @@ use Rattle.kr_base.specs.Walks.{Walk}
 use Rattle.kr_base.specs.declared.errors.Spent.{Spent}
 use Rattle.kr_kms.specs.Calls.{Link}
 use Rattle.kr_kms.specs.Exchanges.{Exchange}
-use Rattle.kr_kms.specs.Truth.{Truth}
 use Rattle.kr_provider.specs.AskedLinks.{AskedOnly}
 use Rattle.kr_provider.specs.BenchKeys.{adoption_of}
 use Rattle.kr_provider.specs.BenchState.{BenchState}
@@ -13,7 +12,7 @@ use Rattle.kr_provider.specs.Names.{names_of}
 use Rattle.kr_rollout.specs.declared.opening.Entry.{Entry}
 use Rattle.kr_history.specs.Acting.{Caller}
 use Rattle.kr_rollout.specs.Callers.{holding, reloads_in}
-use Rattle.kr_history.specs.Calls.{AreServed, KeepsToldHonesty}
+use Rattle.kr_history.specs.Calls.{AreServed}
 use Rattle.kr_history.specs.KeyMoments.{Happens}
 use Rattle.kr_history.specs.Parts.{Adds, IsPartWithin}
 use Rattle.kr_script.specs.declared.script.ScriptLine.{ScriptLine}
@@ -37,7 +36,7 @@ pub record AreReady {L D : Type 0} (link : L → Link) (files : List SettingsFil
 
 -- ---- how the run ends
 
-module _ {L D : Type 0} (truth : Truth) (link : L → Link)
+module _ {L D : Type 0} (link : L → Link)
     (step : L → Exchange → L → Type 0) (left : D → Option (List ℕ)) (count : D → ℕ)
     (files : List SettingsFile) (replica : ℕ) where
   -- the seat could add no more lines in the midst of this line, and those behind it weren't begun
@@ -46,7 +45,7 @@ module _ {L D : Type 0} (truth : Truth) (link : L → Link)
     pub line : ScriptLine
     pub rest : List ScriptLine
     pub lines_are : lines ≡ lines_in run ++ line ∷ rest
-    pub does : Does truth link left count files replica line old (Err (record {})) new
+    pub does : Does link left count files replica line old (Err (record {})) new
     pub part : List Entry
     pub adds : Adds old.caller part new.caller
     pub within : IsPartWithin (line_entries (length part) line) (brought_count line) (puts_of line)
@@ -75,11 +74,10 @@ module _ {L D : Type 0} (truth : Truth) (link : L → Link)
     pub run : List LineDone
     pub replies_are : replies ≡ replies_in run
     pub middle : Workplace L D
-    pub does : DoesAll truth link step left count files replica (place_of old bench) run middle
+    pub does : DoesAll link step left count files replica (place_of old bench) run middle
     pub ends : EndsRun lines run middle ended (place_of new after)
     pub opening : new.opening ≡ old.opening
     pub seat : new.seat ≡ old.seat
-    pub honest : KeepsToldHonesty truth old new
     pub asked_only : AskedOnly link (names_of link bench.links) bench.links after.links
     pub later : count bench.dice ≤ count after.dice
     pub pages : size_of after.pages ≡ size_of bench.pages

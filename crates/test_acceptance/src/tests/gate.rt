@@ -60,14 +60,12 @@ fn count<T>(faults: &mut FaultCount, answer: &Result<T, KmsNo>)
 }
 
 impl<'a, L: Kms + Drop> Kms for Gate<'a, L> {
-    ghost truth = { L.truth };
-
     ghost link = { λ gate. counting (L.link gate.inner) gate.faults };
 
     // No more is said of its exchanges than of any link's.
     ghost step = { λ old exchange new. KeepsLink (counting (L.link old.inner) old.faults) exchange
         (counting (L.link new.inner) new.faults)
-        × TellsAnswer L.truth (L.link old.inner).status exchange };
+        × TellsAnswer (L.link old.inner).status exchange };
 
     ghost keeps = { λ old exchange new h. h.0 };
 

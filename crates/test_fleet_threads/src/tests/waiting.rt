@@ -36,13 +36,11 @@ impl<'a, L: Kms + Drop> Waiting<'a, L> {
 }
 
 impl<'a, L: Kms + Drop> Kms for Waiting<'a, L> {
-    ghost truth = { L.truth };
-
     ghost link = { λ waiting. L.link waiting.inner };
 
     // No more is said of its exchanges than of any link's.
     ghost step = { λ old exchange new. KeepsLink (L.link old.inner) exchange (L.link new.inner)
-        × TellsAnswer L.truth (L.link old.inner).status exchange };
+        × TellsAnswer (L.link old.inner).status exchange };
 
     ghost keeps = { λ old exchange new h. h.0 };
 

@@ -12,10 +12,10 @@ loop-replica-init g c =
     let dice = c.args.dice.now in
     let files = named c.args.files.now in
     let replicas = c.args.replicas.now in
-    subst (λ m. IsPublishing g.L.Kms.truth g.L.Kms.link g.L.Kms.step g.D.Dice.left g.D.Dice.count
+    subst (λ m. IsPublishing g.L.Kms.link g.L.Kms.step g.D.Dice.left g.D.Dice.count
     files replicas
     0 m links links dice dice) (sym c.new-made.ensures)
-    (publishing_none g.L.Kms.truth g.L.Kms.link g.L.Kms.step g.D.Dice.left g.D.Dice.count files
+    (publishing_none g.L.Kms.link g.L.Kms.step g.D.Dice.left g.D.Dice.count files
     replicas links
     dice)
 
@@ -23,7 +23,7 @@ pub publish_replica-requires : goal.publish_replica-requires
 publish_replica-requires g c =
     let files = named c.args.files.now in
     let replica = c.replica-item.result in record {
-      read = may_publish g.L.Kms.truth g.L.Kms.link g.L.Kms.step g.D.Dice.left g.D.Dice.count files
+      read = may_publish g.L.Kms.link g.L.Kms.step g.D.Dice.left g.D.Dice.count files
           c.args.replicas.now c.loop-replica.invariant replica.1
           (subst (λ r. MayPublish (names_of g.L.Kms.link c.args.links.now) files r.1)
           (sym c.replica-item.is) (c.requires.read c.loop-replica.replica-index replica
@@ -31,7 +31,7 @@ publish_replica-requires g c =
     }
 
 pub returns-in-Err-clause-does : goal.returns-in-Err-clause-does
-returns-in-Err-clause-does g c = publishing_stops g.L.Kms.truth g.L.Kms.link g.L.Kms.step
+returns-in-Err-clause-does g c = publishing_stops g.L.Kms.link g.L.Kms.step
     g.D.Dice.left
     g.D.Dice.count (named c.args.files.now) c.args.replicas.now c.loop-replica.invariant
     c.publish_replica.new.links c.publish_replica.new.dice c.replica-item.result
@@ -39,26 +39,26 @@ returns-in-Err-clause-does g c = publishing_stops g.L.Kms.truth g.L.Kms.link g.L
     c.replica-item.is c.in-Err.stop c.in-Err.ensures.does
 
 pub returns-in-Err-clause-asked : goal.returns-in-Err-clause-asked
-returns-in-Err-clause-asked g c = asked_further g.L.Kms.truth g.L.Kms.link g.L.Kms.step
+returns-in-Err-clause-asked g c = asked_further g.L.Kms.link g.L.Kms.step
     g.D.Dice.left
     g.D.Dice.count (named c.args.files.now) c.args.replicas.now c.loop-replica.invariant
     c.publish_replica.new.links c.publish_replica.new.dice c.publish_replica.ensures.asked
 
 pub returns-in-Err-push-clause-does : goal.returns-in-Err-push-clause-does
-returns-in-Err-push-clause-does g c = publishing_unkept g.L.Kms.truth g.L.Kms.link
+returns-in-Err-push-clause-does g c = publishing_unkept g.L.Kms.link
     g.L.Kms.step g.D.Dice.left g.D.Dice.count (named c.args.files.now) c.args.replicas.now
     c.loop-replica.invariant c.publish_replica.new.links c.publish_replica.new.dice
     c.replica-item.result
     c.loop-replica-test.true c.replica-item.is c.in-Ok.published c.in-Ok.ensures.does
 
 pub returns-in-Err-push-clause-asked : goal.returns-in-Err-push-clause-asked
-returns-in-Err-push-clause-asked g c = asked_further g.L.Kms.truth g.L.Kms.link g.L.Kms.step
+returns-in-Err-push-clause-asked g c = asked_further g.L.Kms.link g.L.Kms.step
     g.D.Dice.left
     g.D.Dice.count (named c.args.files.now) c.args.replicas.now c.loop-replica.invariant
     c.publish_replica.new.links c.publish_replica.new.dice c.publish_replica.ensures.asked
 
 pub loop-replica-preserved : goal.loop-replica-preserved
-loop-replica-preserved g c = publishing_more g.L.Kms.truth g.L.Kms.link g.L.Kms.step g.D.Dice.left
+loop-replica-preserved g c = publishing_more g.L.Kms.link g.L.Kms.step g.D.Dice.left
     g.D.Dice.count (named c.args.files.now) c.args.replicas.now c.loop-replica.invariant
     c.publish_replica.new.links c.publish_replica.new.dice c.replica-item.result
     c.loop-replica-test.true
@@ -67,12 +67,12 @@ loop-replica-preserved g c = publishing_more g.L.Kms.truth g.L.Kms.link g.L.Kms.
     c.in-Ok-push.ensures.ok
 
 pub returns-clause-does : goal.returns-clause-does
-returns-clause-does g c = publishing_all g.L.Kms.truth g.L.Kms.link g.L.Kms.step g.D.Dice.left
+returns-clause-does g c = publishing_all g.L.Kms.link g.L.Kms.step g.D.Dice.left
     g.D.Dice.count (named c.args.files.now) c.args.replicas.now c.loop-replica.invariant
     c.loop-replica-test.false
 
 pub returns-clause-replicas : goal.returns-clause-replicas
-returns-clause-replicas g c = published_all g.L.Kms.truth g.L.Kms.link g.L.Kms.step g.D.Dice.left
+returns-clause-replicas g c = published_all g.L.Kms.link g.L.Kms.step g.D.Dice.left
     g.D.Dice.count (named c.args.files.now) c.args.replicas.now c.loop-replica.invariant
     c.loop-replica-test.false
 

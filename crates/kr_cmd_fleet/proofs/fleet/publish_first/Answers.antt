@@ -20,7 +20,7 @@ publish_each-published-requires g c =
     let is = c.index_mut-first.ensures.value
     ∙ ap (λ os. get_or os 0 first) c.into_vec-outfits.ensures in record {
       read = may_each c.args.plan.now c.requires.plan (names_of g.L.Kms.link first.links)
-          (first_named g.L.Kms.truth g.L.Kms.link g.D.Dice.left g.D.Dice.count _ outfits first
+          (first_named g.L.Kms.link g.D.Dice.left g.D.Dice.count _ outfits first
           c.requires.some is c.requires.named)
           c.as_slice-files.result.now c.as_slice-replicas.result.now c.as_slice-files.ensures
           c.as_slice-replicas.ensures;
@@ -45,20 +45,21 @@ returns-clause-does g c =
     let back_is = sym (c.from_vec.ensures ∙ ap (λ os. set os 0 new) c.into_vec-outfits.ensures) in (
       es,
       subst (λ back. AsksFirst g.L.Kms.step es (links_of outfits) (links_of back)) back_is
-          (first_asks g.L.Kms.truth link left count g.L.Kms.step outfits first new es
+          (first_asks link left count g.L.Kms.step outfits first new es
           c.requires.some is talk.walk),
-      λ a t. subst (λ back. Does next (with_outfits link left count 0 outfits a)
+      λ a. subst (λ back. Does next (with_outfits link left count 0 outfits a)
           (with_outfits link left count 0 back (with_exchanges es a)) result) back_is
-          (heard_first g.L.Kms.truth link left count next result outfits first new es
+          (heard_first link left count next result outfits first new es
           c.requires.some is
-          (λ b u. subst (λ rs. Does (publishing (named plan.files.0) [] rs)
+          (λ b. subst (λ rs. Does (publishing (named plan.files.0) [] rs)
           (with_first link first.links (left first.dice) (count first.dice) b)
           (with_first link new.links (left new.dice) (count new.dice) (with_exchanges es b)) result)
           c.as_slice-replicas.ensures
           (subst (λ fs. Does (publishing (named fs) [] c.as_slice-replicas.result.now)
           (with_first link first.links (left first.dice) (count first.dice) b)
           (with_first link new.links (left new.dice) (count new.dice) (with_exchanges es b)) result)
-          c.as_slice-files.ensures (talk.are b u))) a t),
+          c.as_slice-files.ensures (talk.are.0 b))) a),
+      talk.are.1,
     )
 
 pub returns-clause-later : goal.returns-clause-later
@@ -71,5 +72,5 @@ returns-clause-later g c =
     let new : Outfit _ _ = record { links = each.new.links; dice = each.new.dice } in
     subst (λ back. AreLater g.L.Kms.link g.D.Dice.count outfits back)
     (sym (c.from_vec.ensures ∙ ap (λ os. set os 0 new) c.into_vec-outfits.ensures))
-    (first_later g.L.Kms.truth g.L.Kms.link g.D.Dice.left g.D.Dice.count outfits first new
+    (first_later g.L.Kms.link g.D.Dice.left g.D.Dice.count outfits first new
     c.requires.some is each.ensures.asked each.ensures.later)

@@ -75,7 +75,7 @@ run_fleet-ended-requires g c =
 
 pub invariant_of-crew : goal.invariant_of-crew
 invariant_of-crew g c =
-    let long = still_many g.L.Kms.truth g.L.Kms.link g.L.Kms.step g.D.Dice.left g.D.Dice.count
+    let long = still_many g.L.Kms.link g.L.Kms.step g.D.Dice.left g.D.Dice.count
     c.as_slice-2.result.now c.args.core.opening c.as_slice-3.result.now
     c.as_slice.result.now c.args.crew.workers.items
     c.run_fleet-ended.new.workers.items c.run_fleet-ended.result
@@ -107,7 +107,7 @@ returns-in-Err g c =
 pub returns-in-Ok : goal.returns-in-Ok
 returns-in-Ok g c =
     let outfits = c.part-outfits.ensures.outfits in
-    let one = one_as_asked g.L.Kms.truth g.L.Kms.link g.L.Kms.step g.D.Dice.left g.D.Dice.count
+    let one = one_as_asked g.L.Kms.link g.L.Kms.step g.D.Dice.left g.D.Dice.count
     c.args.plan.now.files.0 c.as_slice-2.result.now c.in-Ok.core.history c.args.core.opening
     c.args.plan.now.script.workers.0 c.as_slice-3.result.now c.args.budgets.now.entries.items
     c.as_slice.result.now c.args.crew.workers.items c.run_fleet-ended.new.workers.items
@@ -123,7 +123,7 @@ returns-in-Ok g c =
         outfits_are = outfits;
         later = subst (λ l. AreLater g.L.Kms.link g.D.Dice.count
             (outfits_of c.args.crew.workers.items) l) (sym outfits)
-            (workers_later g.L.Kms.truth g.L.Kms.link g.L.Kms.step g.D.Dice.left g.D.Dice.count
+            (workers_later g.L.Kms.link g.L.Kms.step g.D.Dice.left g.D.Dice.count
             c.args.plan.now.files.0 c.in-Ok.core.history c.args.core.opening
             c.args.plan.now.script.workers.0 c.args.budgets.now.entries.items
             c.args.crew.workers.items c.run_fleet-ended.new.workers.items c.requires.crew.many

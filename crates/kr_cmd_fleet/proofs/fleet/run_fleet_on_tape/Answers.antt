@@ -51,14 +51,14 @@ returns-in-Err-clause-made g c =
     let world = g.W.World.told c.args.world.now in
     let tape = c.in-Err.tape in
     let first = stored_on Store in
-    not_started g.row.W-Tap.Denot g.W.Link.Kms.truth g.W.Link.Kms.link g.W.Link.Kms.step
+    not_started g.row.W-Tap.Denot g.W.Link.Kms.link g.W.Link.Kms.step
     g.W.World.lent g.W.World.took g.W.Rand.Dice.left g.W.Rand.Dice.count c.args.watched plan
     (λ name. and_then (first name) (beginning c.args.watched plan))
     (λ name a. with_lent_tape name (g.W.Tap.Tape.told c.args.tape) (g.W.Tap.Tape.count c.args.tape)
     (with_world world a))
     (λ name a. with_lent_tape name (g.W.Tap.Tape.told tape) (g.W.Tap.Tape.count tape)
-    (with_world world a)) c.in-Err.stop
-    (λ Begins name a. ends_before _ _ _ _ _ _ Begins c.args.watched name plan (first name)
+    (with_world world a)) c.in-Err.stop world
+    (λ Begins name a. ends_before _ _ _ _ _ Begins c.args.watched name plan (first name)
     (beginning c.args.watched plan) c.in-Err.stop (c.in-Err.ensures.err name (with_world world a)))
 
 pub returns-in-Err-script_budgets-clause-made : goal.returns-in-Err-script_budgets-clause-made
@@ -70,30 +70,29 @@ returns-in-Err-script_budgets-clause-made g c =
     let tape = c.close.result in
     let why = c.in-Err-script_budgets.why in
     let stop = c.budget_stop.result in
-    let truth = g.W.Link.Kms.truth in
     let link = g.W.Link.Kms.link in
     let step = g.W.Link.Kms.step in
     let left = g.W.Rand.Dice.left in
     let count = g.W.Rand.Dice.count in
     let watched = c.args.watched in
-    not_started g.row.W-Tap.Denot truth link step g.W.World.lent g.W.World.took left count watched
+    not_started g.row.W-Tap.Denot link step g.W.World.lent g.W.World.took left count watched
     plan (λ name. and_then (stored_on Store name) (beginning watched plan))
     (λ name a. with_lent_tape name (g.W.Tap.Tape.told c.args.tape) (g.W.Tap.Tape.count c.args.tape)
     (with_world world a))
     (λ name a. with_lent_tape name (g.W.Tap.Tape.told tape) (g.W.Tap.Tape.count tape)
-    (with_world world a)) stop
+    (with_world world a)) stop world
     (λ Begins name a.
     let here = with_world world a in
     let old = with_lent_tape name (g.W.Tap.Tape.told c.args.tape) (g.W.Tap.Tape.count c.args.tape)
     here in
     let now = with_lent_tape name store.told store.count here in
-    runs_closed g.row.W-Tap.Denot truth link step left count Begins watched name plan
+    runs_closed g.row.W-Tap.Denot link step left count Begins watched name plan
     (and_then (stored_on Store name) (beginning watched plan)) here old
     (Err stop) c.close.ensures.told c.close.ensures.count
-    (before g.row.W-Tap.Denot truth link step left count Begins watched name plan
+    (before g.row.W-Tap.Denot link step left count Begins watched name plan
     (stored_on Store name) (beginning watched plan) (stored_of store) now
     (c.in-Ok.ensures.ok name here) (Err stop)
-    (ends_before g.row.W-Tap.Denot truth link step left count Begins watched name plan
+    (ends_before g.row.W-Tap.Denot link step left count Begins watched name plan
     (budgeting store.rows (parts_of plan.fleet)) (equipping_all watched plan (stored_of store)) stop
     (subst (λ s. Does (budgeting store.rows (parts_of plan.fleet)) now now (Err s))
     (sym c.budget_stop.ensures)
@@ -107,7 +106,6 @@ returns-clause-made g c =
     let plan = plan_of c.args.plan.now in
     let parts = c.args.plan.now.script.workers.0 in
     let budgets = c.in-Ok-script_budgets.budgets.entries.items in
-    let truth = g.W.Link.Kms.truth in
     let link = g.W.Link.Kms.link in
     let step = g.W.Link.Kms.step in
     let left = g.W.Rand.Dice.left in
@@ -119,29 +117,32 @@ returns-clause-made g c =
     let es = start.exchanges in record {
       exchanges = es;
       asked = start.asked;
-      done = λ name a t.
-          let Begins = BeginsLent (hearing es a.heard) step watched es g.W.World.lent
-          g.W.World.took in
-          let here = with_world (g.W.World.told c.args.world.now) a in
-          let old = with_lent_tape name (g.W.Tap.Tape.told c.args.tape)
-          (g.W.Tap.Tape.count c.args.tape) here in
-          let now = with_lent_tape name store.told store.count here in
-          let there = with_world (g.W.World.told c.run_outfitted_fleet-made.new.world)
-          (with_exchanges es a) in
-          let new = with_lent_tape name back.told back.count there in
-          runs_closed g.row.W-Tap.Denot truth link step left count Begins watched name plan
-          (and_then (stored_on Store name) (beginning watched plan)) there old
-          made c.close-2.ensures.told c.close-2.ensures.count
-          (before g.row.W-Tap.Denot truth link step left count Begins watched name plan
-          (stored_on Store name) (beginning watched plan) (stored_of store) new
-          (c.in-Ok.ensures.ok name here) made
-          (before g.row.W-Tap.Denot truth link step left count Begins watched name plan
-          (budgeting store.rows (parts_of plan.fleet))
-          (equipping_all watched plan (stored_of store))
-          budgets new
-          (budgeted store.rows parts c.live_count.result c.live_count.ensures budgets
-          (subst (λ p. budgets ≡ script_budgets (c.live_count.result + put_lines p) p)
-          c.as_slice.ensures c.in-Ok-script_budgets.ensures.entries)
-          c.in-Ok-script_budgets.ensures.few now)
-          made (start.done name a t)));
+      done = (
+        start.done.0,
+        λ name a.
+            let Begins = BeginsLent (hearing es a.heard) es step g.W.World.lent
+            g.W.World.took start.asked.begun start.asked.back in
+            let here = with_world (g.W.World.told c.args.world.now) a in
+            let old = with_lent_tape name (g.W.Tap.Tape.told c.args.tape)
+            (g.W.Tap.Tape.count c.args.tape) here in
+            let now = with_lent_tape name store.told store.count here in
+            let there = with_world (g.W.World.told c.run_outfitted_fleet-made.new.world)
+            (with_exchanges es a) in
+            let new = with_lent_tape name back.told back.count there in
+            runs_closed g.row.W-Tap.Denot link step left count Begins watched name plan
+            (and_then (stored_on Store name) (beginning watched plan)) there old
+            made c.close-2.ensures.told c.close-2.ensures.count
+            (before g.row.W-Tap.Denot link step left count Begins watched name plan
+            (stored_on Store name) (beginning watched plan) (stored_of store) new
+            (c.in-Ok.ensures.ok name here) made
+            (before g.row.W-Tap.Denot link step left count Begins watched name plan
+            (budgeting store.rows (parts_of plan.fleet))
+            (equipping_all watched plan (stored_of store))
+            budgets new
+            (budgeted store.rows parts c.live_count.result c.live_count.ensures budgets
+            (subst (λ p. budgets ≡ script_budgets (c.live_count.result + put_lines p) p)
+            c.as_slice.ensures c.in-Ok-script_budgets.ensures.entries)
+            c.in-Ok-script_budgets.ensures.few now)
+            made (start.done.1 name a))),
+      );
     }

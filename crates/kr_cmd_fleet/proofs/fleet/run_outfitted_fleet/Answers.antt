@@ -1,5 +1,5 @@
 -- `run_outfitted_fleet`: the outfits are borrowed for what follows, and come back.
-use Rattle.std.proofs.Common.{◌∙◌, [], Err, ap, arith, length, subst, sym}
+use Rattle.std.proofs.Common.{◌∙◌, [], Err, ap, arith, length, refl, subst, sym}
 use Rattle.std.proofs.lemmas.List.{length-map}
 use Rattle.kr_script.specs.Fleets.{worker_of}
 use Rattle.kr_cmd_steps.specs.Around.{Around, with_exchanges, with_world}
@@ -14,8 +14,8 @@ use Rattle.kr_cmd_fleet.specs.inner.Workings.{AsksOutfits, BeginsLent}
 use Rattle.kr_cmd_steps.specs.inner.ProgramNames.{names_in}
 use Rattle.kr_cmd_steps.specs.inner.Tapes.{stored_of}
 use Rattle.kr_cmd_steps.proofs.Hearing.{around_none}
-use Rattle.kr_cmd_fleet.proofs.FleetRuns.{none_asked, runs_so}
-use Rattle.kr_cmd_fleet.proofs.StartExchanges.{asks_lent, were_asked}
+use Rattle.kr_cmd_fleet.proofs.FleetRuns.{runs_so}
+use Rattle.kr_cmd_fleet.proofs.StartExchanges.{asks_lent, idle_were}
 use Rattle.kr_cmd_fleet.proofs.FleetOutfits.{runs_equipped, runs_unequipped}
 use Rattle.kr_cmd_fleet.proofs.Outfits.{later_many, later_named}
 use Rattle.kr_cmd_fleet.proofs.Plans.{plan_workers}
@@ -88,7 +88,6 @@ pub returns-in-Ok-clause-made : goal.returns-in-Ok-clause-made
 returns-in-Ok-clause-made g c =
     let store = c.args.store in
     let plan = plan_of c.args.plan.now in
-    let truth = g.W.Link.Kms.truth in
     let link = g.W.Link.Kms.link in
     let step = g.W.Link.Kms.step in
     let left = g.W.Rand.Dice.left in
@@ -108,39 +107,49 @@ returns-in-Ok-clause-made g c =
     let start = c.begin-made.ensures.made in
     let es = start.exchanges in record {
       exchanges = es;
-      asked = were_asked g.W.World.lent step es (links_of olds) start.news c.in-Ok.ensures.lent
-          start.asks;
-      done = λ name a t.
-          let told = hearing es a.heard in
-          let Begins = BeginsLent told step watched es g.W.World.lent g.W.World.took in
-          let behind = with_exchanges es a in
-          let before = with_lent_tape name store.told store.count (with_world old a) in
-          let after = with_lent_tape name kept.told kept.count (with_world new behind) in
-          subst (λ ps. RunsBy g.row.W-Tap.Denot truth link step left count Begins watched
-          (equipping ps 0 (length plan.fleet.workers) next) name plan before after made)
-          c.as_slice-2.ensures
-          (subst (λ n. RunsBy g.row.W-Tap.Denot truth link step left count Begins watched
-          (equipping programs 0 n next) name plan before after made) many
-          (runs_equipped g.row.W-Tap.Denot truth link step left count Begins watched name plan a
-          programs (length c.as_slice.result.now) next old mid new olds c.in-Ok.ensures.tapes
-          c.close_outfits.ensures.tapes behind store.told kept.told store.count kept.count back
-          c.in-Ok.ensures.does c.close_outfits.ensures.back made
-          (runs_so g.row.W-Tap.Denot truth link step left count
-          (AsksOutfits told step watched es olds back) Begins
-          (asks_lent told step watched es g.W.World.lent g.W.World.took olds back
-          c.in-Ok.ensures.lent c.close_outfits.ensures.taken) watched next name plan
-          (with_outfits link left count 0 olds
-          (with_lent_tape name store.told store.count (with_world mid a)))
-          (with_outfits link left count 0 back
-          (with_lent_tape name kept.told kept.count (with_world mid behind))) made
-          (start.done name (with_world mid a) t))));
+      asked = record {
+        given = links_of olds;
+        begun = start.news;
+        back = links_of back;
+        handed = c.close_outfits.ensures.handed ∙ c.in-Ok.ensures.handed;
+        lent_are = c.in-Ok.ensures.lent;
+        asks = start.asks;
+        took_are = c.close_outfits.ensures.taken;
+      };
+      done = (
+        start.done.0,
+        λ name a.
+            let told = hearing es a.heard in
+            let Begins = BeginsLent told es step g.W.World.lent g.W.World.took
+            start.news (links_of back) in
+            let behind = with_exchanges es a in
+            let before = with_lent_tape name store.told store.count (with_world old a) in
+            let after = with_lent_tape name kept.told kept.count (with_world new behind) in
+            subst (λ ps. RunsBy g.row.W-Tap.Denot link step left count Begins watched
+            (equipping ps 0 (length plan.fleet.workers) next) name plan before after made)
+            c.as_slice-2.ensures
+            (subst (λ n. RunsBy g.row.W-Tap.Denot link step left count Begins watched
+            (equipping programs 0 n next) name plan before after made) many
+            (runs_equipped g.row.W-Tap.Denot link step left count Begins watched name plan a
+            programs (length c.as_slice.result.now) next old mid new olds c.in-Ok.ensures.tapes
+            c.close_outfits.ensures.tapes behind store.told kept.told store.count kept.count back
+            c.in-Ok.ensures.does c.close_outfits.ensures.back made
+            (runs_so g.row.W-Tap.Denot link step left count
+            (AsksOutfits told es start.news (links_of back)) Begins
+            (asks_lent told es step g.W.World.lent g.W.World.took (links_of olds) start.news
+            (links_of back) c.in-Ok.ensures.lent start.asks c.close_outfits.ensures.taken) watched next name plan
+            (with_outfits link left count 0 olds
+            (with_lent_tape name store.told store.count (with_world mid a)))
+            (with_outfits link left count 0 back
+            (with_lent_tape name kept.told kept.count (with_world mid behind))) made
+            (start.done.1 name (with_world mid a))))),
+      );
     }
 
 pub returns-in-Err-clause-made : goal.returns-in-Err-clause-made
 returns-in-Err-clause-made g c =
     let store = c.args.store in
     let plan = plan_of c.args.plan.now in
-    let truth = g.W.Link.Kms.truth in
     let link = g.W.Link.Kms.link in
     let step = g.W.Link.Kms.step in
     let left = g.W.Rand.Dice.left in
@@ -152,27 +161,34 @@ returns-in-Err-clause-made g c =
     let new = g.W.World.told c.close_outfits-in-Err.new.world in
     let programs = c.as_slice-2.result.now in
     let many = ap length c.as_slice.ensures
-    ∙ sym (length-map c.args.plan.now.script.workers.0 worker_of) in record {
+    ∙ sym (length-map c.args.plan.now.script.workers.0 worker_of) in
+    let opened = links_of c.open_outfits-opened.new.outfits.0 in
+    let asked = idle_were link g.W.World.lent g.W.World.took step opened c.in-Err.ensures.handed
+    c.close_outfits-in-Err.ensures.handed c.in-Err.ensures.lent
+    c.close_outfits-in-Err.ensures.taken in record {
       exchanges = [];
-      asked = none_asked g.W.World.lent step;
-      done = λ name a t.
-          let Begins = BeginsLent (hearing [] a.heard) step watched [] g.W.World.lent
-          g.W.World.took in
-          let before = with_lent_tape name store.told store.count (with_world old a) in
-          let after : Around → Around = λ b. with_lent_tape name store.told store.count
-          (with_world new b) in
-          let stop = c.in-Err.stop in
-          subst (λ b. RunsBy g.row.W-Tap.Denot truth link step left count Begins watched
-          (equipping_all watched plan (stored_of store) c.args.budgets.now.entries.items) name plan
-          before (after b) (Err stop)) (sym (around_none a))
-          (subst (λ ps. RunsBy g.row.W-Tap.Denot truth link step left count Begins watched
-          (equipping ps 0 (length plan.fleet.workers) next) name plan before (after a) (Err stop))
-          c.as_slice-2.ensures
-          (subst (λ n. RunsBy g.row.W-Tap.Denot truth link step left count Begins watched
-          (equipping programs 0 n next) name plan before (after a) (Err stop)) many
-          (runs_unequipped g.row.W-Tap.Denot truth link step left count Begins watched name plan a
-          programs (length c.as_slice.result.now) next old mid new
-          c.open_outfits-opened.new.outfits.0 c.in-Err.ensures.tapes
-          c.close_outfits-in-Err.ensures.tapes store.told store.count stop c.in-Err.ensures.does
-          c.close_outfits-in-Err.ensures.back)));
+      asked = asked;
+      done = (
+        refl,
+        λ name a.
+            let Begins = BeginsLent (hearing [] a.heard) [] step g.W.World.lent
+            g.W.World.took asked.begun asked.back in
+            let before = with_lent_tape name store.told store.count (with_world old a) in
+            let after : Around → Around = λ b. with_lent_tape name store.told store.count
+            (with_world new b) in
+            let stop = c.in-Err.stop in
+            subst (λ b. RunsBy g.row.W-Tap.Denot link step left count Begins watched
+            (equipping_all watched plan (stored_of store) c.args.budgets.now.entries.items) name plan
+            before (after b) (Err stop)) (sym (around_none a))
+            (subst (λ ps. RunsBy g.row.W-Tap.Denot link step left count Begins watched
+            (equipping ps 0 (length plan.fleet.workers) next) name plan before (after a) (Err stop))
+            c.as_slice-2.ensures
+            (subst (λ n. RunsBy g.row.W-Tap.Denot link step left count Begins watched
+            (equipping programs 0 n next) name plan before (after a) (Err stop)) many
+            (runs_unequipped g.row.W-Tap.Denot link step left count Begins watched name plan a
+            programs (length c.as_slice.result.now) next old mid new
+            c.open_outfits-opened.new.outfits.0 c.in-Err.ensures.tapes
+            c.close_outfits-in-Err.ensures.tapes store.told store.count stop c.in-Err.ensures.does
+            c.close_outfits-in-Err.ensures.back))),
+      );
     }

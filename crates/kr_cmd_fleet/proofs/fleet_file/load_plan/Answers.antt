@@ -1,5 +1,5 @@
 -- `load_plan`: one phase behind another.
-use Rattle.std.proofs.Common.{◌≡◌, List, ℕ, [], Err, Ok, subst}
+use Rattle.std.proofs.Common.{◌≡◌, ◌∙◌, List, ℕ, [], Err, Ok, subst}
 use Rattle.kr_provider.specs.PluginOrder.{plugin_order}
 use Rattle.kr_script.specs.Fleets.{Fleet, fleet_of}
 use Rattle.kr_cmd_fleet.specs.FleetFiles.{FleetPlan, NamedRows, all_rows, files_in, fleet_in, all_files, file_programs}
@@ -94,3 +94,14 @@ returns-clause-whole g c =
       programs = subst (λ fs. names_in programs ≡ plugin_order (all_rows (named fs)))
           c.as_slice.ensures c.in-Ok-file_programs.ensures.names;
     }
+
+pub returns-in-Err-load_files-clause-links : goal.returns-in-Err-load_files-clause-links
+returns-in-Err-load_files-clause-links g c =
+    c.in-Err-load_files.ensures.0 ∙ c.load_fleet.ensures.links
+
+pub returns-in-Err-file_programs-clause-links : goal.returns-in-Err-file_programs-clause-links
+returns-in-Err-file_programs-clause-links g c =
+    c.in-Ok-load_files.ensures.0 ∙ c.load_fleet.ensures.links
+
+pub returns-clause-links : goal.returns-clause-links
+returns-clause-links g c = c.in-Ok-load_files.ensures.0 ∙ c.load_fleet.ensures.links

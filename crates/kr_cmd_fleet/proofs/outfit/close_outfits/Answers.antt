@@ -71,3 +71,6 @@ returns-clause-tapes g c = c.loop-outfit.invariant.2.tapes
 pub returns-clause-taken : goal.returns-clause-taken
 returns-clause-taken g c = c.loop-outfit.invariant.1
     (subst (λ os. AreOfSeats g.W.World.took 0 (links_of os)) (sym c.in_default.ensures.items.0) tt)
+
+pub returns-clause-handed : goal.returns-clause-handed
+returns-clause-handed g c = c.loop-outfit.invariant.2.handed

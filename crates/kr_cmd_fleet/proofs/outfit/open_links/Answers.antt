@@ -2,7 +2,7 @@
 use Rattle.std.proofs.Common.{◌∙◌, ap, subst, sym}
 use Rattle.std.specs.Prelude.{◌<◌, All}
 use Rattle.std.proofs.lemmas.List.Elements.{All-nil, All-push}
-use Rattle.kr_cmd_fleet.proofs.Outfitting.{all_named, all_opened, is_out, lacked_link, new_name, no_link, one_link, others_linked, others_same, others_trans, others_unlinked, refused_link, still_out}
+use Rattle.kr_cmd_fleet.proofs.Outfitting.{all_named, all_opened, is_out, lacked_handed, lacked_link, new_name, no_link, one_link, others_linked, others_same, others_trans, others_unlinked, refused_handed, refused_link, still_out}
 use Rattle.kr_cmd_fleet.proofs.outfit.open_links.Goals as goal
 
 pub loop-program-init : goal.loop-program-init
@@ -144,3 +144,27 @@ returns-in-Err-add-clause-lent g c =
 
 pub returns-clause-lent : goal.returns-clause-lent
 returns-clause-lent g c = c.loop-program.invariant.1
+
+pub returns-in-Err-clause-handed : goal.returns-in-Err-clause-handed
+returns-in-Err-clause-handed g c = refused_handed g.W.Link.Kms.link g.W.Rand.Dice.left
+    g.W.Rand.Dice.count c.args.seat c.args.programs.now (g.W.World.told c.args.world.now)
+    c.requires.programs.0 c.requires.programs.1 c.loop-program.program-index
+    (g.W.World.told c.loop-program.world) c.loop-program.links c.loop-program.invariant.0
+    c.program-item.result c.loop-program-test.true c.program-item.is c.as_str.result.now
+    c.as_str-in-loop-program.result.now c.as_str.ensures c.as_str-in-loop-program.ensures
+    g.W.World.lent g.W.World.took (g.W.World.told c.open_link.new.world) c.in-Err.ensures.objects
+
+pub returns-in-Err-add-clause-handed : goal.returns-in-Err-add-clause-handed
+returns-in-Err-add-clause-handed g c = lacked_handed g.W.Link.Kms.link g.W.Rand.Dice.left
+    g.W.Rand.Dice.count c.args.seat c.args.programs.now (g.W.World.told c.args.world.now)
+    c.requires.programs.0 c.requires.programs.1 c.loop-program.program-index
+    (g.W.World.told c.loop-program.world) c.loop-program.links c.loop-program.invariant.0
+    c.program-item.result c.loop-program-test.true c.program-item.is c.as_str.result.now
+    c.as_str-in-loop-program.result.now c.as_str.ensures c.as_str-in-loop-program.ensures
+    c.in-Ok.link (g.W.World.told c.open_link.new.world) c.in-Ok.ensures.lent
+    c.in-Err-add.link (g.W.World.told c.close_link.new.world) c.close_link.ensures.back
+    c.in-Err-add.ensures.returned c.in-Ok.ensures.given c.close_link.ensures.taken
+    c.add.new.self c.in-Err-add.ensures.err
+
+pub returns-clause-handed : goal.returns-clause-handed
+returns-clause-handed g c = c.loop-program.invariant.0.handed

@@ -1,7 +1,10 @@
 -- `open_outfit`: the random source, and then the links.
-use Rattle.std.proofs.Common.{◌∙◌, Contains, subst, sym}
+use Rattle.std.proofs.Common.{◌∙◌, Contains, ap, subst, sym}
 use Rattle.std.specs.Prelude.{◌<◌}
 use Rattle.kr_cmd_fleet.proofs.Outfitting.{dice_out, equips_one, others_back, others_lent, others_same, others_trans, refuses_dice, refuses_links}
+use Rattle.kr_cmd_fleet.specs.StartExchanges.{keys_at}
+use Rattle.kr_cmd_fleet.proofs.Handed.{With, all_back, none_handed}
+use Rattle.kr_cmd_fleet.proofs.Outfits.{LinksOf}
 use Rattle.kr_cmd_fleet.proofs.outfit.open_outfit.Goals as goal
 
 pub returns-in-Err-clause-does : goal.returns-in-Err-clause-does
@@ -65,3 +68,18 @@ returns-in-Err-open_links-clause-others g c = others_trans (others_lent c.in-Ok.
 
 pub returns-in-Ok-open_links-clause-lent : goal.returns-in-Ok-open_links-clause-lent
 returns-in-Ok-open_links-clause-lent g c = c.in-Ok-open_links.ensures.lent
+
+pub returns-in-Err-clause-handed : goal.returns-in-Err-clause-handed
+returns-in-Err-clause-handed g c = none_handed g.W.Link.Kms.link g.W.World.lent g.W.World.took
+    c.args.seat c.in-Err.ensures.objects
+
+pub returns-in-Ok-open_links-clause-handed : goal.returns-in-Ok-open_links-clause-handed
+returns-in-Ok-open_links-clause-handed g c = c.in-Ok-open_links.ensures.handed
+    ∙ ap (λ (o : LinksOf). With (keys_at g.W.Link.Kms.link c.args.seat c.open_links.new.links)
+    o.handed) c.in-Ok.ensures.lent.links
+
+pub returns-in-Err-open_links-clause-handed : goal.returns-in-Err-open_links-clause-handed
+returns-in-Err-open_links-clause-handed g c = all_back g.W.Link.Kms.link g.W.World.lent
+    g.W.World.took c.args.seat c.open_links.new.links c.in-Ok.ensures.lent.links
+    c.in-Err-open_links.ensures.handed c.close_outfit.ensures.back.links_are
+    c.in-Err-open_links.ensures.lent c.close_outfit.ensures.taken

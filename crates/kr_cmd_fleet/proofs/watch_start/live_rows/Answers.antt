@@ -1,8 +1,7 @@
 -- `live_rows`: one row behind another.
-use Rattle.std.proofs.Common.{◌≡◌, ℕ, List, [], ◌∷◌, ◌++◌, None, Some, sym, ap, subst, ◌∙◌}
+use Rattle.std.proofs.Common.{[], ◌∷◌, ◌++◌, None, Some, sym, ap, subst, ◌∙◌}
 use Rattle.std.specs.Prelude.{IfSome}
 use Rattle.kr_store.specs.Rows.{IsRow}
-use Rattle.kr_store.specs.declared.rows.Row.{Row}
 use Rattle.kr_store.specs.Stores.{IsNext}
 use Rattle.kr_cmd_steps.specs.inner.Tapes.{walk_path}
 use Rattle.kr_opening.proofs.Walking.{goes_on}

@@ -1,5 +1,5 @@
 -- `read_rows`: one more row was read, or ended the reading.
-use Rattle.std.proofs.Common.{◌≡◌, IsSome, ap, subst, sym, refl, ◌∙◌, Ok, Err}
+use Rattle.std.proofs.Common.{IsSome, ap, subst, sym, refl, ◌∙◌, Ok, Err}
 use Rattle.std.specs.Prelude.{IfSome}
 use Rattle.kr_provider.specs.BenchState.{BenchState}
 use Rattle.kr_cmd_fleet.specs.inner.Readings.{IsReadable, ReadsRow}
@@ -7,13 +7,14 @@ use Rattle.kr_cmd_fleet.proofs.RowReads.{WalksTo, walks_all, walks_more, walks_n
 use Rattle.kr_cmd_fleet.proofs.watch_start.read_rows.Goals as goal
 
 pub loop-row-init : goal.loop-row-init
-loop-row-init g c = (
-  subst (λ items. WalksTo g.L.Kms.truth g.L.Kms.link c.args.bench.now.published c.args.rows.now 0
-      items c.args.bench.now.links c.args.bench.now.links) (sym c.new-items.ensures)
-      (walks_none g.L.Kms.truth g.L.Kms.link c.args.bench.now.published c.args.rows.now
-      c.args.bench.now.links),
-  refl,
-)
+loop-row-init g c =
+    let bench = c.args.bench.now in (
+      subst (λ items. WalksTo g.L.Kms.link g.L.Kms.step bench.published c.args.rows.now 0 items
+          bench.links bench.links bench.cache) (sym c.new-items.ensures)
+          (walks_none g.L.Kms.link g.L.Kms.step bench.published c.args.rows.now bench.links
+          bench.cache c.requires.cold),
+      refl,
+    )
 
 pub read_row-requires : goal.read_row-requires
 read_row-requires g c =
@@ -27,17 +28,19 @@ read_row-requires g c =
 
 pub returns-in-Err-clause-read : goal.returns-in-Err-clause-read
 returns-in-Err-clause-read g c =
+    let link = g.L.Kms.link in
+    let step = g.L.Kms.step in
     let row = c.row-item.result in
-    let links = c.loop-row.bench.links in
-    let news = c.read_row.new.bench.links in
-    walks_stop g.L.Kms.truth g.L.Kms.link c.args.rows.now c.loop-row.row-index
-    c.loop-row.items.0 c.args.bench.now.links c.loop-row.bench.links c.requires.distinct row
-    c.loop-row-test.true c.row-item.is news c.args.bench.now.published c.requires.opens
-    c.loop-row.invariant.0 c.in-Err.why
-    (subst (λ o. IfSome o (λ p. ReadsRow g.L.Kms.truth g.L.Kms.link p row links
-    (Err c.in-Err.why) news)) (ap (λ b. b.published) c.loop-row.invariant.1)
-    (subst (λ r. IfSome c.loop-row.bench.published (λ p. ReadsRow g.L.Kms.truth g.L.Kms.link p r
-    links (Err c.in-Err.why) news)) c.get.ensures c.in-Err.ensures.read))
+    let old = c.loop-row.bench in
+    let new = c.read_row.new.bench in
+    walks_stop link step c.args.rows.now c.loop-row.row-index c.loop-row.items.0
+    c.args.bench.now.links old.links old.cache c.requires.distinct row c.loop-row-test.true
+    c.row-item.is new.links new.cache c.args.bench.now.published c.loop-row.invariant.0
+    c.in-Err.why
+    (subst (λ o. IfSome o (λ p. ReadsRow link step p row old.links new.links old.cache new.cache
+    (Err c.in-Err.why))) (ap (λ b. b.published) c.loop-row.invariant.1)
+    (subst (λ r. IfSome old.published (λ p. ReadsRow link step p r old.links new.links old.cache
+    new.cache (Err c.in-Err.why))) c.get.ensures c.in-Err.ensures.read))
 
 pub returns-in-Err-clause-kept : goal.returns-in-Err-clause-kept
 returns-in-Err-clause-kept g c = c.read_row.ensures.kept
@@ -48,17 +51,19 @@ returns-in-Err-clause-kept g c = c.read_row.ensures.kept
 
 pub returns-in-Err-push-clause-read : goal.returns-in-Err-push-clause-read
 returns-in-Err-push-clause-read g c =
+    let link = g.L.Kms.link in
+    let step = g.L.Kms.step in
     let row = c.row-item.result in
-    let links = c.loop-row.bench.links in
-    let news = c.read_row.new.bench.links in
-    walks_unkept g.L.Kms.truth g.L.Kms.link c.args.rows.now c.loop-row.row-index
-    c.loop-row.items.0 c.args.bench.now.links c.loop-row.bench.links c.requires.distinct row
-    c.loop-row-test.true c.row-item.is news c.args.bench.now.published c.requires.opens
-    c.loop-row.invariant.0 c.in-Ok.item
-    (subst (λ o. IfSome o (λ p. ReadsRow g.L.Kms.truth g.L.Kms.link p row links
-    (Ok c.in-Ok.item) news)) (ap (λ b. b.published) c.loop-row.invariant.1)
-    (subst (λ r. IfSome c.loop-row.bench.published (λ p. ReadsRow g.L.Kms.truth g.L.Kms.link p r
-    links (Ok c.in-Ok.item) news)) c.get.ensures c.in-Ok.ensures.read))
+    let old = c.loop-row.bench in
+    let new = c.read_row.new.bench in
+    walks_unkept link step c.args.rows.now c.loop-row.row-index c.loop-row.items.0
+    c.args.bench.now.links old.links old.cache c.requires.distinct row c.loop-row-test.true
+    c.row-item.is new.links new.cache c.args.bench.now.published c.loop-row.invariant.0
+    c.in-Ok.item
+    (subst (λ o. IfSome o (λ p. ReadsRow link step p row old.links new.links old.cache new.cache
+    (Ok c.in-Ok.item))) (ap (λ b. b.published) c.loop-row.invariant.1)
+    (subst (λ r. IfSome old.published (λ p. ReadsRow link step p r old.links new.links old.cache
+    new.cache (Ok c.in-Ok.item))) c.get.ensures c.in-Ok.ensures.read))
 
 pub returns-in-Err-push-clause-kept : goal.returns-in-Err-push-clause-kept
 returns-in-Err-push-clause-kept g c = c.read_row.ensures.kept
@@ -69,17 +74,19 @@ returns-in-Err-push-clause-kept g c = c.read_row.ensures.kept
 
 pub loop-row-preserved : goal.loop-row-preserved
 loop-row-preserved g c =
+    let link = g.L.Kms.link in
+    let step = g.L.Kms.step in
     let row = c.row-item.result in
-    let links = c.loop-row.bench.links in
-    let news = c.read_row.new.bench.links in (
-      walks_more g.L.Kms.truth g.L.Kms.link c.args.rows.now c.loop-row.row-index
-          c.loop-row.items.0 c.args.bench.now.links c.loop-row.bench.links c.requires.distinct row
-          c.loop-row-test.true c.row-item.is news c.args.bench.now.published c.requires.opens
-          c.loop-row.invariant.0 c.in-Ok.item
-          (subst (λ o. IfSome o (λ p. ReadsRow g.L.Kms.truth g.L.Kms.link p row links
-          (Ok c.in-Ok.item) news)) (ap (λ b. b.published) c.loop-row.invariant.1)
-          (subst (λ r. IfSome c.loop-row.bench.published (λ p. ReadsRow g.L.Kms.truth
-          g.L.Kms.link p r links (Ok c.in-Ok.item) news)) c.get.ensures c.in-Ok.ensures.read))
+    let old = c.loop-row.bench in
+    let new = c.read_row.new.bench in (
+      walks_more link step c.args.rows.now c.loop-row.row-index c.loop-row.items.0
+          c.args.bench.now.links old.links old.cache c.requires.distinct row c.loop-row-test.true
+          c.row-item.is new.links new.cache c.args.bench.now.published c.loop-row.invariant.0
+          c.in-Ok.item
+          (subst (λ o. IfSome o (λ p. ReadsRow link step p row old.links new.links old.cache
+          new.cache (Ok c.in-Ok.item))) (ap (λ b. b.published) c.loop-row.invariant.1)
+          (subst (λ r. IfSome old.published (λ p. ReadsRow link step p r old.links new.links
+          old.cache new.cache (Ok c.in-Ok.item))) c.get.ensures c.in-Ok.ensures.read))
           c.push.new.self.0 c.in-Ok-push.ensures.ok,
       c.read_row.ensures.kept
           ∙ ap (λ (b : BenchState _ _). record b {
@@ -89,8 +96,9 @@ loop-row-preserved g c =
     )
 
 pub returns-clause-read : goal.returns-clause-read
-returns-clause-read g c = walks_all g.L.Kms.truth g.L.Kms.link c.args.rows.now c.loop-row.row-index
-    c.loop-row.items.0 c.args.bench.now.links c.loop-row.bench.links c.requires.distinct c.args.bench.now.published c.requires.opens c.loop-row.invariant.0
+returns-clause-read g c = walks_all g.L.Kms.link g.L.Kms.step c.args.rows.now c.loop-row.row-index
+    c.loop-row.items.0 c.args.bench.now.links c.loop-row.bench.links c.loop-row.bench.cache
+    c.requires.distinct c.args.bench.now.published c.loop-row.invariant.0
     c.loop-row-test.false _ refl
 
 pub returns-clause-kept : goal.returns-clause-kept

@@ -4,5 +4,5 @@ use Rattle.kr_cmd_gen.proofs.laws.each_load_is_wrong.Goals as goal
 
 pub returns : goal.returns
 returns g c =
-    proved.each_load_is_wrong g.row.W-Tap.Denot g.W.Link.Kms.truth g.W.Link.Kms.link
+    proved.each_load_is_wrong g.row.W-Tap.Denot g.W.Link.Kms.link
     g.W.Link.Kms.step

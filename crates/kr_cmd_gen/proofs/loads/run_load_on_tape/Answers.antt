@@ -11,7 +11,7 @@ use Rattle.kr_cmd_steps.specs.Steps.{and_then, hearing}
 use Rattle.kr_cmd_steps.proofs.Hearing.{around_untold}
 use Rattle.kr_cmd_fleet.specs.inner.Workings.{AsksOutfits}
 use Rattle.kr_cmd_fleet.specs.inner.FleetOutcomes.{RunsBy}
-use Rattle.kr_cmd_fleet.specs.inner.Outfits.{AreNamed, with_outfits}
+use Rattle.kr_cmd_fleet.specs.inner.Outfits.{AreNamed, links_of, with_outfits}
 use Rattle.kr_cmd_fleet.specs.inner.Plans.{plan_of}
 use Rattle.kr_cmd_steps.specs.inner.Lent.{with_lent_tape}
 use Rattle.kr_cmd_steps.specs.inner.Phases.{Does}
@@ -60,14 +60,14 @@ begin-made-requires-clause-named g c = λ κs lives.
     (sym c.requires.plan.bare) (bare_named g.L.Kms.link c.args.outfits.0 c.requires.bare)
 
 pub returns-in-Err-clause-made : goal.returns-in-Err-clause-made
-returns-in-Err-clause-made g c name a truth =
+returns-in-Err-clause-made g c name a unheard =
     let here = with_sources (sources_in c.args.outfits.0) a in
-    ends_before _ _ _ _ _ _ (λ heard workers ended. ⊤) false name (plan_of c.args.plan.now)
+    ends_before _ _ _ _ _ (λ heard asked workers ended. ⊤) false name (plan_of c.args.plan.now)
     (stored_on Store name)
     (load_beginning (plan_of c.args.plan.now)) c.in-Err.stop (c.in-Err.ensures.err name here)
 
 pub returns-in-Err-script_budgets-clause-made : goal.returns-in-Err-script_budgets-clause-made
-returns-in-Err-script_budgets-clause-made g c name a truth =
+returns-in-Err-script_budgets-clause-made g c name a unheard =
     let store = c.in-Ok.store in
     let plan = plan_of c.args.plan.now in
     let parts = c.args.plan.now.script.workers.0 in
@@ -76,16 +76,16 @@ returns-in-Err-script_budgets-clause-made g c name a truth =
     let now = with_lent_tape name store.told store.count here in
     let why = c.in-Err-script_budgets.why in
     let stop = c.budget_stop.result in
-    runs_closed g.row.T.Denot g.L.Kms.truth g.L.Kms.link g.L.Kms.step left_in link_faults
-    (λ heard workers ended. ⊤) false name
+    runs_closed g.row.T.Denot g.L.Kms.link g.L.Kms.step left_in link_faults
+    (λ heard asked workers ended. ⊤) false name
     plan (and_then (stored_on Store name) (load_beginning plan)) here old (Err stop)
     c.close.ensures.told c.close.ensures.count
-    (before g.row.T.Denot g.L.Kms.truth g.L.Kms.link g.L.Kms.step left_in link_faults
-    (λ heard workers ended. ⊤) false name plan
+    (before g.row.T.Denot g.L.Kms.link g.L.Kms.step left_in link_faults
+    (λ heard asked workers ended. ⊤) false name plan
     (stored_on Store name) (load_beginning plan) (stored_of store) now
     (c.in-Ok.ensures.ok name here) (Err stop)
-    (ends_before g.row.T.Denot g.L.Kms.truth g.L.Kms.link g.L.Kms.step left_in link_faults
-    (λ heard workers ended. ⊤) false name
+    (ends_before g.row.T.Denot g.L.Kms.link g.L.Kms.step left_in link_faults
+    (λ heard asked workers ended. ⊤) false name
     plan (budgeting store.rows (parts_of plan.fleet)) (launching false plan (stored_of store)) stop
     (subst (λ s. Does (budgeting store.rows (parts_of plan.fleet)) now now (Err s))
     (sym c.budget_stop.ensures)
@@ -94,7 +94,7 @@ returns-in-Err-script_budgets-clause-made g c name a truth =
     c.as_slice.ensures (c.in-Err-script_budgets.ensures.many (ap Err is))) now))))
 
 pub returns-clause-made : goal.returns-clause-made
-returns-clause-made g c name a truth =
+returns-clause-made g c name a unheard =
     let store = c.in-Ok.store in
     let plan = plan_of c.args.plan.now in
     let parts = c.args.plan.now.script.workers.0 in
@@ -112,16 +112,16 @@ returns-clause-made g c name a truth =
     let next = launching false plan (stored_of store) budgets in
     let bare = later_bare link outfits after c.begin-made.ensures.later c.requires.bare in
     let start = c.begin-made.ensures.made in
-    runs_closed g.row.T.Denot g.L.Kms.truth link g.L.Kms.step left_in link_faults
-    (λ heard workers ended. ⊤) false name plan
+    runs_closed g.row.T.Denot link g.L.Kms.step left_in link_faults
+    (λ heard asked workers ended. ⊤) false name plan
     (and_then (stored_on Store name) (load_beginning plan)) there old made
     c.close-2.ensures.told c.close-2.ensures.count
-    (before g.row.T.Denot g.L.Kms.truth link g.L.Kms.step left_in link_faults
-    (λ heard workers ended. ⊤) false name plan
+    (before g.row.T.Denot link g.L.Kms.step left_in link_faults
+    (λ heard asked workers ended. ⊤) false name plan
     (stored_on Store name) (load_beginning plan) (stored_of store) new
     (c.in-Ok.ensures.ok name here) made
-    (before g.row.T.Denot g.L.Kms.truth link g.L.Kms.step left_in link_faults
-    (λ heard workers ended. ⊤) false name plan
+    (before g.row.T.Denot link g.L.Kms.step left_in link_faults
+    (λ heard asked workers ended. ⊤) false name plan
     (budgeting store.rows (parts_of plan.fleet)) (launching false plan (stored_of store)) budgets
     new
     (budgeted store.rows parts c.live_count.result c.live_count.ensures budgets
@@ -129,28 +129,30 @@ returns-clause-made g c name a truth =
     c.as_slice.ensures c.in-Ok-script_budgets.ensures.entries) c.in-Ok-script_budgets.ensures.few
     now)
     made
-    (subst (λ x. RunsBy g.row.T.Denot g.L.Kms.truth link g.L.Kms.step left_in link_faults
-    (λ heard workers ended. ⊤) false next
+    (subst (λ x. RunsBy g.row.T.Denot link g.L.Kms.step left_in link_faults
+    (λ heard asked workers ended. ⊤) false next
     name plan x new made) (crew_seeded link name store.told store.count outfits c.requires.bare a)
-    (subst (λ y. RunsBy g.row.T.Denot g.L.Kms.truth link g.L.Kms.step left_in link_faults
-    (λ heard workers ended. ⊤) false next
+    (subst (λ y. RunsBy g.row.T.Denot link g.L.Kms.step left_in link_faults
+    (λ heard asked workers ended. ⊤) false next
     name plan (with_outfits link left_in link_faults 0 outfits
     (with_lent_tape name store.told store.count a)) y made)
     (crew_seeded link name back.told back.count after bare a)
-    (runs_so g.row.T.Denot g.L.Kms.truth link g.L.Kms.step left_in link_faults
-    (AsksOutfits (hearing start.exchanges a.heard) g.L.Kms.step false start.exchanges outfits after)
-    (λ heard workers ended. ⊤) (λ heard workers ended k. tt) false next name plan
+    (runs_so g.row.T.Denot link g.L.Kms.step left_in link_faults
+    (AsksOutfits (hearing start.exchanges a.heard) start.exchanges start.news
+    (links_of after))
+    (λ heard asked workers ended. ⊤) (λ heard asked workers ended k. tt) false next name plan
     (with_outfits link left_in link_faults 0 outfits (with_lent_tape name store.told store.count a))
     (with_outfits link left_in link_faults 0 after (with_lent_tape name back.told back.count a))
     made
-    (subst (λ b. RunsBy g.row.T.Denot g.L.Kms.truth link g.L.Kms.step left_in link_faults
-    (AsksOutfits (hearing start.exchanges a.heard) g.L.Kms.step false start.exchanges outfits after)
+    (subst (λ b. RunsBy g.row.T.Denot link g.L.Kms.step left_in link_faults
+    (AsksOutfits (hearing start.exchanges a.heard) start.exchanges start.news
+    (links_of after))
     false next name plan
     (with_outfits link left_in link_faults 0 outfits (with_lent_tape name store.told store.count a))
     (with_outfits link left_in link_faults 0 after (with_lent_tape name back.told back.count b))
     made)
-    (around_untold start.exchanges a truth.1)
-    (start.done name a (truth.0, λ on. truth.1))))))))
+    (around_untold start.exchanges a unheard)
+    (start.done.1 name a)))))))
 
 pub returns-clause-bare : goal.returns-clause-bare
 returns-clause-bare g c = later_bare g.L.Kms.link c.args.outfits.0 c.begin-made.result.2.0

@@ -12,21 +12,21 @@ use Rattle.kr_cmd_steps.proofs.Tapes.{is_out}
 use Rattle.kr_cmd_gen.proofs.loads.run_load_over_store.Goals as goal
 
 pub returns-in-Err-clause-runs : goal.returns-in-Err-clause-runs
-returns-in-Err-clause-runs g c a truth =
-    load_lacks g.row.W-Tap.Denot g.W.Link.Kms.truth g.W.Link.Kms.link g.W.Link.Kms.step
+returns-in-Err-clause-runs g c a unheard =
+    load_lacks g.row.W-Tap.Denot g.W.Link.Kms.link g.W.Link.Kms.step
     c.args.words.now.seed c.args.words.now.store (plan_of c.args.plan.now)
     (with_world (g.W.World.told c.args.world.now) a)
 
 pub returns-in-Err-open_tape-clause-runs : goal.returns-in-Err-open_tape-clause-runs
-returns-in-Err-open_tape-clause-runs g c a truth =
+returns-in-Err-open_tape-clause-runs g c a unheard =
     let plan = plan_of c.args.plan.now in
     let name = c.as_str-store.result.now in
     let old = with_world (g.W.World.told c.args.world.now) a in
     let new = with_world (g.W.World.told c.open_tape.new.world) a in
-    subst (λ n. SettlesLoad g.row.W-Tap.Denot g.W.Link.Kms.truth g.W.Link.Kms.link g.W.Link.Kms.step
+    subst (λ n. SettlesLoad g.row.W-Tap.Denot g.W.Link.Kms.link g.W.Link.Kms.step
     c.args.words.now.seed (load_over n plan) n plan old new (Err c.in-Err-open_tape.stop))
     c.as_str-store.ensures
-    (load_untaped g.row.W-Tap.Denot g.W.Link.Kms.truth g.W.Link.Kms.link g.W.Link.Kms.step
+    (load_untaped g.row.W-Tap.Denot g.W.Link.Kms.link g.W.Link.Kms.step
     c.args.words.now.seed name plan (and_then (stored_on Store name) (load_beginning plan)) a
     c.in-Err-open_tape.stop c.in-Err-open_tape.ensures.files c.in-Err-open_tape.ensures.objects
     c.in-Err-open_tape.ensures.why c.in-Err-open_tape.ensures.asked)
@@ -42,22 +42,22 @@ run_load_on_tape-made-requires-clause-four g c = λ κs lives.
     sources_many c.args.words.now.seed c.make_outfits.new.outfits.0 c.in-Ok.ensures.sources
 
 pub returns-clause-runs : goal.returns-clause-runs
-returns-clause-runs g c a truth =
+returns-clause-runs g c a unheard =
     let plan = plan_of c.args.plan.now in
     let name = c.as_str-store.result.now in
     let old = with_world (g.W.World.told c.args.world.now) a in
     let new = with_world (g.W.World.told c.settle_tape.new.world) a in
     let out = g.W.World.told c.open_tape.new.world in
-    subst (λ n. SettlesLoad g.row.W-Tap.Denot g.W.Link.Kms.truth g.W.Link.Kms.link g.W.Link.Kms.step
+    subst (λ n. SettlesLoad g.row.W-Tap.Denot g.W.Link.Kms.link g.W.Link.Kms.step
     c.args.words.now.seed (load_over n plan) n plan old new c.settle_tape.result)
     c.as_str-store.ensures
-    (load_taped g.row.W-Tap.Denot g.W.Link.Kms.truth g.W.Link.Kms.link g.W.Link.Kms.step
+    (load_taped g.row.W-Tap.Denot g.W.Link.Kms.link g.W.Link.Kms.step
     c.args.words.now.seed name plan (and_then (stored_on Store name) (load_beginning plan)) a
     (g.W.World.told c.settle_tape.new.world) (g.W.Tap.Tape.told c.run_load_on_tape-made.result.1)
     (g.W.Tap.Tape.count c.run_load_on_tape-made.result.1) (sources_in c.make_outfits.new.outfits.0)
     (sources_in c.run_load_on_tape-made.result.2.0) c.run_load_on_tape-made.result.0 c.settle_tape.result
     c.in-Ok.ensures.sources c.in-Ok-open_tape.ensures.lent c.settle_tape.ensures
-    (c.run_load_on_tape-made.ensures.made name (with_world out a) truth))
+    (c.run_load_on_tape-made.ensures.made name (with_world out a) unheard))
 
 pub returns-clause-others : goal.returns-clause-others
 returns-clause-others g c = others_stay (g.W.World.told c.settle_tape.new.world)

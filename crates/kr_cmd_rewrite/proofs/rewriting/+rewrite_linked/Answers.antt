@@ -1,5 +1,5 @@
 -- `rewrite_linked`: one more link is borrowed for what follows, while the store's tape is out.
-use Rattle.std.proofs.Common.{◌≡◌, ◌++◌, Err, subst, sym, ap, ◌∙◌}
+use Rattle.std.proofs.Common.{◌≡◌, ◌++◌, Err, refl, subst, sym, ap, ◌∙◌}
 use Rattle.kr_config.specs.Kept.{rows_of}
 use Rattle.kr_provider.specs.Names.{names_of}
 use Rattle.kr_provider.specs.PluginOrder.{plugin_order}
@@ -7,9 +7,10 @@ use Rattle.kr_store.specs.Stores.{Kept}
 use Rattle.kr_base.proofs.Walks.{talk_so}
 use Rattle.kr_provider.specs.AskedLinks.{Among}
 use Rattle.kr_cmd_steps.specs.Around.{with_exchanges, with_world}
-use Rattle.kr_cmd_steps.proofs.HeardLinks.{heard_around, heard_by, heard_idle, heard_nothing, heard_so}
+use Rattle.kr_cmd_steps.proofs.HeardLinks.{heard_around, heard_by, heard_idle, heard_nothing, heard_so, loan_handed}
 use Rattle.kr_cmd_steps.proofs.Hearing.{none_heard}
 use Rattle.kr_cmd_steps.specs.RewriteSteps.{driving, nothing_done, rewriting_by, starting}
+use Rattle.kr_cmd_steps.specs.ValueSteps.{none_kept}
 use Rattle.kr_cmd_steps.specs.Plugins.{borrow_links, make_seeds}
 use Rattle.kr_cmd_steps.specs.Steps.{and_then}
 use Rattle.kr_cmd_messages.specs.declared.refusal.Stop.TheVariants.{NoMemory}
@@ -25,18 +26,19 @@ use Rattle.kr_cmd_rewrite.proofs.rewriting.+rewrite_linked.Goals as goal
 
 pub returns-in_default-clause-ended : goal.returns-in_default-clause-ended
 returns-in_default-clause-ended g t c =
-    heard_by g.W.World.lent g.W.World.took g.W.Link.Kms.step 0 c.args.links
+    heard_by g.W.Link.Kms.link g.W.World.lent g.W.World.took g.W.Link.Kms.step 0 refl c.args.links
     c.rewrite_by_settings.result.2 _
     (talk_so (Among g.W.Link.Kms.step) _ _ c.args.links c.rewrite_by_settings.result.2
-    c.rewrite_by_settings.ensures.ended (λ es does name tapes a live truth is.
+    c.rewrite_by_settings.ensures.ended (λ es does name tapes a live is.
     at_end (rewriting_by name (rows_of c.args.settings.entries.0) (stored_of c.args.rollout.store)
     live) c.args.programs.now c.in_default.ensures
-    (does name (with_world (with_tapes tapes (g.W.World.told c.args.world.now)) a) live truth is)))
+    (does name (with_world (with_tapes tapes (g.W.World.told c.args.world.now)) a) live is)))
 
 pub returns-in-Err-clause-ended : goal.returns-in-Err-clause-ended
 returns-in-Err-clause-ended g t c =
-    heard_nothing g.W.World.lent g.W.World.took g.W.Link.Kms.step 0 c.args.links _
-    (λ name tapes a live truth is.
+    heard_nothing g.W.Link.Kms.link g.W.World.lent g.W.World.took g.W.Link.Kms.step 0
+    (λ i. (c.in-Err.ensures.objects.links i).handed) c.args.links _
+    (λ name tapes a live is.
     let store = c.args.rollout.store in
     let before = tapes_lent name store.told store.count tapes in
     let next = rewriting_by name (rows_of c.args.settings.entries.0) (stored_of store) live in
@@ -68,9 +70,11 @@ add-requires g t c = is_new g.W.Link.Kms.link (rows_of c.args.settings.entries.0
 
 pub returns-in-Err-add-clause-ended : goal.returns-in-Err-add-clause-ended
 returns-in-Err-add-clause-ended g t c =
-    heard_idle g.W.World.lent g.W.World.took g.W.Link.Kms.step 0 c.args.links c.add.new.self
-    c.in-Ok.link c.in-Err-add.link _ c.in-Ok.ensures.given c.close_link.ensures.taken
-    c.in-Err-add.ensures.err c.in-Err-add.ensures.returned (λ name tapes a live truth is.
+    heard_idle g.W.Link.Kms.link g.W.World.lent g.W.World.took g.W.Link.Kms.step 0
+    (g.W.World.told c.open_link.new.world) c.args.links c.add.new.self c.in-Ok.link
+    c.in-Err-add.link _ (loan_handed c.in-Ok.ensures.lent)
+    c.close_link.ensures.back.home.handed c.in-Ok.ensures.given c.close_link.ensures.taken
+    c.in-Err-add.ensures.err c.in-Err-add.ensures.returned (λ name tapes a live is.
     let rows = rows_of c.args.settings.entries.0 in
     let store = c.args.rollout.store in
     let before = tapes_lent name store.told store.count tapes in
@@ -93,7 +97,8 @@ returns-in-Err-add-clause-ended g t c =
     c.as_str-2.result.now c.in-Some.ensures c.as_str.ensures c.as_str-2.ensures
     (none_added link a (and_then (make_seeds (plugin_order rows)) (λ seeds.
     and_then (starting store.rows rows) (λ u.
-    driving name (record { rows = rows; seeds = seeds }) live (nothing_done (stored_of store)))))
+    driving name (record { rows = rows; seeds = seeds }) live none_kept
+    (nothing_done (stored_of store)))))
     c.in-Some.more.now c.args.links c.add.new.self c.in-Ok.link c.in-Err-add.link left faults
     (link_apart before c.in-Ok.ensures.lent) (link_back_apart before c.close_link.ensures.back)
     c.in-Err-add.ensures.err c.in-Err-add.ensures.returned)))))
@@ -115,13 +120,14 @@ close_link-requires-2-clause-out g t c κs within =
 
 pub returns-clause-ended : goal.returns-clause-ended
 returns-clause-ended g t c =
-    heard_so g.W.World.lent g.W.World.took g.W.Link.Kms.step 0 c.args.links
+    heard_so g.W.Link.Kms.link g.W.World.lent g.W.World.took g.W.Link.Kms.step 0 c.args.links
     c.take_last-link.new.links _ _
-    (heard_around g.W.World.lent g.W.World.took g.W.Link.Kms.step 0 c.args.links
+    (heard_around g.W.Link.Kms.link g.W.World.lent g.W.World.took g.W.Link.Kms.step 0 c.args.links
     c.take_last-link.new.links c.add.new.self c.rewrite_linked-ended.result.2 c.in-Ok.link
-    c.take_last-link.result c.in-Ok.ensures.given c.close_link-2.ensures.taken
+    c.take_last-link.result (loan_handed c.in-Ok.ensures.lent)
+    c.close_link-2.ensures.back.home.handed c.in-Ok.ensures.given c.close_link-2.ensures.taken
     c.in-Ok-add.ensures.ok c.take_last-link.ensures c.rewrite_linked-ended.ensures.ended)
-    (λ es does name tapes a live truth is.
+    (λ es does name tapes a live is.
     let then = with_exchanges es a in
     let rows = rows_of c.args.settings.entries.0 in
     let store = c.args.rollout.store in
@@ -156,7 +162,7 @@ returns-clause-ended g t c =
     (with_world (with_tapes tapes out) a)) b ended.made)
     (saying_seen link said c.rewrite_linked-ended.result.2 (g.W.Rand.Dice.left dice)
     (g.W.Rand.Dice.count dice) name back.told back.count tapes mid then)
-    (does name tapes a live truth is)))))
+    (does name tapes a live is)))))
 
 pub returns-clause-out : goal.returns-clause-out
 returns-clause-out g t c =

@@ -52,7 +52,6 @@ drive-driven-requires-clause-links g c =
 pub drive_stop-stop-requires : goal.drive_stop-stop-requires
 drive_stop-stop-requires g c =
     let k = g.L.Kms in
-    let laws = g.met.L.Kms in
     let left = g.D.Dice.left in
     let count = g.D.Dice.count in
     let core = c.args.core in
@@ -65,14 +64,14 @@ drive_stop-stop-requires g c =
     let known = subst IsCaller c.new-solo.ensures c.known.ensures in
     let talk = c.drive-driven.ensures.exchanged in
     let ended = Err (c.in-Err.report, c.in-Err.why) in
-    may_end k.truth k.link k.step laws.keeps laws.tells first bench.links c.requires.distinct
-    c.drive-driven.ensures.asked talk.steps talk.walk left count core c.requires.alone known new
-    c.args.bench.cache bench.cache c.requires.cold dice after c.in-Err.report c.in-Err.why
+    may_end k.link first bench.links c.requires.distinct
+    c.drive-driven.ensures.asked talk.steps left count core c.requires.alone known new
+    c.args.bench.cache bench.cache dice after c.in-Err.report c.in-Err.why
     (names_of k.link last)
     (λ plugin is. fault_named k.link plugin first last
-    (fault_of k.truth k.link left count [] (only_caller core) new first last dice after
+    (fault_of k.link left count [] (only_caller core) new first last dice after
     c.in-Err.report c.in-Err.why
-    (over_core k.truth k.link left count c.new-solo.result (only_caller core) new first bench.links
+    (over_core k.link left count c.new-solo.result (only_caller core) new first bench.links
     last dice bench.dice after c.drive-driven.result ended c.new-solo.ensures
     c.close-links.ensures.0 c.close-links.ensures.1 c.in-Err.is c.drive-driven.ensures.drives)
     plugin is))
@@ -83,7 +82,6 @@ drive_stop-stop-requires g c =
 pub returns-in-Ok-clause-ended : goal.returns-in-Ok-clause-ended
 returns-in-Ok-clause-ended g c =
     let k = g.L.Kms in
-    let laws = g.met.L.Kms in
     let left = g.D.Dice.left in
     let count = g.D.Dice.count in
     let core = c.args.core in
@@ -105,13 +103,13 @@ returns-in-Ok-clause-ended g c =
     (sym c.close-links.ensures.0) c.drive-driven.ensures.asked in record {
       steps = talk.steps;
       walk = walk;
-      are = λ name a live told p truth_is is replicas.
-          heard_all k.truth k.link k.step laws.keeps laws.tells first last c.requires.distinct
-          asked talk.steps walk left count core c.requires.alone known new c.args.bench.cache
-          bench.cache c.requires.cold dice after c.into_core.result c.known-2.ensures
+      are = λ name a live told p is replicas.
+          heard_all k.link first last c.requires.distinct
+          asked talk.steps left count core c.requires.alone known new c.args.bench.cache
+          bench.cache dice after c.into_core.result c.known-2.ensures
           c.into_core.ensures store c.close-store.ensures.rows c.close-store.ensures.count
           c.close-store.ensures.format c.close-store.ensures.torn c.known-3.ensures bounded drawn
-          name a live told p truth_is is replicas c.in-Ok.report c.reported.result
+          name a live told p is replicas c.in-Ok.report c.reported.result
           (heard_core left count c.new-solo.result (only_caller core) new c.args.bench.cache
           bench.cache dice bench.dice after c.drive-driven.result (Ok c.in-Ok.report) talk.steps
           c.new-solo.ensures c.close-links.ensures.1 c.in-Ok.is talk.are)
@@ -130,7 +128,6 @@ returns-in-Ok-clause-names g c =
 pub returns-clause-ended : goal.returns-clause-ended
 returns-clause-ended g c =
     let k = g.L.Kms in
-    let laws = g.met.L.Kms in
     let left = g.D.Dice.left in
     let count = g.D.Dice.count in
     let core = c.args.core in
@@ -155,20 +152,20 @@ returns-clause-ended g c =
     (sym c.close-links.ensures.0) c.drive-driven.ensures.asked in record {
       steps = talk.steps;
       walk = walk;
-      are = λ name a live told p truth_is is replicas.
-          heard_some k.truth k.link k.step laws.keeps laws.tells first last c.requires.distinct
-          asked talk.steps walk left count core c.requires.alone known new c.args.bench.cache
-          bench.cache c.requires.cold dice after c.into_core.result c.known-2.ensures
+      are = λ name a live told p is replicas.
+          heard_some k.link first last c.requires.distinct
+          asked talk.steps left count core c.requires.alone known new c.args.bench.cache
+          bench.cache dice after c.into_core.result c.known-2.ensures
           c.into_core.ensures store c.close-store.ensures.rows c.close-store.ensures.count
           c.close-store.ensures.format c.close-store.ensures.torn c.known-3.ensures bounded drawn
-          name a live told p truth_is is replicas report c.cut_short.result why stop
+          name a live told p is replicas report c.cut_short.result why stop
           (heard_core left count c.new-solo.result (only_caller core) new c.args.bench.cache
           bench.cache dice bench.dice after c.drive-driven.result (Err (report, why)) talk.steps
           c.new-solo.ensures c.close-links.ensures.1 c.in-Err.is talk.are)
           c.drive_stop-stop.ensures
-          (fault_of k.truth k.link left count [] (only_caller core) new first last dice after
+          (fault_of k.link left count [] (only_caller core) new first last dice after
           report why
-          (over_core k.truth k.link left count c.new-solo.result (only_caller core) new first
+          (over_core k.link left count c.new-solo.result (only_caller core) new first
           bench.links last dice bench.dice after c.drive-driven.result (Err (report, why))
           c.new-solo.ensures c.close-links.ensures.0 c.close-links.ensures.1 c.in-Err.is
           c.drive-driven.ensures.drives))

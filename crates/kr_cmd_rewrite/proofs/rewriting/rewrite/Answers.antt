@@ -1,10 +1,10 @@
 -- `rewrite`: each phase goes on from the one before, and the store's tape comes back.
-use Rattle.std.proofs.Common.{◌≡◌, ◌<◌, ℕ, List, [], Result, Ok, Err, sym, subst}
+use Rattle.std.proofs.Common.{◌≡◌, ◌<◌, ◌∙◌, ℕ, List, [], Result, Ok, Err, sym, subst}
 use Rattle.kr_kms.specs.declared.world.Access.TheVariants.{ToWrite}
 use Rattle.kr_config.specs.Kept.{ConfigEntry, rows_of}
 use Rattle.kr_provider.specs.PluginOrder.{plugin_order}
 use Rattle.kr_cmd_steps.specs.Around.{Around, with_exchanges, with_world}
-use Rattle.kr_cmd_steps.proofs.HeardLinks.{heard_nothing, heard_so}
+use Rattle.kr_cmd_steps.proofs.HeardLinks.{heard_nothing, heard_so, heard_within}
 use Rattle.kr_cmd_steps.proofs.Hearing.{none_heard}
 use Rattle.kr_cmd_steps.specs.Phases.{configuration, linking_programs, settled_for}
 use Rattle.kr_cmd_steps.specs.RewriteSteps.{rewriting_on}
@@ -25,6 +25,7 @@ use Rattle.kr_cmd_rewrite.proofs.Closing.{closed_err, closed_ok}
 use Rattle.kr_cmd_steps.proofs.Goes.{goes_on, stops, by_bytes}
 use Rattle.kr_cmd_steps.proofs.NamedPrograms.{names_in}
 use Rattle.kr_cmd_rewrite.proofs.Said.{saying_tape, stopped_all}
+use Rattle.kr_cmd_steps.proofs.Settling.{settled_links}
 use Rattle.kr_cmd_steps.proofs.Tapes.{not_lent, is_out}
 use Rattle.kr_cmd_rewrite.proofs.rewriting.rewrite.Goals as goal
 
@@ -52,29 +53,32 @@ whole_by words rows programs reads links is end made d =
 
 pub returns-in-Err : goal.returns-in-Err
 returns-in-Err g c =
-    heard_nothing g.W.World.lent g.W.World.took g.W.Link.Kms.step 0 [] _ (λ a t silent.
+    heard_nothing g.W.Link.Kms.link g.W.World.lent g.W.World.took g.W.Link.Kms.step 0
+    (λ i. (c.in-Err.ensures.links i).handed) [] _ (λ a silent.
     let words = c.args.words.now in
     stopped_all c.in-Err.stop c.stopped.result c.stopped.ensures silent
     (none_heard (with_world (g.W.World.told c.configure.new.world) a)
     (stops (configuration words.config) (loaded words) c.in-Err.stop
-    (by_bytes configuration c.as_str.ensures (c.in-Err.ensures a)))))
+    (by_bytes configuration c.as_str.ensures (c.in-Err.ensures.does a)))))
 
 pub returns-in-Err-settings_programs : goal.returns-in-Err-settings_programs
 returns-in-Err-settings_programs g c =
-    heard_nothing g.W.World.lent g.W.World.took g.W.Link.Kms.step 0 [] _ (λ a t silent.
+    heard_nothing g.W.Link.Kms.link g.W.World.lent g.W.World.took g.W.Link.Kms.step 0
+    (λ i. (c.in-Ok.ensures.links i).handed) [] _ (λ a silent.
     let words = c.args.words.now in
     let rows = rows_of c.in-Ok.settings.entries.0 in
     stopped_all c.in-Err-settings_programs.stop c.stopped-in-Err-settings_programs.result
     c.stopped-in-Err-settings_programs.ensures silent
     (none_heard (with_world (g.W.World.told c.configure.new.world) a)
     (goes_on (configuration words.config) (loaded words) rows
-    (by_bytes configuration c.as_str.ensures (c.in-Ok.ensures a))
+    (by_bytes configuration c.as_str.ensures (c.in-Ok.ensures.does a))
     (stops (linking_programs words.options rows) (passed words rows) c.in-Err-settings_programs.stop
     (c.in-Err-settings_programs.ensures.does (with_world (g.W.World.told c.configure.new.world) a))))))
 
 pub returns-in-Err-open_tape : goal.returns-in-Err-open_tape
 returns-in-Err-open_tape g c =
-    heard_nothing g.W.World.lent g.W.World.took g.W.Link.Kms.step 0 [] _ (λ a t silent.
+    heard_nothing g.W.Link.Kms.link g.W.World.lent g.W.World.took g.W.Link.Kms.step 0
+    (λ i. ((c.in-Err-open_tape.ensures.objects.links ∙ c.in-Ok.ensures.links) i).handed) [] _ (λ a silent.
     let words = c.args.words.now in
     let rows = rows_of c.in-Ok.settings.entries.0 in
     let programs = c.in-Ok-settings_programs.programs in
@@ -82,7 +86,7 @@ returns-in-Err-open_tape g c =
     c.stopped-in-Err-open_tape.ensures silent
     (none_heard (with_world (g.W.World.told c.open_tape.new.world) a)
     (goes_on (configuration words.config) (loaded words) rows
-    (by_bytes configuration c.as_str.ensures (c.in-Ok.ensures a))
+    (by_bytes configuration c.as_str.ensures (c.in-Ok.ensures.does a))
     (goes_on (linking_programs words.options rows) (passed words rows) programs
     (c.in-Ok-settings_programs.ensures.does (with_world (g.W.World.told c.configure.new.world) a))
     (by_bytes (on_tape rows programs) c.as_str-name.ensures
@@ -102,8 +106,18 @@ settle_tape-requires-clause-out g c = λ κs lives. subst (λ t. 0 < t.out c.as_
 
 pub returns-in-Ok-settle_tape : goal.returns-in-Ok-settle_tape
 returns-in-Ok-settle_tape g c =
-    heard_so g.W.World.lent g.W.World.took g.W.Link.Kms.step 0 [] [] _ _
-    c.rewrite_on_tape-ended.ensures.ended (λ es does a t silent.
+    let settled = settled_links c.as_str-name.result.now Store
+    (g.W.World.told c.rewrite_on_tape-ended.new.world) (g.W.World.told c.settle_tape.new.world)
+    (g.W.Tap.Tape.told c.rewrite_on_tape-ended.result.1)
+    (g.W.Tap.Tape.count c.rewrite_on_tape-ended.result.1) c.to_settle.result c.settle_tape.result
+    c.settle_tape.ensures in
+    heard_within g.W.Link.Kms.link g.W.World.lent g.W.World.took g.W.Link.Kms.step 0
+    {out = g.W.World.told c.open_tape.new.world}
+    {mid = g.W.World.told c.rewrite_on_tape-ended.new.world}
+    (λ i. ((c.in-Ok-open_tape.ensures.lent.links ∙ c.in-Ok.ensures.links) i).handed)
+    (λ i. (settled i).handed) [] [] _
+    (heard_so g.W.Link.Kms.link g.W.World.lent g.W.World.took g.W.Link.Kms.step 0 [] [] _ _
+    c.rewrite_on_tape-ended.ensures.ended (λ es does a silent.
     let then = with_exchanges es a in
     let words = c.args.words.now in
     let rows = rows_of c.in-Ok.settings.entries.0 in
@@ -123,20 +137,30 @@ returns-in-Ok-settle_tape g c =
     (saying_tape ended.said name told count mid then)
     (subst (λ p. Does (rewriting_on name rows p) out (saying ended.said (with_lent_tape name
     told count (with_world mid then))) ended.made)
-    c.as_slice.ensures (does name a t)) in
+    c.as_slice.ensures (does name a)) in
     closed_ok (Rewrite words) name c.as_str-name.ensures ToWrite (rewriting_on name rows programs)
     a then silent
-    (whole_by words rows programs (by_bytes configuration c.as_str.ensures (c.in-Ok.ensures a))
+    (whole_by words rows programs (by_bytes configuration c.as_str.ensures (c.in-Ok.ensures.does a))
     (c.in-Ok-settings_programs.ensures.does now) c.as_str-name.ensures)
     c.in-Ok-open_tape.ensures.lent mid new told count ended.said ended.made
     c.in-Ok-settle_tape.ended
     (subst (λ m. ReturnsSettled name Store mid new told count m (Ok c.in-Ok-settle_tape.ended))
-    c.to_settle.ensures c.in-Ok-settle_tape.ensures) works)
+    c.to_settle.ensures c.in-Ok-settle_tape.ensures) works))
 
 pub returns : goal.returns
 returns g c =
-    heard_so g.W.World.lent g.W.World.took g.W.Link.Kms.step 0 [] [] _ _
-    c.rewrite_on_tape-ended.ensures.ended (λ es does a t silent.
+    let settled = settled_links c.as_str-name.result.now Store
+    (g.W.World.told c.rewrite_on_tape-ended.new.world) (g.W.World.told c.settle_tape.new.world)
+    (g.W.Tap.Tape.told c.rewrite_on_tape-ended.result.1)
+    (g.W.Tap.Tape.count c.rewrite_on_tape-ended.result.1) c.to_settle.result c.settle_tape.result
+    c.settle_tape.ensures in
+    heard_within g.W.Link.Kms.link g.W.World.lent g.W.World.took g.W.Link.Kms.step 0
+    {out = g.W.World.told c.open_tape.new.world}
+    {mid = g.W.World.told c.rewrite_on_tape-ended.new.world}
+    (λ i. ((c.in-Ok-open_tape.ensures.lent.links ∙ c.in-Ok.ensures.links) i).handed)
+    (λ i. (settled i).handed) [] [] _
+    (heard_so g.W.Link.Kms.link g.W.World.lent g.W.World.took g.W.Link.Kms.step 0 [] [] _ _
+    c.rewrite_on_tape-ended.ensures.ended (λ es does a silent.
     let then = with_exchanges es a in
     let words = c.args.words.now in
     let rows = rows_of c.in-Ok.settings.entries.0 in
@@ -156,14 +180,14 @@ returns g c =
     (saying_tape ended.said name told count mid then)
     (subst (λ p. Does (rewriting_on name rows p) out (saying ended.said (with_lent_tape name
     told count (with_world mid then))) ended.made)
-    c.as_slice.ensures (does name a t)) in
+    c.as_slice.ensures (does name a)) in
     let all = closed_err (Rewrite words) name c.as_str-name.ensures ToWrite
     (rewriting_on name rows programs) a then silent
-    (whole_by words rows programs (by_bytes configuration c.as_str.ensures (c.in-Ok.ensures a))
+    (whole_by words rows programs (by_bytes configuration c.as_str.ensures (c.in-Ok.ensures.does a))
     (c.in-Ok-settings_programs.ensures.does now) c.as_str-name.ensures)
     c.in-Ok-open_tape.ensures.lent mid new told count ended.said ended.made
     c.in-Err-settle_tape.stop
     (subst (λ m. ReturnsSettled name Store mid new told count m (Err c.in-Err-settle_tape.stop))
     c.to_settle.ensures c.in-Err-settle_tape.ensures) works in
     subst (λ (e : Ended). DoesAll (Rewrite words) (with_world (g.W.World.told c.args.world.now) a)
-    (saying e.said (with_world new then)) e.made) (sym c.stopped-in-Err-settle_tape.ensures) all)
+    (saying e.said (with_world new then)) e.made) (sym c.stopped-in-Err-settle_tape.ensures) all))

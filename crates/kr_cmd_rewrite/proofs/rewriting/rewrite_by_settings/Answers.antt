@@ -38,7 +38,7 @@ returns-in-Err-clause-ended g c =
     let store = c.args.rollout.store in record {
       steps = [];
       walk = refl;
-      are = λ name a live truth is. stopped_by NoMemory c.stopped.result c.stopped.ensures
+      are = λ name a live is. stopped_by NoMemory c.stopped.result c.stopped.ensures
           (none_heard (Out g.L.Kms.link g.D.Dice.left g.D.Dice.count name a c.args.links
           c.args.dice c.into_store.result)
           (back_by g.L.Kms.link g.D.Dice.left g.D.Dice.count name a c.args.links c.args.links
@@ -53,7 +53,7 @@ returns-in-Err-publish_settings-clause-ended g c =
     let talk = c.in-Err-publish_settings.ensures.heard in record {
       steps = talk.steps;
       walk = talk.walk;
-      are = λ name a live truth is.
+      are = λ name a live is.
           stopped_by c.in-Err-publish_settings.stop c.stopped-in-Err-publish_settings.result
           c.stopped-in-Err-publish_settings.ensures
           (back_by g.L.Kms.link g.D.Dice.left g.D.Dice.count name (with_exchanges talk.steps a)
@@ -63,7 +63,7 @@ returns-in-Err-publish_settings-clause-ended g c =
           (by_unpublished name (rows_of c.args.settings.entries.0) (stored_of store) live
           (ap (λ (s : Settings). rows_of s.entries.0) c.in-Ok.ensures.ok)
           c.in-Err-publish_settings.stop
-          (talk.are (with_lent_tape name store.told store.count a) truth)));
+          (talk.are (with_lent_tape name store.told store.count a))));
     }
 
 pub returns-in-Err-publish_settings-clause-names : goal.returns-in-Err-publish_settings-clause-names
@@ -80,7 +80,7 @@ returns-in-Err-new-clause-ended g c =
       steps = talk.steps;
       walk = subst (λ l. Walk (Among g.L.Kms.step) c.args.links talk.steps l)
           (sym c.in-Err-new.ensures.returned.0) talk.walk;
-      are = λ name a live truth is.
+      are = λ name a live is.
           stopped_by NoMemory c.stopped-in-Err-new.result c.stopped-in-Err-new.ensures
           (back_by g.L.Kms.link g.D.Dice.left g.D.Dice.count name (with_exchanges talk.steps a)
           c.in-Err-new.links c.publish_settings.new.links c.in-Err-new.dice
@@ -89,7 +89,7 @@ returns-in-Err-new-clause-ended g c =
           c.into_store-in-Err-new.ensures
           (by_seeds name rows (stored_of store) live
           (ap (λ (s : Settings). rows_of s.entries.0) c.in-Ok.ensures.ok) seeds
-          (talk.are (with_lent_tape name store.told store.count a) truth)
+          (talk.are (with_lent_tape name store.told store.count a))
           (start_lacks name rows (stored_of store) live seeds
           (Out g.L.Kms.link g.D.Dice.left g.D.Dice.count name (with_exchanges talk.steps a)
           c.publish_settings.new.links c.publish_settings.new.dice store))));
@@ -123,7 +123,7 @@ returns-in-Err-start-clause-ended g c =
       steps = talk.steps;
       walk = subst (λ l. Walk (Among g.L.Kms.step) c.args.links talk.steps l) (sym links_are)
           talk.walk;
-      are = λ name a live truth is.
+      are = λ name a live is.
           let now = Out g.L.Kms.link g.D.Dice.left g.D.Dice.count name
           (with_exchanges talk.steps a) c.publish_settings.new.links c.publish_settings.new.dice
           store in
@@ -135,7 +135,7 @@ returns-in-Err-start-clause-ended g c =
           (c.close-links.ensures.1 ∙ ap (λ b. b.dice) c.in-Ok-new.ensures.ok)
           c.in-Err-start.ensures.back
           (by_seeds name rows (stored_of store) live same seeds
-          (talk.are (with_lent_tape name store.told store.count a) truth)
+          (talk.are (with_lent_tape name store.told store.count a))
           (subst (λ stop. Does (from_seeds name rows (stored_of store) live seeds) now now
           (Err stop)) (sym none.2)
           (not_started name rows (stored_of store) live seeds now none.0
@@ -168,9 +168,6 @@ drive_all-requires-clause-distinct g c =
     subst (AreDistinct g.L.Kms.link) (sym (ap (λ b. b.links) c.in-Ok-new.ensures.ok))
     c.known.ensures
 
-pub drive_all-requires-clause-cold : goal.drive_all-requires-clause-cold
-drive_all-requires-clause-cold g c = ap (λ b. b.cache.rows) c.in-Ok-new.ensures.ok
-
 pub drive_all-requires-clause-pages : goal.drive_all-requires-clause-pages
 drive_all-requires-clause-pages g c =
     subst (λ p. 64 ≤ size_of p) (sym (ap (λ b. b.pages) c.in-Ok-new.ensures.ok)) (omega arith)
@@ -198,7 +195,7 @@ returns-clause-ended g c =
       walk = walk_then (Among k.step) first.steps second.steps c.args.links
           c.publish_settings.new.links links first.walk
           (subst (λ l. Walk (Among k.step) l second.steps links) links_are second.walk);
-      are = λ name a live truth is.
+      are = λ name a live is.
           let then = with_exchanges first.steps a in
           let now = Out k.link g.D.Dice.left g.D.Dice.count name then
           c.publish_settings.new.links c.publish_settings.new.dice store in
@@ -208,16 +205,17 @@ returns-clause-ended g c =
           (saying ended.said (Out k.link g.D.Dice.left g.D.Dice.count name b links dice back))
           ended.made) (around_more first.steps second.steps a)
           (by_seeds name rows (stored_of store) live same p.seeds
-          (first.are (with_lent_tape name store.told store.count a) truth)
+          (first.are (with_lent_tape name store.told store.count a))
           (started name rows (stored_of store) live p.seeds now
           (subst (λ r. MayStart store.rows (Some r ∷ []))
           (c.in-Ok-publish_settings.ensures.rows ∙ same) c.in-Ok-start.ensures.starts.0)
           (driven_on k.link g.D.Dice.left g.D.Dice.count name then rows live store p core
           c.in-Ok-new.bench.links c.publish_settings.new.links c.in-Ok-new.bench.dice
-          c.publish_settings.new.dice c.args.rollout.names.0 c.args.rollout.room core_is links_are
-          (ap (λ b. b.dice) c.in-Ok-new.ensures.ok)
+          c.publish_settings.new.dice c.in-Ok-new.bench.cache c.args.rollout.names.0
+          c.args.rollout.room core_is links_are
+          (ap (λ b. b.dice) c.in-Ok-new.ensures.ok) (ap (λ b. b.cache) c.in-Ok-new.ensures.ok)
           (c.in-Ok-publish_settings.ensures.rows ∙ same)
-          (second.are name then live store.told p truth
+          (second.are name then live store.told p
           (subst (λ (k : CoreState). IsListing k.opening.rows live) (sym core_is) is)
           (ap (λ (k : CoreState). k.opening.replicas) core_is)))));
     }

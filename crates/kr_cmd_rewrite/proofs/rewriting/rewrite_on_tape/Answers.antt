@@ -1,10 +1,10 @@
 -- `rewrite_on_tape`: the store is loaded, there is room, and what follows has its tape out.
-use Rattle.std.proofs.Common.{◌≡◌, ◌++◌, ◌<◌, [], sym, ◌∙◌, ap, subst, arith}
+use Rattle.std.proofs.Common.{◌≡◌, ◌++◌, ◌<◌, [], sym, ◌∙◌, ap, refl, subst, arith}
 use Rattle.kr_config.specs.Kept.{rows_of}
 use Rattle.kr_provider.specs.Names.{names_of}
 use Rattle.kr_provider.specs.PluginOrder.{plugin_order}
 use Rattle.kr_cmd_steps.specs.Around.{with_exchanges, with_world}
-use Rattle.kr_cmd_steps.proofs.HeardLinks.{heard_alone, heard_nothing, heard_so}
+use Rattle.kr_cmd_steps.proofs.HeardLinks.{heard_alone, heard_nothing, heard_so, heard_within}
 use Rattle.kr_cmd_steps.proofs.Hearing.{none_heard}
 use Rattle.kr_cmd_steps.specs.RewriteSteps.{rewriting_by, rewriting_on}
 use Rattle.kr_cmd_steps.specs.Phases.{stored_on}
@@ -29,7 +29,8 @@ use Rattle.kr_cmd_rewrite.proofs.rewriting.rewrite_on_tape.Goals as goal
 
 pub returns-in-Err-clause-ended : goal.returns-in-Err-clause-ended
 returns-in-Err-clause-ended g c =
-    heard_nothing g.W.World.lent g.W.World.took g.W.Link.Kms.step 0 [] _ (λ name a t.
+    heard_nothing g.W.Link.Kms.link g.W.World.lent g.W.World.took g.W.Link.Kms.step 0
+    refl [] _ (λ name a.
     let rows = rows_of c.args.settings.entries.0 in
     let now = with_world (g.W.World.told c.args.world.now) a in
     stopped_by c.in-Err.stop c.stopped.result c.stopped.ensures
@@ -40,7 +41,8 @@ returns-in-Err-clause-ended g c =
 
 pub returns-in_default-clause-ended : goal.returns-in_default-clause-ended
 returns-in_default-clause-ended g c =
-    heard_nothing g.W.World.lent g.W.World.took g.W.Link.Kms.step 0 [] _ (λ name a t.
+    heard_nothing g.W.Link.Kms.link g.W.World.lent g.W.World.took g.W.Link.Kms.step 0
+    refl [] _ (λ name a.
     let rows = rows_of c.args.settings.entries.0 in
     let programs = c.args.programs.now in
     let store = c.in-Ok.store in
@@ -58,7 +60,8 @@ returns-in_default-clause-ended g c =
 
 pub returns-in-Err-program_plugins-clause-ended : goal.returns-in-Err-program_plugins-clause-ended
 returns-in-Err-program_plugins-clause-ended g c =
-    heard_nothing g.W.World.lent g.W.World.took g.W.Link.Kms.step 0 [] _ (λ name a t.
+    heard_nothing g.W.Link.Kms.link g.W.World.lent g.W.World.took g.W.Link.Kms.step 0
+    refl [] _ (λ name a.
     let rows = rows_of c.args.settings.entries.0 in
     let programs = c.args.programs.now in
     let store = c.in-Ok.store in
@@ -75,7 +78,8 @@ returns-in-Err-program_plugins-clause-ended g c =
 
 pub returns-in-Err-open_dice-clause-ended : goal.returns-in-Err-open_dice-clause-ended
 returns-in-Err-open_dice-clause-ended g c =
-    heard_nothing g.W.World.lent g.W.World.took g.W.Link.Kms.step 0 [] _ (λ name a t.
+    heard_nothing g.W.Link.Kms.link g.W.World.lent g.W.World.took g.W.Link.Kms.step 0
+    (λ i. (c.in-Err-open_dice.ensures.objects.links i).handed) [] _ (λ name a.
     let rows = rows_of c.args.settings.entries.0 in
     let programs = c.args.programs.now in
     let store = c.in-Ok.store in
@@ -133,12 +137,17 @@ close_dice-requires-clause-out g c κs within = subst (λ d. 0 < d.out 0)
 
 pub returns-clause-ended : goal.returns-clause-ended
 returns-clause-ended g c =
-    heard_so g.W.World.lent g.W.World.took g.W.Link.Kms.step 0 [] [] _ _
-    (heard_alone g.W.World.lent g.W.World.took g.W.Link.Kms.step 0 c.new-links.result
+    heard_within g.W.Link.Kms.link g.W.World.lent g.W.World.took g.W.Link.Kms.step 0
+    {out = g.W.World.told c.open_dice.new.world}
+    {mid = g.W.World.told c.rewrite_linked-ended.new.world}
+    (λ i. (c.in-Ok-open_dice.ensures.lent.links i).handed)
+    (λ i. (c.close_dice.ensures.links i).handed) [] [] _
+    (heard_so g.W.Link.Kms.link g.W.World.lent g.W.World.took g.W.Link.Kms.step 0 [] [] _ _
+    (heard_alone g.W.Link.Kms.link g.W.World.lent g.W.World.took g.W.Link.Kms.step 0 c.new-links.result
     c.rewrite_linked-ended.result.2 c.new-links.ensures
     (none_named g.W.Link.Kms.link c.rewrite_linked-ended.result.2
     (c.rewrite_linked-ended.ensures.names ∙ ap (names_of g.W.Link.Kms.link) c.new-links.ensures))
-    c.rewrite_linked-ended.ensures.ended) (λ es does name a t.
+    c.rewrite_linked-ended.ensures.ended) (λ es does name a.
     let after_all = with_exchanges es a in
     let link = g.W.Link.Kms.link in
     let rows = rows_of c.args.settings.entries.0 in
@@ -183,7 +192,7 @@ returns-clause-ended g c =
     (with_world (with_tapes world.tapes out) a)) b ended.made)
     (saying_seen link said c.rewrite_linked-ended.result.2 (g.W.Rand.Dice.left dice)
     (g.W.Rand.Dice.count dice) name back.told back.count world.tapes mid after_all)
-    (does name world.tapes a room.0 t room.1)))))))))
+    (does name world.tapes a room.0 room.1))))))))))
 
 pub returns-clause-tapes : goal.returns-clause-tapes
 returns-clause-tapes g c = c.close_dice.ensures.tapes ∙ c.rewrite_linked-ended.ensures.tapes

@@ -10,7 +10,6 @@ use Rattle.kr_cmd_steps.specs.ValueSteps.{working_by}
 use Rattle.kr_cmd_steps.specs.inner.Plugins.{NamesAnUnread}
 use Rattle.kr_cmd_steps.proofs.BenchTalks.{both_some, none_made, talk_read}
 use Rattle.kr_cmd_steps.proofs.Frames.{Seen}
-use Rattle.kr_cmd_steps.proofs.Telling.{walk_tells}
 use Rattle.kr_cmd_steps.proofs.Works.{names_stay_read, names_unread, seal_made, sealed_size, unseal_made}
 use Rattle.kr_cmd_steps.proofs.bench.work.Goals as goal
 
@@ -18,7 +17,7 @@ pub returns-in-Encrypt-clause-made : goal.returns-in-Encrypt-clause-made
 returns-in-Encrypt-clause-made g c = record {
   steps = [];
   walk = c.close-links.ensures.0 ∙ ap (λ b. b.links) c.seal_in_place-sealed.ensures.kept;
-  are = λ a t. none_made (working_by c.args.direction c.args.resource.now c.args.path.now)
+  are = λ a. none_made (working_by c.args.direction c.args.resource.now c.args.path.now)
       c.args.bytes c.args.bench.published
       (Seen g.L.Kms.link a c.args.bench.links (g.D.Dice.left c.args.bench.dice)
       (g.D.Dice.count c.args.bench.dice))
@@ -40,7 +39,7 @@ returns-in-Encrypt-clause-names g c = ap (names_of g.L.Kms.link)
 pub unseal_outcome-requires : goal.unseal_outcome-requires
 unseal_outcome-requires g c = subst (λ l. NamesAnUnread (names_of g.L.Kms.link l)
     c.unseal_in_place-opened.result) (sym c.close-links-in-Decrypt.ensures.0)
-    (names_unread g.L.Kms.truth g.L.Kms.link
+    (names_unread g.L.Kms.link
     c.args.resource.now c.args.path.now c.args.bytes c.args.bench.published
     c.args.bench.links c.unseal_in_place-opened.new.self.links c.unseal_in_place-opened.result c.requires.adopted
     c.unseal_in_place-opened.ensures.opened)
@@ -48,7 +47,6 @@ unseal_outcome-requires g c = subst (λ l. NamesAnUnread (names_of g.L.Kms.link 
 pub returns-in-Decrypt-clause-made : goal.returns-in-Decrypt-clause-made
 returns-in-Decrypt-clause-made g c =
     let k = g.L.Kms in
-    let laws = g.met.L.Kms in
     let bench = c.args.bench in
     let now = c.unseal_in_place-opened.new.self in
     let result = c.unseal_in_place-opened.result in
@@ -58,23 +56,21 @@ returns-in-Decrypt-clause-made g c =
       steps = t.steps;
       walk = subst (λ l. Walk (Among k.step) bench.links t.steps l)
           (sym c.close-links-in-Decrypt.ensures.0) t.walk;
-      are = λ a truth. unseal_made k.truth k.link g.D.Dice.left
+      are = λ a. unseal_made k.link g.D.Dice.left
           g.D.Dice.count c.args.resource.now c.args.path.now c.args.bytes bench.published
           bench.links now.links bench.cache now.cache c.requires.cold result t.steps a
-          c.args.direction _ _ _ _ truth c.requires.distinct c.in-Decrypt.is
+          c.args.direction _ _ _ _ c.requires.distinct c.in-Decrypt.is
           c.close-links-in-Decrypt.ensures.0
           (c.close-links-in-Decrypt.ensures.1
           ∙ ap (λ b. b.dice) c.unseal_in_place-opened.ensures.kept)
           c.unseal_outcome.ensures
-          (walk_tells k.truth k.link k.step laws.keeps laws.tells a.world.links bench.links t.steps
-          now.links c.requires.distinct t.walk)
           (both_some _ _ bench.published c.unseal_in_place-opened.ensures.opened t.are);
     }
 
 pub returns-in-Decrypt-clause-names : goal.returns-in-Decrypt-clause-names
 returns-in-Decrypt-clause-names g c = ap (names_of g.L.Kms.link)
     c.close-links-in-Decrypt.ensures.0
-    ∙ names_stay_read g.L.Kms.truth g.L.Kms.link
+    ∙ names_stay_read g.L.Kms.link
     c.args.resource.now c.args.path.now c.args.bytes c.args.bench.published
     c.args.bench.links c.unseal_in_place-opened.new.self.links c.unseal_in_place-opened.result c.requires.adopted
     c.unseal_in_place-opened.ensures.opened

@@ -7,7 +7,7 @@ use Rattle.kr_cmd_steps.proofs.Telling.{walk_tells}
 use Rattle.kr_cmd_steps.proofs.publication.publish_settings.Goals as goal
 
 pub publish_stop-requires : goal.publish_stop-requires
-publish_stop-requires g c = fails_named g.L.Kms.truth g.L.Kms.link g.D.Dice.left g.D.Dice.count
+publish_stop-requires g c = fails_named g.L.Kms.link g.D.Dice.left g.D.Dice.count
     (rows_of c.args.settings.entries.0) c.args.links.now c.publish.new.links c.args.dice.now
     c.publish.new.dice c.in-Err.why c.in-Err.ensures.published
 
@@ -17,11 +17,11 @@ returns-in-Err-clause-heard g c = let t = c.in-Err.ensures.exchanged in
     let laws = g.met.L.Kms in record {
       steps = t.steps;
       walk = t.walk;
-      are = λ a truth. stopped k.truth k.link g.D.Dice.left g.D.Dice.count
+      are = λ a. stopped k.link g.D.Dice.left g.D.Dice.count
           (rows_of c.args.settings.entries.0) c.args.settings.kept c.args.links.now
-          c.publish.new.links c.args.dice.now c.publish.new.dice a c.known.ensures truth
+          c.publish.new.links c.args.dice.now c.publish.new.dice a c.known.ensures
           c.publish.ensures.asked c.publish.ensures.later t.steps
-          (walk_tells k.truth k.link k.step laws.keeps laws.tells a.world.links c.args.links.now t.steps
+          (walk_tells k.link k.step laws.keeps laws.tells a.world.links c.args.links.now t.steps
           c.publish.new.links c.known.ensures t.walk)
           c.in-Err.why c.publish_stop.result t.are c.in-Err.ensures.published
           c.publish_stop.ensures;
@@ -31,7 +31,7 @@ pub returns-in-Err-clause-does : goal.returns-in-Err-clause-does
 returns-in-Err-clause-does g c a u = let t = returns-in-Err-clause-heard g c in
     unheard_does t.steps a
     (λ b. Seen g.L.Kms.link b c.publish.new.links (g.D.Dice.left c.publish.new.dice)
-    (g.D.Dice.count c.publish.new.dice)) u.1 (t.are a u.0)
+    (g.D.Dice.count c.publish.new.dice)) u (t.are a)
 
 pub returns-in-Ok-clause-heard : goal.returns-in-Ok-clause-heard
 returns-in-Ok-clause-heard g c = let t = c.in-Ok.ensures.exchanged in
@@ -39,11 +39,11 @@ returns-in-Ok-clause-heard g c = let t = c.in-Ok.ensures.exchanged in
     let laws = g.met.L.Kms in record {
       steps = t.steps;
       walk = t.walk;
-      are = λ a truth. published k.truth k.link g.D.Dice.left g.D.Dice.count
+      are = λ a. published k.link g.D.Dice.left g.D.Dice.count
           (rows_of c.args.settings.entries.0) c.args.settings.kept c.args.links.now
-          c.publish.new.links c.args.dice.now c.publish.new.dice a c.known.ensures truth
+          c.publish.new.links c.args.dice.now c.publish.new.dice a c.known.ensures
           c.publish.ensures.asked c.publish.ensures.later t.steps
-          (walk_tells k.truth k.link k.step laws.keeps laws.tells a.world.links c.args.links.now t.steps
+          (walk_tells k.link k.step laws.keeps laws.tells a.world.links c.args.links.now t.steps
           c.publish.new.links c.known.ensures t.walk)
           c.in-Ok.published t.are;
     }
@@ -52,4 +52,4 @@ pub returns-in-Ok-clause-does : goal.returns-in-Ok-clause-does
 returns-in-Ok-clause-does g c a u = let t = returns-in-Ok-clause-heard g c in
     unheard_does t.steps a
     (λ b. Seen g.L.Kms.link b c.publish.new.links (g.D.Dice.left c.publish.new.dice)
-    (g.D.Dice.count c.publish.new.dice)) u.1 (t.are a u.0)
+    (g.D.Dice.count c.publish.new.dice)) u (t.are a)

@@ -47,7 +47,7 @@ pub returns-in-Err-clause-made : goal.returns-in-Err-clause-made
 returns-in-Err-clause-made g c = let task = c.args.task.now in record {
   steps = [];
   walk = refl;
-  are = λ a t. none_heard _ (unmade task.direction task.resource.now task.path.now
+  are = λ a. none_heard _ (unmade task.direction task.resource.now task.path.now
       (rows_of c.args.settings.entries.0) c.args.bytes _);
 }
 
@@ -56,10 +56,10 @@ returns-in-Err-publish_settings-clause-made g c = let task = c.args.task.now in
     let talk = c.in-Err-publish_settings.ensures.heard in record {
       steps = talk.steps;
       walk = talk.walk;
-      are = λ a t. unpublished task.direction task.resource.now task.path.now
+      are = λ a. unpublished task.direction task.resource.now task.path.now
           (rows_of c.args.settings.entries.0)
           c.args.bytes (ap (λ (s : Settings). rows_of s.entries.0) c.in-Ok.ensures.ok)
-          c.in-Err-publish_settings.stop (talk.are a t);
+          c.in-Err-publish_settings.stop (talk.are a);
     }
 
 pub returns-in-Err-publish_settings-clause-names : goal.returns-in-Err-publish_settings-clause-names
@@ -73,14 +73,14 @@ returns-in-Err-adopted-clause-made g c = let task = c.args.task.now in
       steps = talk.steps;
       walk = subst (λ l. Walk (Among g.L.Kms.step) c.args.links talk.steps l)
           (sym c.in-Err-adopted.ensures.links) talk.walk;
-      are = λ a t. unadopted g.L.Kms.link g.D.Dice.left g.D.Dice.count task.direction
+      are = λ a. unadopted g.L.Kms.link g.D.Dice.left g.D.Dice.count task.direction
           task.resource.now task.path.now
           (rows_of c.args.settings.entries.0) (rows_of c.in-Ok.settings.entries.0) c.args.bytes
           (ap (λ (s : Settings). rows_of s.entries.0) c.in-Ok.ensures.ok) c.args.links
           c.publish_settings.new.links c.args.dice c.publish_settings.new.dice a
           (with_exchanges talk.steps a)
           c.in-Ok-publish_settings.published.seeds c.in-Err-adopted.links c.in-Err-adopted.dice
-          c.in-Err-adopted.ensures.links c.in-Err-adopted.ensures.dice (talk.are a t);
+          c.in-Err-adopted.ensures.links c.in-Err-adopted.ensures.dice (talk.are a);
     }
 
 pub returns-in-Err-adopted-clause-names : goal.returns-in-Err-adopted-clause-names
@@ -98,7 +98,7 @@ returns-clause-made g c = let task = c.args.task.now in
           c.publish_settings.new.links c.work.result.1 first.walk
           (subst (λ l. Walk (Among g.L.Kms.step) l second.steps c.work.result.1)
           c.in-Ok-adopted.ensures.links second.walk);
-      are = λ a t. both_heard first.steps second.steps
+      are = λ a. both_heard first.steps second.steps
           (Seen g.L.Kms.link a c.work.result.1 (g.D.Dice.left c.work.result.2)
           (g.D.Dice.count c.work.result.2))
           (made_by g.L.Kms.link g.D.Dice.left g.D.Dice.count task.direction task.resource.now
@@ -112,7 +112,7 @@ returns-clause-made g c = let task = c.args.task.now in
           c.in-Ok-adopted.bench.dice c.work.result.2 c.work.result.0
           c.in-Ok-adopted.ensures.published c.in-Ok-publish_settings.ensures.rows
           c.in-Ok-adopted.ensures.links c.in-Ok-adopted.ensures.dice
-          (first.are a t) (second.are (with_exchanges first.steps a) t));
+          (first.are a) (second.are (with_exchanges first.steps a)));
     }
 
 pub returns-clause-names : goal.returns-clause-names

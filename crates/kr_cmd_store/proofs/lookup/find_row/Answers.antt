@@ -1,25 +1,41 @@
--- The store's tape is borrowed for the look-up, and comes back.
+-- The store's tape is borrowed for the look-up, and is back then.
+use Rattle.std.proofs.Common.{◌∙◌}
 use Rattle.kr_kms.specs.declared.world.Access.TheVariants.{ToRead}
 use Rattle.kr_cmd_steps.specs.Around.{with_world}
 use Rattle.kr_cmd_steps.specs.StoreSteps.{row_on}
-use Rattle.kr_cmd_steps.specs.Phases.{tape_for}
+use Rattle.kr_cmd_steps.specs.Phases.{read_for}
 use Rattle.kr_cmd_steps.proofs.Goes.{by_bytes}
-use Rattle.kr_cmd_steps.proofs.Tapes.{not_lent, lends_tape, is_out}
+use Rattle.kr_cmd_steps.proofs.Returning.{lends_read, read_links}
+use Rattle.kr_cmd_steps.proofs.Tapes.{not_lent, is_out}
 use Rattle.kr_cmd_store.proofs.lookup.find_row.Goals as goal
 
 pub returns-in-Err-clause-does : goal.returns-in-Err-clause-does
 returns-in-Err-clause-does g c a =
-    by_bytes (λ name. tape_for name ToRead (row_on name c.args.path.now)) c.as_str-name.ensures
+    by_bytes (λ name. read_for name (row_on name c.args.path.now)) c.as_str-name.ensures
     (not_lent c.in-Err.ensures.files c.in-Err.ensures.objects a c.as_str-name.result.now ToRead
     c.in-Err.stop c.in-Err.ensures.why c.in-Err.ensures.asked)
 
-pub close_tape-requires-clause-out : goal.close_tape-requires-clause-out
-close_tape-requires-clause-out g c =
+pub returns-in-Err-clause-links : goal.returns-in-Err-clause-links
+returns-in-Err-clause-links g c = c.in-Err.ensures.objects.links
+
+pub return_tape-requires-clause-out : goal.return_tape-requires-clause-out
+return_tape-requires-clause-out g c =
     λ κs lives. is_out c.as_str-name.result.now c.in-Ok.ensures.lent
 
 pub returns-clause-does : goal.returns-clause-does
 returns-clause-does g c a =
-    by_bytes (λ name. tape_for name ToRead (row_on name c.args.path.now)) c.as_str-name.ensures
-    (lends_tape c.as_str-name.result.now ToRead a c.in-Ok.ensures.lent c.close_tape.ensures
-    (c.find_on_tape-row.ensures.does c.as_str-name.result.now
-    (with_world (g.W.World.told c.open_tape.new.world) a)))
+    let name = c.as_str-name.result.now in
+    let mid = g.W.World.told c.open_tape.new.world in
+    let tape = c.find_on_tape-row.result.1 in
+    by_bytes (λ name. read_for name (row_on name c.args.path.now)) c.as_str-name.ensures
+    (lends_read name mid (g.W.World.told c.return_tape.new.world) (g.W.Tap.Tape.told tape)
+    (g.W.Tap.Tape.count tape) a (row_on name c.args.path.now) c.find_on_tape-row.result.0
+    c.in-Ok.ensures.lent c.return_tape.ensures
+    (c.find_on_tape-row.ensures.does name (with_world mid a)))
+
+pub returns-clause-links : goal.returns-clause-links
+returns-clause-links g c =
+    let tape = c.find_on_tape-row.result.1 in
+    read_links c.as_str-name.result.now (g.W.World.told c.open_tape.new.world)
+    (g.W.World.told c.return_tape.new.world) (g.W.Tap.Tape.told tape) (g.W.Tap.Tape.count tape)
+    c.find_on_tape-row.result.0 c.return_tape.ensures ∙ c.in-Ok.ensures.lent.links

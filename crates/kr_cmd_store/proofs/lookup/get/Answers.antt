@@ -3,11 +3,10 @@ use Rattle.std.proofs.Common.{◌≡◌, ◌≤◌, List, [], length, inl, refl,
 use Rattle.kr_base.specs.Limits.{path_limit, value_limit}
 use Rattle.kr_config.specs.Kept.{ConfigEntry, rows_of}
 use Rattle.kr_kms.specs.Outside.{KeepsFiles, Outside}
-use Rattle.kr_kms.specs.declared.world.Access.TheVariants.{ToRead}
 use Rattle.kr_provider.specs.PluginOrder.{plugin_order}
 use Rattle.kr_store.specs.declared.rows.Row as stored
 use Rattle.kr_cmd_steps.specs.Around.{with_exchanges, with_world}
-use Rattle.kr_cmd_steps.specs.Phases.{configuration, linking_programs, tape_for}
+use Rattle.kr_cmd_steps.specs.Phases.{configuration, linking_programs, read_for}
 use Rattle.kr_cmd_steps.specs.ValueSteps.{bench_steps}
 use Rattle.kr_cmd_steps.specs.StoreSteps.{row_on}
 use Rattle.kr_cmd_steps.specs.Steps.{Steps, and_then}
@@ -18,7 +17,7 @@ use Rattle.kr_cmd_messages.specs.declared.refusal.Outcome.{Outcome}
 use Rattle.kr_cmd_messages.specs.declared.refusal.Stop.TheVariants.{NoMemory}
 use Rattle.kr_cmd_steps.proofs.Apart.{bench_by, unlent}
 use Rattle.kr_cmd_steps.proofs.Goes.{goes_on, not_opened, stops, by_bytes}
-use Rattle.kr_cmd_steps.proofs.HeardLinks.{heard_so, nothing_does}
+use Rattle.kr_cmd_steps.proofs.HeardLinks.{heard_so, heard_within, nothing_does}
 use Rattle.kr_cmd_steps.proofs.NamedPrograms.{names_in}
 use Rattle.kr_cmd_store.proofs.lookup.get.Goals as goal
 
@@ -27,50 +26,53 @@ read_so words rows programs row =
     bench_steps programs Decrypt row.resource words.path rows row.stored
 
 abbrev looked_up : Lookup → List ConfigEntry → List Program → Steps Outcome
-looked_up words rows programs = and_then (tape_for words.store ToRead
-    (row_on words.store words.path)) (read_so words rows programs)
+looked_up words rows programs =
+    and_then (read_for words.store (row_on words.store words.path)) (read_so words rows programs)
 
 abbrev loaded : Lookup → List ConfigEntry → Steps Outcome
 loaded words rows = and_then (linking_programs words.options rows) (looked_up words rows)
 
 pub returns-in-Err : goal.returns-in-Err
 returns-in-Err g c =
-    nothing_does g.W.World.lent g.W.World.took g.W.Link.Kms.step 0 []
+    nothing_does g.W.Link.Kms.link g.W.World.lent g.W.World.took g.W.Link.Kms.step 0
+    (λ i. (c.in-Err.ensures.links i).handed) []
     (λ a. with_world (g.W.World.told c.args.world.now) a)
     (λ a. with_world (g.W.World.told c.configure.new.world) a)
-    (λ a t. let words = c.args.words.now in
+    (λ a. let words = c.args.words.now in
     stops (configuration words.config) (loaded words) c.in-Err.stop
-    (by_bytes configuration c.as_str.ensures (c.in-Err.ensures a)))
+    (by_bytes configuration c.as_str.ensures (c.in-Err.ensures.does a)))
 
 pub returns-in-Err-settings_programs : goal.returns-in-Err-settings_programs
 returns-in-Err-settings_programs g c =
-    nothing_does g.W.World.lent g.W.World.took g.W.Link.Kms.step 0 []
+    nothing_does g.W.Link.Kms.link g.W.World.lent g.W.World.took g.W.Link.Kms.step 0
+    (λ i. (c.in-Ok.ensures.links i).handed) []
     (λ a. with_world (g.W.World.told c.args.world.now) a)
     (λ a. with_world (g.W.World.told c.configure.new.world) a)
-    (λ a t.
+    (λ a.
     let words = c.args.words.now in
     let rows = rows_of c.in-Ok.settings.entries.0 in
     let now = with_world (g.W.World.told c.configure.new.world) a in
     goes_on (configuration words.config) (loaded words) rows
-    (by_bytes configuration c.as_str.ensures (c.in-Ok.ensures a))
+    (by_bytes configuration c.as_str.ensures (c.in-Ok.ensures.does a))
     (stops (linking_programs words.options rows) (looked_up words rows)
     c.in-Err-settings_programs.stop (c.in-Err-settings_programs.ensures.does now)))
 
 pub returns-in-Err-find_row : goal.returns-in-Err-find_row
 returns-in-Err-find_row g c =
-    nothing_does g.W.World.lent g.W.World.took g.W.Link.Kms.step 0 []
+    nothing_does g.W.Link.Kms.link g.W.World.lent g.W.World.took g.W.Link.Kms.step 0
+    (λ i. ((c.in-Err-find_row.ensures.links ∙ c.in-Ok.ensures.links) i).handed) []
     (λ a. with_world (g.W.World.told c.args.world.now) a)
     (λ a. with_world (g.W.World.told c.find_row.new.world) a)
-    (λ a t.
+    (λ a.
     let words = c.args.words.now in
     let rows = rows_of c.in-Ok.settings.entries.0 in
     let programs = c.in-Ok-settings_programs.programs in
     let now = with_world (g.W.World.told c.configure.new.world) a in
     goes_on (configuration words.config) (loaded words) rows
-    (by_bytes configuration c.as_str.ensures (c.in-Ok.ensures a))
+    (by_bytes configuration c.as_str.ensures (c.in-Ok.ensures.does a))
     (goes_on (linking_programs words.options rows) (looked_up words rows) programs
     (c.in-Ok-settings_programs.ensures.does now)
-    (stops (tape_for words.store ToRead (row_on words.store words.path))
+    (stops (read_for words.store (row_on words.store words.path))
     (read_so words rows programs) c.in-Err-find_row.stop (c.in-Err-find_row.ensures.does a))))
 
 keeps_files : (told : Outside) → KeepsFiles told told
@@ -87,19 +89,20 @@ keeps_files told = record {
 -- there was no memory for a copy of the value
 pub returns-in_default : goal.returns-in_default
 returns-in_default g c =
-    nothing_does g.W.World.lent g.W.World.took g.W.Link.Kms.step 0 []
+    nothing_does g.W.Link.Kms.link g.W.World.lent g.W.World.took g.W.Link.Kms.step 0
+    (λ i. ((c.in-Ok-find_row.ensures.links ∙ c.in-Ok.ensures.links) i).handed) []
     (λ a. with_world (g.W.World.told c.args.world.now) a)
     (λ a. with_world (g.W.World.told c.find_row.new.world) a)
-    (λ a t.
+    (λ a.
     let words = c.args.words.now in
     let rows = rows_of c.in-Ok.settings.entries.0 in
     let programs = c.in-Ok-settings_programs.programs in
     let now = with_world (g.W.World.told c.configure.new.world) a in
     goes_on (configuration words.config) (loaded words) rows
-    (by_bytes configuration c.as_str.ensures (c.in-Ok.ensures a))
+    (by_bytes configuration c.as_str.ensures (c.in-Ok.ensures.does a))
     (goes_on (linking_programs words.options rows) (looked_up words rows) programs
     (c.in-Ok-settings_programs.ensures.does now)
-    (goes_on (tape_for words.store ToRead (row_on words.store words.path))
+    (goes_on (read_for words.store (row_on words.store words.path))
     (read_so words rows programs) c.in-Ok-find_row.row (c.in-Ok-find_row.ensures.does a)
     (not_opened (keeps_files (g.W.World.told c.find_row.new.world))
     (record { dice = refl; tapes = refl; links = refl }) a 0 NoMemory tt (inl refl)))))
@@ -122,17 +125,24 @@ make-requires-clause-fits g c κs within =
 
 pub returns : goal.returns
 returns g c =
-    heard_so g.W.World.lent g.W.World.took g.W.Link.Kms.step 0 [] [] _ _ c.make.ensures.made
-    (λ es does a t.
+    let link = g.W.Link.Kms.link in
+    let lent = g.W.World.lent in
+    let took = g.W.World.took in
+    let step = g.W.Link.Kms.step in
+    heard_within link lent took step 0 {out = g.W.World.told c.find_row.new.world}
+    {mid = g.W.World.told c.make.new.world}
+    (λ i. ((c.in-Ok-find_row.ensures.links ∙ c.in-Ok.ensures.links) i).handed) refl [] [] _
+    (heard_so link lent took step 0 [] [] _ _ c.make.ensures.made
+    (λ es does a.
     let words = c.args.words.now in
     let rows = rows_of c.in-Ok.settings.entries.0 in
     let programs = c.in-Ok-settings_programs.programs in
     let now = with_world (g.W.World.told c.configure.new.world) a in
     goes_on (configuration words.config) (loaded words) rows
-    (by_bytes configuration c.as_str.ensures (c.in-Ok.ensures a))
+    (by_bytes configuration c.as_str.ensures (c.in-Ok.ensures.does a))
     (goes_on (linking_programs words.options rows) (looked_up words rows) programs
     (c.in-Ok-settings_programs.ensures.does now)
-    (goes_on (tape_for words.store ToRead (row_on words.store words.path))
+    (goes_on (read_for words.store (row_on words.store words.path))
     (read_so words rows programs) c.in-Ok-find_row.row (c.in-Ok-find_row.ensures.does a)
     (unlent a (with_exchanges es a) c.make.ensures.tapes
     (bench_by Decrypt rows c.as_slice-2.ensures
@@ -140,4 +150,4 @@ returns g c =
     c.as_str-3.ensures
     (c.in-Ok-copy.ensures ∙ c.as_slice.ensures
     ∙ ap (λ (r : stored.Row). r.stored) c.get-found.ensures)
-    (does (g.W.World.told c.find_row.new.world).tapes a t))))))
+    (does (g.W.World.told c.find_row.new.world).tapes a)))))))

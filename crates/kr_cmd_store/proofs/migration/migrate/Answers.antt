@@ -1,5 +1,5 @@
 -- `migrate`: each phase goes on from the one before, and the source's tape comes back.
-use Rattle.std.proofs.Common.{◌≡◌, ◌<◌, ℕ, List, false, sym, subst}
+use Rattle.std.proofs.Common.{◌≡◌, ◌<◌, ◌∙◌, ℕ, List, false, sym, subst}
 use Rattle.kr_config.specs.Kept.{ConfigEntry, rows_of}
 use Rattle.kr_kms.specs.Outside.{same_name}
 use Rattle.kr_kms.specs.declared.world.Access.TheVariants.{ToRead}
@@ -18,17 +18,24 @@ on_tape to rows name = tape_for name ToRead (and_then (source_on name) (migratin
 abbrev loaded : Migration → List ConfigEntry → Steps Outcome
 loaded words rows = on_tape words.to rows words.store
 
-pub returns-in-Err : goal.returns-in-Err
-returns-in-Err g c a = let words = c.args.words.now in
-    stops (configuration words.config) (loaded words) c.in-Err.stop
-    (by_bytes configuration c.as_str.ensures (c.in-Err.ensures a))
+pub returns-in-Err-clause-links : goal.returns-in-Err-clause-links
+returns-in-Err-clause-links g c = c.in-Err.ensures.links
 
-pub returns-in-Err-open_tape : goal.returns-in-Err-open_tape
-returns-in-Err-open_tape g c a =
+pub returns-in-Err-clause-does : goal.returns-in-Err-clause-does
+returns-in-Err-clause-does g c a = let words = c.args.words.now in
+    stops (configuration words.config) (loaded words) c.in-Err.stop
+    (by_bytes configuration c.as_str.ensures (c.in-Err.ensures.does a))
+
+pub returns-in-Err-open_tape-clause-links : goal.returns-in-Err-open_tape-clause-links
+returns-in-Err-open_tape-clause-links g c =
+    c.in-Err-open_tape.ensures.objects.links ∙ c.in-Ok.ensures.links
+
+pub returns-in-Err-open_tape-clause-does : goal.returns-in-Err-open_tape-clause-does
+returns-in-Err-open_tape-clause-does g c a =
     let words = c.args.words.now in
     let rows = rows_of c.in-Ok.settings.entries.0 in
     goes_on (configuration words.config) (loaded words) rows
-    (by_bytes configuration c.as_str.ensures (c.in-Ok.ensures a))
+    (by_bytes configuration c.as_str.ensures (c.in-Ok.ensures.does a))
     (by_bytes (on_tape words.to rows) c.as_str-name.ensures
     (not_lent c.in-Err-open_tape.ensures.files c.in-Err-open_tape.ensures.objects a
     c.as_str-name.result.now ToRead c.in-Err-open_tape.stop c.in-Err-open_tape.ensures.why
@@ -39,13 +46,17 @@ close_tape-requires-clause-out g c = λ κs lives. let name = c.as_str-name.resu
     subst (λ n. 0 < n) (sym (c.migrate_tape-made.ensures.out name))
     (is_out name c.in-Ok-open_tape.ensures.lent)
 
-pub returns : goal.returns
-returns g c a =
+pub returns-clause-links : goal.returns-clause-links
+returns-clause-links g c = c.close_tape.ensures.links ∙ c.migrate_tape-made.ensures.links
+    ∙ c.in-Ok-open_tape.ensures.lent.links ∙ c.in-Ok.ensures.links
+
+pub returns-clause-does : goal.returns-clause-does
+returns-clause-does g c a =
     let words = c.args.words.now in
     let rows = rows_of c.in-Ok.settings.entries.0 in
     let name = c.as_str-name.result.now in
     goes_on (configuration words.config) (loaded words) rows
-    (by_bytes configuration c.as_str.ensures (c.in-Ok.ensures a))
+    (by_bytes configuration c.as_str.ensures (c.in-Ok.ensures.does a))
     (by_bytes (on_tape words.to rows) c.as_str-name.ensures
     (lends_tape name ToRead a c.in-Ok-open_tape.ensures.lent c.close_tape.ensures
     (c.migrate_tape-made.ensures.made name a

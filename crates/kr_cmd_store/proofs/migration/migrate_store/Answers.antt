@@ -1,5 +1,5 @@
 -- `migrate_store`: the target's tape is borrowed while the source's is out, and comes back.
-use Rattle.std.proofs.Common.{◌≡◌, false, sym, subst, ap, arith}
+use Rattle.std.proofs.Common.{◌≡◌, ◌∙◌, false, sym, subst, ap, arith}
 use Rattle.kr_config.specs.Kept.{rows_of}
 use Rattle.kr_kms.specs.Outside.{same_name}
 use Rattle.kr_kms.specs.declared.world.Access.TheVariants.{ToMake}
@@ -10,7 +10,7 @@ use Rattle.kr_cmd_messages.specs.declared.refusal.Object.TheVariants.{Target}
 use Rattle.kr_cmd_steps.specs.inner.Lent.{with_lent_tape}
 use Rattle.kr_cmd_steps.specs.inner.Tapes.{stored_of}
 use Rattle.kr_cmd_steps.proofs.Goes.{by_bytes}
-use Rattle.kr_cmd_steps.proofs.Settling.{returned_out}
+use Rattle.kr_cmd_steps.proofs.Settling.{returned_out, settled_links}
 use Rattle.kr_cmd_steps.proofs.Tapes.{is_out}
 use Rattle.kr_cmd_store.proofs.TwoTapes.{not_lent_behind, settles_behind}
 use Rattle.kr_cmd_store.proofs.migration.migrate_store.Goals as goal
@@ -57,3 +57,13 @@ returns-clause-out g c = λ key.
           (g.W.Tap.Tape.told c.copy_onto_tape-made.result.1) (g.W.Tap.Tape.count c.copy_onto_tape-made.result.1)
           c.copy_onto_tape-made.result.0 c.settle_tape.result c.settle_tape.ensures key,
     )
+
+pub returns-in-Err-clause-links : goal.returns-in-Err-clause-links
+returns-in-Err-clause-links g c = c.in-Err.ensures.objects.links
+
+pub returns-clause-links : goal.returns-clause-links
+returns-clause-links g c = settled_links c.as_str-name.result.now Target
+    (g.W.World.told c.open_tape.new.world) (g.W.World.told c.settle_tape.new.world)
+    (g.W.Tap.Tape.told c.copy_onto_tape-made.result.1)
+    (g.W.Tap.Tape.count c.copy_onto_tape-made.result.1) c.copy_onto_tape-made.result.0
+    c.settle_tape.result c.settle_tape.ensures ∙ c.in-Ok.ensures.lent.links

@@ -30,3 +30,6 @@ returns-clause-made g c name a apart =
 
 pub returns-clause-out : goal.returns-clause-out
 returns-clause-out g c = c.migrate_store-made.ensures.out
+
+pub returns-clause-links : goal.returns-clause-links
+returns-clause-links g c = c.migrate_store-made.ensures.links

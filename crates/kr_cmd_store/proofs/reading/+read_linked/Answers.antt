@@ -1,5 +1,5 @@
 -- `read_linked`: one more link is borrowed for what follows.
-use Rattle.std.proofs.Common.{◌≡◌, ◌++◌, ◌∷◌, [], subst, sym, ap, ◌∙◌}
+use Rattle.std.proofs.Common.{◌≡◌, ◌++◌, refl, subst, sym, ap, ◌∙◌}
 use Rattle.kr_base.proofs.Walks.{talk_so}
 use Rattle.kr_config.specs.Kept.{rows_of}
 use Rattle.kr_provider.specs.AskedLinks.{Among}
@@ -8,9 +8,10 @@ use Rattle.kr_provider.specs.PluginOrder.{plugin_order}
 use Rattle.kr_cmd_steps.specs.Around.{with_exchanges, with_world}
 use Rattle.kr_cmd_steps.specs.StoreSteps.{row_findings, telling_findings, verifying_by}
 use Rattle.kr_cmd_steps.specs.Plugins.{make_seeds}
+use Rattle.kr_cmd_steps.specs.ValueSteps.{none_kept}
 use Rattle.kr_cmd_steps.specs.Steps.{and_then}
 use Rattle.kr_cmd_steps.proofs.Frames.{Seen}
-use Rattle.kr_cmd_steps.proofs.HeardLinks.{heard_around, heard_by, heard_idle, heard_nothing, heard_so}
+use Rattle.kr_cmd_steps.proofs.HeardLinks.{heard_around, heard_by, heard_idle, heard_nothing, heard_so, loan_handed}
 use Rattle.kr_cmd_steps.proofs.Hearing.{none_heard}
 use Rattle.kr_cmd_steps.proofs.Linked.{all_back, at_end, at_first, borrows_to, is_new, is_out, none_added, none_borrowed, same_last, some_named}
 use Rattle.kr_cmd_steps.proofs.NamedPrograms.{names_in}
@@ -18,15 +19,18 @@ use Rattle.kr_cmd_store.proofs.reading.+read_linked.Goals as goal
 
 pub returns-in_default-clause-does : goal.returns-in_default-clause-does
 returns-in_default-clause-does g t c =
-    heard_by g.W.World.lent g.W.World.took g.W.Link.Kms.step 0 c.args.links c.read_stored_rows.result.1 _
-    (talk_so (Among g.W.Link.Kms.step) _ _ c.args.links c.read_stored_rows.result.1 c.read_stored_rows.ensures.does
-    (λ es does a truth.
+    heard_by g.W.Link.Kms.link g.W.World.lent g.W.World.took g.W.Link.Kms.step 0 refl c.args.links
+    c.read_stored_rows.result.1 _
+    (talk_so (Among g.W.Link.Kms.step) _ _ c.args.links c.read_stored_rows.result.1
+    c.read_stored_rows.ensures.does
+    (λ es does a.
     at_end (verifying_by (rows_of c.args.settings.entries.0) c.args.rows.now) c.args.programs.now
-    c.in_default.ensures (does (with_world (g.W.World.told c.args.world.now) a) truth)))
+    c.in_default.ensures (does (with_world (g.W.World.told c.args.world.now) a))))
 
 pub returns-in-Err-clause-does : goal.returns-in-Err-clause-does
 returns-in-Err-clause-does g t c =
-    heard_nothing g.W.World.lent g.W.World.took g.W.Link.Kms.step 0 c.args.links _ (λ a truth.
+    heard_nothing g.W.Link.Kms.link g.W.World.lent g.W.World.took g.W.Link.Kms.step 0
+    (λ i. (c.in-Err.ensures.objects.links i).handed) c.args.links _ (λ a.
     at_first (verifying_by (rows_of c.args.settings.entries.0) c.args.rows.now) c.args.programs.now
     c.in-Some.program.now c.in-Some.more.now c.as_str.result.now c.as_str-2.result.now
     c.in-Some.ensures c.as_str.ensures c.as_str-2.ensures
@@ -50,9 +54,11 @@ returns-in-Err-add-clause-does g t c =
     let lent = g.W.World.lent in
     let took = g.W.World.took in
     let step = g.W.Link.Kms.step in
-    heard_idle lent took step 0 c.args.links c.add.new.self c.in-Ok.link c.in-Err-add.link _
+    heard_idle g.W.Link.Kms.link lent took step 0 (g.W.World.told c.open_link.new.world)
+    c.args.links c.add.new.self c.in-Ok.link c.in-Err-add.link _
+    (loan_handed c.in-Ok.ensures.lent) c.close_link.ensures.back.home.handed
     c.in-Ok.ensures.given c.close_link.ensures.taken c.in-Err-add.ensures.err
-    c.in-Err-add.ensures.returned (λ a truth.
+    c.in-Err-add.ensures.returned (λ a.
     at_first (verifying_by rows c.args.rows.now)
     c.args.programs.now
     c.in-Some.program.now c.in-Some.more.now c.as_str.result.now c.as_str-2.result.now
@@ -61,7 +67,7 @@ returns-in-Err-add-clause-does g t c =
     c.add.new.self (g.W.Rand.Dice.left c.args.dice) (g.W.Rand.Dice.count c.args.dice))
     (none_added g.W.Link.Kms.link a (and_then (make_seeds (plugin_order rows))
     (λ seeds.
-    and_then (row_findings (record { rows = rows; seeds = seeds }) c.args.rows.now)
+    and_then (row_findings (record { rows = rows; seeds = seeds }) c.args.rows.now none_kept)
     (telling_findings c.args.rows.now)))
     c.in-Some.more.now c.args.links c.add.new.self c.in-Ok.link
     c.in-Err-add.link (g.W.Rand.Dice.left c.args.dice) (g.W.Rand.Dice.count c.args.dice)
@@ -90,11 +96,12 @@ returns-clause-does g t c =
     let step = g.W.Link.Kms.step in
     let last = c.take_last-link.result in
     let rest = c.take_last-link.new.links in
-    heard_so lent took step 0 c.args.links rest _ _
-    (heard_around lent took step 0 c.args.links rest c.add.new.self c.read_linked-told.result.1
-    c.in-Ok.link last c.in-Ok.ensures.given c.close_link-2.ensures.taken c.in-Ok-add.ensures.ok
+    heard_so g.W.Link.Kms.link lent took step 0 c.args.links rest _ _
+    (heard_around g.W.Link.Kms.link lent took step 0 c.args.links rest c.add.new.self
+    c.read_linked-told.result.1 c.in-Ok.link last (loan_handed c.in-Ok.ensures.lent)
+    c.close_link-2.ensures.back.home.handed c.in-Ok.ensures.given c.close_link-2.ensures.taken c.in-Ok-add.ensures.ok
     c.take_last-link.ensures c.read_linked-told.ensures.does)
-    (λ es does a truth.
+    (λ es does a.
     at_first (verifying_by (rows_of c.args.settings.entries.0) c.args.rows.now) c.args.programs.now
     c.in-Some.program.now c.in-Some.more.now c.as_str.result.now c.as_str-2.result.now
     c.in-Some.ensures c.as_str.ensures c.as_str-2.ensures
@@ -103,7 +110,7 @@ returns-clause-does g t c =
     (g.W.Rand.Dice.left c.args.dice) (g.W.Rand.Dice.left c.read_linked-told.result.2)
     (g.W.Rand.Dice.count c.args.dice) (g.W.Rand.Dice.count c.read_linked-told.result.2)
     c.in-Ok.ensures.lent c.close_link-2.ensures.back c.in-Ok-add.ensures.ok
-    c.take_last-link.ensures (does a truth)))
+    c.take_last-link.ensures (does a)))
 
 pub returns-clause-out : goal.returns-clause-out
 returns-clause-out g t c =

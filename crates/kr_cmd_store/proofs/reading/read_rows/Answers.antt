@@ -1,5 +1,5 @@
 -- `read_rows`: each turn reads the next row.
-use Rattle.std.proofs.Common.{arith, Ok, refl, subst, sym}
+use Rattle.std.proofs.Common.{arith, Ok, subst, sym}
 use Rattle.kr_base.specs.Walks.{Talk}
 use Rattle.kr_provider.specs.AskedLinks.{Among}
 use Rattle.kr_cmd_store.specs.inner.Verifying.{findings_in}
@@ -7,16 +7,13 @@ use Rattle.kr_cmd_store.proofs.RowReading.{FindsAll, all_read, lacking_at, none_
 use Rattle.kr_cmd_store.proofs.reading.read_rows.Goals as goal
 
 pub loop-row-init : goal.loop-row-init
-loop-row-init g c = none_read g.L.Kms.truth g.L.Kms.link g.D.Dice.left g.D.Dice.count g.L.Kms.step
-    c.args.rows.now c.args.bench c.requires.cold c.new-findings.result.0 c.new-findings.ensures
-
-pub read_row-requires-clause-opened : goal.read_row-requires-clause-opened
-read_row-requires-clause-opened g c = c.loop-row.invariant.opened
+loop-row-init g c = none_read g.L.Kms.link g.D.Dice.left g.D.Dice.count g.L.Kms.step
+    c.args.rows.now c.args.bench c.new-findings.result.0 c.new-findings.ensures
 
 pub returns-in-Err-clause-does : goal.returns-in-Err-clause-does
 returns-in-Err-clause-does g c =
     let end = c.cut_short.ensures.stop in
-    stopped_at g.L.Kms.truth g.L.Kms.link g.D.Dice.left g.D.Dice.count g.L.Kms.step
+    stopped_at g.L.Kms.link g.D.Dice.left g.D.Dice.count g.L.Kms.step
     c.args.rows.now
     c.args.bench c.loop-row.row-index c.loop-row.findings.0 c.loop-row.bench
     c.loop-row.invariant c.get.result.now c.row-item.result c.loop-row-test.true c.row-item.is
@@ -28,7 +25,7 @@ returns-in-Err-clause-does g c =
 pub returns-in-Err-push-clause-does : goal.returns-in-Err-push-clause-does
 returns-in-Err-push-clause-does g c =
     let end = c.cut_short-in-Err-push.ensures.stop in
-    lacking_at g.L.Kms.truth g.L.Kms.link g.D.Dice.left g.D.Dice.count g.L.Kms.step
+    lacking_at g.L.Kms.link g.D.Dice.left g.D.Dice.count g.L.Kms.step
     c.args.rows.now
     c.args.bench c.loop-row.row-index c.loop-row.findings.0 c.loop-row.bench
     c.loop-row.invariant c.get.result.now c.row-item.result c.loop-row-test.true c.row-item.is
@@ -40,7 +37,7 @@ returns-in-Err-push-clause-does g c =
 
 pub loop-row-preserved : goal.loop-row-preserved
 loop-row-preserved g c =
-    one_more_read g.L.Kms.truth g.L.Kms.link g.D.Dice.left g.D.Dice.count g.L.Kms.step
+    one_more_read g.L.Kms.link g.D.Dice.left g.D.Dice.count g.L.Kms.step
     c.args.rows.now
     c.args.bench c.loop-row.row-index c.loop-row.findings.0 c.loop-row.bench
     c.loop-row.invariant c.get.result.now c.row-item.result c.loop-row-test.true c.row-item.is
@@ -50,7 +47,6 @@ loop-row-preserved g c =
 
 pub returns-clause-does : goal.returns-clause-does
 returns-clause-does g c =
-    let truth = g.L.Kms.truth in
     let link = g.L.Kms.link in
     let left = g.D.Dice.left in
     let count = g.D.Dice.count in
@@ -60,10 +56,10 @@ returns-clause-does g c =
     let bench = c.loop-row.bench in
     let found = Ok c.loop-row.findings.0 in
     subst (λ l. Talk (Among step) first.links l
-    (FindsAll truth link left count step rows first l c.close-links.result.1 found))
+    (FindsAll link left count step rows first l c.close-links.result.1 found))
     (sym c.close-links.ensures.0)
     (subst (λ d. Talk (Among step) first.links bench.links
-    (FindsAll truth link left count step rows first bench.links d found))
+    (FindsAll link left count step rows first bench.links d found))
     (sym c.close-links.ensures.1)
-    (all_read truth link left count step rows first c.loop-row.row-index
+    (all_read link left count step rows first c.loop-row.row-index
     c.loop-row.findings.0 bench c.loop-row.invariant (omega (arith, c.loop-row-test.false))))

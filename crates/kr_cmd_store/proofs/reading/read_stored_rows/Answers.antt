@@ -45,23 +45,20 @@ pub read_rows-found-requires-clause-distinct : goal.read_rows-found-requires-cla
 read_rows-found-requires-clause-distinct g c =
     subst (AreDistinct g.L.Kms.link) (sym c.in-Ok-adopted.ensures.links) c.known.ensures
 
-pub read_rows-found-requires-clause-cold : goal.read_rows-found-requires-clause-cold
-read_rows-found-requires-clause-cold g c = c.in-Ok-adopted.ensures.cold
-
 pub returns-in-Err-clause-does : goal.returns-in-Err-clause-does
 returns-in-Err-clause-does g c = record {
   steps = [];
   walk = refl;
-  are = λ a t. none_heard _ (unmade (rows_of c.args.settings.entries.0) c.args.rows.now _);
+  are = λ a. none_heard _ (unmade (rows_of c.args.settings.entries.0) c.args.rows.now _);
 }
 
 pub returns-in-Err-publish_settings-clause-does : goal.returns-in-Err-publish_settings-clause-does
 returns-in-Err-publish_settings-clause-does g c = let talk = c.in-Err-publish_settings.ensures.heard in record {
   steps = talk.steps;
   walk = talk.walk;
-  are = λ a t. unpublished (rows_of c.args.settings.entries.0) c.args.rows.now
+  are = λ a. unpublished (rows_of c.args.settings.entries.0) c.args.rows.now
       (ap (λ (s : Settings). rows_of s.entries.0) c.in-Ok.ensures.ok)
-      c.in-Err-publish_settings.stop (talk.are a t);
+      c.in-Err-publish_settings.stop (talk.are a);
 }
 
 pub returns-in-Err-publish_settings-clause-names : goal.returns-in-Err-publish_settings-clause-names
@@ -74,12 +71,12 @@ returns-in-Err-adopted-clause-does g c = let talk = c.in-Ok-publish_settings.ens
   steps = talk.steps;
   walk = subst (λ l. Walk (Among g.L.Kms.step) c.args.links talk.steps l)
       (sym c.in-Err-adopted.ensures.links) talk.walk;
-  are = λ a t. unadopted g.L.Kms.link g.D.Dice.left g.D.Dice.count
+  are = λ a. unadopted g.L.Kms.link g.D.Dice.left g.D.Dice.count
       (rows_of c.args.settings.entries.0) (rows_of c.in-Ok.settings.entries.0) c.args.rows.now
       (ap (λ (s : Settings). rows_of s.entries.0) c.in-Ok.ensures.ok) c.args.links
       c.publish_settings.new.links c.args.dice c.publish_settings.new.dice a (with_exchanges talk.steps a)
       c.in-Ok-publish_settings.published.seeds c.in-Err-adopted.links c.in-Err-adopted.dice
-      c.in-Err-adopted.ensures.links c.in-Err-adopted.ensures.dice (talk.are a t);
+      c.in-Err-adopted.ensures.links c.in-Err-adopted.ensures.dice (talk.are a);
 }
 
 pub returns-in-Err-adopted-clause-names : goal.returns-in-Err-adopted-clause-names
@@ -97,7 +94,7 @@ returns-clause-does g c =
           c.publish_settings.new.links c.read_rows-found.result.1 first.walk
           (subst (λ l. Walk (Among g.L.Kms.step) l second.steps c.read_rows-found.result.1)
           c.in-Ok-adopted.ensures.links second.walk);
-      are = λ a t. both_heard first.steps second.steps
+      are = λ a. both_heard first.steps second.steps
           (Seen g.L.Kms.link a c.read_rows-found.result.1
           (g.D.Dice.left c.read_rows-found.result.2) (g.D.Dice.count c.read_rows-found.result.2))
           (read_stored_rows g.L.Kms.link g.D.Dice.left g.D.Dice.count
@@ -108,11 +105,11 @@ returns-clause-does g c =
           (with_exchanges second.steps (with_exchanges first.steps a))
           c.in-Ok-publish_settings.published
           c.in-Ok-adopted.bench.published c.in-Ok-adopted.bench.links c.read_rows-found.result.1
-          c.in-Ok-adopted.bench.dice c.read_rows-found.result.2
+          c.in-Ok-adopted.bench.dice c.read_rows-found.result.2 c.in-Ok-adopted.bench.cache
           (findings_in c.read_rows-found.result.0)
           c.tell.result c.in-Ok-adopted.ensures.published c.in-Ok-publish_settings.ensures.rows
-          c.in-Ok-adopted.ensures.links c.in-Ok-adopted.ensures.dice
-          (first.are a t) (second.are (with_exchanges first.steps a) t) c.tell.ensures);
+          c.in-Ok-adopted.ensures.links c.in-Ok-adopted.ensures.dice c.in-Ok-adopted.ensures.cold
+          (first.are a) (second.are (with_exchanges first.steps a)) c.tell.ensures);
     }
 
 pub returns-clause-names : goal.returns-clause-names

@@ -8,17 +8,18 @@ use Rattle.kr_cmd_steps.specs.Steps.{and_then}
 use Rattle.kr_cmd_messages.specs.declared.refusal.Object.TheVariants.{Store}
 use Rattle.kr_cmd_steps.proofs.Goes.{by_bytes}
 use Rattle.kr_cmd_steps.specs.Around.{with_exchanges, with_world}
-use Rattle.kr_cmd_steps.proofs.HeardLinks.{heard_so, nothing_does}
-use Rattle.kr_cmd_steps.proofs.Settling.{lends_settled_to}
+use Rattle.kr_cmd_steps.proofs.HeardLinks.{heard_so, heard_within, nothing_does}
+use Rattle.kr_cmd_steps.proofs.Settling.{lends_settled_to, settled_links}
 use Rattle.kr_cmd_steps.proofs.Tapes.{not_lent, is_out}
 use Rattle.kr_cmd_store.proofs.storing.put_into_store.Goals as goal
 
 pub returns-in-Err : goal.returns-in-Err
 returns-in-Err g c =
-    nothing_does g.W.World.lent g.W.World.took g.W.Link.Kms.step 0 []
+    nothing_does g.W.Link.Kms.link g.W.World.lent g.W.World.took g.W.Link.Kms.step 0
+    (λ i. (c.in-Err.ensures.objects.links i).handed) []
     (λ a. with_world (g.W.World.told c.args.world.now) a)
     (λ a. with_world (g.W.World.told c.open_tape.new.world) a)
-    (λ a t. by_bytes (λ name. stored_into c.args.words.now name (rows_of c.args.settings.entries.0)
+    (λ a. by_bytes (λ name. stored_into c.args.words.now name (rows_of c.args.settings.entries.0)
     c.args.programs.now c.args.bytes) c.as_str-name.ensures
     (not_lent c.in-Err.ensures.files c.in-Err.ensures.objects a c.as_str-name.result.now ToMake
     c.in-Err.stop c.in-Err.ensures.why c.in-Err.ensures.asked))
@@ -29,8 +30,18 @@ settle_tape-requires-clause-out g c = λ κs lives. subst (λ t. 0 < t.out c.as_
 
 pub returns : goal.returns
 returns g c =
-    heard_so g.W.World.lent g.W.World.took g.W.Link.Kms.step 0 [] [] _ _
-    c.put_on_tape-put.ensures.made (λ es does a t.
+    let link = g.W.Link.Kms.link in
+    let lent = g.W.World.lent in
+    let took = g.W.World.took in
+    let step = g.W.Link.Kms.step in
+    let settled = settled_links c.as_str-name.result.now Store
+    (g.W.World.told c.put_on_tape-put.new.world) (g.W.World.told c.settle_tape.new.world)
+    (g.W.Tap.Tape.told c.put_on_tape-put.result.1) (g.W.Tap.Tape.count c.put_on_tape-put.result.1)
+    c.put_on_tape-put.result.0 c.settle_tape.result c.settle_tape.ensures in
+    heard_within link lent took step 0 {out = g.W.World.told c.open_tape.new.world}
+    {mid = g.W.World.told c.put_on_tape-put.new.world}
+    (λ i. (c.in-Ok.ensures.lent.links i).handed) (λ i. (settled i).handed) [] [] _
+    (heard_so link lent took step 0 [] [] _ _ c.put_on_tape-put.ensures.made (λ es does a.
     by_bytes (λ name. stored_into c.args.words.now name (rows_of c.args.settings.entries.0)
     c.args.programs.now c.args.bytes) c.as_str-name.ensures
     (lends_settled_to Store c.as_str-name.result.now ToMake (g.W.World.told c.put_on_tape-put.new.world)
@@ -39,4 +50,4 @@ returns g c =
     (stored_on Store c.as_str-name.result.now) (sealed_into c.args.words.now
     c.as_str-name.result.now (rows_of c.args.settings.entries.0) c.args.programs.now c.args.bytes))
     c.put_on_tape-put.result.0 c.settle_tape.result c.in-Ok.ensures.lent c.settle_tape.ensures
-    (does c.as_str-name.result.now a t)))
+    (does c.as_str-name.result.now a))))

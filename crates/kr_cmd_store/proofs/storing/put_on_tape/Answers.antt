@@ -2,7 +2,7 @@
 use Rattle.std.proofs.Common.{◌≤◌, ℕ, List, [], length, refl, sym, ◌∙◌, ap, subst}
 use Rattle.std.specs.Option.{option_map}
 use Rattle.std.specs.Prelude.{Some}
-use Rattle.kr_base.specs.Limits.{data_limit, path_limit}
+use Rattle.kr_base.specs.Limits.{path_limit}
 use Rattle.kr_base.specs.Rules.{IsPath, IsResource}
 use Rattle.kr_config.specs.Kept.{ConfigEntry, rows_of}
 use Rattle.kr_config.specs.Lists.{list_of}
@@ -41,7 +41,8 @@ added_then words name rows read sealed =
 
 pub returns-in-Err-clause-made : goal.returns-in-Err-clause-made
 returns-in-Err-clause-made g c =
-    heard_nothing g.W.World.lent g.W.World.took g.W.Link.Kms.step 0 [] _ (λ name a t.
+    heard_nothing g.W.Link.Kms.link g.W.World.lent g.W.World.took g.W.Link.Kms.step 0 refl [] _
+    (λ name a.
     none_heard (with_lent_tape name (g.W.Tap.Tape.told c.in-Err.tape)
     (g.W.Tap.Tape.count c.in-Err.tape) (with_world (g.W.World.told c.args.world.now) a))
     (stops (stored_on Store name) (sealed_into c.args.words.now name
@@ -54,8 +55,9 @@ make-requires-clause-path g c κs within =
 
 pub returns-in-Err-make-clause-made : goal.returns-in-Err-make-clause-made
 returns-in-Err-make-clause-made g c =
-    heard_so g.W.World.lent g.W.World.took g.W.Link.Kms.step 0 [] [] _ _ c.in-Err-make.ensures.made
-    (λ es does name a t.
+    heard_so g.W.Link.Kms.link g.W.World.lent g.W.World.took g.W.Link.Kms.step 0 [] [] _ _
+    c.in-Err-make.ensures.made
+    (λ es does name a.
     let words = c.args.words.now in
     let rows = rows_of c.args.settings.entries.0 in
     let store = c.in-Ok.store in
@@ -71,12 +73,13 @@ returns-in-Err-make-clause-made g c =
     (behind_tape_to name store.told store.count a (with_exchanges es a) c.make.ensures.tapes
     (bench_by Encrypt rows refl c.as_str-2.ensures c.as_str-3.ensures refl
     (does (with_lent same_name name (option_map Some store.told) store.count
-    (g.W.World.told c.args.world.now).tapes) a t))))))
+    (g.W.World.told c.args.world.now).tapes) a))))))
 
 pub returns-in-Err-next_line-clause-made : goal.returns-in-Err-next_line-clause-made
 returns-in-Err-next_line-clause-made g c =
-    heard_so g.W.World.lent g.W.World.took g.W.Link.Kms.step 0 [] [] _ _ c.in-Ok-make.ensures.made
-    (λ es does name a t.
+    heard_so g.W.Link.Kms.link g.W.World.lent g.W.World.took g.W.Link.Kms.step 0 [] [] _ _
+    c.in-Ok-make.ensures.made
+    (λ es does name a.
     let words = c.args.words.now in
     let rows = rows_of c.args.settings.entries.0 in
     let store = c.in-Ok.store in
@@ -93,7 +96,7 @@ returns-in-Err-next_line-clause-made g c =
     (behind_tape_to name store.told store.count a (with_exchanges es a) c.make.ensures.tapes
     (bench_by Encrypt rows refl c.as_str-2.ensures c.as_str-3.ensures refl
     (does (with_lent same_name name (option_map Some store.told) store.count
-    (g.W.World.told c.args.world.now).tapes) a t)))
+    (g.W.World.told c.args.world.now).tapes) a)))
     (stops (adding Store name read (new_row read.format words rows sealed.bytes))
     (λ grown. give (silently (revision_line grown))) NoMemory
     (lacks _ (with_lent_tape name store.told store.count later))))))
@@ -114,8 +117,9 @@ add_put-added-requires-clause-resource g c =
 
 pub returns-clause-made : goal.returns-clause-made
 returns-clause-made g c =
-    heard_so g.W.World.lent g.W.World.took g.W.Link.Kms.step 0 [] [] _ _ c.in-Ok-make.ensures.made
-    (λ es does name a t.
+    heard_so g.W.Link.Kms.link g.W.World.lent g.W.World.took g.W.Link.Kms.step 0 [] [] _ _
+    c.in-Ok-make.ensures.made
+    (λ es does name a.
     let words = c.args.words.now in
     let rows = rows_of c.args.settings.entries.0 in
     let store = c.in-Ok.store in
@@ -135,7 +139,7 @@ returns-clause-made g c =
     (behind_tape_to name store.told store.count a (with_exchanges es a) c.make.ensures.tapes
     (bench_by Encrypt rows refl c.as_str-2.ensures c.as_str-3.ensures refl
     (does (with_lent same_name name (option_map Some store.told) store.count
-    (g.W.World.told c.args.world.now).tapes) a t)))
+    (g.W.World.told c.args.world.now).tapes) a)))
     (subst (λ r. Does (added_then words name rows read sealed)
     (with_lent_tape name store.told store.count later)
     (with_lent_tape name c.add_put-added.new.store.told c.add_put-added.new.store.count later) r)

@@ -1,25 +1,24 @@
 -- `verify`: each phase goes on from the one before.
-use Rattle.std.proofs.Common.{◌≡◌, List, [], sym, subst}
+use Rattle.std.proofs.Common.{◌≡◌, List, [], refl, sym, subst, ◌∙◌}
 use Rattle.std.specs.Prelude.{All}
-use Rattle.kr_kms.specs.declared.world.Access.TheVariants.{ToRead}
 use Rattle.kr_config.specs.Kept.{ConfigEntry, rows_of}
 use Rattle.kr_provider.specs.PluginOrder.{plugin_order}
 use Rattle.kr_cmd_steps.specs.Around.{with_world}
-use Rattle.kr_cmd_steps.specs.Phases.{configuration, linking_programs, tape_for}
+use Rattle.kr_cmd_steps.specs.Phases.{configuration, linking_programs, read_for}
 use Rattle.kr_cmd_steps.specs.StoreSteps.{live_on, verifying_with}
 use Rattle.kr_cmd_steps.specs.Steps.{Steps, and_then}
 use Rattle.kr_cmd_steps.specs.declared.programs.Program.{Program}
 use Rattle.kr_cmd_messages.specs.declared.command.Verification.{Verification}
 use Rattle.kr_cmd_messages.specs.declared.refusal.Outcome.{Outcome}
 use Rattle.kr_cmd_steps.proofs.Goes.{by_bytes, goes_on, stops}
-use Rattle.kr_cmd_steps.proofs.HeardLinks.{heard_so, nothing_does}
+use Rattle.kr_cmd_steps.proofs.HeardLinks.{heard_so, heard_within, nothing_does}
 use Rattle.kr_cmd_steps.proofs.NamedPrograms.{names_in}
 use Rattle.kr_cmd_store.specs.inner.Verifying.{IsWithin}
 use Rattle.kr_cmd_store.proofs.ToldRows.{verified_by}
 use Rattle.kr_cmd_store.proofs.verifying.verify.Goals as goal
 
 abbrev listed : Verification → List ConfigEntry → List Program → Steps Outcome
-listed words rows programs = and_then (tape_for words.store ToRead (live_on words.store))
+listed words rows programs = and_then (read_for words.store (live_on words.store))
     (verifying_with programs rows)
 
 abbrev loaded : Verification → List ConfigEntry → Steps Outcome
@@ -27,44 +26,47 @@ loaded words rows = and_then (linking_programs words.options rows) (listed words
 
 pub returns-in-Err : goal.returns-in-Err
 returns-in-Err g c =
-    nothing_does g.W.World.lent g.W.World.took g.W.Link.Kms.step 0 []
+    nothing_does g.W.Link.Kms.link g.W.World.lent g.W.World.took g.W.Link.Kms.step 0
+    (λ i. (c.in-Err.ensures.links i).handed) []
     (λ a. with_world (g.W.World.told c.args.world.now) a)
     (λ a. with_world (g.W.World.told c.configure.new.world) a)
-    (λ a t. let words = c.args.words.now in
+    (λ a. let words = c.args.words.now in
     stops (configuration words.config) (loaded words) c.in-Err.stop
-    (by_bytes configuration c.as_str.ensures (c.in-Err.ensures a)))
+    (by_bytes configuration c.as_str.ensures (c.in-Err.ensures.does a)))
 
 pub returns-in-Err-settings_programs : goal.returns-in-Err-settings_programs
 returns-in-Err-settings_programs g c =
-    nothing_does g.W.World.lent g.W.World.took g.W.Link.Kms.step 0 []
+    nothing_does g.W.Link.Kms.link g.W.World.lent g.W.World.took g.W.Link.Kms.step 0
+    (λ i. (c.in-Ok.ensures.links i).handed) []
     (λ a. with_world (g.W.World.told c.args.world.now) a)
     (λ a. with_world (g.W.World.told c.configure.new.world) a)
-    (λ a t.
+    (λ a.
     let words = c.args.words.now in
     let rows = rows_of c.in-Ok.settings.entries.0 in
     let now = with_world (g.W.World.told c.configure.new.world) a in
     goes_on (configuration words.config) (loaded words) rows
-    (by_bytes configuration c.as_str.ensures (c.in-Ok.ensures a))
+    (by_bytes configuration c.as_str.ensures (c.in-Ok.ensures.does a))
     (stops (linking_programs words.options rows) (listed words rows)
     c.in-Err-settings_programs.stop (c.in-Err-settings_programs.ensures.does now)))
 
 pub returns-in-Err-find_rows : goal.returns-in-Err-find_rows
 returns-in-Err-find_rows g c =
-    nothing_does g.W.World.lent g.W.World.took g.W.Link.Kms.step 0 []
+    nothing_does g.W.Link.Kms.link g.W.World.lent g.W.World.took g.W.Link.Kms.step 0
+    (λ i. ((c.in-Err-find_rows.ensures.links ∙ c.in-Ok.ensures.links) i).handed) []
     (λ a. with_world (g.W.World.told c.args.world.now) a)
     (λ a. with_world (g.W.World.told c.find_rows.new.world) a)
-    (λ a t.
+    (λ a.
     let words = c.args.words.now in
     let rows = rows_of c.in-Ok.settings.entries.0 in
     let programs = c.in-Ok-settings_programs.programs in
     let now = with_world (g.W.World.told c.configure.new.world) a in
     goes_on (configuration words.config) (loaded words) rows
-    (by_bytes configuration c.as_str.ensures (c.in-Ok.ensures a))
+    (by_bytes configuration c.as_str.ensures (c.in-Ok.ensures.does a))
     (goes_on (linking_programs words.options rows) (listed words rows) programs
     (c.in-Ok-settings_programs.ensures.does now)
-    (stops (tape_for words.store ToRead (live_on words.store)) (verifying_with programs rows)
+    (stops (read_for words.store (live_on words.store)) (verifying_with programs rows)
     c.in-Err-find_rows.stop
-    (by_bytes (λ name. tape_for name ToRead (live_on name)) c.as_str-2.ensures
+    (by_bytes (λ name. read_for name (live_on name)) c.as_str-2.ensures
     (c.in-Err-find_rows.ensures.does a)))))
 
 pub read_by_links-requires-clause-programs : goal.read_by_links-requires-clause-programs
@@ -78,18 +80,25 @@ read_by_links-requires-clause-within g c κs within =
 
 pub returns : goal.returns
 returns g c =
-    heard_so g.W.World.lent g.W.World.took g.W.Link.Kms.step 0 [] [] _ _ c.read_by_links.ensures
-    (λ es does a t.
+    let link = g.W.Link.Kms.link in
+    let lent = g.W.World.lent in
+    let took = g.W.World.took in
+    let step = g.W.Link.Kms.step in
+    heard_within link lent took step 0 {out = g.W.World.told c.find_rows.new.world}
+    {mid = g.W.World.told c.read_by_links.new.world}
+    (λ i. ((c.in-Ok-find_rows.ensures.links ∙ c.in-Ok.ensures.links) i).handed) refl [] [] _
+    (heard_so link lent took step 0 [] [] _ _ c.read_by_links.ensures
+    (λ es does a.
     let words = c.args.words.now in
     let rows = rows_of c.in-Ok.settings.entries.0 in
     let programs = c.in-Ok-settings_programs.programs in
     let now = with_world (g.W.World.told c.configure.new.world) a in
     goes_on (configuration words.config) (loaded words) rows
-    (by_bytes configuration c.as_str.ensures (c.in-Ok.ensures a))
+    (by_bytes configuration c.as_str.ensures (c.in-Ok.ensures.does a))
     (goes_on (linking_programs words.options rows) (listed words rows) programs
     (c.in-Ok-settings_programs.ensures.does now)
-    (goes_on (tape_for words.store ToRead (live_on words.store)) (verifying_with programs rows)
+    (goes_on (read_for words.store (live_on words.store)) (verifying_with programs rows)
     c.in-Ok-find_rows.rows.0
-    (by_bytes (λ name. tape_for name ToRead (live_on name)) c.as_str-2.ensures
+    (by_bytes (λ name. read_for name (live_on name)) c.as_str-2.ensures
     (c.in-Ok-find_rows.ensures.does a))
-    (verified_by rows c.as_slice.ensures c.as_slice-2.ensures (does a t)))))
+    (verified_by rows c.as_slice.ensures c.as_slice-2.ensures (does a))))))

@@ -1,6 +1,4 @@
 -- `follow`: one more line was handed in.
-use Rattle.std.proofs.Common.{sym, subst}
-use Rattle.kr_watch.specs.Watches.{GoesOn, IsNextLine}
 use Rattle.kr_cmd_watch.proofs.SeededItems.{following_all, following_more, following_none, next_line}
 use Rattle.kr_cmd_watch.proofs.following.follow.Goals as goal
 

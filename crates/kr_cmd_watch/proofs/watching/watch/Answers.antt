@@ -1,133 +1,105 @@
 -- `watch`: the plan, what the workers left, what a watch shows of it, and what was written.
-use Rattle.std.proofs.Common.{Err, None, Ok, refl, ap, true, ◌∙◌}
+use Rattle.std.proofs.Common.{[], Err, None, Ok, refl, ap, ◌∙◌}
 use Rattle.kr_workers.specs.Endings.{gravest_ending}
-use Rattle.kr_cmd_steps.specs.Around.{around, with_world}
-use Rattle.kr_cmd_steps.specs.Steps.{hearing}
-use Rattle.kr_cmd_fleet.specs.Fleets.{over_store}
+use Rattle.kr_cmd_steps.specs.Around.{around, with_exchanges, with_world}
+use Rattle.kr_cmd_steps.proofs.Hearing.{heard_none, none_heard}
 use Rattle.kr_cmd_fleet.specs.inner.Plans.{plan_of}
-use Rattle.kr_cmd_fleet.specs.inner.Workings.{BeginsLent}
-use Rattle.kr_cmd_fleet.proofs.StartExchanges.{unheard_settles}
 use Rattle.kr_cmd_watch.proofs.WatchEnds.{are_of_one, watch_lacks, watch_stopped, watch_unplanned, watch_wrote}
+use Rattle.kr_cmd_fleet.proofs.StartExchanges.{were_within}
 use Rattle.kr_cmd_watch.proofs.watching.watch.Goals as goal
 
 pub returns-in-Err-clause-did : goal.returns-in-Err-clause-did
-returns-in-Err-clause-did g c a truth =
-    watch_unplanned g.row.W-Tap.Denot g.W.Link.Kms.truth g.W.Link.Kms.link g.W.Link.Kms.step
-    g.W.Rand.Dice.left g.W.Rand.Dice.count
-    c.args.words.now _ _ c.as_str.result.now c.as_str.ensures
-    c.in-Err.stop _ (c.in-Err.ensures.does a) (refl, refl)
+returns-in-Err-clause-did g c = (
+  [],
+  λ a.
+      let new = with_world (g.W.World.told c.load_plan.new.world) a in
+      watch_unplanned g.row.W-Tap.Denot g.W.Link.Kms.link g.W.Link.Kms.step g.W.World.lent
+      g.W.World.took g.W.Rand.Dice.left g.W.Rand.Dice.count c.args.words.now _
+      (with_exchanges [] new) c.as_str.result.now c.as_str.ensures c.in-Err.stop _
+      (none_heard new (c.in-Err.ensures.does a)) (refl, refl) (heard_none a.heard)
+      c.load_plan.ensures.links,
+)
 
 pub run_fleet_over_store-requires-clause-plan : goal.run_fleet_over_store-requires-clause-plan
 run_fleet_over_store-requires-clause-plan g c = λ κs lives. c.in-Ok.ensures.whole
 
 pub returns-in-Err-run_fleet_over_store-clause-did :
     goal.returns-in-Err-run_fleet_over_store-clause-did
-returns-in-Err-run_fleet_over_store-clause-did g c a truth =
-    watch_stopped g.row.W-Tap.Denot g.W.Link.Kms.truth g.W.Link.Kms.link g.W.Link.Kms.step
-    g.W.Rand.Dice.left g.W.Rand.Dice.count
-    c.args.words.now (plan_of c.in-Ok.plan)
-    (with_world (g.W.World.told c.args.world.now) a)
-    (with_world (g.W.World.told c.load_plan.new.world) a)
-    (with_world (g.W.World.told c.run_fleet_over_store.new.world) a) c.as_str.result.now
-    c.as_str.ensures
-    (c.in-Ok.ensures.does a) c.as_str-2.result.now c.as_str-2.ensures
-    c.in-Err-run_fleet_over_store.stop _
-    (unheard_settles g.row.W-Tap.Denot g.W.Link.Kms.truth g.W.Link.Kms.link g.W.Link.Kms.step
-    g.W.Rand.Dice.left g.W.Rand.Dice.count true
-    (over_store true c.as_str-2.result.now (plan_of c.in-Ok.plan)) c.as_str-2.result.now
-    (plan_of c.in-Ok.plan) a (g.W.World.told c.load_plan.new.world)
-    (g.W.World.told c.run_fleet_over_store.new.world) (Err c.in-Err-run_fleet_over_store.stop)
-    g.W.World.lent g.W.World.took c.in-Err-run_fleet_over_store.ensures truth)
-    (refl, refl)
+returns-in-Err-run_fleet_over_store-clause-did g c =
+    let start = c.in-Err-run_fleet_over_store.ensures in (
+      start.exchanges,
+      λ a. watch_stopped g.row.W-Tap.Denot g.W.Link.Kms.link g.W.Link.Kms.step g.W.World.lent
+          g.W.World.took g.W.Rand.Dice.left g.W.Rand.Dice.count c.args.words.now
+          (plan_of c.in-Ok.plan) (with_world (g.W.World.told c.args.world.now) a)
+          (with_world (g.W.World.told c.load_plan.new.world) a)
+          (with_world (g.W.World.told c.run_fleet_over_store.new.world)
+          (with_exchanges start.exchanges a)) c.as_str.result.now c.as_str.ensures
+          (c.in-Ok.ensures.does a) c.as_str-2.result.now c.as_str-2.ensures start.exchanges refl
+          (were_within g.W.Link.Kms.link g.W.World.lent g.W.World.took
+          g.W.Link.Kms.step c.load_plan.ensures.links refl start.asked) c.in-Err-run_fleet_over_store.stop _ (start.done a) (refl, refl),
+    )
 
 pub follow-requires : goal.follow-requires
 follow-requires g c =
-    let a = around g.W.Link.Kms.truth (g.W.World.told c.args.world.now) None 0 in
-    are_of_one g.row.W-Tap.Denot g.W.Link.Kms.truth g.W.Link.Kms.link g.W.Link.Kms.step
-    g.W.Rand.Dice.left g.W.Rand.Dice.count
-    c.args.words.now (plan_of c.in-Ok.plan)
-    (with_world (g.W.World.told c.args.world.now) a)
+    let start = c.in-Ok-run_fleet_over_store.ensures in
+    let a = around (g.W.World.told c.args.world.now) None 0 in
+    are_of_one g.row.W-Tap.Denot g.W.Link.Kms.link g.W.Link.Kms.step g.W.World.lent
+    g.W.World.took g.W.Rand.Dice.left g.W.Rand.Dice.count c.args.words.now
+    (plan_of c.in-Ok.plan) (with_world (g.W.World.told c.args.world.now) a)
     (with_world (g.W.World.told c.load_plan.new.world) a)
-    (with_world (g.W.World.told c.run_fleet_over_store.new.world) a) c.as_str.result.now
-    c.as_str.ensures
-    (c.in-Ok.ensures.does a) c.as_str-2.result.now c.as_str-2.ensures
-    c.in-Ok-run_fleet_over_store.record
-    (BeginsLent (hearing c.in-Ok-run_fleet_over_store.ensures.exchanges a.heard)
-    g.W.Link.Kms.step true c.in-Ok-run_fleet_over_store.ensures.exchanges g.W.World.lent
-    g.W.World.took)
-    (unheard_settles g.row.W-Tap.Denot g.W.Link.Kms.truth g.W.Link.Kms.link g.W.Link.Kms.step
-    g.W.Rand.Dice.left g.W.Rand.Dice.count true
-    (over_store true c.as_str-2.result.now (plan_of c.in-Ok.plan)) c.as_str-2.result.now
-    (plan_of c.in-Ok.plan) a (g.W.World.told c.load_plan.new.world)
-    (g.W.World.told c.run_fleet_over_store.new.world) (Ok c.in-Ok-run_fleet_over_store.record)
-    g.W.World.lent g.W.World.took c.in-Ok-run_fleet_over_store.ensures (refl, refl))
+    (with_world (g.W.World.told c.run_fleet_over_store.new.world)
+    (with_exchanges start.exchanges a)) c.as_str.result.now c.as_str.ensures
+    (c.in-Ok.ensures.does a) c.as_str-2.result.now c.as_str-2.ensures start.exchanges refl
+    (were_within g.W.Link.Kms.link g.W.World.lent g.W.World.took
+    g.W.Link.Kms.step c.load_plan.ensures.links refl start.asked) c.in-Ok-run_fleet_over_store.record (start.done a)
     c.as_slice-2.result.now c.as_slice-2.ensures
 
 pub returns-in-Err-follow-clause-did : goal.returns-in-Err-follow-clause-did
-returns-in-Err-follow-clause-did g c a truth =
-    watch_lacks g.row.W-Tap.Denot g.W.Link.Kms.truth g.W.Link.Kms.link g.W.Link.Kms.step
-    g.W.Rand.Dice.left g.W.Rand.Dice.count
-    c.args.words.now (plan_of c.in-Ok.plan)
-    (with_world (g.W.World.told c.args.world.now) a)
-    (with_world (g.W.World.told c.load_plan.new.world) a)
-    (with_world (g.W.World.told c.run_fleet_over_store.new.world) a) c.as_str.result.now
-    c.as_str.ensures
-    (c.in-Ok.ensures.does a) c.as_str-2.result.now c.as_str-2.ensures
-    c.in-Ok-run_fleet_over_store.record
-    (BeginsLent (hearing c.in-Ok-run_fleet_over_store.ensures.exchanges a.heard)
-    g.W.Link.Kms.step true c.in-Ok-run_fleet_over_store.ensures.exchanges g.W.World.lent
-    g.W.World.took)
-    (unheard_settles g.row.W-Tap.Denot g.W.Link.Kms.truth g.W.Link.Kms.link g.W.Link.Kms.step
-    g.W.Rand.Dice.left g.W.Rand.Dice.count true
-    (over_store true c.as_str-2.result.now (plan_of c.in-Ok.plan)) c.as_str-2.result.now
-    (plan_of c.in-Ok.plan) a (g.W.World.told c.load_plan.new.world)
-    (g.W.World.told c.run_fleet_over_store.new.world) (Ok c.in-Ok-run_fleet_over_store.record)
-    g.W.World.lent g.W.World.took c.in-Ok-run_fleet_over_store.ensures truth) _ (refl, refl)
+returns-in-Err-follow-clause-did g c =
+    let start = c.in-Ok-run_fleet_over_store.ensures in (
+      start.exchanges,
+      λ a. watch_lacks g.row.W-Tap.Denot g.W.Link.Kms.link g.W.Link.Kms.step g.W.World.lent
+          g.W.World.took g.W.Rand.Dice.left g.W.Rand.Dice.count c.args.words.now
+          (plan_of c.in-Ok.plan) (with_world (g.W.World.told c.args.world.now) a)
+          (with_world (g.W.World.told c.load_plan.new.world) a)
+          (with_world (g.W.World.told c.run_fleet_over_store.new.world)
+          (with_exchanges start.exchanges a)) c.as_str.result.now c.as_str.ensures
+          (c.in-Ok.ensures.does a) c.as_str-2.result.now c.as_str-2.ensures start.exchanges refl
+          (were_within g.W.Link.Kms.link g.W.World.lent g.W.World.took
+          g.W.Link.Kms.step c.load_plan.ensures.links refl start.asked) c.in-Ok-run_fleet_over_store.record (start.done a) _ (refl, refl),
+    )
 
 pub returns-in-Err-show-clause-did : goal.returns-in-Err-show-clause-did
-returns-in-Err-show-clause-did g c a truth =
-    watch_lacks g.row.W-Tap.Denot g.W.Link.Kms.truth g.W.Link.Kms.link g.W.Link.Kms.step
-    g.W.Rand.Dice.left g.W.Rand.Dice.count
-    c.args.words.now (plan_of c.in-Ok.plan)
-    (with_world (g.W.World.told c.args.world.now) a)
-    (with_world (g.W.World.told c.load_plan.new.world) a)
-    (with_world (g.W.World.told c.run_fleet_over_store.new.world) a) c.as_str.result.now
-    c.as_str.ensures
-    (c.in-Ok.ensures.does a) c.as_str-2.result.now c.as_str-2.ensures
-    c.in-Ok-run_fleet_over_store.record
-    (BeginsLent (hearing c.in-Ok-run_fleet_over_store.ensures.exchanges a.heard)
-    g.W.Link.Kms.step true c.in-Ok-run_fleet_over_store.ensures.exchanges g.W.World.lent
-    g.W.World.took)
-    (unheard_settles g.row.W-Tap.Denot g.W.Link.Kms.truth g.W.Link.Kms.link g.W.Link.Kms.step
-    g.W.Rand.Dice.left g.W.Rand.Dice.count true
-    (over_store true c.as_str-2.result.now (plan_of c.in-Ok.plan)) c.as_str-2.result.now
-    (plan_of c.in-Ok.plan) a (g.W.World.told c.load_plan.new.world)
-    (g.W.World.told c.run_fleet_over_store.new.world) (Ok c.in-Ok-run_fleet_over_store.record)
-    g.W.World.lent g.W.World.took c.in-Ok-run_fleet_over_store.ensures truth) _ (refl, refl)
+returns-in-Err-show-clause-did g c =
+    let start = c.in-Ok-run_fleet_over_store.ensures in (
+      start.exchanges,
+      λ a. watch_lacks g.row.W-Tap.Denot g.W.Link.Kms.link g.W.Link.Kms.step g.W.World.lent
+          g.W.World.took g.W.Rand.Dice.left g.W.Rand.Dice.count c.args.words.now
+          (plan_of c.in-Ok.plan) (with_world (g.W.World.told c.args.world.now) a)
+          (with_world (g.W.World.told c.load_plan.new.world) a)
+          (with_world (g.W.World.told c.run_fleet_over_store.new.world)
+          (with_exchanges start.exchanges a)) c.as_str.result.now c.as_str.ensures
+          (c.in-Ok.ensures.does a) c.as_str-2.result.now c.as_str-2.ensures start.exchanges refl
+          (were_within g.W.Link.Kms.link g.W.World.lent g.W.World.took
+          g.W.Link.Kms.step c.load_plan.ensures.links refl start.asked) c.in-Ok-run_fleet_over_store.record (start.done a) _ (refl, refl),
+    )
 
 pub returns-clause-did : goal.returns-clause-did
-returns-clause-did g c a truth =
-    watch_wrote g.row.W-Tap.Denot g.W.Link.Kms.truth g.W.Link.Kms.link g.W.Link.Kms.step
-    g.W.Rand.Dice.left g.W.Rand.Dice.count
-    c.args.words.now (plan_of c.in-Ok.plan)
-    (with_world (g.W.World.told c.args.world.now) a)
-    (with_world (g.W.World.told c.load_plan.new.world) a)
-    (with_world (g.W.World.told c.run_fleet_over_store.new.world) a) c.as_str.result.now
-    c.as_str.ensures
-    (c.in-Ok.ensures.does a) c.as_str-2.result.now c.as_str-2.ensures
-    c.in-Ok-run_fleet_over_store.record
-    (BeginsLent (hearing c.in-Ok-run_fleet_over_store.ensures.exchanges a.heard)
-    g.W.Link.Kms.step true c.in-Ok-run_fleet_over_store.ensures.exchanges g.W.World.lent
-    g.W.World.took)
-    (unheard_settles g.row.W-Tap.Denot g.W.Link.Kms.truth g.W.Link.Kms.link g.W.Link.Kms.step
-    g.W.Rand.Dice.left g.W.Rand.Dice.count true
-    (over_store true c.as_str-2.result.now (plan_of c.in-Ok.plan)) c.as_str-2.result.now
-    (plan_of c.in-Ok.plan) a (g.W.World.told c.load_plan.new.world)
-    (g.W.World.told c.run_fleet_over_store.new.world) (Ok c.in-Ok-run_fleet_over_store.record)
-    g.W.World.lent g.W.World.took c.in-Ok-run_fleet_over_store.ensures truth)
-    c.as_slice-2.result.now c.as_slice-2.ensures
-    c.in-Ok-follow.watch c.in-Ok-follow.ensures.keeps c.in-Ok-follow.ensures.follows
-    c.gravest_ending-ended.result (c.gravest_ending-ended.ensures
-    ∙ ap gravest_ending c.as_slice.ensures)
-    c.in-Ok-show.shown.text.items c.in-Ok-show.shown.ending c.in-Ok-show.ensures _ _
-    c.write_shown.ensures.written
+returns-clause-did g c =
+    let start = c.in-Ok-run_fleet_over_store.ensures in (
+      start.exchanges,
+      λ a. watch_wrote g.row.W-Tap.Denot g.W.Link.Kms.link g.W.Link.Kms.step g.W.World.lent
+          g.W.World.took g.W.Rand.Dice.left g.W.Rand.Dice.count c.args.words.now
+          (plan_of c.in-Ok.plan) (with_world (g.W.World.told c.args.world.now) a)
+          (with_world (g.W.World.told c.load_plan.new.world) a)
+          (with_world (g.W.World.told c.run_fleet_over_store.new.world)
+          (with_exchanges start.exchanges a)) c.as_str.result.now c.as_str.ensures
+          (c.in-Ok.ensures.does a) c.as_str-2.result.now c.as_str-2.ensures start.exchanges refl
+          (were_within g.W.Link.Kms.link g.W.World.lent g.W.World.took
+          g.W.Link.Kms.step c.load_plan.ensures.links refl start.asked) c.in-Ok-run_fleet_over_store.record (start.done a)
+          c.as_slice-2.result.now c.as_slice-2.ensures c.in-Ok-follow.watch
+          c.in-Ok-follow.ensures.keeps c.in-Ok-follow.ensures.follows c.gravest_ending-ended.result
+          (c.gravest_ending-ended.ensures ∙ ap gravest_ending c.as_slice.ensures)
+          c.in-Ok-show.shown.text.items c.in-Ok-show.shown.ending c.in-Ok-show.ensures _ _
+          c.write_shown.ensures.written,
+    )

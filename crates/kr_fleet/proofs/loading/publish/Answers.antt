@@ -14,7 +14,7 @@ returns-in-Err-clause-published g c =
 
 pub returns-in-Ok-new-clause-published : goal.returns-in-Ok-new-clause-published
 returns-in-Ok-new-clause-published g c = subst
-    (λ p. Publishes g.L.Kms.truth g.L.Kms.link g.D.Dice.left g.D.Dice.count
+    (λ p. Publishes g.L.Kms.link g.D.Dice.left g.D.Dice.count
     (rows_of c.args.settings.entries.0) c.args.bench.now.links c.args.bench.now.dice (Ok p)
     c.publish.new.self.links c.publish.new.self.dice)
     (sym c.in-Ok-new.ensures.ok) c.in-Ok.ensures.published

@@ -1,116 +1,55 @@
--- `reload`: what was published is brought.
-use Rattle.std.proofs.Common.{[], None, refl, subst, sym, ◌∙◌}
+-- `reload`: what was brought is what was answered.
+use Rattle.std.proofs.Common.{None, ◌∙◌}
 use Rattle.kr_config.specs.Kept.{rows_of}
 use Rattle.kr_base.proofs.Walks.{talk_so}
 use Rattle.kr_provider.specs.AskedLinks.{Among}
 use Rattle.kr_provider.specs.Exchanges.{PublishesBy}
 use Rattle.kr_provider.specs.Names.{names_of}
 use Rattle.kr_provider.specs.Publishing.{Publishes}
-use Rattle.kr_rollout.specs.Openings.{NamesAmong}
-use Rattle.kr_fleet.specs.LoadCalls.{reload_of}
-use Rattle.kr_fleet.proofs.Bringing.{in_vain, keeps_reload, not_shared, reload_answered, reload_holds, seeds_tell}
 use Rattle.kr_history.proofs.Nexts.{serves}
-use Rattle.kr_rollout.specs.declared.event.Event.TheVariants as event
-use Rattle.kr_history.proofs.PartsAdd.{entry_within, nothing_within, same_within}
+use Rattle.kr_fleet.specs.CallForms.{reload_of}
+use Rattle.kr_fleet.proofs.Bringing.{cut_short, reload_answered}
 use Rattle.kr_fleet.proofs.loading.reload.Goals as goal
 
-pub publish-requires : goal.publish-requires
-publish-requires g c = record {
-  links = serves (g.A.Acts.caller c.args.acts.now).opening.names
-      (names_of g.L.Kms.link c.args.bench.now.links) (rows_of c.args.settings.entries.0)
-      c.requires.links c.requires.names;
-}
+pub bring-requires-clause-links : goal.bring-requires-clause-links
+bring-requires-clause-links g c = serves (g.A.Acts.caller c.args.acts.now).opening.names
+    (names_of g.L.Kms.link c.args.bench.now.links) (rows_of c.args.settings.entries.0)
+    c.requires.links c.requires.names
+
+pub returns-in-Ok-clause-reloads : goal.returns-in-Ok-clause-reloads
+returns-in-Ok-clause-reloads g c = reload_answered
+    (λ made. Publishes g.L.Kms.link g.D.Dice.left g.D.Dice.count
+    (rows_of c.args.settings.entries.0) c.args.bench.now.links c.args.bench.now.dice made
+    c.bring.new.bench.links c.bring.new.bench.dice)
+    (g.A.Acts.caller c.args.acts.now) (g.A.Acts.caller c.bring.new.acts)
+    c.args.replica c.in-Ok.answer c.reloaded.result c.in-Ok.ensures.brings c.reloaded.ensures
+
+pub returns-in-Ok-clause-exchanged : goal.returns-in-Ok-clause-exchanged
+returns-in-Ok-clause-exchanged g c = talk_so (Among g.L.Kms.step) _ _ _ _
+    c.in-Ok.ensures.exchanged (λ es brought. reload_answered
+    (λ made. PublishesBy g.D.Dice.left g.D.Dice.count (rows_of c.args.settings.entries.0)
+    c.args.bench.now.dice made c.bring.new.bench.dice es)
+    (g.A.Acts.caller c.args.acts.now) (g.A.Acts.caller c.bring.new.acts) c.args.replica
+    c.in-Ok.answer c.reloaded.result brought c.reloaded.ensures)
+
+pub returns-in-Ok-clause-idle : goal.returns-in-Ok-clause-idle
+returns-in-Ok-clause-idle g c = c.in-Ok.ensures.holds ∙ c.requires.idle
 
 pub returns-in-Err-clause-reloads : goal.returns-in-Err-clause-reloads
-returns-in-Err-clause-reloads g c = not_shared
-    (λ made. Publishes g.L.Kms.truth g.L.Kms.link g.D.Dice.left g.D.Dice.count
+returns-in-Err-clause-reloads g c = cut_short
+    (λ made. Publishes g.L.Kms.link g.D.Dice.left g.D.Dice.count
     (rows_of c.args.settings.entries.0) c.args.bench.now.links c.args.bench.now.dice made
-    c.publish.new.bench.links c.publish.new.bench.dice)
-    (g.A.Acts.caller c.args.acts.now) (g.A.Acts.caller c.args.acts.now)
-    (reload_of c.args.replica None) c.args.replica c.in-Err.why refl c.in-Err.ensures.published
-
-pub act-requires : goal.act-requires
-act-requires g c = record {
-  seat_in = c.known.ensures.seat_in;
-  allowed = (
-    c.requires.replica,
-    subst (NamesAmong (g.A.Acts.caller c.args.acts.now).opening.names)
-        (sym c.in-Ok.ensures.published.0) c.requires.names,
-    c.requires.room,
-  );
-}
-
-pub returns-in-Ok-act-clause-reloads : goal.returns-in-Ok-act-clause-reloads
-returns-in-Ok-act-clause-reloads g c = reload_answered
-    (λ made. Publishes g.L.Kms.truth g.L.Kms.link g.D.Dice.left g.D.Dice.count
-    (rows_of c.args.settings.entries.0) c.args.bench.now.links c.args.bench.now.dice made
-    c.publish.new.bench.links c.publish.new.bench.dice)
-    (g.A.Acts.caller c.args.acts.now) (g.A.Acts.caller c.act.new.self)
-    c.args.replica c.in-Ok.published c.in-Ok-act.answer c.reloaded.result
-    c.in-Ok.ensures.published c.in-Ok-act.ensures.acted c.reloaded.ensures
-
-pub returns-in-Ok-act-clause-honest : goal.returns-in-Ok-act-clause-honest
-returns-in-Ok-act-clause-honest g c = λ told. keeps_reload g.L.Kms.truth.opens
-    (g.A.Acts.caller c.args.acts.now) (g.A.Acts.caller c.act.new.self) c.args.replica
-    c.in-Ok.published None c.in-Ok-act.answer
-    (seeds_tell g.L.Kms.truth g.L.Kms.link g.D.Dice.left g.D.Dice.count
-    (rows_of c.args.settings.entries.0)
-    c.in-Ok.published c.args.bench.now.links
-    c.publish.new.bench.links c.args.bench.now.dice c.publish.new.bench.dice
-    c.in-Ok.ensures.published told) c.in-Ok-act.ensures.acted
-
-pub returns-in-Ok-act-clause-idle : goal.returns-in-Ok-act-clause-idle
-returns-in-Ok-act-clause-idle g c = reload_holds (g.A.Acts.caller c.args.acts.now)
-    (g.A.Acts.caller c.act.new.self) c.args.replica c.in-Ok.published None
-    c.in-Ok-act.answer c.in-Ok-act.ensures.acted ∙ c.requires.idle
-
-pub returns-in-Err-act-clause-reloads : goal.returns-in-Err-act-clause-reloads
-returns-in-Err-act-clause-reloads g c = in_vain
-    (λ made. Publishes g.L.Kms.truth g.L.Kms.link g.D.Dice.left g.D.Dice.count
-    (rows_of c.args.settings.entries.0) c.args.bench.now.links c.args.bench.now.dice made
-    c.publish.new.bench.links c.publish.new.bench.dice)
-    (g.A.Acts.caller c.args.acts.now) (g.A.Acts.caller c.act.new.self)
-    (reload_of c.args.replica None) c.args.replica c.in-Ok.published
-    (record { spent = c.in-Err-act.ensures.spent.0 refl; same = c.in-Err-act.ensures.nothing })
-    c.in-Ok.ensures.published
-
-pub returns-in-Err-clause-adds : goal.returns-in-Err-clause-adds
-returns-in-Err-clause-adds g c = nothing_within 1 1 [] (g.A.Acts.caller c.args.acts.now)
-
-pub returns-in-Ok-act-clause-adds : goal.returns-in-Ok-act-clause-adds
-returns-in-Ok-act-clause-adds g c = entry_within (g.A.Acts.caller c.args.acts.now)
-    (g.A.Acts.caller c.act.new.self) (event.Reload c.args.replica c.in-Ok.published None)
-    c.in-Ok-act.answer c.in-Ok-act.ensures.acted
-
-pub returns-in-Err-act-clause-adds : goal.returns-in-Err-act-clause-adds
-returns-in-Err-act-clause-adds g c = same_within 1 1 []
-    (g.A.Acts.caller c.args.acts.now) (g.A.Acts.caller c.act.new.self) c.in-Err-act.ensures.nothing
+    c.bring.new.bench.links c.bring.new.bench.dice)
+    (g.A.Acts.caller c.args.acts.now) (g.A.Acts.caller c.bring.new.acts)
+    (reload_of c.args.replica None) c.args.replica c.in-Err.why c.in-Err.ensures.brings
 
 pub returns-in-Err-clause-exchanged : goal.returns-in-Err-clause-exchanged
 returns-in-Err-clause-exchanged g c = talk_so (Among g.L.Kms.step) _ _ _ _
-    c.in-Err.ensures.exchanged (λ es shared. not_shared
+    c.in-Err.ensures.exchanged (λ es none. cut_short
     (λ made. PublishesBy g.D.Dice.left g.D.Dice.count (rows_of c.args.settings.entries.0)
-    c.args.bench.now.dice made c.publish.new.bench.dice es)
-    (g.A.Acts.caller c.args.acts.now) (g.A.Acts.caller c.args.acts.now)
-    (reload_of c.args.replica None) c.args.replica
-    c.in-Err.why refl shared)
+    c.args.bench.now.dice made c.bring.new.bench.dice es)
+    (g.A.Acts.caller c.args.acts.now) (g.A.Acts.caller c.bring.new.acts)
+    (reload_of c.args.replica None) c.args.replica c.in-Err.why none)
 
-pub returns-in-Ok-act-clause-exchanged : goal.returns-in-Ok-act-clause-exchanged
-returns-in-Ok-act-clause-exchanged g c = talk_so (Among g.L.Kms.step) _ _ _ _
-    c.in-Ok.ensures.exchanged (λ es published. reload_answered
-    (λ made. PublishesBy g.D.Dice.left g.D.Dice.count (rows_of c.args.settings.entries.0)
-    c.args.bench.now.dice made c.publish.new.bench.dice es)
-    (g.A.Acts.caller c.args.acts.now) (g.A.Acts.caller c.act.new.self) c.args.replica
-    c.in-Ok.published c.in-Ok-act.answer c.reloaded.result published c.in-Ok-act.ensures.acted
-    c.reloaded.ensures)
-
-pub returns-in-Err-act-clause-exchanged : goal.returns-in-Err-act-clause-exchanged
-returns-in-Err-act-clause-exchanged g c = talk_so (Among g.L.Kms.step) _ _ _ _
-    c.in-Ok.ensures.exchanged (λ es published. in_vain
-    (λ made. PublishesBy g.D.Dice.left g.D.Dice.count (rows_of c.args.settings.entries.0)
-    c.args.bench.now.dice made c.publish.new.bench.dice es)
-    (g.A.Acts.caller c.args.acts.now) (g.A.Acts.caller c.act.new.self)
-    (reload_of c.args.replica None) c.args.replica
-    c.in-Ok.published
-    (record { spent = c.in-Err-act.ensures.spent.0 refl; same = c.in-Err-act.ensures.nothing })
-    published)
+pub returns-in-Err-clause-idle : goal.returns-in-Err-clause-idle
+returns-in-Err-clause-idle g c = c.in-Err.ensures.holds ∙ c.requires.idle

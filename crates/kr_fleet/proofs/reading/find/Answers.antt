@@ -16,7 +16,7 @@ fetch-requires-clause-held g c = some_there _ _ c.requires.held.held
 
 pub returns-in-Err-clause-finds : goal.returns-in-Err-clause-finds
 returns-in-Err-clause-finds g c = some_all _ c.args.bench.now.published (λ p.
-    fetch_refused g.L.Kms.truth g.L.Kms.link c.args.path (g.A.Acts.caller c.args.acts.now)
+    fetch_refused g.L.Kms.link c.args.path (g.A.Acts.caller c.args.acts.now)
     (g.A.Acts.caller c.fetch.new.acts) c.args.bench.now.links c.args.bench.now.links p
     c.in-Err.why c.in-Err.ensures.fetches)
 
@@ -26,7 +26,7 @@ returns-in-Err-clause-asked g c = asked_none g.L.Kms.link
 
 pub returns-in_default-clause-finds : goal.returns-in_default-clause-finds
 returns-in_default-clause-finds g c = some_all _ c.args.bench.now.published (λ p.
-    fetch_absent g.L.Kms.truth g.L.Kms.link c.args.path (g.A.Acts.caller c.args.acts.now)
+    fetch_absent g.L.Kms.link c.args.path (g.A.Acts.caller c.args.acts.now)
     (g.A.Acts.caller c.fetch.new.acts) c.args.bench.now.links c.args.bench.now.links p
     c.in-Ok.found c.in_default.is c.in-Ok.ensures.fetches)
 
@@ -51,7 +51,7 @@ unseal-opened-requires-clause-fits g c =
 pub returns-clause-finds : goal.returns-clause-finds
 returns-clause-finds g c =
     let at = subst (λ f. IfSome f (IsAt c.args.path)) c.in-Some.is c.in-Ok.ensures.row in
-    find_done g.L.Kms.truth g.L.Kms.link c.args.path (g.A.Acts.caller c.args.acts.now)
+    find_done g.L.Kms.link c.args.path (g.A.Acts.caller c.args.acts.now)
     (g.A.Acts.caller c.fetch.new.acts) c.args.bench.now.links c.unseal-opened.new.bench.links
     c.args.bench.now.published c.in-Ok.found c.in-Some.row c.get-lent.result.now
     c.unseal-opened.result c.row_value.result c.known.ensures c.requires.held

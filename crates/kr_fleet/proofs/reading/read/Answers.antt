@@ -55,10 +55,10 @@ hand_back-requires g c =
     record { holds = some_there _ _ (c.find-found.ensures.holds ∙ c.in-Ok-adopt.ensures.known.1) }
 
 pub returns-clause-reads : goal.returns-clause-reads
-returns-clause-reads g c = subst (λ l. IsRead g.L.Kms.truth g.L.Kms.link c.args.path.now
+returns-clause-reads g c = subst (λ l. IsRead g.L.Kms.link c.args.path.now
     c.args.replica (g.A.Acts.caller c.args.acts.now) c.args.bench.now.links c.hand_back.result
     (g.A.Acts.caller c.hand_back.new.acts) l) (sym (ap (λ b. b.links) c.hand_back.ensures.kept))
-    (reads_held g.L.Kms.truth g.L.Kms.link c.args.path.now c.in-Ok.copy
+    (reads_held g.L.Kms.link c.args.path.now c.in-Ok.copy
     c.args.replica (g.A.Acts.caller c.args.acts.now) (g.A.Acts.caller c.adopt.new.acts)
     (g.A.Acts.caller c.find-found.new.acts) (g.A.Acts.caller c.hand_back.new.acts)
     c.args.bench.now.links c.adopt_configuration.new.bench.links c.find-found.new.bench.links
@@ -160,7 +160,7 @@ returns-clause-keys g c = (held_turn c.args.replica c.in-Ok-adopt.held
     c.find-found.result c.hand_back.result c.args.bench.now c.adopt_configuration.new.bench
     c.find-found.new.bench c.hand_back.new.bench c.in-Ok-adopt.ensures.adopts
     c.in-Ok-adopt.ensures.known.1 c.adopt_configuration.ensures.taken c.adopt_configuration.ensures.keys
-    c.adopt_configuration.ensures.pages (finds_quietly g.L.Kms.truth g.L.Kms.link c.in-Ok.copy
+    c.adopt_configuration.ensures.pages (finds_quietly g.L.Kms.link c.in-Ok.copy
     c.adopt_configuration.new.bench.published c.in-Ok-adopt.held.1 (g.A.Acts.caller c.adopt.new.acts)
     (g.A.Acts.caller c.find-found.new.acts) c.adopt_configuration.new.bench.links c.find-found.new.bench.links
     c.find-found.result (ap (λ b. b.published) c.adopt_configuration.ensures.taken)
@@ -174,7 +174,7 @@ returns-clause-moments g c = (held_turn c.args.replica c.in-Ok-adopt.held
     c.find-found.result c.hand_back.result c.args.bench.now c.adopt_configuration.new.bench
     c.find-found.new.bench c.hand_back.new.bench c.in-Ok-adopt.ensures.adopts
     c.in-Ok-adopt.ensures.known.1 c.adopt_configuration.ensures.taken c.adopt_configuration.ensures.keys
-    c.adopt_configuration.ensures.pages (finds_quietly g.L.Kms.truth g.L.Kms.link c.in-Ok.copy
+    c.adopt_configuration.ensures.pages (finds_quietly g.L.Kms.link c.in-Ok.copy
     c.adopt_configuration.new.bench.published c.in-Ok-adopt.held.1 (g.A.Acts.caller c.adopt.new.acts)
     (g.A.Acts.caller c.find-found.new.acts) c.adopt_configuration.new.bench.links c.find-found.new.bench.links
     c.find-found.result (ap (λ b. b.published) c.adopt_configuration.ensures.taken)

@@ -18,9 +18,6 @@ use Rattle.kr_history.proofs.PartsAdd.{held_within, within_more}
 use Rattle.kr_provider.specs.BenchKeys.{adoption_of}
 use Rattle.kr_fleet.proofs.refreshing.refresh.Goals as goal
 
-pub returns-in-Err-clause-honest : goal.returns-in-Err-clause-honest
-returns-in-Err-clause-honest g c = λ told. c.in-Err.ensures.honest g.L.Kms.truth.opens
-
 pub returns-in-Err-clause-asked : goal.returns-in-Err-clause-asked
 returns-in-Err-clause-asked g c = asked_none g.L.Kms.link
     (names_of g.L.Kms.link c.args.bench.now.links) c.args.bench.now.links
@@ -45,10 +42,6 @@ renew-done-requires-clause-links g c =
     (sym c.get.ensures) (serves (g.A.Acts.caller c.args.acts.now).opening.names
     (names_of g.L.Kms.link c.args.bench.now.links) c.in-Ok.held.1.rows c.requires.links
     c.in-Ok.ensures.known.0.1)
-
-pub returns-clause-honest : goal.returns-clause-honest
-returns-clause-honest g c = λ told keeps. c.let_go.ensures.honest g.L.Kms.truth.opens
-    (c.renew-done.ensures.honest told (c.in-Ok.ensures.honest g.L.Kms.truth.opens keeps))
 
 pub returns-clause-asked : goal.returns-clause-asked
 returns-clause-asked g c = asked_all g.L.Kms.link (plugin_names c.get.result.now.seeds)

@@ -4,5 +4,5 @@ use Rattle.kr_headline.proofs.laws.headline_holds.Goals as goal
 
 pub returns : goal.returns
 returns g c =
-    proved.fleet_headline g.row.T.Denot g.L.Kms.truth g.L.Kms.link g.L.Kms.step g.D.Dice.left
+    proved.fleet_headline g.row.T.Denot g.L.Kms.link g.L.Kms.step g.D.Dice.left
     g.D.Dice.count

@@ -21,7 +21,7 @@ unseal-requires-clause-fits g c =
 pub returns-clause-opened : goal.returns-clause-opened
 returns-clause-opened g c =
     let Reads : List ℕ → List ℕ → List ℕ → Type 0 = λ resource path stored.
-    IfSome c.args.bench.now.published (λ p. UnsealsBy g.L.Kms.truth g.L.Kms.link p.seeds
+    IfSome c.args.bench.now.published (λ p. UnsealsBy g.L.Kms.link p.seeds
     (list_at p resource) path stored c.args.bench.now.links c.unseal.result
     c.unseal.new.self.links) in
     subst (λ s. Reads c.args.row.now.resource c.args.row.now.path s) c.as_slice.ensures
@@ -30,7 +30,7 @@ returns-clause-opened g c =
     c.unseal.ensures.opened))
 
 pub returns-clause-asked : goal.returns-clause-asked
-returns-clause-asked g c = unsealed_all g.L.Kms.truth g.L.Kms.link c.as_str.result.now
+returns-clause-asked g c = unsealed_all g.L.Kms.link c.as_str.result.now
     c.as_str-2.result.now c.as_slice.result.now c.args.bench.now.links c.unseal.new.self.links
     c.args.bench.now.published c.unseal.result c.requires.adopted c.unseal.ensures.opened
 

@@ -1,7 +1,7 @@
 -- A body that is too long for the room isn't that of a key of this size.
 use Rattle.std.proofs.Common.{arith, length, ◌-◌}
 use Rattle.kr_aes.specs.InverseCipher.{inverse_cipher}
-use Rattle.kr_keywrap.proofs.Truths.{too_long}
+use Rattle.kr_keywrap.proofs.Opening.{too_long}
 use Rattle.kr_keywrap.proofs.keys.unwrap_by_words.Goals as goal
 
 pub returns-then-size-gt-ROOM-clause-unwrapped : goal.returns-then-size-gt-ROOM-clause-unwrapped

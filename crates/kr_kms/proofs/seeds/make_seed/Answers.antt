@@ -11,7 +11,7 @@ use Rattle.kr_kms.proofs.seeds.make_seed.Goals as goal
 pub returns-in_err-seed-clause-made : goal.returns-in_err-seed-clause-made
 returns-in_err-seed-clause-made g c =
     let told = c.in_ok-healthy_key_id.ensures.told in
-    let stop = not_drawn g.D.Dice.left g.D.Dice.count g.L.Kms.truth
+    let stop = not_drawn g.D.Dice.left g.D.Dice.count
     (g.L.Kms.link c.args.link.now) (g.L.Kms.link c.healthy_key_id.new.link) c.args.dice.now
     c.draw_seed.new.dice c.in_err-seed.field-0.0 (told.0, told.1, told.2)
     c.in_err-seed.ensures.drawn in search (rules, stop)

@@ -4,6 +4,6 @@ use Rattle.kr_provider.proofs.laws.publishing_in_order.Goals as goal
 
 pub returns : goal.returns
 returns g c = record {
-  all = all_in_order g.L.Kms.truth g.L.Kms.link g.D.Dice.left g.D.Dice.count;
-  some = some_in_order g.L.Kms.truth g.L.Kms.link g.D.Dice.left g.D.Dice.count;
+  all = all_in_order g.L.Kms.link g.D.Dice.left g.D.Dice.count;
+  some = some_in_order g.L.Kms.link g.D.Dice.left g.D.Dice.count;
 }

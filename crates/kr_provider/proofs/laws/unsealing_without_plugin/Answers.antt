@@ -6,9 +6,9 @@ use Rattle.kr_provider.proofs.laws.unsealing_without_plugin.Goals as goal
 pub returns : goal.returns
 returns g c = record {
   reads = λ seeds rows resource path bytes olds news result n u envelope.
-      read_by_any g.L.Kms.truth g.L.Kms.link seeds (list_of rows resource) path bytes olds news
+      read_by_any g.L.Kms.link seeds (list_of rows resource) path bytes olds news
       result (none_listed rows resource n) u envelope;
   stay = λ seeds rows resource path bytes olds news result n u.
-      unasked g.L.Kms.truth g.L.Kms.link seeds (list_of rows resource) path bytes olds news
+      unasked g.L.Kms.link seeds (list_of rows resource) path bytes olds news
       result (none_listed rows resource n) u;
 }

@@ -5,7 +5,7 @@ use Rattle.kr_provider.proofs.Makings.{answers_at}
 use Rattle.kr_provider.proofs.making.make_one.Goals as goal
 
 pub returns-in-Err-clause-made : goal.returns-in-Err-clause-made
-returns-in-Err-clause-made g c = answers_at g.L.Kms.truth g.L.Kms.link g.D.Dice.left g.D.Dice.count
+returns-in-Err-clause-made g c = answers_at g.L.Kms.link g.D.Dice.left g.D.Dice.count
     c.args.name.now c.args.links.now c.args.dice.now c.in-Err.why c.plugin_refusal.result
     c.make_seed.new.self c.make_seed.new.dice c.plugin_refusal.ensures c.in-Err.ensures.made
 

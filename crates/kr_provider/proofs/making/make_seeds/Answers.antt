@@ -15,9 +15,9 @@ use Rattle.kr_provider.proofs.making.make_seeds.Goals as goal
 pub loop-name-init : goal.loop-name-init
 loop-name-init g c =
     let rows = rows_of c.args.settings.now.entries.0 in (
-      subst (λ l. ComesTo g.L.Kms.truth g.L.Kms.link g.D.Dice.left g.D.Dice.count rows
+      subst (λ l. ComesTo g.L.Kms.link g.D.Dice.left g.D.Dice.count rows
           c.args.links.now c.args.dice.now [] l c.args.links.now c.args.dice.now)
-          (sym c.new-made.ensures) (begins_at g.L.Kms.truth g.L.Kms.link g.D.Dice.left
+          (sym c.new-made.ensures) (begins_at g.L.Kms.link g.D.Dice.left
           g.D.Dice.count rows c.args.links.now c.args.dice.now
           (names_some rows c.args.settings.now.kept)),
       ([], (refl, refl)),
@@ -34,13 +34,13 @@ pub next_plugin-requires-text-after : goal.next_plugin-requires-text-after
 next_plugin-requires-text-after g c = λ κs. c.loop-name.invariant.1
 
 pub returns-in_err-row-clause-made : goal.returns-in_err-row-clause-made
-returns-in_err-row-clause-made g c = let stop = ends g.L.Kms.truth g.L.Kms.link g.D.Dice.left g.D.Dice.count
+returns-in_err-row-clause-made g c = let stop = ends g.L.Kms.link g.D.Dice.left g.D.Dice.count
     (rows_of c.args.settings.now.entries.0) c.args.links.now c.args.dice.now c.loop-name.after.now
     c.in-Some.name.now c.loop-name.made.0 c.loop-name.links c.make_one.new.links c.loop-name.dice
     c.make_one.new.dice c.in_err-row.field-0.0 c.in-Some.ensures c.loop-name.invariant.0 c.in_err-row.ensures.made in search (rules, stop)
 
 pub returns-in_err-row-clause-asked : goal.returns-in_err-row-clause-asked
-returns-in_err-row-clause-asked g c = asked_next g.L.Kms.truth g.L.Kms.link g.D.Dice.left g.D.Dice.count
+returns-in_err-row-clause-asked g c = asked_next g.L.Kms.link g.D.Dice.left g.D.Dice.count
     (rows_of c.args.settings.now.entries.0) c.args.links.now c.args.dice.now c.loop-name.after.now
     c.in-Some.name.now c.loop-name.made.0 c.loop-name.links c.make_one.new.links c.loop-name.dice
     c.make_one.new.dice c.make_one.result c.in-Some.ensures c.loop-name.invariant.0
@@ -57,7 +57,7 @@ returns-in_err-row-clause-none g c = λ e. absurd (omega (
 pub returns-in-Err-clause-made : goal.returns-in-Err-clause-made
 returns-in-Err-clause-made g c = (
   c.in-Some.name.now,
-  within g.L.Kms.truth g.L.Kms.link g.D.Dice.left g.D.Dice.count
+  within g.L.Kms.link g.D.Dice.left g.D.Dice.count
       (rows_of c.args.settings.now.entries.0) c.args.links.now c.args.dice.now c.loop-name.after.now
       c.in-Some.name.now c.loop-name.made.0 c.loop-name.links c.make_one.new.links c.loop-name.dice
       c.make_one.new.dice (Ok c.in_ok-row.row) c.in-Some.ensures c.loop-name.invariant.0
@@ -65,7 +65,7 @@ returns-in-Err-clause-made g c = (
 )
 
 pub returns-in-Err-clause-asked : goal.returns-in-Err-clause-asked
-returns-in-Err-clause-asked g c = asked_next g.L.Kms.truth g.L.Kms.link g.D.Dice.left
+returns-in-Err-clause-asked g c = asked_next g.L.Kms.link g.D.Dice.left
     g.D.Dice.count (rows_of c.args.settings.now.entries.0) c.args.links.now c.args.dice.now
     c.loop-name.after.now c.in-Some.name.now c.loop-name.made.0 c.loop-name.links
     c.make_one.new.links c.loop-name.dice c.make_one.new.dice c.make_one.result c.in-Some.ensures
@@ -87,12 +87,12 @@ loop-name-smaller g c = count_falls c.loop-name.after.now c.in-Some.name.now
 pub loop-name-preserved : goal.loop-name-preserved
 loop-name-preserved g c =
     let rows = rows_of c.args.settings.now.entries.0 in
-    let to = goes_on g.L.Kms.truth g.L.Kms.link g.D.Dice.left g.D.Dice.count
+    let to = goes_on g.L.Kms.link g.D.Dice.left g.D.Dice.count
     (rows_of c.args.settings.now.entries.0) c.args.links.now c.args.dice.now
     c.loop-name.after.now c.in-Some.name.now c.loop-name.made.0 c.loop-name.links
     c.make_one.new.links c.loop-name.dice c.make_one.new.dice c.in_ok-row.row c.in-Some.ensures
     c.loop-name.invariant.0 c.make_one.ensures.later c.in_ok-row.ensures.made in (
-      subst (λ l. ComesTo g.L.Kms.truth g.L.Kms.link g.D.Dice.left g.D.Dice.count rows
+      subst (λ l. ComesTo g.L.Kms.link g.D.Dice.left g.D.Dice.count rows
           c.args.links.now c.args.dice.now c.in-Some.name.now l c.make_one.new.links
           c.make_one.new.dice) (sym c.in-Ok.ensures.ok) to,
       c.tell_text.ensures,
@@ -115,7 +115,7 @@ loop-name-preserved g c =
     )
 
 pub returns-clause-made : goal.returns-clause-made
-returns-clause-made g c = all_made g.L.Kms.truth g.L.Kms.link g.D.Dice.left g.D.Dice.count
+returns-clause-made g c = all_made g.L.Kms.link g.D.Dice.left g.D.Dice.count
     (rows_of c.args.settings.now.entries.0) c.args.links.now c.args.dice.now c.loop-name.after.now
     c.loop-name.made.0 c.loop-name.links c.loop-name.dice c.in_default.ensures
     c.loop-name.invariant.0

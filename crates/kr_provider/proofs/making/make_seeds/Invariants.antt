@@ -13,7 +13,7 @@ use Rattle.kr_provider.proofs.making.make_seeds.Given as goal
 
 abbrev pub invariant-loop-name : goal.invariant-loop-name
 invariant-loop-name g l =
-    ComesTo g.L.Kms.truth g.L.Kms.link g.D.Dice.left g.D.Dice.count
+    ComesTo g.L.Kms.link g.D.Dice.left g.D.Dice.count
     (rows_of l.settings.entries.0) l.initial.links l.initial.dice l.after l.made.0 l.links l.dice
     × IsUtf8 l.after × HasLinks (names_of g.L.Kms.link l.links) (rows_of l.settings.entries.0)
     × (names_plugin (rows_of l.settings.entries.0) ≡ false

@@ -10,22 +10,22 @@ use Rattle.kr_provider.proofs.values.by_plugin.Goals as goal
 
 pub returns-in_err-object-clause-opened : goal.returns-in_err-object-clause-opened
 returns-in_err-object-clause-opened g c = λ seeds list bytes is_row r.
-    let stop = object_refuses g.L.Kms.truth g.L.Kms.link seeds list c.args.path.now bytes c.args.name.now
+    let stop = object_refuses g.L.Kms.link seeds list c.args.path.now bytes c.args.name.now
     c.args.body.now c.args.first c.args.links.now c.in_err-object.field-0.0 r c.in_err-object.ensures.is in search (rules, stop)
 
 pub returns-in_err-plain-clause-opened : goal.returns-in_err-plain-clause-opened
 returns-in_err-plain-clause-opened g c = λ seeds list bytes is_row r.
-    let stop = object_fails g.L.Kms.truth g.L.Kms.link seeds list c.args.path.now bytes c.args.name.now
+    let stop = object_fails g.L.Kms.link seeds list c.args.path.now bytes c.args.name.now
     c.args.body.now c.args.first c.args.row.now is_row c.in_ok-object.object r
     c.in_ok-object.ensures.is c.args.links.now c.unseal_object.new.links c.in_err-plain.field-0.0
     c.in_err-plain.ensures.opened in search (rules, stop)
 
 pub returns-clause-opened : goal.returns-clause-opened
 returns-clause-opened g c = λ seeds list bytes is_row r.
-    subst (λ s. UnsealsBy g.L.Kms.truth g.L.Kms.link seeds list c.args.path.now bytes
+    subst (λ s. UnsealsBy g.L.Kms.link seeds list c.args.path.now bytes
     c.args.links.now (Ok (record { plain = c.in_ok-plain.plain; stale = s }))
     c.unseal_object.new.links) (sym c.is_stale-stale.ensures)
-    (object_opens g.L.Kms.truth g.L.Kms.link seeds list c.args.path.now bytes c.args.name.now
+    (object_opens g.L.Kms.link seeds list c.args.path.now bytes c.args.name.now
     c.args.body.now c.args.first c.args.row.now is_row c.in_ok-object.object r
     c.in_ok-object.ensures.is c.args.links.now c.unseal_object.new.links
     c.in_ok-plain.plain c.in_ok-plain.ensures.opened)

@@ -9,54 +9,45 @@ use Rattle.kr_provider.specs.declared.refusal.UnsealNo.TheVariants.{PluginFailed
 use Rattle.kr_kms.specs.declared.plugin.KmsNo.TheVariants as kms
 use Rattle.kr_provider.proofs.AskedLists.{asked_none}
 use Rattle.kr_provider.proofs.Cached.{fetched_kept}
-use Rattle.kr_provider.proofs.ObjectSources.{IsFetched, fetched_asks, fetched_fails, fetched_opens}
+use Rattle.kr_provider.proofs.ObjectSources.{IsFetched, fetched_asks, fetched_fails}
 use Rattle.kr_provider.proofs.values.open_source.Goals as goal
 
 pub returns-in-Ok-fetch-clause-opened : goal.returns-in-Ok-fetch-clause-opened
-returns-in-Ok-fetch-clause-opened g c = fetched_opens g.L.Kms.truth g.L.Kms.link c.args.name.now
-    c.args.object.now c.args.links.now c.fetch.new.self c.args.cache.now c.fetch.new.cache
-    c.in-Ok-fetch.source c.in-Ok-fetch.ensures.fetched c.requires.kept
-
-pub returns-in-Ok-fetch-clause-kept : goal.returns-in-Ok-fetch-clause-kept
-returns-in-Ok-fetch-clause-kept g c = c.fetch.ensures.fetched.asks.still_open c.requires.kept
+returns-in-Ok-fetch-clause-opened g c = fetched_asks g.L.Kms.link c.args.name.now
+    c.args.object.now c.args.links.now c.fetch.new.self c.args.cache.now c.fetch.new.cache _
+    c.in-Ok-fetch.ensures.fetched
 
 pub returns-in-Err-NoMemory-clause-opened : goal.returns-in-Err-NoMemory-clause-opened
-returns-in-Err-NoMemory-clause-opened g c = fetched_asks g.L.Kms.truth g.L.Kms.link c.args.name.now
+returns-in-Err-NoMemory-clause-opened g c = fetched_asks g.L.Kms.link c.args.name.now
     c.args.object.now c.args.links.now c.fetch.new.self c.args.cache.now c.fetch.new.cache _
     c.in-Err-NoMemory.ensures.fetched
 
-pub returns-in-Err-NoMemory-clause-kept : goal.returns-in-Err-NoMemory-clause-kept
-returns-in-Err-NoMemory-clause-kept g c = c.fetch.ensures.fetched.asks.still_open c.requires.kept
-
 pub returns-in-Err-Failed-clause-opened : goal.returns-in-Err-Failed-clause-opened
-returns-in-Err-Failed-clause-opened g c = fetched_fails g.L.Kms.truth g.L.Kms.link c.args.name.now
+returns-in-Err-Failed-clause-opened g c = fetched_fails g.L.Kms.link c.args.name.now
     c.args.object.now c.args.links.now c.fetch.new.self c.args.cache.now c.fetch.new.cache
     c.in-Ok.asked c.in-Ok.ensures
-    (subst (λ w. IsFetched g.L.Kms.truth g.L.Kms.link c.args.name.now c.args.object.now
+    (subst (λ w. IsFetched g.L.Kms.link c.args.name.now c.args.object.now
     c.args.links.now c.fetch.new.self c.args.cache.now c.fetch.new.cache (Err w))
     c.in-Err-Failed.field-0-is c.in-Err-Failed.ensures.fetched)
 
-pub returns-in-Err-Failed-clause-kept : goal.returns-in-Err-Failed-clause-kept
-returns-in-Err-Failed-clause-kept g c = c.fetch.ensures.fetched.asks.still_open c.requires.kept
-
 pub returns-in-Ok-fetch-clause-cached : goal.returns-in-Ok-fetch-clause-cached
-returns-in-Ok-fetch-clause-cached g c = fetched_kept g.L.Kms.truth g.L.Kms.link
+returns-in-Ok-fetch-clause-cached g c = fetched_kept g.L.Kms.link
     c.args.name.now c.args.object.now c.args.links.now c.fetch.new.self c.args.cache.now
     c.fetch.new.cache (Ok c.in-Ok-fetch.source) c.in-Ok-fetch.ensures.fetched
 
 pub returns-in-Err-NoMemory-clause-cached : goal.returns-in-Err-NoMemory-clause-cached
 returns-in-Err-NoMemory-clause-cached g c = λ source is. (
-  (fetched_kept g.L.Kms.truth g.L.Kms.link
+  (fetched_kept g.L.Kms.link
       c.args.name.now c.args.object.now c.args.links.now c.fetch.new.self c.args.cache.now
       c.fetch.new.cache c.fetch.result c.fetch.ensures.fetched source is).0,
   tt,
 )
 
 pub returns-in-Err-Failed-clause-cached : goal.returns-in-Err-Failed-clause-cached
-returns-in-Err-Failed-clause-cached g c = λ source is. absurd ((fetched_kept g.L.Kms.truth g.L.Kms.link
+returns-in-Err-Failed-clause-cached g c = λ source is. absurd ((fetched_kept g.L.Kms.link
     c.args.name.now c.args.object.now c.args.links.now c.fetch.new.self c.args.cache.now
     c.fetch.new.cache (Err kms.Failed)
-    (subst (λ w. IsFetched g.L.Kms.truth g.L.Kms.link c.args.name.now c.args.object.now
+    (subst (λ w. IsFetched g.L.Kms.link c.args.name.now c.args.object.now
     c.args.links.now c.fetch.new.self c.args.cache.now c.fetch.new.cache (Err w))
     c.in-Err-Failed.field-0-is c.in-Err-Failed.ensures.fetched) source is).1)
 

@@ -18,7 +18,7 @@ use Rattle.kr_provider.proofs.Unsealings.{key_opens, key_refuses, no_reader}
 use Rattle.kr_provider.proofs.values.unseal_by_list.Goals as goal
 
 pub returns-in_default-clause-opened : goal.returns-in_default-clause-opened
-returns-in_default-clause-opened g c = no_reader g.L.Kms.truth g.L.Kms.link c.args.seeds.now
+returns-in_default-clause-opened g c = no_reader g.L.Kms.link c.args.seeds.now
     c.args.list.now c.args.path.now c.args.value c.args.links.now
     (unread c.args.list.now c.args.value
     (ap (reader_place c.args.list.now) (sym c.as_slice-bytes.ensures) ∙ sym c.in_default.ensures))
@@ -76,7 +76,7 @@ returns-in-Ok g c =
     c.index-list-place.result c.requires.list.some
     (ap (reader_place c.args.list.now) (sym c.as_slice-bytes.ensures) ∙ sym c.in-Some.ensures)
     c.index-list-place.is there in
-    let opens = key_opens g.L.Kms.truth g.L.Kms.link c.args.seeds.now c.args.list.now c.args.path.now
+    let opens = key_opens g.L.Kms.link c.args.seeds.now c.args.list.now c.args.path.now
     c.args.value c.args.links.now c.index-list-place.result body
     (nat_eq c.in-Some.place 0) c.in-Ok.plain
     (no_plugin c.index-list-place.result c.in_default-reader.not-Kms)
@@ -86,11 +86,10 @@ returns-in-Ok g c =
     c.index-list-place.is there) (c.in-Ok.ensures unknown) in record {
       opened = opens;
       exchanged = talk_none _ _ _ (read_bare c.args.seeds.now c.args.list.now c.args.path.now
-          c.args.value c.args.cache.now g.L.Kms.truth g.L.Kms.link c.args.links.now
+          c.args.value c.args.cache.now g.L.Kms.link c.args.links.now
           (Ok (record { plain = c.in-Ok.plain; stale = not (nat_eq c.in-Some.place 0) }))
           (subst IsNoPlugin (sym reads.reader)
           (no_plugin c.index-list-place.result c.in_default-reader.not-Kms)) opens);
-      kept = c.requires.kept;
       cached = key_heeds c.args.cache.now.rows c.args.seeds.now c.args.list.now c.args.path.now
           c.args.value c.args.links.now c.args.links.now c.index-list-place.result
           body (nat_eq c.in-Some.place 0)
@@ -113,7 +112,7 @@ returns-in-Err g c =
     c.index-list-place.result c.requires.list.some
     (ap (reader_place c.args.list.now) (sym c.as_slice-bytes.ensures) ∙ sym c.in-Some.ensures)
     c.index-list-place.is there in
-    let opens = key_refuses g.L.Kms.truth g.L.Kms.link c.args.seeds.now c.args.list.now
+    let opens = key_refuses g.L.Kms.link c.args.seeds.now c.args.list.now
     c.args.path.now c.args.value c.args.links.now c.index-list-place.result
     body (nat_eq c.in-Some.place 0) c.in-Err.why
     (no_plugin c.index-list-place.result c.in_default-reader.not-Kms)
@@ -123,11 +122,10 @@ returns-in-Err g c =
     c.index-list-place.is there) (c.in-Err.ensures unknown) in record {
       opened = opens;
       exchanged = talk_none _ _ _ (read_bare c.args.seeds.now c.args.list.now c.args.path.now
-          c.args.value c.args.cache.now g.L.Kms.truth g.L.Kms.link c.args.links.now
+          c.args.value c.args.cache.now g.L.Kms.link c.args.links.now
           (Err c.in-Err.why)
           (subst IsNoPlugin (sym reads.reader)
           (no_plugin c.index-list-place.result c.in_default-reader.not-Kms)) opens);
-      kept = c.requires.kept;
       cached = key_heeds c.args.cache.now.rows c.args.seeds.now c.args.list.now c.args.path.now
           c.args.value c.args.links.now c.args.links.now c.index-list-place.result
           body (nat_eq c.in-Some.place 0) (Err c.in-Err.why)
@@ -163,7 +161,7 @@ unseal_body-requires-clause-bare g c = bare_behind c.index-list-place.result
 
 pub returns-in_default-clause-exchanged : goal.returns-in_default-clause-exchanged
 returns-in_default-clause-exchanged g c = talk_none _ _ _ (read_bare c.args.seeds.now
-    c.args.list.now c.args.path.now c.args.value c.args.cache.now g.L.Kms.truth g.L.Kms.link
+    c.args.list.now c.args.path.now c.args.value c.args.cache.now g.L.Kms.link
     c.args.links.now (Err (Refused value.NoProvider))
     (subst IsNoPlugin (sym (unread c.args.list.now c.args.value
     (ap (reader_place c.args.list.now) (sym c.as_slice-bytes.ensures) ∙ sym c.in_default.ensures))) tt)

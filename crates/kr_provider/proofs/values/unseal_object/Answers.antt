@@ -1,6 +1,6 @@
 -- `unseal_object`: the source is the published seed, or what the plugin unwraps.
 use Rattle.std.proofs.Common.{◌∙◌, refl, sym, subst, rules}
-use Rattle.kr_kms.specs.Truth.{key_of}
+use Rattle.kr_kms.specs.Opens.{key_of}
 use Rattle.kr_kms.proofs.Keys.{same_key}
 use Rattle.kr_provider.specs.Envelopes.{seed_key}
 use Rattle.kr_provider.specs.Reading.{source_reading}
@@ -13,7 +13,7 @@ use Rattle.kr_provider.proofs.ObjectSources.{another_seed, seed_taken, source_fa
 use Rattle.kr_provider.proofs.values.unseal_object.Goals as goal
 
 pub returns-then-is_object_seed-clause-opened : goal.returns-then-is_object_seed-clause-opened
-returns-then-is_object_seed-clause-opened g c = seed_taken g.L.Kms.truth g.L.Kms.link c.args.row.now
+returns-then-is_object_seed-clause-opened g c = seed_taken g.L.Kms.link c.args.row.now
     c.args.name.now c.args.object c.args.path.now c.args.links.now c.by_source.result
     ((same_key (key_of c.args.row.now) (seed_key c.args.name.now c.args.object)).0
     (sym c.is_object_seed.ensures ∙ c.if-is_object_seed.true))
@@ -21,14 +21,14 @@ returns-then-is_object_seed-clause-opened g c = seed_taken g.L.Kms.truth g.L.Kms
     (c.as_slice.ensures i) c.args.path.now c.args.object.encrypted) c.by_source.ensures)
 
 pub returns-in_err-source-clause-opened : goal.returns-in_err-source-clause-opened
-returns-in_err-source-clause-opened g c = let stop = source_fails g.L.Kms.truth g.L.Kms.link c.args.row.now
+returns-in_err-source-clause-opened g c = let stop = source_fails g.L.Kms.link c.args.row.now
     c.args.name.now c.args.object c.args.path.now c.args.links.now c.open_source.new.links
     c.in_err-source.field-0.0
     (another_seed c.args.row.now c.args.name.now c.args.object c.is_object_seed.result
     c.is_object_seed.ensures c.if-is_object_seed.false) c.in_err-source.ensures.opened in search (rules, stop)
 
 pub returns-clause-opened : goal.returns-clause-opened
-returns-clause-opened g c = source_opened g.L.Kms.truth g.L.Kms.link c.args.row.now
+returns-clause-opened g c = source_opened g.L.Kms.link c.args.row.now
     c.args.name.now c.args.object c.args.path.now c.args.links.now c.open_source.new.links
     c.in_ok-source.source c.by_source-2.result
     (another_seed c.args.row.now c.args.name.now c.args.object c.is_object_seed.result

@@ -39,12 +39,12 @@ take_steps-requires-clause-none g c = c.without_steps-2.ensures
     ∙ ap report_at (sym (ap (λ (r : Report). r.last) c.without_steps-2.ensures))
 
 pub returns-clause-drives : goal.returns-clause-drives
-returns-clause-drives g c = drives_on (UnsealsRow g.L.Kms.truth g.L.Kms.link)
+returns-clause-drives g c = drives_on (UnsealsRow g.L.Kms.link)
     (StayLinks g.L.Kms.link) g.D.Dice.left g.D.Dice.count c.args.replica c.args.after.now
     (g.A.Acts.caller c.args.acts.now)
     (g.A.Acts.caller c.take_steps.new.acts) c.args.bench.now.links c.take_steps.new.bench.links
     c.args.bench.now.dice c.take_steps.new.bench.dice c.take_steps.result
-    (subst (λ q. GoesOn g.L.Kms.truth g.L.Kms.link g.D.Dice.left g.D.Dice.count c.args.replica q
+    (subst (λ q. GoesOn g.L.Kms.link g.D.Dice.left g.D.Dice.count c.args.replica q
     (g.A.Acts.caller c.args.acts.now) c.args.bench.now.links c.args.bench.now.dice c.take_steps.result
     (g.A.Acts.caller c.take_steps.new.acts) c.take_steps.new.bench.links c.take_steps.new.bench.dice)
     (ap (λ (r : Report). r.last) c.without_steps-2.ensures ∙ c.in-Ok.ensures) c.take_steps.ensures.goes_on)

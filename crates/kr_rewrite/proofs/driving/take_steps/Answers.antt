@@ -18,7 +18,7 @@ pub loop-step-init : goal.loop-step-init
 loop-step-init g c =
     let old = g.A.Acts.caller c.args.acts.now in
     let b = c.args.bench.now in (
-      walked_begin (UnsealsRow g.L.Kms.truth g.L.Kms.link) g.D.Dice.left g.D.Dice.count
+      walked_begin (UnsealsRow g.L.Kms.link) g.D.Dice.left g.D.Dice.count
           c.args.replica
           c.args.report.last old b.links b.dice c.args.report c.requires.none,
       c.requires.idle,
@@ -27,7 +27,6 @@ loop-step-init g c =
       omega arith,
       refl,
       refl,
-      λ told keeps. keeps,
       talk_begins g.D.Dice.left g.D.Dice.count c.args.replica (Among g.L.Kms.step) b.links
           c.args.report.last old b.cache b.dice c.args.report c.requires.none,
       in_turn_same old (adoption_of b) c.requires.idle,
@@ -35,7 +34,7 @@ loop-step-init g c =
 
 pub rewrite_next-requires-clause-replica : goal.rewrite_next-requires-clause-replica
 rewrite_next-requires-clause-replica g c =
-    replica_stays (UnsealsRow g.L.Kms.truth g.L.Kms.link) g.D.Dice.left g.D.Dice.count
+    replica_stays (UnsealsRow g.L.Kms.link) g.D.Dice.left g.D.Dice.count
     c.args.replica
     c.args.report.last (g.A.Acts.caller c.args.acts.now) c.args.bench.now.links
     c.args.bench.now.dice c.loop-step.report (g.A.Acts.caller c.loop-step.acts)
@@ -53,7 +52,7 @@ pub rewrite_next-requires-clause-links : goal.rewrite_next-requires-clause-links
 rewrite_next-requires-clause-links g c =
     served_still g.L.Kms.link (g.A.Acts.caller c.args.acts.now) (g.A.Acts.caller c.loop-step.acts)
     c.args.bench.now.links c.loop-step.bench.links
-    (opening_stays (UnsealsRow g.L.Kms.truth g.L.Kms.link) g.D.Dice.left g.D.Dice.count
+    (opening_stays (UnsealsRow g.L.Kms.link) g.D.Dice.left g.D.Dice.count
     c.args.replica c.args.report.last (g.A.Acts.caller c.args.acts.now) c.args.bench.now.links
     c.args.bench.now.dice c.loop-step.report (g.A.Acts.caller c.loop-step.acts)
     c.loop-step.bench.links c.loop-step.bench.dice c.loop-step.invariant.0)
@@ -65,7 +64,7 @@ rewrite_next-requires-clause-pages g c =
 
 pub returns-in-Err-clause-goes_on : goal.returns-in-Err-clause-goes_on
 returns-in-Err-clause-goes_on g c =
-    walked_cut (UnsealsRow g.L.Kms.truth g.L.Kms.link) g.D.Dice.left g.D.Dice.count c.args.replica
+    walked_cut (UnsealsRow g.L.Kms.link) g.D.Dice.left g.D.Dice.count c.args.replica
     c.args.report.last (g.A.Acts.caller c.args.acts.now) c.args.bench.now.links
     c.args.bench.now.dice c.loop-step.report (g.A.Acts.caller c.loop-step.acts)
     (g.A.Acts.caller c.rewrite_next.new.acts) c.loop-step.bench.links
@@ -73,10 +72,6 @@ returns-in-Err-clause-goes_on g c =
     c.loop-step.invariant.0 c.as_str.result.now c.as_str.ensures (StayLinks g.L.Kms.link)
     c.in-Err.why c.in-Err.ensures.steps c.in-Err.ensures.adds c.loop-step.invariant.3
     c.loop-step.invariant.4
-
-pub returns-in-Err-clause-honest : goal.returns-in-Err-clause-honest
-returns-in-Err-clause-honest g c = λ told keeps. c.in-Err.ensures.honest told
-    (c.loop-step.invariant.7 told keeps)
 
 pub returns-in-Err-clause-asked : goal.returns-in-Err-clause-asked
 returns-in-Err-clause-asked g c = asked_still g.L.Kms.link c.args.bench.now.links
@@ -95,7 +90,7 @@ returns-in-Err-clause-place g c = c.in-Err.ensures.place ∙ c.loop-step.invaria
 
 pub returns-then-not-found-clause-goes_on : goal.returns-then-not-found-clause-goes_on
 returns-then-not-found-clause-goes_on g c =
-    walked_end (UnsealsRow g.L.Kms.truth g.L.Kms.link) g.D.Dice.left g.D.Dice.count c.args.replica
+    walked_end (UnsealsRow g.L.Kms.link) g.D.Dice.left g.D.Dice.count c.args.replica
     c.args.report.last (g.A.Acts.caller c.args.acts.now) c.args.bench.now.links
     c.args.bench.now.dice c.loop-step.report (g.A.Acts.caller c.loop-step.acts)
     (g.A.Acts.caller c.rewrite_next.new.acts) c.loop-step.bench.links
@@ -104,10 +99,6 @@ returns-then-not-found-clause-goes_on g c =
     c.in-Ok.step c.count-found.result c.count-found.new.self c.count-found.ensures
     c.if-not-found.true c.in-Ok.ensures.steps
     c.in-Ok.ensures.adds c.loop-step.invariant.3 c.loop-step.invariant.4
-
-pub returns-then-not-found-clause-honest : goal.returns-then-not-found-clause-honest
-returns-then-not-found-clause-honest g c = λ told keeps. c.in-Ok.ensures.honest told
-    (c.loop-step.invariant.7 told keeps)
 
 pub returns-then-not-found-clause-asked : goal.returns-then-not-found-clause-asked
 returns-then-not-found-clause-asked g c = asked_still g.L.Kms.link c.args.bench.now.links
@@ -126,7 +117,7 @@ returns-then-not-found-clause-place g c = c.in-Ok.ensures.place ∙ c.loop-step.
 
 pub loop-step-preserved : goal.loop-step-preserved
 loop-step-preserved g c = (
-  walked_more (UnsealsRow g.L.Kms.truth g.L.Kms.link) g.D.Dice.left g.D.Dice.count c.args.replica
+  walked_more (UnsealsRow g.L.Kms.link) g.D.Dice.left g.D.Dice.count c.args.replica
       c.args.report.last (g.A.Acts.caller c.args.acts.now) c.args.bench.now.links
       c.args.bench.now.dice c.loop-step.report (g.A.Acts.caller c.loop-step.acts)
       (g.A.Acts.caller c.rewrite_next.new.acts) c.loop-step.bench.links
@@ -142,14 +133,13 @@ loop-step-preserved g c = (
   omega (arith, c.loop-step.invariant.4, c.in-Ok.ensures.later),
   c.in-Ok.ensures.pages ∙ c.loop-step.invariant.5,
   c.in-Ok.ensures.place ∙ c.loop-step.invariant.6,
-  λ told keeps. c.in-Ok.ensures.honest told (c.loop-step.invariant.7 told keeps),
   talk_more g.D.Dice.left g.D.Dice.count c.args.replica (Among g.L.Kms.step)
       c.args.bench.now.links c.loop-step.bench.links c.rewrite_next.new.bench.links
       c.args.report.last (g.A.Acts.caller c.args.acts.now) c.args.bench.now.cache
       c.args.bench.now.dice c.loop-step.report (g.A.Acts.caller c.loop-step.acts)
       (g.A.Acts.caller c.rewrite_next.new.acts) c.loop-step.bench.cache
       c.rewrite_next.new.bench.cache c.loop-step.bench.dice c.rewrite_next.new.bench.dice
-      c.loop-step.invariant.8 c.as_str.result.now c.as_str.ensures c.in-Ok.step
+      c.loop-step.invariant.7 c.as_str.result.now c.as_str.ensures c.in-Ok.step
       c.count-found.result c.count-found.new.self c.count-found.ensures c.if-not-found.false
       c.in-Ok.ensures.exchanged c.in-Ok.ensures.adds,
   in_turn_then (g.A.Acts.caller c.args.acts.now)
@@ -158,12 +148,12 @@ loop-step-preserved g c = (
       (adoption_of c.loop-step.bench) (adoption_of c.rewrite_next.new.bench)
       (ap (λ (x : Caller). x.mine) c.loop-step.invariant.0.few.1.new_is)
       (ap (λ (x : Caller). x.mine) c.in-Ok.ensures.adds.1.new_is) c.loop-step.invariant.1
-      c.loop-step.invariant.9
+      c.loop-step.invariant.8
       (record { leaves = c.in-Ok.ensures.keys; happens = c.in-Ok.ensures.moments }),
 )
 
 pub loop-step-smaller : goal.loop-step-smaller
-loop-step-smaller g c = (takes_step (UnsealsRow g.L.Kms.truth g.L.Kms.link) g.D.Dice.left
+loop-step-smaller g c = (takes_step (UnsealsRow g.L.Kms.link) g.D.Dice.left
     g.D.Dice.count
     c.args.replica c.as_str.result.now (g.A.Acts.caller c.loop-step.acts)
     (g.A.Acts.caller c.rewrite_next.new.acts) c.loop-step.bench.links
@@ -184,7 +174,7 @@ returns-in-Err-clause-exchanged g c = talk_cut g.D.Dice.left g.D.Dice.count c.ar
     c.args.bench.now.dice c.loop-step.report (g.A.Acts.caller c.loop-step.acts)
     (g.A.Acts.caller c.rewrite_next.new.acts) c.loop-step.bench.cache
     c.rewrite_next.new.bench.cache c.loop-step.bench.dice c.rewrite_next.new.bench.dice
-    c.loop-step.invariant.8 c.as_str.result.now c.as_str.ensures c.in-Err.why
+    c.loop-step.invariant.7 c.as_str.result.now c.as_str.ensures c.in-Err.why
     c.in-Err.ensures.exchanged c.in-Err.ensures.adds c.loop-step.invariant.4
 
 pub returns-then-not-found-clause-exchanged : goal.returns-then-not-found-clause-exchanged
@@ -195,7 +185,7 @@ returns-then-not-found-clause-exchanged g c = talk_ends g.D.Dice.left g.D.Dice.c
     c.args.bench.now.dice c.loop-step.report (g.A.Acts.caller c.loop-step.acts)
     (g.A.Acts.caller c.rewrite_next.new.acts) c.loop-step.bench.cache
     c.rewrite_next.new.bench.cache c.loop-step.bench.dice c.rewrite_next.new.bench.dice
-    c.loop-step.invariant.8 c.as_str.result.now c.as_str.ensures c.in-Ok.step
+    c.loop-step.invariant.7 c.as_str.result.now c.as_str.ensures c.in-Ok.step
     c.count-found.result c.count-found.new.self c.count-found.ensures c.if-not-found.true
     c.in-Ok.ensures.exchanged c.in-Ok.ensures.adds c.loop-step.invariant.4
 
@@ -206,7 +196,7 @@ returns-in-Err-clause-keys g c = (in_turn_then (g.A.Acts.caller c.args.acts.now)
     (adoption_of c.loop-step.bench) (adoption_of c.rewrite_next.new.bench)
     (ap (λ (x : Caller). x.mine) c.loop-step.invariant.0.few.1.new_is)
     (ap (λ (x : Caller). x.mine) c.in-Err.ensures.adds.1.new_is) c.loop-step.invariant.1
-    c.loop-step.invariant.9
+    c.loop-step.invariant.8
     (record { leaves = c.in-Err.ensures.keys; happens = c.in-Err.ensures.moments })).leaves
 
 pub returns-in-Err-clause-moments : goal.returns-in-Err-clause-moments
@@ -216,7 +206,7 @@ returns-in-Err-clause-moments g c = (in_turn_then (g.A.Acts.caller c.args.acts.n
     (adoption_of c.loop-step.bench) (adoption_of c.rewrite_next.new.bench)
     (ap (λ (x : Caller). x.mine) c.loop-step.invariant.0.few.1.new_is)
     (ap (λ (x : Caller). x.mine) c.in-Err.ensures.adds.1.new_is) c.loop-step.invariant.1
-    c.loop-step.invariant.9
+    c.loop-step.invariant.8
     (record { leaves = c.in-Err.ensures.keys; happens = c.in-Err.ensures.moments })).happens
 
 pub returns-then-not-found-clause-keys : goal.returns-then-not-found-clause-keys
@@ -226,7 +216,7 @@ returns-then-not-found-clause-keys g c = (in_turn_then (g.A.Acts.caller c.args.a
     (adoption_of c.loop-step.bench) (adoption_of c.rewrite_next.new.bench)
     (ap (λ (x : Caller). x.mine) c.loop-step.invariant.0.few.1.new_is)
     (ap (λ (x : Caller). x.mine) c.in-Ok.ensures.adds.1.new_is) c.loop-step.invariant.1
-    c.loop-step.invariant.9
+    c.loop-step.invariant.8
     (record { leaves = c.in-Ok.ensures.keys; happens = c.in-Ok.ensures.moments })).leaves
 
 pub returns-then-not-found-clause-moments : goal.returns-then-not-found-clause-moments
@@ -236,5 +226,5 @@ returns-then-not-found-clause-moments g c = (in_turn_then (g.A.Acts.caller c.arg
     (adoption_of c.loop-step.bench) (adoption_of c.rewrite_next.new.bench)
     (ap (λ (x : Caller). x.mine) c.loop-step.invariant.0.few.1.new_is)
     (ap (λ (x : Caller). x.mine) c.in-Ok.ensures.adds.1.new_is) c.loop-step.invariant.1
-    c.loop-step.invariant.9
+    c.loop-step.invariant.8
     (record { leaves = c.in-Ok.ensures.keys; happens = c.in-Ok.ensures.moments })).happens

@@ -7,7 +7,6 @@ use Rattle.kr_provider.specs.BenchKeys.{adoption_of}
 use Rattle.kr_provider.specs.KeyPages.{size_of}
 use Rattle.kr_provider.specs.Names.{names_of}
 use Rattle.kr_rollout.specs.Callers.{holding}
-use Rattle.kr_history.specs.Calls.{KeepsToldHonesty}
 use Rattle.kr_history.proofs.KeyMoments.{TakesInTurn}
 use Rattle.kr_rewrite.specs.Rewrites.{UnsealsRow}
 use Rattle.kr_rewrite.proofs.BetweenSteps.{IsWalked}
@@ -16,7 +15,7 @@ use Rattle.kr_rewrite.proofs.driving.take_steps.Given as goal
 
 abbrev pub invariant-loop-step : goal.invariant-loop-step
 invariant-loop-step g l =
-    IsWalked (UnsealsRow g.L.Kms.truth g.L.Kms.link) g.D.Dice.left g.D.Dice.count l.replica
+    IsWalked (UnsealsRow g.L.Kms.link) g.D.Dice.left g.D.Dice.count l.replica
     l.initial.report.last (g.A.Acts.caller l.initial.acts) l.initial.bench.links
     l.initial.bench.dice l.report (g.A.Acts.caller l.acts) l.bench.links l.bench.dice
     × (holding (g.A.Acts.caller l.acts).mine ≡ None)
@@ -26,7 +25,6 @@ invariant-loop-step g l =
     × (g.D.Dice.count l.initial.bench.dice ≤ g.D.Dice.count l.bench.dice)
     × (size_of l.bench.pages ≡ size_of l.initial.bench.pages)
     × (g.A.Acts.place l.acts ≡ g.A.Acts.place l.initial.acts)
-    × KeepsToldHonesty g.L.Kms.truth (g.A.Acts.caller l.initial.acts) (g.A.Acts.caller l.acts)
     × Talk (Among g.L.Kms.step) l.initial.bench.links l.bench.links
     (IsWalkedBy g.D.Dice.left g.D.Dice.count l.replica l.initial.report.last
     (g.A.Acts.caller l.initial.acts) l.initial.bench.cache l.initial.bench.dice l.report

@@ -1,14 +1,15 @@
 -- `reseal`: what was sealed is offered in the row's place.
 use Rattle.std.proofs.Common.{[], Err, Ok, inr, refl, ◌∙◌}
-use Rattle.kr_provider.specs.Publication.{writer_at}
+use Rattle.kr_provider.specs.Publication.{list_at, writer_at}
+use Rattle.kr_provider.specs.Reading.{HasSomeReading, data_of}
 use Rattle.kr_provider.specs.Sealing.{IsSealing, Seals}
 use Rattle.kr_history.specs.declared.call.CallNo.TheVariants as refusal
 use Rattle.kr_rollout.specs.declared.event.Event.TheVariants as event
 use Rattle.kr_history.proofs.KeptByEvents.{holds_still}
 use Rattle.kr_history.proofs.PartsAdd.{entry_within, nothing_within, same_within}
-use Rattle.kr_rewrite.specs.inner.Stages.{ReadsData, ResealsRow}
+use Rattle.kr_rewrite.specs.inner.Stages.{ResealsRow}
 use Rattle.kr_rewrite.proofs.Options.{holds_at, holds_of, is_there}
-use Rattle.kr_rewrite.proofs.Replacing.{keeps_replace, may_replace, replaces_to, reseals_done, reseals_in_vain, reseals_nothing, unsealed_to}
+use Rattle.kr_rewrite.proofs.Replacing.{may_replace, replaces_to, reseals_done, reseals_in_vain, reseals_nothing, unsealed_to}
 use Rattle.kr_rewrite.proofs.row.reseal.Goals as goal
 
 pub returns-in_default-clause-reseals : goal.returns-in_default-clause-reseals
@@ -58,8 +59,9 @@ act-requires g c =
     may_replace old.opening old.seat old.mine h.number h.p c.args.row.now c.args.plain
     c.in-Ok.copy c.in-Ok-seal_in_place.stored c.known.ensures.seat_in c.requires.rules.0 h.held
     c.requires.found (c.in-Ok.ensures ∙ c.as_str.ensures)
-    (holds_of (λ p. ReadsData g.L.Kms.truth p c.args.row.now c.args.plain)
-    c.args.bench.now.published h.p h.adopted c.requires.reads).some
+    (holds_of (λ p. HasSomeReading (list_at p c.args.row.now.resource) c.args.row.now.path
+    c.args.row.now.stored (data_of c.args.plain)) c.args.bench.now.published h.p h.adopted
+    c.requires.reads)
     (holds_of (λ p. IsSealing p c.args.row.now.resource c.args.row.now.path c.args.plain
     c.in-Ok-seal_in_place.stored) c.args.bench.now.published h.p h.adopted
     c.in-Ok-seal_in_place.ensures.sealing)
@@ -95,20 +97,6 @@ returns-in-Ok-act-clause-adds g c = entry_within (g.A.Acts.caller c.args.acts.no
     (g.A.Acts.caller c.act.new.self)
     (event.Replace c.in-Ok.copy c.args.row.now.revision c.in-Ok-seal_in_place.stored)
     c.in-Ok-act.answer c.in-Ok-act.ensures.acted
-
-pub returns-in-Ok-act-clause-honest : goal.returns-in-Ok-act-clause-honest
-returns-in-Ok-act-clause-honest g c =
-    let h = c.requires.held in
-    keeps_replace g.L.Kms.truth (g.A.Acts.caller c.args.acts.now) (g.A.Acts.caller c.act.new.self)
-    h.number h.p c.args.row.now c.args.plain c.in-Ok.copy c.in-Ok-seal_in_place.stored
-    c.in-Ok-act.answer
-    c.known.ensures h.held c.requires.found
-    (holds_of (λ p. ReadsData g.L.Kms.truth p c.args.row.now c.args.plain)
-    c.args.bench.now.published h.p h.adopted c.requires.reads)
-    (holds_of (λ p. IsSealing p c.args.row.now.resource c.args.row.now.path c.args.plain
-    c.in-Ok-seal_in_place.stored) c.args.bench.now.published h.p h.adopted
-    c.in-Ok-seal_in_place.ensures.sealing)
-    (c.in-Ok.ensures ∙ c.as_str.ensures) c.in-Ok-act.ensures.acted
 
 pub returns-in-Ok-act-clause-holds : goal.returns-in-Ok-act-clause-holds
 returns-in-Ok-act-clause-holds g c = holds_still (g.A.Acts.caller c.args.acts.now)

@@ -8,13 +8,14 @@ use Rattle.kr_provider.specs.AskedLinks.{Among, AskedOnly}
 use Rattle.kr_provider.specs.Exchanges.{ReadsBy}
 use Rattle.kr_provider.specs.Names.{names_of}
 use Rattle.kr_provider.specs.Publication.{list_at}
+use Rattle.kr_provider.specs.Reading.{HasSomeReading, data_of}
 use Rattle.kr_provider.specs.Unsealing.{UnsealsBy}
 use Rattle.kr_history.specs.declared.call.CallNo.TheVariants as refusal
 use Rattle.kr_history.proofs.PartsAdd.{nothing_within}
 use Rattle.kr_rewrite.specs.declared.outcome.Step.TheVariants as step
 use Rattle.kr_rewrite.specs.DriveExchanges.{ReadsRow, before, behind}
 use Rattle.kr_rewrite.specs.Rewrites.{Rewrites, UnsealsRow}
-use Rattle.kr_rewrite.specs.inner.Stages.{ReadsData, ResealsRow, RewritesRowBy}
+use Rattle.kr_rewrite.specs.inner.Stages.{ResealsRow, RewritesRowBy}
 use Rattle.kr_rewrite.proofs.RowTalks.{nothing_by, reads_row, talk_by}
 use Rattle.kr_rewrite.proofs.Options.{holds_at, holds_of, is_there}
 use Rattle.kr_rewrite.proofs.Rewriting.{fresh_rewritten, reads_data, stale_rewritten, unread_rewritten, unread_to}
@@ -25,7 +26,7 @@ returns-in_default-clause-rewrites g c =
     let h = c.requires.held in
     let old = g.A.Acts.caller c.args.acts.now in
     let b = c.args.bench.now in
-    holds_at (λ p. Rewrites g.L.Kms.truth g.L.Kms.link g.D.Dice.left g.D.Dice.count p
+    holds_at (λ p. Rewrites g.L.Kms.link g.D.Dice.left g.D.Dice.count p
     c.args.row.now old b.links b.dice (Err refusal.NoMemory) old b.links b.dice)
     b.published h.p h.adopted (inr ((refl, refl, refl), refl))
 
@@ -51,14 +52,14 @@ returns-in-Err-clause-rewrites g c =
     let old = g.A.Acts.caller c.args.acts.now in
     let b = c.args.bench.now in
     let n = c.unseal.new.bench in
-    holds_at (λ p. Rewrites g.L.Kms.truth g.L.Kms.link g.D.Dice.left g.D.Dice.count p
+    holds_at (λ p. Rewrites g.L.Kms.link g.D.Dice.left g.D.Dice.count p
     c.args.row.now old b.links b.dice c.unread_step.result old n.links n.dice)
     b.published h.p h.adopted
-    (unread_rewritten (UnsealsRow g.L.Kms.truth g.L.Kms.link) g.D.Dice.left
+    (unread_rewritten (UnsealsRow g.L.Kms.link) g.D.Dice.left
     g.D.Dice.count h.p c.args.row.now b.links n.links c.in-Ok.path
     (c.in-Ok.ensures ∙ c.as_str.ensures) old old b.dice
     n.dice n.dice (ap (λ x. x.dice) c.in-Err.ensures.kept) c.in-Err.why c.unread_step.result
-    (holds_of (λ p. UnsealsBy g.L.Kms.truth g.L.Kms.link p.seeds
+    (holds_of (λ p. UnsealsBy g.L.Kms.link p.seeds
     (list_at p c.args.row.now.resource) c.args.row.now.path c.args.row.now.stored b.links
     (Err c.in-Err.why) n.links) b.published h.p h.adopted c.in-Err.ensures.opened)
     c.unread_step.ensures)
@@ -77,14 +78,14 @@ returns-then-not-stale-clause-rewrites g c =
     let old = g.A.Acts.caller c.args.acts.now in
     let b = c.args.bench.now in
     let n = c.unseal.new.bench in
-    holds_at (λ p. Rewrites g.L.Kms.truth g.L.Kms.link g.D.Dice.left g.D.Dice.count p
+    holds_at (λ p. Rewrites g.L.Kms.link g.D.Dice.left g.D.Dice.count p
     c.args.row.now old b.links b.dice (Ok (step.Fresh c.in-Ok.path)) old n.links n.dice)
     b.published h.p h.adopted
-    (fresh_rewritten (UnsealsRow g.L.Kms.truth g.L.Kms.link) g.D.Dice.left
+    (fresh_rewritten (UnsealsRow g.L.Kms.link) g.D.Dice.left
     g.D.Dice.count h.p c.args.row.now b.links n.links c.in-Ok.path
     (c.in-Ok.ensures ∙ c.as_str.ensures) old old b.dice
     n.dice n.dice (ap (λ x. x.dice) c.in-Ok-unseal.ensures.kept) c.in-Ok-unseal.opened
-    (holds_of (λ p. UnsealsBy g.L.Kms.truth g.L.Kms.link p.seeds
+    (holds_of (λ p. UnsealsBy g.L.Kms.link p.seeds
     (list_at p c.args.row.now.resource) c.args.row.now.path c.args.row.now.stored b.links
     (Ok c.in-Ok-unseal.opened) n.links) b.published h.p h.adopted c.in-Ok-unseal.ensures.opened)
     c.if-not-stale.true)
@@ -113,11 +114,12 @@ reseal-requires-clause-reads g c =
     let h = c.requires.held in
     let b = c.args.bench.now in
     let n = c.unseal.new.bench in
-    holds_at (λ p. ReadsData g.L.Kms.truth p c.args.row.now c.in-Ok-unseal.opened.plain)
+    holds_at (λ p. HasSomeReading (list_at p c.args.row.now.resource) c.args.row.now.path
+    c.args.row.now.stored (data_of c.in-Ok-unseal.opened.plain))
     n.published h.p (ap (λ x. x.published) c.in-Ok-unseal.ensures.kept ∙ h.adopted)
-    (reads_data g.L.Kms.truth g.L.Kms.link h.p c.args.row.now b.links n.links
+    (reads_data g.L.Kms.link h.p c.args.row.now b.links n.links
     c.in-Ok-unseal.opened
-    (holds_of (λ p. UnsealsBy g.L.Kms.truth g.L.Kms.link p.seeds
+    (holds_of (λ p. UnsealsBy g.L.Kms.link p.seeds
     (list_at p c.args.row.now.resource) c.args.row.now.path c.args.row.now.stored b.links
     (Ok c.in-Ok-unseal.opened) n.links) b.published h.p h.adopted c.in-Ok-unseal.ensures.opened))
 
@@ -131,16 +133,16 @@ returns-clause-rewrites g c =
     let m = c.reseal.new.bench in
     let opened = c.in-Ok-unseal.opened in
     let links = ap (λ x. x.links) c.reseal.ensures.kept in
-    subst (λ l. IfSome b.published (λ p. Rewrites g.L.Kms.truth g.L.Kms.link g.D.Dice.left
+    subst (λ l. IfSome b.published (λ p. Rewrites g.L.Kms.link g.D.Dice.left
     g.D.Dice.count p c.args.row.now old b.links b.dice c.reseal.result new l m.dice)) (sym links)
-    (holds_at (λ p. Rewrites g.L.Kms.truth g.L.Kms.link g.D.Dice.left g.D.Dice.count p
+    (holds_at (λ p. Rewrites g.L.Kms.link g.D.Dice.left g.D.Dice.count p
     c.args.row.now old b.links b.dice c.reseal.result new n.links m.dice)
     b.published h.p h.adopted
-    (stale_rewritten (UnsealsRow g.L.Kms.truth g.L.Kms.link) g.D.Dice.left
+    (stale_rewritten (UnsealsRow g.L.Kms.link) g.D.Dice.left
     g.D.Dice.count h.p c.args.row.now b.links n.links c.in-Ok.path
     (c.in-Ok.ensures ∙ c.as_str.ensures) old new b.dice
     n.dice m.dice (ap (λ x. x.dice) c.in-Ok-unseal.ensures.kept) opened c.reseal.result
-    (holds_of (λ p. UnsealsBy g.L.Kms.truth g.L.Kms.link p.seeds
+    (holds_of (λ p. UnsealsBy g.L.Kms.link p.seeds
     (list_at p c.args.row.now.resource) c.args.row.now.path c.args.row.now.stored b.links
     (Ok opened) n.links) b.published h.p h.adopted c.in-Ok-unseal.ensures.opened)
     c.if-not-stale.false

@@ -37,9 +37,6 @@ pub returns-in-Err-clause-adds : goal.returns-in-Err-clause-adds
 returns-in-Err-clause-adds g c = within_more 1 4 0 0 [] (g.A.Acts.caller c.args.acts.now)
     (g.A.Acts.caller c.adopt.new.acts) (omega arith) (omega arith) c.in-Err.ensures.adds
 
-pub returns-in-Err-clause-honest : goal.returns-in-Err-clause-honest
-returns-in-Err-clause-honest g c = λ told. c.in-Err.ensures.honest g.L.Kms.truth.opens
-
 pub returns-in-Err-clause-asked : goal.returns-in-Err-clause-asked
 returns-in-Err-clause-asked g c = asked_none g.L.Kms.link
     (names_of g.L.Kms.link c.args.bench.now.links) c.args.bench.now.links
@@ -73,13 +70,13 @@ returns-clause-steps g c =
     let t = c.adopt_configuration.new.bench in
     let n = c.step-done.new.bench in
     let m = c.hand_back.new.bench in
-    subst (λ l. IsStep g.L.Kms.truth g.L.Kms.link g.D.Dice.left g.D.Dice.count c.args.replica
+    subst (λ l. IsStep g.L.Kms.link g.D.Dice.left g.D.Dice.count c.args.replica
     c.args.after.now old b.links b.dice c.hand_back.result new l m.dice)
     (sym (ap (λ x. x.links) c.hand_back.ensures.kept))
-    (subst (λ d. IsStep g.L.Kms.truth g.L.Kms.link g.D.Dice.left g.D.Dice.count c.args.replica
+    (subst (λ d. IsStep g.L.Kms.link g.D.Dice.left g.D.Dice.count c.args.replica
     c.args.after.now old b.links b.dice c.hand_back.result new n.links d)
     (sym (ap (λ x. x.dice) c.hand_back.ensures.kept))
-    (step_held (UnsealsRow g.L.Kms.truth g.L.Kms.link) g.D.Dice.left g.D.Dice.count
+    (step_held (UnsealsRow g.L.Kms.link) g.D.Dice.left g.D.Dice.count
     c.args.after.now c.in-Ok.copy c.args.replica old (g.A.Acts.caller c.adopt.new.acts)
     (g.A.Acts.caller c.step-done.new.acts) new b.links t.links n.links b.dice t.dice n.dice
     c.in-Ok-adopt.held t.published c.step-done.result c.hand_back.result c.in-Ok.ensures
@@ -98,10 +95,6 @@ returns-clause-adds g c = within_behind 3 1 0 0 [] (g.A.Acts.caller c.args.acts.
     (within_behind 1 2 0 0 [] (g.A.Acts.caller c.args.acts.now)
     (g.A.Acts.caller c.adopt.new.acts) (g.A.Acts.caller c.step-done.new.acts)
     c.in-Ok-adopt.ensures.adds c.step-done.ensures.adds) c.hand_back.ensures.adds
-
-pub returns-clause-honest : goal.returns-clause-honest
-returns-clause-honest g c = λ told keeps. c.hand_back.ensures.honest g.L.Kms.truth.opens
-    (c.step-done.ensures.honest told (c.in-Ok-adopt.ensures.honest g.L.Kms.truth.opens keeps))
 
 pub returns-clause-asked : goal.returns-clause-asked
 returns-clause-asked g c =
@@ -196,7 +189,7 @@ returns-clause-keys g c = (held_turn c.args.replica c.in-Ok-adopt.held
     c.step-done.result c.hand_back.result c.args.bench.now c.adopt_configuration.new.bench
     c.step-done.new.bench c.hand_back.new.bench c.in-Ok-adopt.ensures.adopts
     c.in-Ok-adopt.ensures.known.1 c.adopt_configuration.ensures.taken c.adopt_configuration.ensures.keys
-    c.adopt_configuration.ensures.pages (steps_quietly (UnsealsRow g.L.Kms.truth g.L.Kms.link)
+    c.adopt_configuration.ensures.pages (steps_quietly (UnsealsRow g.L.Kms.link)
     g.D.Dice.left g.D.Dice.count c.in-Ok.copy c.adopt_configuration.new.bench.published
     c.in-Ok-adopt.held.1 (g.A.Acts.caller c.adopt.new.acts)
     (g.A.Acts.caller c.step-done.new.acts) c.adopt_configuration.new.bench.links c.step-done.new.bench.links
@@ -212,7 +205,7 @@ returns-clause-moments g c = (held_turn c.args.replica c.in-Ok-adopt.held
     c.step-done.result c.hand_back.result c.args.bench.now c.adopt_configuration.new.bench
     c.step-done.new.bench c.hand_back.new.bench c.in-Ok-adopt.ensures.adopts
     c.in-Ok-adopt.ensures.known.1 c.adopt_configuration.ensures.taken c.adopt_configuration.ensures.keys
-    c.adopt_configuration.ensures.pages (steps_quietly (UnsealsRow g.L.Kms.truth g.L.Kms.link)
+    c.adopt_configuration.ensures.pages (steps_quietly (UnsealsRow g.L.Kms.link)
     g.D.Dice.left g.D.Dice.count c.in-Ok.copy c.adopt_configuration.new.bench.published
     c.in-Ok-adopt.held.1 (g.A.Acts.caller c.adopt.new.acts)
     (g.A.Acts.caller c.step-done.new.acts) c.adopt_configuration.new.bench.links c.step-done.new.bench.links

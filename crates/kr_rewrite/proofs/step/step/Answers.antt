@@ -25,17 +25,14 @@ returns-in-Err-clause-steps g c =
     let old = g.A.Acts.caller c.args.acts.now in
     let new = g.A.Acts.caller c.look_above.new.acts in
     let b = c.args.bench.now in
-    holds_at (λ p. Steps g.L.Kms.truth g.L.Kms.link g.D.Dice.left g.D.Dice.count p c.args.above
+    holds_at (λ p. Steps g.L.Kms.link g.D.Dice.left g.D.Dice.count p c.args.above
     old b.links b.dice (Err c.in-Err.why) new b.links b.dice) b.published h.p h.adopted
-    (looked_in_vain (UnsealsRow g.L.Kms.truth g.L.Kms.link) g.D.Dice.left g.D.Dice.count h.p
+    (looked_in_vain (UnsealsRow g.L.Kms.link) g.D.Dice.left g.D.Dice.count h.p
     c.args.above old b.links b.dice c.in-Err.why new c.in-Err.ensures.looks)
 
 pub returns-in-Err-clause-adds : goal.returns-in-Err-clause-adds
 returns-in-Err-clause-adds g c = within_more 1 2 0 0 [] (g.A.Acts.caller c.args.acts.now)
     (g.A.Acts.caller c.look_above.new.acts) (omega arith) (omega arith) c.in-Err.ensures.adds
-
-pub returns-in-Err-clause-honest : goal.returns-in-Err-clause-honest
-returns-in-Err-clause-honest g c = λ told. c.in-Err.ensures.honest g.L.Kms.truth.opens
 
 pub returns-in-Err-clause-asked : goal.returns-in-Err-clause-asked
 returns-in-Err-clause-asked g c = asked_none g.L.Kms.link
@@ -47,17 +44,14 @@ returns-in_default-clause-steps g c =
     let old = g.A.Acts.caller c.args.acts.now in
     let new = g.A.Acts.caller c.look_above.new.acts in
     let b = c.args.bench.now in
-    holds_at (λ p. Steps g.L.Kms.truth g.L.Kms.link g.D.Dice.left g.D.Dice.count p c.args.above
+    holds_at (λ p. Steps g.L.Kms.link g.D.Dice.left g.D.Dice.count p c.args.above
     old b.links b.dice (Ok step.End) new b.links b.dice) b.published h.p h.adopted
-    (looked_at_end (UnsealsRow g.L.Kms.truth g.L.Kms.link) g.D.Dice.left g.D.Dice.count h.p
+    (looked_at_end (UnsealsRow g.L.Kms.link) g.D.Dice.left g.D.Dice.count h.p
     c.args.above old b.links b.dice c.in-Ok.found new c.in_default.is c.in-Ok.ensures.looks)
 
 pub returns-in_default-clause-adds : goal.returns-in_default-clause-adds
 returns-in_default-clause-adds g c = within_more 1 2 0 0 [] (g.A.Acts.caller c.args.acts.now)
     (g.A.Acts.caller c.look_above.new.acts) (omega arith) (omega arith) c.in-Ok.ensures.adds
-
-pub returns-in_default-clause-honest : goal.returns-in_default-clause-honest
-returns-in_default-clause-honest g c = λ told. c.in-Ok.ensures.honest g.L.Kms.truth.opens
 
 pub returns-in_default-clause-asked : goal.returns-in_default-clause-asked
 returns-in_default-clause-asked g c = asked_none g.L.Kms.link
@@ -92,13 +86,13 @@ returns-clause-steps g c =
     let new = g.A.Acts.caller c.rewrite.new.acts in
     let b = c.args.bench.now in
     let n = c.rewrite.new.bench in
-    holds_at (λ p. Steps g.L.Kms.truth g.L.Kms.link g.D.Dice.left g.D.Dice.count p c.args.above
+    holds_at (λ p. Steps g.L.Kms.link g.D.Dice.left g.D.Dice.count p c.args.above
     old b.links b.dice c.rewrite.result new n.links n.dice) b.published h.p h.adopted
-    (looked_at_row (UnsealsRow g.L.Kms.truth g.L.Kms.link) g.D.Dice.left g.D.Dice.count h.p
+    (looked_at_row (UnsealsRow g.L.Kms.link) g.D.Dice.left g.D.Dice.count h.p
     c.args.above old b.links b.dice c.in-Ok.found c.in-Some.row c.get.result.now middle new n.links
     n.dice
     c.rewrite.result c.in-Some.is c.get.ensures c.in-Ok.ensures.looks
-    (holds_of (λ p. Rewrites g.L.Kms.truth g.L.Kms.link g.D.Dice.left g.D.Dice.count p
+    (holds_of (λ p. Rewrites g.L.Kms.link g.D.Dice.left g.D.Dice.count p
     c.get.result.now middle b.links b.dice c.rewrite.result new n.links n.dice) b.published h.p
     h.adopted c.rewrite.ensures.rewrites))
 
@@ -106,10 +100,6 @@ pub returns-clause-adds : goal.returns-clause-adds
 returns-clause-adds g c = within_behind 1 1 0 0 [] (g.A.Acts.caller c.args.acts.now)
     (g.A.Acts.caller c.look_above.new.acts) (g.A.Acts.caller c.rewrite.new.acts)
     c.in-Ok.ensures.adds c.rewrite.ensures.adds
-
-pub returns-clause-honest : goal.returns-clause-honest
-returns-clause-honest g c = λ told keeps. c.rewrite.ensures.honest told
-    (c.in-Ok.ensures.honest g.L.Kms.truth.opens keeps)
 
 pub returns-clause-holds : goal.returns-clause-holds
 returns-clause-holds g c = c.rewrite.ensures.holds ∙ c.in-Ok.ensures.holds

@@ -14,14 +14,17 @@ returns g c = record {
     written = c.answer-answer.ensures.later;
     told = c.tell_end.ensures.later;
   };
-  asked = heard_so g.W.World.lent g.W.World.took g.W.Link.Kms.step 0 [] [] _ _
-      c.answer-answer.ensures.asked (λ es answers. record {
-        result = c.answer-answer.result;
-        answers = answers;
-        tells = c.tell_end.ensures.told;
-        written = c.answer-answer.ensures.later;
-        told = c.tell_end.ensures.later;
-      });
+  asked = heard_so g.W.Link.Kms.link g.W.World.lent g.W.World.took g.W.Link.Kms.step 0 [] [] _ _
+      c.answer-answer.ensures.asked (λ es answers. (
+        record {
+          result = c.answer-answer.result;
+          answers = answers;
+          tells = c.tell_end.ensures.told;
+          written = c.answer-answer.ensures.later;
+          told = c.tell_end.ensures.later;
+        },
+        readings _ _ _ _ _ _ c.answer-answer.result answers c.tell_end.ensures.told,
+      ));
   readings = readings _ _ _ _ _ _ c.answer-answer.result c.answer-answer.ensures.answers
       c.tell_end.ensures.told;
   tapes = tapes_left _ _ _ _ _ _ c.answer-answer.result c.answer-answer.ensures.answers

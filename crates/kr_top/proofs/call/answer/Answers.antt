@@ -13,7 +13,7 @@ use Rattle.kr_cmd_messages.specs.declared.report.RewriteCounts.{RewriteCounts}
 use Rattle.kr_cmd_messages.specs.declared.refusal.Stop.{Stop}
 use Rattle.kr_cmd_messages.specs.declared.refusal.Stop.TheVariants.{Words, Refused, Fault, NoMemory}
 use Rattle.kr_cmd_steps.proofs.HeardLinks.{heard_nothing, heard_so}
-use Rattle.kr_top.specs.Asked.{listening}
+use Rattle.kr_cmd_laws.specs.VerifyLaws.{listening}
 use Rattle.kr_top.proofs.call.answer.Goals as goal
 
 at_once : (words : List (List ℕ)) (stop : Stop) → IsReadAs words (Err stop)
@@ -54,14 +54,14 @@ returns-in-Err-clause-answers g c =
 
 pub returns-in-Err-clause-asked : goal.returns-in-Err-clause-asked
 returns-in-Err-clause-asked g c =
-    heard_nothing g.W.World.lent g.W.World.took g.W.Link.Kms.step 0 [] _
+    heard_nothing g.W.Link.Kms.link g.W.World.lent g.W.World.took g.W.Link.Kms.step 0 refl [] _
     (inl (at_once _ c.in-Err.stop c.in-Err.ensures, (refl, (refl, refl))))
 
 pub returns-clause-answers : goal.returns-clause-answers
 returns-clause-answers g c = answers_by (texts c.args.words.now)
-    (around g.W.Link.Kms.truth (g.W.World.told c.args.world.now)
+    (around (g.W.World.told c.args.world.now)
     (g.I.Source.left c.args.input.now) (g.I.Source.count c.args.input.now))
-    (around g.W.Link.Kms.truth (g.W.World.told c.perform-ended.new.world)
+    (around (g.W.World.told c.perform-ended.new.world)
     (g.I.Source.left c.perform-ended.new.input) (g.I.Source.count c.perform-ended.new.input)) refl
     c.in-Ok.command c.perform-ended.result.said
     c.perform-ended.result.made _ _ c.in-Ok.ensures.0 c.perform-ended.ensures.does
@@ -69,13 +69,13 @@ returns-clause-answers g c = answers_by (texts c.args.words.now)
 
 pub returns-clause-asked : goal.returns-clause-asked
 returns-clause-asked g c =
-    heard_so g.W.World.lent g.W.World.took g.W.Link.Kms.step 0 [] [] _ _
+    heard_so g.W.Link.Kms.link g.W.World.lent g.W.World.took g.W.Link.Kms.step 0 [] [] _ _
     c.perform-ended.ensures.asked
     (λ es does. answers_by (texts c.args.words.now)
-    (listening (around g.W.Link.Kms.truth (g.W.World.told c.args.world.now)
+    (listening (around (g.W.World.told c.args.world.now)
     (g.I.Source.left c.args.input.now) (g.I.Source.count c.args.input.now)))
     (with_exchanges es (listening
-    (around g.W.Link.Kms.truth (g.W.World.told c.perform-ended.new.world)
+    (around (g.W.World.told c.perform-ended.new.world)
     (g.I.Source.left c.perform-ended.new.input) (g.I.Source.count c.perform-ended.new.input))))
     refl c.in-Ok.command c.perform-ended.result.said
     c.perform-ended.result.made _ _ c.in-Ok.ensures.0 does c.write_output.ensures.written)

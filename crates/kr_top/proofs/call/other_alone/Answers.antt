@@ -35,7 +35,8 @@ returns-in-Ok-None-clause-asked g c = c.unloaded_alone.ensures.asked
 pub returns-in-Err-clause-ran : goal.returns-in-Err-clause-ran
 returns-in-Err-clause-ran g c =
     let alone = alone_unread (texts c.args.words.now) _ _ _ _ c.in-Err.stop (refl, refl)
-    c.tell_end.ensures.told c.tell_end.ensures.later g.W.Link.Kms.step g.W.World.lent g.W.World.took
+    c.tell_end.ensures.told c.tell_end.ensures.later g.W.Link.Kms.link
+    g.W.Link.Kms.step g.W.World.lent g.W.World.took
     (load_at_once _ c.in-Err.stop c.in-Err.ensures) in (
       alone.ran,
       alone.readings,
@@ -45,9 +46,9 @@ returns-in-Err-clause-ran g c =
 
 pub returns-in-Err-clause-asked : goal.returns-in-Err-clause-asked
 returns-in-Err-clause-asked g c =
-    let alone = alone_unread (texts c.args.words.now) (around g.W.Link.Kms.truth
+    let alone = alone_unread (texts c.args.words.now) (around
     (g.W.World.told c.args.world.now) (g.I.Source.left c.args.input.now)
     (g.I.Source.count c.args.input.now)) _ _ _ c.in-Err.stop (refl, refl)
-    c.tell_end.ensures.told c.tell_end.ensures.later g.W.Link.Kms.step g.W.World.lent
-    g.W.World.took (load_at_once _ c.in-Err.stop c.in-Err.ensures) in
+    c.tell_end.ensures.told c.tell_end.ensures.later g.W.Link.Kms.link
+    g.W.Link.Kms.step g.W.World.lent g.W.World.took (load_at_once _ c.in-Err.stop c.in-Err.ensures) in
     alone.asked

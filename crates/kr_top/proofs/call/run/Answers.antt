@@ -3,28 +3,28 @@ use Rattle.std.proofs.Common.{Ok, refl, subst}
 use Rattle.kr_words.specs.Grammar.{texts}
 use Rattle.kr_cmd_messages.specs.inner.FleetAnswers.{IsFleetAsked}
 use Rattle.kr_cmd_steps.specs.Around.{around}
-use Rattle.kr_top.specs.Asked.{listening}
+use Rattle.kr_cmd_laws.specs.VerifyLaws.{listening}
 use Rattle.kr_top.proofs.Promises.{fleet_promised, run_unread, unfleeted}
 use Rattle.kr_top.proofs.call.run.Goals as goal
 
 pub returns-in-Ok-Some : goal.returns-in-Ok-Some
 returns-in-Ok-Some g c =
-    fleet_promised g.row.W-Tap.Denot g.W.Link.Kms.truth g.W.Link.Kms.link g.W.Link.Kms.step
+    fleet_promised g.row.W-Tap.Denot g.W.Link.Kms.link g.W.Link.Kms.step
     g.W.World.lent g.W.World.took g.W.Rand.Dice.left
     g.W.Rand.Dice.count (texts c.args.words.now) _ _ _ _ _ c.in-Ok-Some.asked
     (subst (λ o. IsFleetAsked (texts c.args.words.now) (Ok o)) c.in-Ok-Some.field-0-is
     c.in-Ok-Some.ensures)
-    (c.run_fleet-status.ensures.1 (around g.W.Link.Kms.truth (g.W.World.told c.args.world.now)
-    (g.I.Source.left c.args.input.now) (g.I.Source.count c.args.input.now)) refl) (
+    (c.run_fleet-status.ensures.1 (around (g.W.World.told c.args.world.now)
+    (g.I.Source.left c.args.input.now) (g.I.Source.count c.args.input.now))) (
       c.run_fleet-status.ensures.0,
-      c.run_fleet-status.ensures.1 (listening (around g.W.Link.Kms.truth
+      c.run_fleet-status.ensures.1 (listening (around
           (g.W.World.told c.args.world.now) (g.I.Source.left c.args.input.now)
-          (g.I.Source.count c.args.input.now))) refl,
+          (g.I.Source.count c.args.input.now))),
     )
 
 pub returns-in-Ok-None : goal.returns-in-Ok-None
 returns-in-Ok-None g c =
-    unfleeted g.row.W-Tap.Denot g.W.Link.Kms.truth g.W.Link.Kms.link g.W.Link.Kms.step
+    unfleeted g.row.W-Tap.Denot g.W.Link.Kms.link g.W.Link.Kms.step
     g.W.World.lent g.W.World.took g.W.Rand.Dice.left
     g.W.Rand.Dice.count (texts c.args.words.now) _ _ _ _ _
     (subst (λ o. IsFleetAsked (texts c.args.words.now) (Ok o)) c.in-Ok-None.field-0-is
@@ -34,6 +34,6 @@ returns-in-Ok-None g c =
 pub returns-in-Err : goal.returns-in-Err
 returns-in-Err g c =
     run_unread (texts c.args.words.now) _ _ _ _ c.in-Err.stop (refl, refl)
-    c.tell_end.ensures.told c.tell_end.ensures.later g.row.W-Tap.Denot g.W.Link.Kms.truth
+    c.tell_end.ensures.told c.tell_end.ensures.later g.row.W-Tap.Denot
     g.W.Link.Kms.link g.W.Link.Kms.step g.W.World.lent g.W.World.took g.W.Rand.Dice.left
     g.W.Rand.Dice.count c.in-Err.ensures

@@ -5,9 +5,9 @@ use Rattle.kr_top.proofs.call.run_fleet.Goals as goal
 pub returns-in-Ok : goal.returns-in-Ok
 returns-in-Ok g c = let did = c.in-Ok.ensures.did in (
   did.0,
-  λ a truth. record {
+  λ a. record {
     result = Ok c.in-Ok.ending;
-    did = did.1 a truth;
+    did = did.1 a;
     tells = (c.status.ensures, (refl, refl));
     written = c.in-Ok.ensures.later;
     told = omega arith;
@@ -17,9 +17,9 @@ returns-in-Ok g c = let did = c.in-Ok.ensures.did in (
 pub returns-in-Err : goal.returns-in-Err
 returns-in-Err g c = let did = c.in-Err.ensures.did in (
   did.0,
-  λ a truth. record {
+  λ a. record {
     result = Err c.in-Err.stop;
-    did = did.1 a truth;
+    did = did.1 a;
     tells = c.tell_end.ensures.told;
     written = c.in-Err.ensures.later;
     told = c.tell_end.ensures.later;

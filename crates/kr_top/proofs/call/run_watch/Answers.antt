@@ -9,19 +9,25 @@ watch-requires-clause-limit g c = λ κs lives.
     some_limit (texts c.args.words.now) c.args.asked.now c.requires.means
 
 pub returns-in-Ok : goal.returns-in-Ok
-returns-in-Ok g c a truth = record {
-  result = Ok c.in-Ok.ending;
-  did = c.in-Ok.ensures.did a truth;
-  tells = (c.status.ensures, (refl, refl));
-  written = c.in-Ok.ensures.later;
-  told = omega arith;
-}
+returns-in-Ok g c = let did = c.in-Ok.ensures.did in (
+  did.0,
+  λ a. record {
+    result = Ok c.in-Ok.ending;
+    did = did.1 a;
+    tells = (c.status.ensures, (refl, refl));
+    written = c.in-Ok.ensures.later;
+    told = omega arith;
+  },
+)
 
 pub returns-in-Err : goal.returns-in-Err
-returns-in-Err g c a truth = record {
-  result = Err c.in-Err.stop;
-  did = c.in-Err.ensures.did a truth;
-  tells = c.tell_end.ensures.told;
-  written = c.in-Err.ensures.later;
-  told = c.tell_end.ensures.later;
-}
+returns-in-Err g c = let did = c.in-Err.ensures.did in (
+  did.0,
+  λ a. record {
+    result = Err c.in-Err.stop;
+    did = did.1 a;
+    tells = c.tell_end.ensures.told;
+    written = c.in-Err.ensures.later;
+    told = c.tell_end.ensures.later;
+  },
+)

@@ -4,4 +4,4 @@ use Rattle.kr_workers.proofs.laws.gets_tell_content.Goals as goal
 
 pub returns : goal.returns
 returns g c =
-    proved.gets_tell_content g.L.Kms.truth g.L.Kms.link g.L.Kms.step g.D.Dice.left g.D.Dice.count
+    proved.gets_tell_content g.L.Kms.link g.L.Kms.step g.D.Dice.left g.D.Dice.count

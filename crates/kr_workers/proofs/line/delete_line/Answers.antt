@@ -15,15 +15,15 @@ delete-done-requires-clause-idle g c = c.requires.ready.idle
 
 pub returns-clause-serves : goal.returns-clause-serves
 returns-clause-serves g c = subst
-    (λ p. Serves g.L.Kms.truth g.L.Kms.link g.L.Kms.step g.D.Dice.left g.D.Dice.count c.args.files.now
+    (λ p. Serves g.L.Kms.link g.L.Kms.step g.D.Dice.left g.D.Dice.count c.args.files.now
     c.args.replica (line.Delete p) (g.A.Acts.caller c.args.acts.now) c.args.bench.now
     c.told_of_delete.result (g.A.Acts.caller c.delete-done.new.acts) c.args.bench.now)
     c.as_str.ensures
-    (serves_delete g.L.Kms.truth g.L.Kms.link g.L.Kms.step g.D.Dice.left g.D.Dice.count c.args.files.now
+    (serves_delete g.L.Kms.link g.L.Kms.step g.D.Dice.left g.D.Dice.count c.args.files.now
     c.args.replica
     (g.A.Acts.caller c.args.acts.now) (g.A.Acts.caller c.delete-done.new.acts) c.args.bench.now
     c.told_of_delete.result c.as_str.result.now c.delete-done.result
     (c.told_of_delete.ensures
     ∙ ap (λ n. told_of_delete n c.delete-done.result) c.seat-number.ensures)
-    c.delete-done.ensures.deletes c.delete-done.ensures.adds c.delete-done.ensures.honest
+    c.delete-done.ensures.deletes c.delete-done.ensures.adds
     c.delete-done.ensures.idle)

@@ -24,17 +24,17 @@ read-done-requires-clause-pages g c = c.requires.ready.pages
 
 pub returns-clause-serves : goal.returns-clause-serves
 returns-clause-serves g c = subst
-    (λ p. Serves g.L.Kms.truth g.L.Kms.link g.L.Kms.step g.D.Dice.left g.D.Dice.count c.args.files.now
+    (λ p. Serves g.L.Kms.link g.L.Kms.step g.D.Dice.left g.D.Dice.count c.args.files.now
     c.args.replica (line.Get p) (g.A.Acts.caller c.args.acts.now) c.args.bench.now
     c.told_of_read.result (g.A.Acts.caller c.read-done.new.acts) c.read-done.new.bench)
     c.as_str.ensures
-    (serves_get g.L.Kms.truth g.L.Kms.link g.L.Kms.step g.D.Dice.left g.D.Dice.count c.args.files.now
+    (serves_get g.L.Kms.link g.L.Kms.step g.D.Dice.left g.D.Dice.count c.args.files.now
     c.args.replica
     (g.A.Acts.caller c.args.acts.now) (g.A.Acts.caller c.read-done.new.acts) c.args.bench.now
     c.read-done.new.bench c.told_of_read.result c.as_str.result.now c.read-done.result
     (c.told_of_read.ensures
     ∙ ap (λ n. told_of_read n c.read-done.result) c.seat-number.ensures)
-    c.read-done.ensures.reads c.read-done.ensures.adds c.read-done.ensures.honest
+    c.read-done.ensures.reads c.read-done.ensures.adds
     c.read-done.ensures.idle c.read-done.ensures.asked c.read-done.ensures.dice
     c.read-done.ensures.pages c.read-done.ensures.exchanged
     c.read-done.ensures.moments)

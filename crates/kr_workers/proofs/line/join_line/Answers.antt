@@ -30,13 +30,13 @@ pub join-done-requires-clause-links : goal.join-done-requires-clause-links
 join-done-requires-clause-links g c = c.requires.ready.links
 
 pub returns-in_default-clause-serves : goal.returns-in_default-clause-serves
-returns-in_default-clause-serves g c = unread_join g.L.Kms.truth g.L.Kms.link g.L.Kms.step g.D.Dice.left
+returns-in_default-clause-serves g c = unread_join g.L.Kms.link g.L.Kms.step g.D.Dice.left
     g.D.Dice.count
     c.args.files.now c.args.replica (g.A.Acts.caller c.args.acts.now) c.args.bench.now c.args.named
     c.args.file.now c.requires.ready.may.1 c.requires.ready.may.2 c.requires.ready.idle
 
 pub returns-clause-serves : goal.returns-clause-serves
-returns-clause-serves g c = serves_join g.L.Kms.truth g.L.Kms.link g.L.Kms.step g.D.Dice.left g.D.Dice.count
+returns-clause-serves g c = serves_join g.L.Kms.link g.L.Kms.step g.D.Dice.left g.D.Dice.count
     c.args.files.now c.args.replica (g.A.Acts.caller c.args.acts.now)
     (g.A.Acts.caller c.join-done.new.acts)
     c.args.bench.now c.join-done.new.bench c.told_of_join.result c.args.named c.args.file.now
@@ -45,6 +45,6 @@ returns-clause-serves g c = serves_join g.L.Kms.truth g.L.Kms.link g.L.Kms.step 
     (ap (rows_at c.args.files.now) (sym c.as_str.ensures) ∙ c.in-Ok.ensures)
     (c.told_of_join.ensures
     ∙ ap (λ n. told_of_join n c.join-done.result) c.seat-number.ensures)
-    c.join-done.ensures.joins c.join-done.ensures.adds c.join-done.ensures.honest
+    c.join-done.ensures.joins c.join-done.ensures.adds
     c.join-done.ensures.idle c.join-done.ensures.asked c.join-done.ensures.later
     c.join-done.ensures.kept c.join-done.ensures.exchanged

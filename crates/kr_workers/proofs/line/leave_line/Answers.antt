@@ -11,11 +11,11 @@ pub leave-done-requires-clause-idle : goal.leave-done-requires-clause-idle
 leave-done-requires-clause-idle g c = c.requires.ready.idle
 
 pub returns-clause-serves : goal.returns-clause-serves
-returns-clause-serves g c = serves_leave g.L.Kms.truth g.L.Kms.link g.L.Kms.step g.D.Dice.left g.D.Dice.count
+returns-clause-serves g c = serves_leave g.L.Kms.link g.L.Kms.step g.D.Dice.left g.D.Dice.count
     c.args.files.now c.args.replica (g.A.Acts.caller c.args.acts.now)
     (g.A.Acts.caller c.leave-done.new.acts)
     c.args.bench.now c.told_of_leave.result c.args.named c.leave-done.result
     (c.told_of_leave.ensures
     ∙ ap (λ n. told_of_leave n c.leave-done.result) c.seat-number.ensures)
-    c.leave-done.ensures.leaves c.leave-done.ensures.adds c.leave-done.ensures.honest
+    c.leave-done.ensures.leaves c.leave-done.ensures.adds
     c.leave-done.ensures.idle

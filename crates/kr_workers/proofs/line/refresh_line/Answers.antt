@@ -17,13 +17,13 @@ pub refresh-done-requires-clause-links : goal.refresh-done-requires-clause-links
 refresh-done-requires-clause-links g c = c.requires.ready.links
 
 pub returns-clause-serves : goal.returns-clause-serves
-returns-clause-serves g c = serves_refresh g.L.Kms.truth g.L.Kms.link g.L.Kms.step g.D.Dice.left g.D.Dice.count
+returns-clause-serves g c = serves_refresh g.L.Kms.link g.L.Kms.step g.D.Dice.left g.D.Dice.count
     c.args.files.now c.args.replica (g.A.Acts.caller c.args.acts.now)
     (g.A.Acts.caller c.refresh-done.new.acts)
     c.args.bench.now c.refresh-done.new.bench c.told_of_refresh.result c.refresh-done.result
     (c.told_of_refresh.ensures
     ∙ ap (λ n. told_of_refresh n c.refresh-done.result) c.seat-number.ensures)
-    c.refresh-done.ensures.refreshes c.refresh-done.ensures.adds c.refresh-done.ensures.honest
+    c.refresh-done.ensures.refreshes c.refresh-done.ensures.adds
     c.refresh-done.ensures.idle c.refresh-done.ensures.asked c.refresh-done.ensures.later
     c.refresh-done.ensures.kept c.refresh-done.ensures.exchanged
     c.refresh-done.ensures.keys

@@ -30,13 +30,13 @@ pub reload-done-requires-clause-links : goal.reload-done-requires-clause-links
 reload-done-requires-clause-links g c = c.requires.ready.links
 
 pub returns-in_default-clause-serves : goal.returns-in_default-clause-serves
-returns-in_default-clause-serves g c = unread_reload g.L.Kms.truth g.L.Kms.link g.L.Kms.step g.D.Dice.left
+returns-in_default-clause-serves g c = unread_reload g.L.Kms.link g.L.Kms.step g.D.Dice.left
     g.D.Dice.count
     c.args.files.now c.args.replica (g.A.Acts.caller c.args.acts.now) c.args.bench.now c.args.named
     c.args.file.now c.requires.ready.may.1 c.requires.ready.may.2 c.requires.ready.idle
 
 pub returns-clause-serves : goal.returns-clause-serves
-returns-clause-serves g c = serves_reload g.L.Kms.truth g.L.Kms.link g.L.Kms.step g.D.Dice.left g.D.Dice.count
+returns-clause-serves g c = serves_reload g.L.Kms.link g.L.Kms.step g.D.Dice.left g.D.Dice.count
     c.args.files.now c.args.replica (g.A.Acts.caller c.args.acts.now)
     (g.A.Acts.caller c.reload-done.new.acts)
     c.args.bench.now c.reload-done.new.bench c.told_of_reload.result c.args.named c.args.file.now
@@ -45,6 +45,6 @@ returns-clause-serves g c = serves_reload g.L.Kms.truth g.L.Kms.link g.L.Kms.ste
     (ap (rows_at c.args.files.now) (sym c.as_str.ensures) ∙ c.in-Ok.ensures)
     (c.told_of_reload.ensures
     ∙ ap (λ n. told_of_reload n c.reload-done.result) c.seat-number.ensures)
-    c.reload-done.ensures.reloads c.reload-done.ensures.adds c.reload-done.ensures.honest
+    c.reload-done.ensures.reloads c.reload-done.ensures.adds
     c.reload-done.ensures.idle c.reload-done.ensures.asked c.reload-done.ensures.later
     c.reload-done.ensures.kept c.reload-done.ensures.exchanged

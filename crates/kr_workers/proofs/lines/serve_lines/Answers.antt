@@ -7,11 +7,11 @@ use Rattle.kr_workers.proofs.lines.serve_lines.Goals as goal
 
 pub loop-line-init : goal.loop-line-init
 loop-line-init g c = (
-  subst (λ rs. IsGoing g.L.Kms.truth g.L.Kms.link g.L.Kms.step g.D.Dice.left g.D.Dice.count
+  subst (λ rs. IsGoing g.L.Kms.link g.L.Kms.step g.D.Dice.left g.D.Dice.count
       c.args.files.now c.args.replica c.args.lines.now 0 (g.A.Acts.caller c.args.acts.now)
       c.args.bench.now rs (g.A.Acts.caller c.args.acts.now) c.args.bench.now)
       (sym c.requires.none_told)
-      (begins g.L.Kms.truth g.L.Kms.link g.L.Kms.step g.D.Dice.left g.D.Dice.count c.args.files.now
+      (begins g.L.Kms.link g.L.Kms.step g.D.Dice.left g.D.Dice.count c.args.files.now
       c.args.replica c.args.lines.now (g.A.Acts.caller c.args.acts.now) c.args.bench.now
       c.requires.ready),
   omega (arith, c.requires.room),
@@ -20,7 +20,7 @@ loop-line-init g c = (
 
 pub serve_line-requires : goal.serve_line-requires
 serve_line-requires g c = record {
-  ready = next_ready g.L.Kms.truth g.L.Kms.link g.L.Kms.step g.D.Dice.left g.D.Dice.count c.args.files.now
+  ready = next_ready g.L.Kms.link g.L.Kms.step g.D.Dice.left g.D.Dice.count c.args.files.now
       c.args.replica c.args.lines.now (g.A.Acts.caller c.args.acts.now) c.args.bench.now
       c.requires.ready c.line-item.result c.loop-line.line-index c.loop-line-test.true
       c.line-item.is c.loop-line.told.0 (g.A.Acts.caller c.loop-line.acts) c.loop-line.bench
@@ -32,11 +32,11 @@ push_in_room-requires g c = omega (arith, c.loop-line-test.true, c.loop-line.inv
 
 pub loop-line-preserved : goal.loop-line-preserved
 loop-line-preserved g c = (
-  subst (λ rs. IsGoing g.L.Kms.truth g.L.Kms.link g.L.Kms.step g.D.Dice.left g.D.Dice.count
+  subst (λ rs. IsGoing g.L.Kms.link g.L.Kms.step g.D.Dice.left g.D.Dice.count
       c.args.files.now c.args.replica c.args.lines.now (c.loop-line.line-index + 1)
       (g.A.Acts.caller c.args.acts.now) c.args.bench.now rs (g.A.Acts.caller c.serve_line.new.acts)
       c.serve_line.new.bench) (sym c.push_in_room.ensures.items)
-      (goes_on g.L.Kms.truth g.L.Kms.link g.L.Kms.step g.D.Dice.left g.D.Dice.count c.args.files.now
+      (goes_on g.L.Kms.link g.L.Kms.step g.D.Dice.left g.D.Dice.count c.args.files.now
       c.args.replica c.args.lines.now (g.A.Acts.caller c.args.acts.now) c.args.bench.now
       c.requires.ready c.line-item.result c.loop-line.line-index c.loop-line-test.true
       c.line-item.is c.loop-line.told.0 (g.A.Acts.caller c.loop-line.acts) c.loop-line.bench
@@ -48,7 +48,7 @@ loop-line-preserved g c = (
 
 pub returns-in-Err-clause-runs : goal.returns-in-Err-clause-runs
 returns-in-Err-clause-runs g c =
-    cut_short g.L.Kms.truth g.L.Kms.link g.L.Kms.step g.D.Dice.left g.D.Dice.count c.args.files.now
+    cut_short g.L.Kms.link g.L.Kms.step g.D.Dice.left g.D.Dice.count c.args.files.now
     c.args.replica c.args.lines.now (g.A.Acts.caller c.args.acts.now) c.args.bench.now
     c.requires.ready c.line-item.result c.loop-line.line-index c.loop-line-test.true
     c.line-item.is c.loop-line.told.0 (g.A.Acts.caller c.loop-line.acts) c.loop-line.bench
@@ -60,7 +60,7 @@ returns-in-Err-clause-place g c = c.in-Err.ensures.place ∙ c.loop-line.invaria
 
 pub returns-clause-runs : goal.returns-clause-runs
 returns-clause-runs g c =
-    ends_well g.L.Kms.truth g.L.Kms.link g.L.Kms.step g.D.Dice.left g.D.Dice.count c.args.files.now
+    ends_well g.L.Kms.link g.L.Kms.step g.D.Dice.left g.D.Dice.count c.args.files.now
     c.args.replica c.args.lines.now (g.A.Acts.caller c.args.acts.now) c.args.bench.now
     c.requires.ready c.loop-line.line-index c.loop-line.told.0 (g.A.Acts.caller c.loop-line.acts)
     c.loop-line.bench (take_all c.loop-line.line-index c.args.lines.now c.loop-line-test.false)

@@ -86,7 +86,7 @@ unseat_each-requires g c =
     let long = c.run_workers.ensures.length ∙ ap length c.seat_each.ensures.seated
     ∙ seated_long c.in-Ok.made.1.0 c.args.workers.now.items
     (seats ∙ many ∙ sym c.requires.many.2) in record {
-      seated = done_seated g.L.Kms.truth g.L.Kms.link g.L.Kms.step g.D.Dice.left g.D.Dice.count
+      seated = done_seated g.L.Kms.link g.L.Kms.step g.D.Dice.left g.D.Dice.count
           c.args.files.now c.args.parts.now c.in-Ok.made.0 c.seat_each.new.workers.items
           c.run_workers.new.workers.items c.run_workers.ensures.length
           c.run_workers.ensures.worked;
@@ -95,10 +95,10 @@ unseat_each-requires g c =
     }
 
 pub close-requires : goal.close-requires
-close-requires g c = back_all g.L.Kms.truth g.L.Kms.link g.L.Kms.step g.D.Dice.left g.D.Dice.count
+close-requires g c = back_all g.L.Kms.link g.L.Kms.step g.D.Dice.left g.D.Dice.count
     c.args.files.now c.args.parts.now c.in-Ok.made.0 c.args.core.opening c.args.budgets.now
     c.in-Ok.made.1.0 c.args.workers.now.items c.run_workers.new.workers.items
-    c.unseat_each.new.seats.0 (have_worked g.L.Kms.truth g.L.Kms.link g.L.Kms.step g.D.Dice.left
+    c.unseat_each.new.seats.0 (have_worked g.L.Kms.link g.L.Kms.step g.D.Dice.left
     g.D.Dice.count c.args.files.now c.args.parts.now c.in-Ok.made.0 c.args.core.opening
     c.args.budgets.now c.in-Ok.made.1.0 c.args.workers.now.items c.run_workers.new.workers.items
     c.unseat_each.new.seats.0 c.args.core.opening.rows c.args.core.room
@@ -108,7 +108,7 @@ close-requires g c = back_all g.L.Kms.truth g.L.Kms.link g.L.Kms.step g.D.Dice.l
 
 pub returns-clause-one : goal.returns-clause-one
 returns-clause-one g c =
-    let all = have_worked g.L.Kms.truth g.L.Kms.link g.L.Kms.step g.D.Dice.left g.D.Dice.count
+    let all = have_worked g.L.Kms.link g.L.Kms.step g.D.Dice.left g.D.Dice.count
     c.args.files.now c.args.parts.now c.in-Ok.made.0 c.args.core.opening c.args.budgets.now
     c.in-Ok.made.1.0 c.args.workers.now.items c.run_workers.new.workers.items
     c.unseat_each.new.seats.0 c.args.core.opening.rows c.args.core.room
@@ -122,13 +122,13 @@ returns-clause-one g c =
     let live = c.requires.budgets.1 in
     let are = c.requires.budgets.2 ∙ ap (λ n. script_budgets (n + put_lines c.args.parts.now)
     c.args.parts.now) live.2 in
-    subst (λ ws. IsOneHistory g.L.Kms.truth g.L.Kms.link g.L.Kms.step g.D.Dice.left g.D.Dice.count
+    subst (λ ws. IsOneHistory g.L.Kms.link g.L.Kms.step g.D.Dice.left g.D.Dice.count
     c.args.files.now history c.args.core.opening c.args.parts.now c.args.budgets.now
     c.args.workers.now.items ws) (sym c.unseat_each.ensures.workers)
-    (one_history g.L.Kms.truth g.L.Kms.link g.L.Kms.step g.D.Dice.left g.D.Dice.count c.args.files.now
+    (one_history g.L.Kms.link g.L.Kms.step g.D.Dice.left g.D.Dice.count c.args.files.now
     c.args.parts.now c.in-Ok.made.0 c.args.core.opening c.args.budgets.now c.in-Ok.made.1.0
     c.args.workers.now.items c.run_workers.new.workers.items c.unseat_each.new.seats.0 all history
-    legal c.close.ensures.stand c.close.ensures.added live.0 live.1 are c.close.ensures.honest)
+    legal c.close.ensures.stand c.close.ensures.added live.0 live.1 are)
 
 pub returns-clause-seats : goal.returns-clause-seats
 returns-clause-seats g c = subst (λ ws. All (λ w. w.seat ≡ None) ws)

@@ -20,7 +20,7 @@ returns-clause-worked g c = λ i d below.
     let change = (c.for_each_mut.ensures i d
     (subst (λ (l : List (Worker g.row.T.Denot g.row.L.Denot g.row.D.Denot)). i < length l)
     (sym c.deref_mut.ensures.value) below)).1 in
-    worked_at c.args.fleet.now c.args.files.now c.args.parts.now g.L.Kms.truth g.L.Kms.link g.L.Kms.step
+    worked_at c.args.fleet.now c.args.files.now c.args.parts.now g.L.Kms.link g.L.Kms.step
     g.D.Dice.left g.D.Dice.count c.args.workers.now.items c.deref_mut.result.now
     c.for_each_mut.new.s (take c.args.workers.now.len (c.for_each_mut.new.s
     ++ drop (length c.for_each_mut.new.s) c.args.workers.now.items)) i d change.argument.now

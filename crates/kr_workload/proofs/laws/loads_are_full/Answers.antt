@@ -4,5 +4,5 @@ use Rattle.kr_workload.proofs.laws.loads_are_full.Goals as goal
 
 pub returns : goal.returns
 returns g c =
-    proved.loads_are_full g.row.T.Denot g.L.Kms.truth g.L.Kms.link g.L.Kms.step g.D.Dice.left
+    proved.loads_are_full g.row.T.Denot g.L.Kms.link g.L.Kms.step g.D.Dice.left
     g.D.Dice.count

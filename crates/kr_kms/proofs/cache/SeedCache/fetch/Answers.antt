@@ -16,9 +16,9 @@ returns-in-Some-clause-fetched g c =
     let same : c.in-Ok.key ≡ named (link old).name = ◌∙◌ {b = named c.name.result.now}
     c.in-Ok.ensures (ap named c.name.ensures) in
     let copied = c.copy_kept_seed.ensures in
-    subst (λ key. Fetches g.L.Kms.truth link old c.args.self.now key c.in-Some.kept old
+    subst (λ key. Fetches link old c.args.self.now key c.in-Some.kept old
     c.copy_kept_seed.new.self) same
-    (gives_kept g.L.Kms.truth link old c.args.self.now c.copy_kept_seed.new.self c.in-Ok.key
+    (gives_kept link old c.args.self.now c.copy_kept_seed.new.self c.in-Ok.key
     c.in-Some.kept c.in-Some.ensures.found copied.rows copied.size copied.fits)
 
 pub returns-in-Err-clause-fetched : goal.returns-in-Err-clause-fetched
@@ -33,7 +33,7 @@ returns-in-Err-clause-fetched g c =
     let none : seed_at rows (named (link old).name) ≡ None =
     subst (λ key. seed_at rows key ≡ None) same c.in_default-copy_kept_seed.ensures.found in
     let copied = c.copy_kept_seed.ensures in
-    let stop = gives_answer g.L.Kms.truth link old c.unwrap_source.new.self c.args.self.now
+    let stop = gives_answer link old c.unwrap_source.new.self c.args.self.now
     c.copy_kept_seed.new.self c.args.key_id.now c.args.annotations.now c.args.source.now
     (Err c.in-Err.why) none c.in-Err.ensures.unwraps
     (λ other seed there. inl (copied.rows other seed there)) copied.size copied.fits in search (rules, stop)
@@ -52,7 +52,7 @@ returns-in-Ok-unwrap_source-clause-fetched g c =
     subst (λ key. seed_at rows key ≡ None) same c.in_default-copy_kept_seed.ensures.found in
     let kept = c.keep.ensures in
     let copied = c.copy_kept_seed.ensures in
-    gives_answer g.L.Kms.truth link old c.unwrap_source.new.self c.args.self.now c.keep.new.self
+    gives_answer link old c.unwrap_source.new.self c.args.self.now c.keep.new.self
     c.args.key_id.now c.args.annotations.now c.args.source.now (Ok seed) none
     c.in-Ok-unwrap_source.ensures.unwraps
     (rows_with rows c.copy_kept_seed.new.self.rows c.keep.new.self.rows (named (link old).name) seed

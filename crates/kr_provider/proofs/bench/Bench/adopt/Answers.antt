@@ -15,11 +15,9 @@ serves names (Err x) old new p e k h a =
     subst (HasAdoptedLinks names) (sym (ap (λ (b : Adoption). b.published) e)) a
 
 pub invariant_of-self : goal.invariant_of-self
-invariant_of-self g c = (
-  serves (names_of g.L.Kms.link c.self.inside.links) c.adopt-adopted.result c.self.inside.adoption
-      c.adopt-adopted.new.self c.args.published c.adopt-adopted.ensures.unchanged
-      c.adopt-adopted.ensures.kept
-      (subst (λ b. HasLinks (names_of g.L.Kms.link b.links) c.args.published.rows)
-      (sym c.self.view_is) c.requires.links) c.self.invariant.0,
-  c.self.invariant.1,
-)
+invariant_of-self g c =
+    serves (names_of g.L.Kms.link c.self.inside.links) c.adopt-adopted.result c.self.inside.adoption
+    c.adopt-adopted.new.self c.args.published c.adopt-adopted.ensures.unchanged
+    c.adopt-adopted.ensures.kept
+    (subst (λ b. HasLinks (names_of g.L.Kms.link b.links) c.args.published.rows)
+    (sym c.self.view_is) c.requires.links) c.self.invariant

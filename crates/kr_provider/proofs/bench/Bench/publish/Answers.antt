@@ -12,9 +12,7 @@ publish-requires g c = record {
 }
 
 pub invariant_of-self : goal.invariant_of-self
-invariant_of-self g c = (
-  adopted_stay g.L.Kms.link (plugins_in (rows_of c.args.settings.entries.0)) c.self.inside.links
-      c.publish.new.links c.self.inside.adoption.published c.publish.ensures.asked
-      c.self.invariant.0,
-  c.self.invariant.1,
-)
+invariant_of-self g c =
+    adopted_stay g.L.Kms.link (plugins_in (rows_of c.args.settings.entries.0)) c.self.inside.links
+    c.publish.new.links c.self.inside.adoption.published c.publish.ensures.asked
+    c.self.invariant

@@ -17,7 +17,7 @@ returns-in-Ok-clause-cached g c = subst (λ bytes. IfSome c.args.self.now.publis
     c.unseal_in_place.new.self.links)) c.in-Ok.ensures c.unseal_in_place.ensures.cached
 
 pub returns-in-Err-clause-opened : goal.returns-in-Err-clause-opened
-returns-in-Err-clause-opened g c = uncopied g.L.Kms.link g.L.Kms.truth c.args.resource.now
+returns-in-Err-clause-opened g c = uncopied g.L.Kms.link c.args.resource.now
     c.args.path.now c.args.bytes.now c.args.self.now.links c.args.self.now.published
 
 pub returns-in-Ok-clause-exchanged : goal.returns-in-Ok-clause-exchanged

@@ -1,4 +1,4 @@
--- `Bench::unseal_in_place`: the links serve the configuration still, and what is kept is true.
+-- `Bench::unseal_in_place`: the links serve the configuration still.
 use Rattle.std.proofs.Common.{subst}
 use Rattle.std.specs.Prelude.{IfSome}
 use Rattle.kr_provider.specs.Publication.{list_at}
@@ -10,12 +10,10 @@ use Rattle.kr_provider.proofs.BenchLinks.{unsealed_stay}
 use Rattle.kr_provider.proofs.bench.Bench.unseal_in_place.Goals as goal
 
 pub invariant_of-self : goal.invariant_of-self
-invariant_of-self g c = (
-  unsealed_stay g.L.Kms.link g.L.Kms.truth c.args.resource.now c.args.path.now c.args.value
-      c.self.inside.links c.unseal_for_resource.new.links c.self.inside.adoption.published
-      c.unseal_for_resource.result c.unseal_for_resource.ensures.opened c.self.invariant.0,
-  c.unseal_for_resource.ensures.kept,
-)
+invariant_of-self g c =
+    unsealed_stay g.L.Kms.link c.args.resource.now c.args.path.now c.args.value
+    c.self.inside.links c.unseal_for_resource.new.links c.self.inside.adoption.published
+    c.unseal_for_resource.result c.unseal_for_resource.ensures.opened c.self.invariant
 
 pub returns-clause-cached : goal.returns-clause-cached
 returns-clause-cached g c = subst (λ b. IfSome b.published (λ p. HeedsCache b.cache.rows

@@ -35,7 +35,7 @@ invariant_of-self g c =
 pub returns-clause-fetched : goal.returns-clause-fetched
 returns-clause-fetched g c =
     let test : g.row.L.Denot → Bool = λ l. bytes_eq (g.L.Kms.link l).name c.args.name.now in
-    let asks : g.row.L.Denot → g.row.L.Denot → Type 0 = λ old new. Fetches g.L.Kms.truth g.L.Kms.link old c.args.cache.now (asked_key c.args.name.now c.args.object.now.key_id c.args.object.now.annotations c.args.object.now.source) c.fetch.result new c.fetch.new.self in
+    let asks : g.row.L.Denot → g.row.L.Denot → Type 0 = λ old new. Fetches g.L.Kms.link old c.args.cache.now (asked_key c.args.name.now c.args.object.now.key_id c.args.object.now.annotations c.args.object.now.source) c.fetch.result new c.fetch.new.self in
     let place = ap (position test) (sym c.as_slice.ensures.value)
     ∙ c.plugin_link_place-at.ensures.place in
     let items = c.self.inside.items.items in
@@ -43,7 +43,7 @@ returns-clause-fetched g c =
     subst (λ l. AsksOne g.L.Kms.link c.args.name.now asks l news) c.self.view_is
     (asks_at g.L.Kms.link c.args.name.now asks items news c.plugin_link_place-at.result c.index_mut.result.now
     c.fetch.new.link place c.index_mut.ensures.value refl
-    c.fetch.ensures.fetched.asks.same (subst (λ k. Fetches g.L.Kms.truth g.L.Kms.link c.index_mut.result.now c.args.cache.now k
+    c.fetch.ensures.fetched.asks.same (subst (λ k. Fetches g.L.Kms.link c.index_mut.result.now c.args.cache.now k
     c.fetch.result c.fetch.new.link c.fetch.new.self) (λ i. asked_key
     (place_named g.L.Kms.link c.args.name.now items c.plugin_link_place-at.result c.index_mut.result.now place
     c.index_mut.ensures.value i) (c.as_str.ensures i)

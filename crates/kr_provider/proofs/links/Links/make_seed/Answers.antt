@@ -35,7 +35,7 @@ invariant_of-self g c =
 pub returns-clause-made : goal.returns-clause-made
 returns-clause-made g c =
     let test : g.row.L.Denot → Bool = λ l. bytes_eq (g.L.Kms.link l).name c.args.name.now in
-    let asks : g.row.L.Denot → g.row.L.Denot → Type 0 = λ old new. MakesSeed g.D.Dice.left g.D.Dice.count g.L.Kms.truth (g.L.Kms.link old) c.args.dice.now c.make_seed.result (g.L.Kms.link new) c.make_seed.new.dice in
+    let asks : g.row.L.Denot → g.row.L.Denot → Type 0 = λ old new. MakesSeed g.D.Dice.left g.D.Dice.count (g.L.Kms.link old) c.args.dice.now c.make_seed.result (g.L.Kms.link new) c.make_seed.new.dice in
     let place = ap (position test) (sym c.as_slice.ensures.value)
     ∙ c.plugin_link_place-at.ensures.place in
     let items = c.self.inside.items.items in

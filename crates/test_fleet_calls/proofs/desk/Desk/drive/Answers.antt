@@ -25,7 +25,7 @@ pub drive-driven-requires-clause-pages : goal.drive-driven-requires-clause-pages
 drive-driven-requires-clause-pages g c = c.self.invariant.1.pages_are
 
 pub invariant_of-self : goal.invariant_of-self
-invariant_of-self g c = let few = drive_few g.L.Kms.truth g.L.Kms.link
+invariant_of-self g c = let few = drive_few g.L.Kms.link
     (λ (d : InputState). Some d.bytes) (λ (d : InputState). d.calls.faults) c.args.replica
     c.args.after.now (g.A.Acts.caller c.self.inside.acts) c.self.inside.bench.links
     c.self.inside.bench.dice c.drive-driven.result

@@ -1,4 +1,4 @@
--- What a link wraps opens by its truth.
+-- What a link wraps opens by the keys of its ring.
 use Rattle.std.proofs.Common.{◌≡◌, ℕ, ◌-◌, ◌<◌, List, length, Some, Ok, Err, refl, sym, ap, subst, ◌∙◌, arith}
 use Rattle.std.specs.Option.{option_and_then}
 use Rattle.std.specs.Result.{result_ok}
@@ -10,7 +10,7 @@ use Rattle.kr_kms.specs.declared.plugin.Wrapped.{Wrapped}
 use Rattle.kr_keywrap.specs.declared.key_wrap.WrapNo.TheVariants.{Length}
 use Rattle.kr_keywrap.specs.KeyWrap.{IsKeyData, key_unwrap}
 use Rattle.kr_keywrap.specs.Keys.{Keys, opened_by, rounds_of, unwrapped_under, wrapped_under}
-use Rattle.kr_keywrap.specs.KeyLink.{IsWrapBy, KeyLinkState, KeyLinkStep, IsOfBytes, link_seen, truth_of}
+use Rattle.kr_keywrap.specs.KeyLink.{IsWrapBy, KeyLinkState, KeyLinkStep, IsOfBytes, link_seen, ring_opens}
 use Rattle.kr_keywrap.proofs.Bodies.{not_wrapped, unwrap_of_wrapped}
 
 opened_of : (keys : Keys) (key_id kek plain : List ℕ) → keys key_id ≡ Some kek → IsKeyData plain
@@ -40,7 +40,7 @@ too_long decipher body size at long = not_wrapped decipher body size at (λ w. o
 
 -- the link's answers agree with what the ring's keys open
 pub key_link_agrees : (keys : Keys) (old : KeyLinkState) (exchange : Exchange) (new : KeyLinkState) → KeyLinkStep keys old exchange new
-    → IsOfBytes exchange → AgreesWith (truth_of keys).opens exchange
+    → IsOfBytes exchange → AgreesWith (ring_opens keys) exchange
 key_link_agrees keys old (StatusCall name answer) new h are = tt
 key_link_agrees keys old (WrapCall name plain (Ok wrapped)) new h are =
     opens_wrapped keys old plain wrapped (record { size = h.answers.1; bytes = are }) h.answers.2
