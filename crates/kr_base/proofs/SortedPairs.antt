@@ -48,15 +48,14 @@ key_at P (e ∷ es) all (suc j) d h = key_at P es all.1 j d (omega arith)
 -- the keys that are less stand before the others
 pub partitioned : (key : List ℕ) (es : Pairs) → IsSortedByKey es → IsPartitionedBy (λ e. is_gt (compare key e.0)) es
 unfolding IsStrictlySortedBy
-partitioned key [] s i j d ij h g = absurd (omega arith)
 partitioned key (e ∷ es) s zero zero d ij h g = g
 partitioned key (e ∷ es) s zero (suc j) d ij h g =
     let after : List ℕ = (get_or es j d).0 in
     let below : compare e.0 after ≡ Less = key_at (λ k. compare e.0 k ≡ Less) es s.0 j d (omega arith) in
     let under : compare after key ≡ Less = turned key after (is_greater (compare key after) g) in
     ap is_gt (turned_back e.0 key (total.trans e.0 after key below under))
-partitioned key (e ∷ es) s (suc i) zero d ij h g = absurd (omega arith)
 partitioned key (e ∷ es) s (suc i) (suc j) d ij h g = partitioned key es s.1 i j d (omega arith) (omega arith) g
+partitioned key other s i j d ij h g = absurd (omega arith)
 
 is_equal : (r : Ordering) → is_eq r ≡ true → r ≡ Equal
 is_equal Less h = cc

@@ -241,21 +241,28 @@ parted f (y ∷ xs) (suc i) x h is =
           ∙ ap (λ l. l ++ r.0) (sym (append_assoc (f y) (flat_map f (take i xs)) (f x))),
     )
 
-module _ {X : Type 0} (of : X → List (List ℕ)) (xs : List X) (f g h : List NamedRows)
-    (old mid new : Outside) (i : ℕ) (x : X) (below : i < length xs) (is : x ≡ get_or xs i x)
-    (so_far : GoesThrough f g (flat_map of (take i xs)) old mid (Ok tt)) where
+-- so many were gone through, and this one is next
+pub record ComesTo {X : Type 0} (of : X → List (List ℕ)) (xs : List X) (f g : List NamedRows)
+    (old mid : Outside) (i : ℕ) (x : X) : Type 0 where
+  pub below : i < length xs
+  pub is : x ≡ get_or xs i x
+  pub so_far : GoesThrough f g (flat_map of (take i xs)) old mid (Ok tt)
+
+module _ {X : Type 0} {of : X → List (List ℕ)} {xs : List X} {f g : List NamedRows}
+    {old mid : Outside} {i : ℕ} {x : X} (come : ComesTo of xs f g old mid i x)
+    (h : List NamedRows) (new : Outside) where
   pub through_more : GoesThrough g h (of x) mid new (Ok tt)
       → GoesThrough f h (flat_map of (take (i + 1) xs)) old new (Ok tt)
   through_more next = subst (λ l. GoesThrough f h l old new (Ok tt))
-      (more_parts of xs i x below is)
-      (through_then f g h (flat_map of (take i xs)) (of x) old mid new so_far (Ok tt) next)
+      (more_parts of xs i x come.below come.is)
+      (through_then f g h (flat_map of (take i xs)) (of x) old mid new come.so_far (Ok tt) next)
 
   pub through_not : (stop : Stop) → GoesThrough g h (of x) mid new (Err stop)
       → GoesThrough f h (flat_map of xs) old new (Err stop)
   through_not stop next =
-      let p = parted of xs i x below is in
+      let p = parted of xs i x come.below come.is in
       subst (λ l. GoesThrough f h l old new (Err stop)) (sym p.1)
-      (through_stops f g h (flat_map of (take i xs)) (of x) old mid new so_far stop next p.0)
+      (through_stops f g h (flat_map of (take i xs)) (of x) old mid new come.so_far stop next p.0)
 
 pub through_all : {X : Type 0} (of : X → List (List ℕ)) (xs : List X) (f g : List NamedRows)
     (old new : Outside) (i : ℕ) → length xs ≤ i
@@ -330,35 +337,36 @@ module _ (files : List NamedRows) (name : List ℕ) where
               (remembers d)),
         )
 
+    -- the command ended at it
+    ends_at : (others : List NamedRows) (stop : Stop) → ((a : Around) (names : List (List ℕ))
+        → Does (and_then (configuration name)
+        (λ rows. with_memory (files_in (files ++ (name, rows) ∷ []) names))) (with_world old a)
+        (with_world new a) (Err stop)) → GoesThrough files others (name ∷ []) old new (Err stop)
+    ends_at others stop d = (
+      objects.links,
+      λ a names. subst (λ r. Does (once names r) (with_world old a) (with_world new a) (Err stop))
+          (sym absent) (d a names),
+    )
+
     pub not_loaded : (others : List NamedRows) (stop : Stop)
         → Configures old new name (Err stop)
         → AskedFor {T = Settings} old.asked new.asked (File name) (Err stop)
         → GoesThrough files others (name ∷ []) old new (Err stop)
-    not_loaded others stop c q = (
-      objects.links,
-      λ a names. subst (λ r. Does (once names r) (with_world old a) (with_world new a) (Err stop))
-          (sym absent)
-          (stops (configuration name)
-          (λ rows. with_memory (files_in (files ++ (name, rows) ∷ []) names)) stop
-          (configures kept objects a name (Err stop) c q)),
-    )
+    not_loaded others stop c q = ends_at others stop (λ a names. stops (configuration name)
+        (λ rows. with_memory (files_in (files ++ (name, rows) ∷ []) names)) stop
+        (configures kept objects a name (Err stop) c q))
 
     -- it was loaded, but there was no memory to keep it
     pub not_kept : (others : List NamedRows) (settings : Settings)
         → Configures old new name (Ok settings)
         → AskedFor {T = Settings} old.asked new.asked (File name) (Ok settings)
         → GoesThrough files others (name ∷ []) old new (Err NoMemory)
-    not_kept others settings c q = (
-      objects.links,
-      λ a names. subst
-          (λ r. Does (once names r) (with_world old a) (with_world new a) (Err NoMemory))
-          (sym absent)
-          (goes_on (configuration name)
-          (λ rows. with_memory (files_in (files ++ (name, rows) ∷ []) names))
-          (rows_of settings.entries.0) (configures kept objects a name (Ok settings) c q)
-          (lacks (files_in (files ++ (name, rows_of settings.entries.0) ∷ []) names)
-          (with_world new a))),
-    )
+    not_kept others settings c q = ends_at others NoMemory (λ a names.
+        goes_on (configuration name)
+        (λ rows. with_memory (files_in (files ++ (name, rows) ∷ []) names))
+        (rows_of settings.entries.0) (configures kept objects a name (Ok settings) c q)
+        (lacks (files_in (files ++ (name, rows_of settings.entries.0) ∷ []) names)
+        (with_world new a)))
 
 -- it stands behind the others
 pub named_more : (files all : List SettingsFile) (file : SettingsFile) (name : List ℕ)

@@ -362,14 +362,23 @@ module _ {L D : Type 0} (link : L → Link) (left : D → Option (List ℕ)) (co
   all_named at now links so h = sym (no_more_names (names_of link links))
       ∙ ap (λ ps. names_of link links ++ names_in ps) (sym (none_left programs at h)) ∙ so.named
 
-  module _ (rows : List ConfigEntry) (order : names_in programs ≡ plugin_order rows) (at : ℕ)
-      (now : Outside) (links : List L) (so : IsLinking at now links) (program : Program)
-      (less : at < length programs) (is : program ≡ get_or programs at program)
-      (plugin file : List ℕ) (plugin_is : plugin ≡ program.plugin)
-      (file_is : file ≡ program.file) where
-    next_program : drop at programs ≡ program ∷ drop (at + 1) programs
+  -- one more link is to be borrowed
+  pub record IsTurn (at : ℕ) (now : Outside) (links : List L) (plugin file : List ℕ) : Type 0 where
+    pub rows : List ConfigEntry
+    pub order : names_in programs ≡ plugin_order rows
+    pub so : IsLinking at now links
+    pub program : Program
+    pub less : at < length programs
+    pub is : program ≡ get_or programs at program
+    pub plugin_is : plugin ≡ program.plugin
+    pub file_is : file ≡ program.file
+
+  module _ {at : ℕ} {now : Outside} {links : List L} {plugin file : List ℕ}
+      (turn : IsTurn at now links plugin file) where
+    next_program : drop at programs ≡ turn.program ∷ drop (at + 1) programs
     next_program = let one : suc at ≡ at + 1 = omega arith in
-        drop-cons programs at program less ∙ (λ i. sym is i ∷ drop (one i) programs)
+        drop-cons programs at turn.program turn.less
+        ∙ (λ i. sym turn.is i ∷ drop (one i) programs)
 
     by_next : {old end : Around} {result : Result (Unit {0}) Stop}
         → Does (borrow_link seat plugin file
@@ -378,19 +387,21 @@ module _ {L D : Type 0} (link : L → Link) (left : D → Option (List ℕ)) (co
     by_next {old} {end} {result} d =
         let rest = borrow_links_of seat (drop (at + 1) programs) nothing in
         subst (λ ps. Does (borrow_links_of seat ps nothing) old end result) (sym next_program)
-        (subst (λ n. Does (borrow_link seat n program.file rest) old end result) plugin_is
-        (subst (λ n. Does (borrow_link seat plugin n rest) old end result) file_is d))
+        (subst (λ n. Does (borrow_link seat n turn.program.file rest) old end result)
+        turn.plugin_is
+        (subst (λ n. Does (borrow_link seat plugin n rest) old end result) turn.file_is d))
 
-    in_order : names_of link links ++ names_in (program ∷ drop (at + 1) programs)
-        ≡ plugin_order rows
-    in_order = ap (λ ps. names_of link links ++ names_in ps) (sym next_program) ∙ so.named ∙ order
+    in_order : names_of link links ++ names_in (turn.program ∷ drop (at + 1) programs)
+        ≡ plugin_order turn.rows
+    in_order = ap (λ ps. names_of link links ++ names_in ps) (sym next_program)
+        ∙ turn.so.named ∙ turn.order
 
     -- a link wasn't handed out
     pub refused_handed : (lent took : ℕ → L → Type 0) (next : Outside) → KeepsObjects now next
         → LinksHanded link lent took seat first next links
     refused_handed lent took next objects = record {
       lost = [];
-      handed = ap (λ (o : LinksOf). o.handed) objects.links ∙ so.handed
+      handed = ap (λ (o : LinksOf). o.handed) objects.links ∙ turn.so.handed
           ∙ ap (λ l. With (keys_at link seat l) first.links.handed) (sym (append-nil links));
       lent_are = All-nil (lent seat);
       took_are = All-nil (took seat);
@@ -402,7 +413,7 @@ module _ {L D : Type 0} (link : L → Link) (left : D → Option (List ℕ)) (co
         → AskedUnless now.asked next.asked (calls.Link seat plugin file) stop
         → OpensLinks link left count seat programs first next links (Err stop)
     refused_link next files objects stop why asked = λ dice front tapes a.
-        so.far dice front tapes a (Here dice front tapes a links next) (Err stop)
+        turn.so.far dice front tapes a (Here dice front tapes a links next) (Err stop)
         (by_next (link_refused link left count front seat links
         {old = dice_seen seat (left dice) (count dice) (with_tapes tapes now)}
         {new = dice_seen seat (left dice) (count dice) (with_tapes tapes next)} a
@@ -415,36 +426,36 @@ module _ {L D : Type 0} (link : L → Link) (left : D → Option (List ℕ)) (co
         stop why asked))
 
     module _ (it : L) (out : Outside) (loan : LinkLoan seat plugin file now out (link it)) where
-      its_name : (link it).name ≡ program.plugin
-      its_name = ap (λ l. l.name) loan.link_is ∙ plugin_is
+      its_name : (link it).name ≡ turn.program.plugin
+      its_name = ap (λ l. l.name) loan.link_is ∙ turn.plugin_is
 
       pub new_name : Contains (names_of link links) (link it).name → ⊥
       new_name =
-          is_new link rows links program (drop (at + 1) programs) in_order it its_name
+          is_new link turn.rows links turn.program (drop (at + 1) programs) in_order it its_name
 
       handed_now : out.links.handed
           ≡ With (keys_at link seat links ++ (seat, (link it).name) ∷ []) first.links.handed
       handed_now = handed_then (keys_at link seat links) ((seat, (link it).name) ∷ [])
-          first.links.handed so.handed
+          first.links.handed turn.so.handed
           (loan_handed loan)
 
       pub one_link : (more : List L) → more ≡ links ++ it ∷ [] → IsLinking (at + 1) out more
       one_link more more_is = record {
-        far = λ dice front tapes a end result d. so.far dice front tapes a end result
+        far = λ dice front tapes a end result d. turn.so.far dice front tapes a end result
             (by_next (goes_on (borrow_link seat plugin file nothing)
             (λ u. borrow_links_of seat (drop (at + 1) programs) nothing) tt
             (link_borrowed link left count front seat links it a
             (loan_within (left dice) (count dice) (link_apart tapes loan)))
             (subst (λ l. Does (borrow_links_of seat (drop (at + 1) programs) nothing)
             (Here dice front tapes a l out) end result) more_is d)));
-        named = one_linked link rows links program (drop (at + 1) programs) in_order it its_name
-            more more_is ∙ sym order;
+        named = one_linked link turn.rows links turn.program (drop (at + 1) programs) in_order it
+            its_name more more_is ∙ sym turn.order;
         out = λ name c. stands name (Contains-append_cases (names_of link links)
             ((link it).name ∷ []) name (subst (λ l. Contains l name)
             (ap (names_of link) more_is ∙ names_end link links it) c));
-        others = others_trans so.others (others_linked loan);
-        dice = loan.dice ∙ so.dice;
-        tapes = loan.tapes ∙ so.tapes;
+        others = others_trans turn.so.others (others_linked loan);
+        dice = loan.dice ∙ turn.so.dice;
+        tapes = loan.tapes ∙ turn.so.tapes;
         handed = handed_now ∙ ap (λ keys. With keys first.links.handed)
             (sym (keys_end link seat links it) ∙ ap (keys_at link seat) (sym more_is));
       }
@@ -456,7 +467,7 @@ module _ {L D : Type 0} (link : L → Link) (left : D → Option (List ℕ)) (co
           stands : (name : List ℕ)
               → Contains (names_of link links) name ⊎ Contains ((link it).name ∷ []) name
               → 0 < out.links.out (seat, name)
-          stands name (inl c) = omega (arith, so.out name c, loan.out.out (seat, name))
+          stands name (inl c) = omega (arith, turn.so.out name c, loan.out.out (seat, name))
           stands name (inr c) = subst (λ n. 0 < out.links.out (seat, n))
               (sym (ap (λ l. l.name) loan.link_is) ∙ only name c)
               (omega (arith, loan.out.out (seat, plugin), at_itself (seat, plugin)))
@@ -474,7 +485,7 @@ module _ {L D : Type 0} (link : L → Link) (left : D → Option (List ℕ)) (co
         lacked_link still still_is = subst
             (λ l. OpensLinks link left count seat programs first back l (Err NoMemory))
             (sym still_is) (λ dice front tapes a.
-            so.far dice front tapes a (Here dice front tapes a links back) (Err NoMemory)
+            turn.so.far dice front tapes a (Here dice front tapes a links back) (Err NoMemory)
             (by_next (link_lacked link left count front seat links it
             {old = dice_seen seat (left dice) (count dice) (with_tapes tapes now)} a
             (loan_within (left dice) (count dice) (link_apart tapes loan))
@@ -497,7 +508,7 @@ module _ {L D : Type 0} (link : L → Link) (left : D → Option (List ℕ)) (co
             → Contains (names_of link still) name → 0 < back.links.out (seat, name)
         still_out still still_is name c = omega (
           arith,
-          so.out name (subst (λ l. Contains (names_of link l) name) still_is c),
+          turn.so.out name (subst (λ l. Contains (names_of link l) name) still_is c),
           loan.out.out (seat, name),
           returned.home.out (seat, name),
           ap (λ n. at_key same_link (seat, n) 1 (seat, name))

@@ -211,13 +211,12 @@ pub asked_wider : {L : Type 0} (link : L → Link) (names more : List (List ℕ)
     → ((name : List ℕ) → Contains names name → Contains more name) → (xs ys : List L)
     → AskedOnly link names xs ys → AskedOnly link more xs ys
 asked_wider link names more all [] [] a = tt
-asked_wider link names more all [] (y ∷ ys) a = absurd a
-asked_wider link names more all (x ∷ xs) [] a = absurd a
 asked_wider link names more all (x ∷ xs) (y ∷ ys) a = (
   a.0,
   λ n. a.1 (λ c. n (all (link x).name c)),
   asked_wider link names more all xs ys a.2,
 )
+asked_wider link names more all other another a = absurd a
 
 -- ---- all replicas
 
@@ -227,10 +226,9 @@ pub published_more : (files : List NamedRows)
     → IsPublishedBy files replica p
     → ArePublished files (replicas ++ replica ∷ []) (made ++ p ∷ [])
 published_more files [] [] replica p all is = (is, tt)
-published_more files [] (q ∷ made) replica p all is = absurd all
-published_more files (r ∷ replicas) [] replica p all is = absurd all
 published_more files (r ∷ replicas) (q ∷ made) replica p all is =
     (all.0, published_more files replicas made replica p all.1 is)
+published_more files other another replica p all is = absurd all
 
 module _ {L D : Type 0} (link : L → Link) (step : L → Exchange → L → Type 0)
     (left : D → Option (List ℕ)) (count : D → ℕ) (files : List NamedRows)
@@ -392,20 +390,18 @@ module _ (files : List NamedRows) where
   pub published_many : (replicas : List (List ℕ × List ℕ)) (made : Replicas)
       → ArePublished files replicas made → length made ≡ length replicas
   published_many [] [] all = refl
-  published_many [] (p ∷ made) all = absurd all
-  published_many (replica ∷ replicas) [] all = absurd all
   published_many (replica ∷ replicas) (p ∷ made) all =
       ap (λ n. suc n) (published_many replicas made all.1)
+  published_many other another all = absurd all
 
   -- in order, the settings of their files
   pub published_settings : (replicas : List (List ℕ × List ℕ)) (made : Replicas)
       → ArePublished files replicas made
       → settings_of made ≡ map (rows_of_replica files) replicas
   published_settings [] [] all = refl
-  published_settings [] (p ∷ made) all = absurd all
-  published_settings (replica ∷ replicas) [] all = absurd all
   published_settings (replica ∷ replicas) (p ∷ made) all =
       λ i. all.0 i ∷ published_settings replicas made all.1 i
+  published_settings other another all = absurd all
 
   is_in : (p : Option Publication) (rows : Option (List ConfigEntry))
       → option_map (λ (q : Publication). q.rows) p ≡ rows → IsSome rows → IsSome p
@@ -438,11 +434,10 @@ module _ (files : List NamedRows) where
     pub published_among : (replicas : List (List ℕ × List ℕ)) (made : Replicas)
         → ArePublished files replicas made → AreAmong names made
     published_among [] [] all = All-nil (λ p. IfSome p (λ q. NamesAmong names q.rows))
-    published_among [] (p ∷ made) all = absurd all
-    published_among (replica ∷ replicas) [] all = absurd all
     published_among (replica ∷ replicas) (p ∷ made) all =
         All-cons (λ r. IfSome r (λ q. NamesAmong names q.rows)) p made
         (among_one replica p all.0) (published_among replicas made all.1)
+    published_among other another all = absurd all
 
 -- ---- by the first worker's outfit
 

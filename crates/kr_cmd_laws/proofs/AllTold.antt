@@ -5,19 +5,17 @@ use Rattle.kr_base.specs.Limits.{data_limit}
 use Rattle.kr_config.specs.Kept.{ConfigEntry}
 use Rattle.kr_config.specs.Lists.{list_of}
 use Rattle.kr_config.specs.declared.who.Who.{Who}
-use Rattle.kr_config.specs.declared.who.Who.TheVariants.{Aescbc, Aesgcm, Identity, Kms}
 use Rattle.kr_envelope.specs.declared.object.EncryptedObject.{EncryptedObject}
 use Rattle.kr_envelope.specs.declared.object.ObjectNo.{ObjectNo}
-use Rattle.kr_kms.specs.Cache.{CacheState, seed_at, with_used}
+use Rattle.kr_kms.specs.Cache.{CacheState}
 use Rattle.kr_kms.specs.declared.plugin.Status.{Status}
 use Rattle.kr_kms.specs.declared.plugin.Wrapped.{Wrapped}
-use Rattle.kr_kms.specs.declared.seeds.SeedKey.{SeedKey}
 use Rattle.kr_kms.specs.declared.seeds.SeedRow.{SeedRow}
 use Rattle.kr_kms.specs.declared.world.Access.{Access}
 use Rattle.kr_kms.specs.declared.world.Access.TheVariants.{ToMake, ToRead, ToWrite}
-use Rattle.kr_provider.specs.Envelopes.{seed_key, Envelope}
+use Rattle.kr_provider.specs.Envelopes.{Envelope}
 use Rattle.kr_provider.specs.PluginOrder.{plugin_order}
-use Rattle.kr_provider.specs.Publication.{Publication, seed_of}
+use Rattle.kr_provider.specs.Publication.{Publication}
 use Rattle.kr_provider.specs.Readers.{reader_in, writer_of}
 use Rattle.kr_provider.specs.Reading.{Reading, data_of, refused, unopened, is_stale, value_reading}
 use Rattle.kr_provider.specs.Sealing.{draw_size, sealed_by}
@@ -40,7 +38,7 @@ use Rattle.kr_cmd_steps.specs.RewriteSteps.{Progress, driving, nothing_done, one
 use Rattle.kr_cmd_steps.specs.Steps.{Left, or_empty, with_dice, with_input, with_tape, with_told, Steps, load, take_input, borrow_dice, borrow_tape, read_tape, write_row, keep_rows, settle, give_back, draw, borrow_link, ask_status, wrap, unwrap, note, find, refuse, give, and_then}
 use Rattle.kr_cmd_steps.specs.StoreFiles.{Stored, none_there, with_row}
 use Rattle.kr_cmd_steps.specs.StoreSteps.{copied_into, copying, migrated_line, migrated_row, migrating_into, new_row, revision_line, sealed_into, source_on, stored_into, target_on, target_read}
-use Rattle.kr_cmd_steps.specs.ValueSteps.{bench_steps, draw_some, opening, published_source, reading_given, source_steps, value_read, value_sealed, value_with, fetching, none_kept}
+use Rattle.kr_cmd_steps.specs.ValueSteps.{bench_steps, draw_some, reading_given, value_read, value_sealed, value_with, none_kept}
 use Rattle.kr_cmd_steps.specs.declared.programs.Program.{Program}
 use Rattle.kr_kms.specs.Exchanges.{Exchange}
 use Rattle.kr_kms.specs.Outside.{makes, same_name}
@@ -50,6 +48,7 @@ use Rattle.kr_cmd_steps.specs.Telling.{IsTold}
 use Rattle.kr_cmd_laws.specs.Results.{AllIsTold}
 use Rattle.kr_cmd_laws.proofs.ReadOnly.{IsReadOnly, command_reads, seeds_read, work_reads}
 use Rattle.kr_cmd_laws.proofs.Settled.{told_or_empty}
+use Rattle.kr_cmd_laws.proofs.OpeningSteps.{opens}
 
 -- steps borrow and read tapes only where the first holds, and never behind a write; they write only
 -- where the second does; and they draw at seat 0 alone
@@ -126,8 +125,6 @@ behind R W others on (borrow_tape name access absent next) u =
     (u.0, behind R W others on next u.1)
 behind R W others on (read_tape object name next) u =
     (u.0, λ bytes. behind R W others on (next bytes) (u.1 bytes))
-behind R W others on (write_row object name store row next) u = absurd u.0
-behind R W others on (keep_rows name store next) u = absurd u.0
 behind R W others on (settle object name next) u = behind R W others on next u
 behind R W others on (draw seat size next) u =
     (u.0, λ bytes. behind R W others on (next bytes) (u.1 bytes))
@@ -143,6 +140,7 @@ behind R W others on (note text next) u = behind R W others on next u
 behind R W others on (find D P next) u = λ b is. behind R W others on (next b) (u b is)
 behind R W others on (refuse why) u = tt
 behind R W others on (give x) u = on x
+behind R W others on other u = absurd u.0
 
 -- behind steps that may write nothing reads
 last : {A B : Type 0} (R W : Type 0) (others : A → Steps B) → ((x : A) → Uses ⊥ W (others x))
@@ -179,8 +177,6 @@ read_alone (take_input limit long next) r = λ bytes. read_alone (next bytes) (r
 read_alone (borrow_dice seat next) r = read_alone next r
 read_alone (borrow_tape name access absent next) r = (tt, read_alone next r.1)
 read_alone (read_tape object name next) r = (tt, λ bytes. read_alone (next bytes) (r bytes))
-read_alone (write_row object name store row next) r = absurd r.0
-read_alone (keep_rows name store next) r = absurd r.0
 read_alone (settle object name next) r = read_alone next r
 read_alone (draw seat size next) r = (r.0, λ bytes. read_alone (next bytes) (r.1 bytes))
 read_alone (borrow_link seat plugin program next) r = read_alone next r
@@ -192,6 +188,7 @@ read_alone (note text next) r = read_alone next r
 read_alone (find B P next) r = λ b is. read_alone (next b) (r b)
 read_alone (refuse why) r = tt
 read_alone (give x) r = tt
+read_alone other r = absurd r.0
 
 -- ---- what is told stays told, but for a tape that was written
 
@@ -323,34 +320,6 @@ given (data_of plain) stale = tt
 given (refused why) stale = tt
 given unopened stale = λ none u. absurd none
 
-fetched : {A : Type 0} (seed : Option (List ℕ)) (kept : CacheState) (key : SeedKey)
-    (next : Option (List ℕ) → CacheState → Steps A)
-    → ((source : Option (List ℕ)) (after : CacheState) → Quiet (next source after))
-    → Quiet (fetching seed kept key next)
-fetched (Some seed) kept key next u = u (Some seed) (with_used kept key)
-fetched None kept key next u = λ source after keeps. u (Some source) after
-
-sourced : {A : Type 0} (known : Option (List ℕ)) (kept : CacheState) (key : SeedKey)
-    (next : Option (List ℕ) → CacheState → Steps A)
-    → ((source : Option (List ℕ)) (after : CacheState) → Quiet (next source after))
-    → Quiet (source_steps known kept key next)
-sourced (Some seed) kept key next u = u (Some seed) kept
-sourced None kept key next u = fetched (seed_at kept.rows key) kept key next u
-
-opened : {A : Type 0} (seeds : List SeedRow) (reader : Option Who)
-    (object : Result EncryptedObject ObjectNo) (kept : CacheState)
-    (next : Option (List ℕ) → CacheState → Steps A)
-    → ((source : Option (List ℕ)) (after : CacheState) → Quiet (next source after))
-    → Quiet (opening seeds reader object kept next)
-opened seeds None object kept next u = u None kept
-opened seeds (Some Identity) object kept next u = u None kept
-opened seeds (Some (Aescbc name secret)) object kept next u = u None kept
-opened seeds (Some (Aesgcm name secret)) object kept next u = u None kept
-opened seeds (Some (Kms name)) (Err why) kept next u = u None kept
-opened seeds (Some (Kms name)) (Ok object) kept next u =
-    sourced (published_source (seed_of name seeds) (seed_key name object)) kept
-    (seed_key name object) next u
-
 read_with : (seeds : List SeedRow) (list : List Who) (path bytes : List ℕ)
     (object : Result EncryptedObject ObjectNo) (source : Option (List ℕ)) (kept : CacheState)
     → Quiet (value_with seeds list path bytes object source kept)
@@ -363,8 +332,11 @@ read_with seeds list path bytes object source kept =
 read : (seeds : List SeedRow) (list : List Who) (path bytes : List ℕ) (kept : CacheState)
     → Quiet (value_read seeds list path bytes kept)
 read seeds list path bytes kept = λ object is.
-    opened seeds (reader_in list bytes) object kept (value_with seeds list path bytes object)
-    (read_with seeds list path bytes object)
+    let on = read_with seeds list path bytes object in
+    opens (λ (s : Steps (Result Opened ValueNo × CacheState)). Quiet s)
+    (value_with seeds list path bytes object) on
+    (λ before key. λ source after keeps. on (Some source) after) seeds (reader_in list bytes) object
+    kept
 
 -- steps over the programs of a configuration in a file
 over : {A : Type 0} (config : List ℕ) (options : List (List ℕ × List ℕ))

@@ -171,9 +171,8 @@ empty_told : (tape : ToldTape) → Agrees tape (Some [])
 empty_told None e = (None, refl, tt)
 empty_told (Some held) e = (Some [], ap Some e, (tt, inl (refl, refl, refl)))
 
--- how a migration leaves the tapes, by where its steps come to
-pub record IsMigrated (words : Migration) (p : Point Outcome) (left : Left)
-    (new : List ℕ → ToldTape) : Type 0 where
+-- what a migration goes by: its configuration, the rows of its store, and an empty target
+pub record MigratesFrom (words : Migration) (left : Left) : Type 0 where
   pub file : Option (List ℕ)
   pub rows : List ConfigEntry
   pub bytes : List ℕ
@@ -183,7 +182,12 @@ pub record IsMigrated (words : Migration) (p : Point Outcome) (left : Left)
   pub held : Agrees (left.tapes words.store) (Some bytes)
   pub read : IsStored bytes (Ok source)
   pub empty : Agrees (or_empty (left.tapes words.to)) (Some [])
-  pub is_left : IsLeft words.to (map (migrated_row rows) source.rows) p left.tapes new
+
+-- how it leaves the tapes, by where its steps come to
+pub record IsMigrated (words : Migration) (p : Point Outcome) (left : Left)
+    (new : List ℕ → ToldTape) : Type 0 where
+  pub from : MigratesFrom words left
+  pub is_left : IsLeft words.to (map (migrated_row from.rows) from.source.rows) p left.tapes new
 
 abbrev pub Migrates : Migration → Point Outcome → Left → (List ℕ → ToldTape) → Type 0
 Migrates words p left new =
@@ -238,15 +242,17 @@ module _ (words : Migration) (p : Point Outcome) (end left : Left) where
     at_copy target mid new e empty (inr (u, v, goes)) =
         let told = empty_told (or_empty (left.tapes words.to)) empty in
         let lines = map (migrated_row rows) source.rows in inr (record {
-          file = file;
-          rows = rows;
-          bytes = bytes;
-          source = source;
-          configured = configured;
-          means = means;
-          held = held;
-          read = read;
-          empty = empty;
+          from = record {
+            file = file;
+            rows = rows;
+            bytes = bytes;
+            source = source;
+            configured = configured;
+            means = means;
+            held = held;
+            read = read;
+            empty = empty;
+          };
           is_left = copies_left words.to lines (migrated_line source.rows) p end [] lines told.0
               left.tapes mid refl (λ other f. ap (λ t. t other) e ∙ out_there other f)
               (ap (λ t. t words.to) e ∙ out_here ∙ told.1) told.2
@@ -278,15 +284,7 @@ module _ (words : Migration) (p : Point Outcome) (end left : Left) where
       → Migrates words q left new → Migrates words p left new
   through new q whole short torn amid_rows (inl none) = inl (short none.0, none.1, none.2)
   through new q whole short torn amid_rows (inr m) = inr (record {
-    file = m.file;
-    rows = m.rows;
-    bytes = m.bytes;
-    source = m.source;
-    configured = m.configured;
-    means = m.means;
-    held = m.held;
-    read = m.read;
-    empty = m.empty;
+    from = m.from;
     is_left = record {
       copied = m.is_left.copied;
       rest = m.is_left.rest;

@@ -36,10 +36,9 @@ none_before old None e some = absurd cc
 none_before old (Some told) e some = e
 
 is_last : (point : Point Outcome) (n : Result Done Stop) → end_at point ≡ Some n → IsLast point
-is_last (awaits call) n at = absurd cc
-is_last amid n at = absurd cc
 is_last (refuses why) n at = tt
 is_last (gives made) n at = tt
+is_last other n at = absurd cc
 
 -- closing a command asks no plugin
 heard_last : (command : Command) (stop point : Point Outcome) (end last : Left)

@@ -280,14 +280,12 @@ module _ (T : Type 0) {L D : Type 0} (link : L → Link)
   stopped_so status (Words why) is (inl (inr (inl (e, lacking)), idle)) = absurd cc
   stopped_so status (Words why) is (inl (inr (inr (mid, begun, reaches, fails, home)), idle)) =
       absurd (let e : Words why ≡ Fault Store _ = fails.stops in cc)
-  stopped_so status (Words why) is (inr s) = absurd s.writes
   stopped_so status (Refused why) is (inl (inl ends, idle)) =
       absurd (allowed (BeginsWell words old ready) (refuses why) ends.end (fleet_steps words)
       (left_of old) (walks words old ready) ends.goes)
   stopped_so status (Refused why) is (inl (inr (inl (e, lacking)), idle)) = absurd cc
   stopped_so status (Refused why) is (inl (inr (inr (mid, begun, reaches, fails, home)), idle)) =
       absurd (let e : Refused why ≡ Fault Store _ = fails.stops in cc)
-  stopped_so status (Refused why) is (inr s) = absurd s.writes
   stopped_so status (Fault object n) is (inl (inl (call, reaches, fault), idle)) =
       absurd (none.calls call fault.1)
   stopped_so status (Fault object n) is (inl (inr (inl (e, lacking)), idle)) = absurd cc
@@ -297,6 +295,7 @@ module _ (T : Type 0) {L D : Type 0} (link : L → Link)
       (Rose-later _ _ _ (home.tapes.later words.store) (rose_unsettled fails)))
   stopped_so status (Fault object n) is (inr s) = absurd (none.written s.writes.2)
   stopped_so status NoMemory is did = inr (inr (inr is))
+  stopped_so status other is (inr s) = absurd s.writes
 
   pub completed : (status : ℕ)
       → RanFleet T link step lent took left count words old new output errors status

@@ -24,10 +24,9 @@ module _ (T : Type 0) {L D : Type 0} (link : L → Link)
       result
 
   breaks : (stop : Stop) → Began (Err stop) → BreaksOff output stop
-  breaks (Words why) s = absurd s.writes
-  breaks (Refused why) s = absurd s.writes
   breaks (Fault object n) s = s.writes.2
   breaks NoMemory s = tt
+  breaks other s = absurd s.writes
 
   pub fleet_readings : (status : ℕ)
       → RanFleet T link step lent took left count words old new output errors status

@@ -482,14 +482,13 @@ module _ (words : FleetWords) (old : Around) (ready : IsReady words old) where
         → All (λ replica. bytes_eq replica.1 no_file ≡ false → IsRead files replica.1) replicas
         → map (rows_of_replica files) replicas ≡ settings
     settings_all [] [] has read = refl
-    settings_all [] (rows ∷ more) has read = absurd has
-    settings_all (replica ∷ replicas) [] has read = absurd has
     settings_all (replica ∷ replicas) (rows ∷ more) (first, rest) read =
         let In : List ℕ × List ℕ → Type 0 =
         λ r. bytes_eq r.1 no_file ≡ false → IsRead files r.1 in
         let own = settings_so replica rows first (All-head In replica replicas read) in
         let others = settings_all replicas more rest (All-tail In replica replicas read) in
         λ i. own i ∷ others i
+    settings_all other another has read = absurd has
 
   -- ---- the start
 

@@ -324,12 +324,10 @@ module _ (words : Rewriting) (point : Point Outcome) (end left : Left) where
   limited_by : (name : List ℕ) (p : Publication) (live : List stored.Row) (at : Progress)
       (kept : CacheState) (mid : Left) (q : Point Outcome)
       → Goes q end (driving name p live kept at) mid → IsLimited q
-  limited_by name p live at kept mid (awaits call) goes = tt
-  limited_by name p live at kept mid amid goes = tt
   limited_by name p live at kept mid (refuses why) goes =
       driving_refuses (λ cause. (which : limits.Limit) × (cause ≡ Limit which))
       (limit.Store, refl) name p live kept at why end mid goes
-  limited_by name p live at kept mid (gives x) goes = tt
+  limited_by name p live at kept mid other goes = tt
 
   module _ (rows : List ConfigEntry) (programs : List Program) (bytes : List ℕ) (base : Stored)
       (held : Agrees (left.tapes words.store) (Some bytes)) (is : IsStored bytes (Ok base))

@@ -24,9 +24,9 @@ use Rattle.kr_cmd_messages.specs.declared.command.Rewriting.{Rewriting}
 use Rattle.kr_cmd_messages.specs.declared.command.Direction.TheVariants.{Encrypt}
 use Rattle.kr_cmd_messages.specs.declared.refusal.Object.TheVariants.{Store, Target}
 use Rattle.kr_cmd_messages.specs.declared.refusal.Refusal.{Refusal}
-use Rattle.kr_cmd_messages.specs.declared.refusal.BadWords.TheVariants.{Usage, Replicas, Size, Page}
+use Rattle.kr_cmd_messages.specs.declared.refusal.BadWords.TheVariants.{Usage}
 use Rattle.kr_cmd_messages.specs.declared.refusal.Done.{Done}
-use Rattle.kr_cmd_messages.specs.declared.refusal.Done.TheVariants.{Blocked, Fresh, Silent, Stale}
+use Rattle.kr_cmd_messages.specs.declared.refusal.Done.TheVariants.{Blocked}
 use Rattle.kr_cmd_messages.specs.declared.refusal.Outcome.{Outcome}
 use Rattle.kr_cmd_messages.specs.declared.refusal.Stop.{Stop}
 use Rattle.kr_cmd_messages.specs.declared.refusal.Stop.TheVariants.{Words, Refused, Fault, NoMemory}
@@ -139,17 +139,17 @@ module _ (words : Migration) (old new : Around) (status : ℕ) where
       rest = m.is_left.rest;
       told = m.is_left.told;
       copies = record {
-        file = m.file;
-        rows = m.rows;
-        bytes = m.bytes;
-        source = m.source;
-        configured = m.configured;
-        means = m.means;
-        held = m.held;
-        read = m.read;
+        file = m.from.file;
+        rows = m.from.rows;
+        bytes = m.from.bytes;
+        source = m.from.source;
+        configured = m.from.configured;
+        means = m.from.means;
+        held = m.from.held;
+        read = m.from.read;
         all = m.is_left.parts;
       };
-      empty = m.empty;
+      empty = m.from.empty;
       is_told = m.is_left.is_told;
       holds = holds;
     }),
@@ -231,9 +231,7 @@ module _ (words : Migration) (old new : Around) (status : ℕ) where
 
 abbrev call_of : (other : Call) → Point Outcome → Call
 call_of other (awaits call) = call
-call_of other amid = other
-call_of other (refuses why) = other
-call_of other (gives x) = other
+call_of other another = other
 
 abbrev Awaits : Call → Point Outcome
 Awaits call = awaits call
@@ -252,9 +250,7 @@ module _ (status : ℕ) where
   -- 4 may be said of any
   says_fault : status ≡ 4 → (point : Point Outcome) → SaysOf status point
   says_fault is (awaits call) = inr is
-  says_fault is amid = inr is
-  says_fault is (refuses why) = inr is
-  says_fault is (gives x) = inr is
+  says_fault is other = inr is
 
   short_some : (point : Point Outcome) → SaysOf status point → IsShort point → status ≢ 0
   short_some (awaits call) s short = lacked_some s
@@ -276,10 +272,8 @@ module _ (status : ℕ) where
   short_amid (gives x) s limited short = absurd short
 
   is_done : (done : Done) → status ≡ status_of_done done → (status ≡ 0) ⊎ (status ≡ 1)
-  is_done Silent e = inl e
-  is_done Fresh e = inl e
-  is_done Stale e = inl e
   is_done Blocked e = inr e
+  is_done other e = inl e
 
   any_end : (point : Point Outcome) → SaysOf status point → IsLimited point
       → ((status ≡ 0) ⊎ (status ≡ 1)) ⊎ MayEndAmidRows status
@@ -479,10 +473,8 @@ report_settles command name world is settled = absurd is
 
 nothing_said : (stop : Point Outcome) (end : Left) → IsStop stop → SaysNothing stop end
     → end.said ≡ []
-nothing_said (awaits call) end stops none = none
-nothing_said amid end stops none = none
-nothing_said (refuses why) end stops none = none
 nothing_said (gives x) end stops none = absurd stops
+nothing_said other end stops none = none
 
 -- what a command says where it stops is settled, or it's nothing
 module _ (command : Command) (old new : Around) where
@@ -523,12 +515,8 @@ printed_settled command old new said output (Err stop) result r w =
 
 not_zero : (stop : Stop) → status_of (Err stop) ≢ 0
 not_zero (Words Usage) e = omega (arith, e)
-not_zero (Words Replicas) e = omega (arith, e)
-not_zero (Words Size) e = omega (arith, e)
-not_zero (Words Page) e = omega (arith, e)
 not_zero (Refused why) e = omega (arith, status_in why, e)
-not_zero (Fault object count) e = omega (arith, e)
-not_zero NoMemory e = omega (arith, e)
+not_zero other e = omega (arith, e)
 
 -- the status is that of the result, but where its line can't be written
 abbrev IsStatus : (status : ℕ) → Result Done Stop → Type 0
@@ -550,13 +538,11 @@ fits_made : (said : List ℕ) (output : Receipt) (status : ℕ) (made : Result O
     → Fits made status
 fits_made said output status (Ok x) (Ok done) w (inl e) = inl (e ∙ ap status_of_done w.0)
 fits_made said output status (Ok x) (Ok done) w (inr e) = inr e
-fits_made said output status (Ok x) (Err (Words why)) w s = absurd w
-fits_made said output status (Ok x) (Err (Refused why)) w s = absurd w
 fits_made said output status (Ok x) (Err (Fault object count)) w (inl e) = inr e
 fits_made said output status (Ok x) (Err (Fault object count)) w (inr e) = inr e
-fits_made said output status (Ok x) (Err NoMemory) w s = absurd w
 fits_made said output status (Err stop) result w s =
     fits_stop status stop (subst (IsStatus status) w.0 s)
+fits_made said output status (Ok x) (Err other) w s = absurd w
 
 stopped : (words : List (List ℕ)) (status : ℕ) (result : Result Done Stop)
     → StopsAtOnce words result → IsStatus status result → status ≢ 0

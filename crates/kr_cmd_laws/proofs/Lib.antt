@@ -29,6 +29,7 @@ pub mod OneTape
 pub mod OneThing
 pub mod OneWay
 pub mod OnlyAsks
+pub mod OpeningSteps
 pub mod Parts
 pub mod Plain
 pub mod Planned

@@ -20,13 +20,13 @@ use Rattle.kr_history.specs.declared.call.CallNo.{CallNo}
 use Rattle.kr_history.specs.declared.call.CallNo.TheVariants as refusal
 use Rattle.kr_fleet.specs.CallExchanges.{ComparesKeysBy, IsRefreshBy, RefreshesBy, RenewsAfter, StopsBy, all_same, changed, told_none, went_on as compared_on}
 use Rattle.kr_fleet.specs.CallForms.{CutShortWhere, JoinsWhere, ReloadsWhere}
-use Rattle.kr_fleet.specs.declared.outcome.Joining.{Joining}
-use Rattle.kr_fleet.specs.declared.outcome.Joining.TheVariants as joining
+use Rattle.kr_history.specs.declared.outcome.Joining.{Joining}
+use Rattle.kr_history.specs.declared.outcome.Joining.TheVariants as joining
 use Rattle.kr_fleet.specs.declared.outcome.Loaded.{Loaded}
 use Rattle.kr_fleet.specs.declared.outcome.Loaded.TheVariants as loaded
 use Rattle.kr_workers.specs.LineExchanges.{DoesJoinBy, DoesReloadBy}
 use Rattle.kr_workers.specs.Replies.{Reply}
-use Rattle.kr_workers.specs.ScriptLines.{IfRead, Workplace}
+use Rattle.kr_workers.specs.ScriptLines.{Workplace}
 use Rattle.kr_cmd_laws.specs.LineQuestions.{wrapped_in}
 use Rattle.kr_cmd_laws.specs.PluginLaws.{IsQuestion}
 
@@ -243,11 +243,8 @@ module _ {D : Type 0} (left : D → Option (List ℕ)) (count : D → ℕ) where
     cut_loads : (brings : Publication → Event) (replica : ℕ) (old new : Caller) (why : CallNo)
         → CutShortWhere (λ made. PublishesBy left count rows dice made after es) brings replica
         old why new → Loads dice es after
-    cut_loads brings replica old new (refusal.Refused x) c = absurd c
     cut_loads brings replica old new (refusal.PluginFailed name) c = publish_loads (Err _) c.0
     cut_loads brings replica old new refusal.DiceFailed c = publish_loads (Err _) c.0
-    cut_loads brings replica old new refusal.StoreFailed c = absurd c
-    cut_loads brings replica old new (refusal.StoreFull needed) c = absurd c
     cut_loads brings replica old new (refusal.Unhealthy name field text) c =
         publish_loads (Err _) c.0
     cut_loads brings replica old new refusal.Gone c = publish_loads (Ok c.p) c.publishes
@@ -257,6 +254,7 @@ module _ {D : Type 0} (left : D → Option (List ℕ)) (count : D → ℕ) where
         publish_loads (Ok c.0.0) c.0.1
     cut_loads brings replica old new refusal.NoMemory (inr (inr c)) =
         publish_loads (Ok c.p) c.publishes
+    cut_loads brings replica old new other c = absurd c
 
     reload_loads : (replica : ℕ) (old new : Caller) (result : Result Loaded CallNo)
         → ReloadsWhere (λ made. PublishesBy left count rows dice made after es) replica old result
@@ -265,33 +263,27 @@ module _ {D : Type 0} (left : D → Option (List ℕ)) (count : D → ℕ) where
         publish_loads (Ok w.p) w.publishes
     reload_loads replica old new (Ok (loaded.Refused verdict)) w =
         publish_loads (Ok w.p) w.publishes
-    reload_loads replica old new (Ok (loaded.Moved number)) w = absurd w
-    reload_loads replica old new (Ok (loaded.Unchanged number)) w = absurd w
     reload_loads replica old new (Err why) w =
         cut_loads (λ p. event.Reload replica p None) replica old new why w
+    reload_loads replica old new (Ok other) w = absurd w
 
     join_loads : (replica : ℕ) (old new : Caller) (result : Result Joining CallNo)
         → JoinsWhere (λ made. PublishesBy left count rows dice made after es) replica old result
         new → Loads dice es after
     join_loads replica old new (Ok (joining.Generation number)) w =
         publish_loads (Ok w.p) w.publishes
-    join_loads replica old new (Ok (joining.Refused verdict)) w =
-        publish_loads (Ok w.p) w.publishes
-    join_loads replica old new (Ok (joining.Present number)) w = publish_loads (Ok w.p) w.publishes
-    join_loads replica old new (Err (refusal.Refused x)) w = absurd w
     join_loads replica old new (Err (refusal.PluginFailed name)) w =
         cut_loads (event.Join replica) replica old new (refusal.PluginFailed name) w
     join_loads replica old new (Err refusal.DiceFailed) w =
         cut_loads (event.Join replica) replica old new refusal.DiceFailed w
-    join_loads replica old new (Err refusal.StoreFailed) w = absurd w
-    join_loads replica old new (Err (refusal.StoreFull needed)) w = absurd w
     join_loads replica old new (Err (refusal.Unhealthy name field text)) w =
         cut_loads (event.Join replica) replica old new (refusal.Unhealthy name field text) w
-    join_loads replica old new (Err refusal.Gone) w = absurd w
     join_loads replica old new (Err refusal.Spent) w =
         cut_loads (event.Join replica) replica old new refusal.Spent w
     join_loads replica old new (Err refusal.NoMemory) w =
         cut_loads (event.Join replica) replica old new refusal.NoMemory w
+    join_loads replica old new (Err other) w = absurd w
+    join_loads replica old new (Ok other) w = publish_loads (Ok w.p) w.publishes
 
   -- ---- a refresh
 
@@ -341,18 +333,14 @@ module _ {L D : Type 0} (left : D → Option (List ℕ)) (count : D → ℕ) (ol
   lacks_loads same none = none_loads left count old.dice new.dice es none
       (ap (λ (place : Workplace L D). place.dice) same)
 
-  pub reloaded_loads : (rows : Option (List setting))
-      → IfRead rows (λ rows. DoesReloadBy left count named rows old reply new es)
+  pub reloaded_loads : (rows : List setting) → DoesReloadBy left count named rows old reply new es
       → Loads left count old.dice es new.dice
-  reloaded_loads None d = absurd d
-  reloaded_loads (Some rows) (inl d) = lacks_loads d.0.1 d.1
-  reloaded_loads (Some rows) (inr d) =
+  reloaded_loads rows (inl d) = lacks_loads d.0.1 d.1
+  reloaded_loads rows (inr d) =
       reload_loads left count rows old.dice new.dice es named old.caller new.caller d.0 d.2
 
-  pub joined_loads : (rows : Option (List setting))
-      → IfRead rows (λ rows. DoesJoinBy left count named rows old reply new es)
+  pub joined_loads : (rows : List setting) → DoesJoinBy left count named rows old reply new es
       → Loads left count old.dice es new.dice
-  joined_loads None d = absurd d
-  joined_loads (Some rows) (inl d) = lacks_loads d.0.1 d.1
-  joined_loads (Some rows) (inr d) =
+  joined_loads rows (inl d) = lacks_loads d.0.1 d.1
+  joined_loads rows (inr d) =
       join_loads left count rows old.dice new.dice es named old.caller new.caller d.0 d.2

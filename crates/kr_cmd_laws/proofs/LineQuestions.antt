@@ -11,7 +11,6 @@ use Rattle.kr_history.specs.Parts.{Adds}
 use Rattle.kr_script.specs.declared.script.ScriptLine.{ScriptLine}
 use Rattle.kr_script.specs.declared.script.ScriptLine.TheVariants as line
 use Rattle.kr_workers.specs.declared.files.SettingsFile.{SettingsFile}
-use Rattle.kr_workers.specs.Files.{rows_at}
 use Rattle.kr_workers.specs.LineExchanges.{DoesBy}
 use Rattle.kr_workers.specs.Replies.{Reply}
 use Rattle.kr_workers.specs.Runs.{DoesAll, LineDone}
@@ -41,21 +40,18 @@ module _ {L D : Type 0} (left : D → Option (List ℕ)) (count : D → ℕ) (fi
   line_asks : (part : List Entry) → Adds old.caller part new.caller → (asked : ScriptLine)
       → DoesBy left count files replica asked old reply new es
       → All (IsQuestion (IsFoundIn part)) es
-  line_asks part a (line.Put resource path plain) d =
-      none_ask old.caller new.caller part a es d.0
   line_asks part a (line.Get path) d = went_asks old.caller new.caller part a es
       (get_went path old.cache new.cache es replica old.caller new.caller d.0 d.2)
-  line_asks part a (line.Delete path) d = none_ask old.caller new.caller part a es d.0
   line_asks part a line.Rewrite d = went_asks old.caller new.caller part a es
       (drive_went left count replica [] old.caller new.caller old.cache new.cache old.dice
       new.dice d.0 es d.2)
   line_asks part a (line.Reload named file) d = loads_ask old.caller new.caller part a es
-      (reloaded_loads left count old new reply es named (rows_at files file) d).asks
+      (reloaded_loads left count old new reply es named d.0 d.2).asks
   line_asks part a line.Refresh d = loads_ask old.caller new.caller part a es
       (refresh_loads left count replica old.dice new.dice es old.caller new.caller d.0 d.2).asks
   line_asks part a (line.Join named file) d = loads_ask old.caller new.caller part a es
-      (joined_loads left count old new reply es named (rows_at files file) d).asks
-  line_asks part a (line.Leave named) d = none_ask old.caller new.caller part a es d.0
+      (joined_loads left count old new reply es named d.0 d.2).asks
+  line_asks part a other d = none_ask old.caller new.caller part a es d.0
 
   wraps_none : es ≡ [] → WrapsDrawn left old.dice es new.dice
   wraps_none none = inl (ap wrapped_in none)
@@ -65,19 +61,17 @@ module _ {L D : Type 0} (left : D → Option (List ℕ)) (count : D → ℕ) (fi
 
   line_wraps : (asked : ScriptLine) → DoesBy left count files replica asked old reply new es
       → WrapsDrawn left old.dice es new.dice
-  line_wraps (line.Put resource path plain) d = wraps_none d.0
   line_wraps (line.Get path) d = inl
       (get_went path old.cache new.cache es replica old.caller new.caller d.0 d.2).asks.wraps
-  line_wraps (line.Delete path) d = wraps_none d.0
   line_wraps line.Rewrite d = inl (drive_went left count replica [] old.caller new.caller
       old.cache new.cache old.dice new.dice d.0 es d.2).asks.wraps
   line_wraps (line.Reload named file) d =
-      wraps_loads (reloaded_loads left count old new reply es named (rows_at files file) d)
+      wraps_loads (reloaded_loads left count old new reply es named d.0 d.2)
   line_wraps line.Refresh d = wraps_loads
       (refresh_loads left count replica old.dice new.dice es old.caller new.caller d.0 d.2)
   line_wraps (line.Join named file) d =
-      wraps_loads (joined_loads left count old new reply es named (rows_at files file) d)
-  line_wraps (line.Leave named) d = wraps_none d.0
+      wraps_loads (joined_loads left count old new reply es named d.0 d.2)
+  line_wraps other d = wraps_none d.0
 
 module _ {L D : Type 0} (link : L → Link) (step : L → Exchange → L → Type 0)
     (left : D → Option (List ℕ)) (count : D → ℕ) where

@@ -1,6 +1,6 @@
 -- A line that reads unwraps sources of values that its own entries found.
 use Rattle.std.specs.Prelude.{All, true, false, ⊤}
-use Rattle.std.proofs.Common.{◌≡◌, ℕ, Bool, List, [], ◌∷◌, ◌++◌, Option, Result, Ok, Err, inl, inr, refl, sym, ap, subst, ◌∙◌, append-nil}
+use Rattle.std.proofs.Common.{◌≡◌, ℕ, Bool, List, [], ◌∷◌, ◌++◌, Option, Result, Ok, Err, inl, inr, refl, sym, ap, subst, ◌∙◌, append-nil, Contains}
 use Rattle.std.proofs.lemmas.List.{append_assoc}
 use Rattle.std.proofs.lemmas.List.Elements.{All-append, All-cons, All-nil, All-weaker, Contains-append_left, Contains-append_right, Contains-push}
 use Rattle.kr_config.specs.declared.who.Who.{Who}
@@ -48,25 +48,25 @@ question_more P Q more (StatusCall plugin given) q = tt
 question_more P Q more (WrapCall plugin plain given) q = q
 question_more P Q more (UnwrapCall key given) q = (q.0, q.1, q.2, more q.0 q.3, q.4, q.5)
 
-found_before : (part more : List Entry) (value : List ℕ) → IsFoundIn part value
-    → IsFoundIn (part ++ more) value
-found_before part more value f = record {
+-- what is found in a part is found in the whole
+found_so : (part whole : List Entry)
+    → ((entry : Entry) → Contains part entry → Contains whole entry) → (value : List ℕ)
+    → IsFoundIn part value → IsFoundIn whole value
+found_so part whole within value f = record {
   entry = f.entry;
   row = f.row;
-  among = Contains-append_left part more f.entry f.among;
+  among = within f.entry f.among;
   found = f.found;
   is = f.is;
 }
 
+found_before : (part more : List Entry) (value : List ℕ) → IsFoundIn part value
+    → IsFoundIn (part ++ more) value
+found_before part more = found_so part (part ++ more) (Contains-append_left part more)
+
 found_behind : (part more : List Entry) (value : List ℕ) → IsFoundIn more value
     → IsFoundIn (part ++ more) value
-found_behind part more value f = record {
-  entry = f.entry;
-  row = f.row;
-  among = Contains-append_right part more f.entry f.among;
-  found = f.found;
-  is = f.is;
-}
+found_behind part more = found_so more (part ++ more) (Contains-append_right part more)
 
 -- ---- a value is read: at most the source that stands in it is unwrapped
 
@@ -184,12 +184,7 @@ went_early replica old new refusal.Spent a = went_same old new a.same
 went_early replica old new refusal.NoMemory (inl same) = went_same old new same
 went_early replica old new refusal.NoMemory (inr a) =
     went_one old new (event.Adopt replica) answer.NoMemory a
-went_early replica old new (refusal.Refused why) a = absurd a
-went_early replica old new (refusal.PluginFailed name) a = absurd a
-went_early replica old new refusal.DiceFailed a = absurd a
-went_early replica old new refusal.StoreFailed a = absurd a
-went_early replica old new (refusal.StoreFull needed) a = absurd a
-went_early replica old new (refusal.Unhealthy name field text) a = absurd a
+went_early replica old new other a = absurd a
 
 went_let_go : {T : Type 0} (old new : Caller) (done result : Result T CallNo)
     → LetsGo old done result new → Went old new []
@@ -216,17 +211,13 @@ module _ (path : List ℕ) (cache after : CacheState) (es : List Exchange) where
       row_went p old new f.0 (Err (unsealing.Refused why)) f.1.found f.1.reads
   found_went p old new (Err (refusal.PluginFailed name)) f =
       row_went p old new f.0 (Err (unsealing.PluginFailed name)) f.1.found f.1.reads
-  found_went p old new (Err refusal.DiceFailed) f = absurd f
-  found_went p old new (Err refusal.StoreFailed) f = absurd f
-  found_went p old new (Err (refusal.StoreFull needed)) f = absurd f
-  found_went p old new (Err (refusal.Unhealthy name field text)) f = absurd f
-  found_went p old new (Err refusal.Gone) f = absurd f
   found_went p old new (Err refusal.Spent) f =
       went_by old new es f.1.1 (went_same old new f.0.same)
   found_went p old new (Err refusal.NoMemory) (inl f) =
       row_went p old new f.0 (Err unsealing.NoMemory) f.1.found f.1.reads
   found_went p old new (Err refusal.NoMemory) (inr f) =
       went_by old new es f.1.1 (went_one old new (event.Fetch path) answer.NoMemory f.0)
+  found_went p old new (Err other) f = absurd f
 
   pub get_went : (replica : ℕ) (old new : Caller) (result : Result Read CallNo)
       → IsReadBy path replica old cache result new after es → Went old new es
@@ -281,20 +272,10 @@ none_went : (above : List ℕ) (old new : Caller) (result : Result Step CallNo)
     → FindsNone above old result new → Went old new []
 none_went above old new (Ok step_variants.End) a =
     went_one old new (event.After above) answer.Absent a
-none_went above old new (Ok (step_variants.Rewritten path)) a = absurd a
-none_went above old new (Ok (step_variants.Fresh path)) a = absurd a
-none_went above old new (Ok (step_variants.Changed path)) a = absurd a
-none_went above old new (Ok (step_variants.Left path)) a = absurd a
 none_went above old new (Err refusal.NoMemory) a =
     went_one old new (event.After above) answer.NoMemory a
 none_went above old new (Err refusal.Spent) a = went_same old new a.same
-none_went above old new (Err (refusal.Refused why)) a = absurd a
-none_went above old new (Err (refusal.PluginFailed name)) a = absurd a
-none_went above old new (Err refusal.DiceFailed) a = absurd a
-none_went above old new (Err refusal.StoreFailed) a = absurd a
-none_went above old new (Err (refusal.StoreFull needed)) a = absurd a
-none_went above old new (Err (refusal.Unhealthy name field text)) a = absurd a
-none_went above old new (Err refusal.Gone) a = absurd a
+none_went above old new other a = absurd a
 
 module _ {D : Type 0} (left : D → Option (List ℕ)) (count : D → ℕ) (replica : ℕ) where
   data_went : (p : Publication) (row : Row) (plain : List ℕ) (stale : Bool) (old new : Caller)

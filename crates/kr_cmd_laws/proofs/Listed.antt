@@ -25,15 +25,11 @@ breach_of no.Magic = Some Magic
 breach_of (no.Torn at) = Some (Torn at)
 breach_of (no.BadRow at) = Some (BadRow at)
 breach_of (no.Order at) = Some (Order at)
-breach_of no.TooLong = None
-breach_of no.Failed = None
-breach_of no.NoMemory = None
+breach_of other = None
 
 is_breach : (b : Breach) → breach_of (store_no b) ≡ Some b
 is_breach Magic = refl
-is_breach (Torn at) = refl
-is_breach (BadRow at) = refl
-is_breach (Order at) = refl
+is_breach other = refl
 
 one_breach : (a b : Breach) → store_no a ≡ store_no b → a ≡ b
 one_breach a b e =

@@ -19,12 +19,12 @@ use Rattle.kr_cmd_steps.proofs.Ends.{decided_stop}
 use Rattle.kr_cmd_steps.specs.Around.{Around, left_of, with_what_is_said}
 use Rattle.kr_cmd_steps.specs.Commands.{steps}
 use Rattle.kr_cmd_steps.specs.Ran.{Answers, Closes, ComesSaying, Did, IsUntouched, ReachesEnd, Reports, StopsAtOnce, Writes, end_at}
-use Rattle.kr_cmd_steps.specs.Steps.{Goes, Left, Point, amid, awaits, gives, refuses}
+use Rattle.kr_cmd_steps.specs.Steps.{Goes, Left, Point, gives, refuses}
 use Rattle.kr_cmd_steps.specs.Telling.{AnswersOnce, IsTold, MayEnd}
 use Rattle.kr_cmd_laws.specs.Results.{CompleteCalls, EndsAsItsSteps, Execution, HasOneResult, HoldAlike, IsDecidedBySteps, IsToldToo, NoneFailed, OneResult, StopsAtWords, TellsToo, WentWell}
 use Rattle.kr_cmd_laws.proofs.LastSteps.{IsLast}
 use Rattle.kr_cmd_laws.proofs.OneWay.{Shared, command_way}
-use Rattle.kr_cmd_laws.proofs.Readings.{readings}
+use Rattle.kr_cmd_laws.proofs.Readings.{comes_saying, readings}
 
 -- where exchanges are told, there are none before them
 abbrev none_of : Option (List Exchange) → Option (List Exchange)
@@ -71,21 +71,17 @@ module _ (words : List (List ℕ)) (x : Execution) where
 
     at_once : (r : Result Done Stop) → StopsAtOnce words r → IsUntouched x.old x.new x.output
         → Told r → Came
-    at_once (Ok done) stops same t = absurd stops
     at_once (Err (Words why)) stops same t = inr (inr (inl (why, stops, same, t.0, t.1)))
-    at_once (Err (Refused why)) stops same t = absurd stops
-    at_once (Err (Fault object count)) stops same t = absurd stops
     at_once (Err NoMemory) stops same t = inr (inr (inr t.0))
+    at_once other stops same t = absurd stops
 
     module _ (said : List ℕ) where
       wrote : (made : Outcome) (r : Result Done Stop) → Did words x.old (Now said) (Ok made)
           → Writes said x.output (Ok made) r → Told r → Came
       wrote made (Ok done) did writes t =
           inl (said, made, did, writes.1, subst (λ d. Told (Ok d)) writes.0 t)
-      wrote made (Err (Words why)) did writes t = absurd writes
-      wrote made (Err (Refused why)) did writes t = absurd writes
       wrote made (Err (Fault object count)) did writes t = absurd (none.output writes.2)
-      wrote made (Err NoMemory) did writes t = absurd writes
+      wrote made (Err other) did writes t = absurd writes
 
       stopped : (stop : Stop) → (x.status ≡ 4 → ⊥) → Did words x.old (Now said) (Err stop)
           → Reports said x.output → Told (Err stop) → Came
@@ -116,18 +112,7 @@ module _ (words : List (List ℕ)) (x : Execution) where
       (did : Did words x.old (Now said) made)
       → ReachesEnd did.command (left_of x.old) (Now said) point
       → ComesSaying words x.old x.new said point
-  comes said did r = record {
-    command = did.command;
-    asks = did.asks;
-    reaches = r;
-    home = record {
-      files = did.home.files;
-      dice = did.home.dice;
-      tapes = did.home.tapes;
-      links = did.home.links;
-      input = did.home.input;
-    };
-  }
+  comes said did r = comes_saying words x.old x.new said did r
 
   as_steps : Came → EndsAsItsSteps words x
   as_steps (inl (said, made, did, written, t)) =
@@ -320,9 +305,8 @@ module _ (words : List (List ℕ)) (exchanges : Option (List Exchange)) (command
   results (inr (inr (inl s))) c = absurd (no_stop s.0 asks s.1)
   results (inr (inr (inr five))) c = absurd (one.memory five)
   results (inl g) (inr (inr (inl s))) = absurd (no_stop s.0 asks s.1)
-  results (inl g) (inr (inr (inr five))) = absurd (other.memory five)
   results (inr (inl g)) (inr (inr (inl s))) = absurd (no_stop s.0 asks s.1)
-  results (inr (inl g)) (inr (inr (inr five))) = absurd (other.memory five)
+  results ended (inr (inr (inr five))) = absurd (other.memory five)
 
 well_came : (words : List (List ℕ)) (exchanges : Option (List Exchange)) (x : Execution)
     → WentWell words exchanges x → Came words x
@@ -349,10 +333,9 @@ told_itself a = record {
 }
 
 is_last : (point : Point Outcome) (n : Result Done Stop) → end_at point ≡ Some n → IsLast point
-is_last (awaits call) n at = absurd cc
-is_last amid n at = absurd cc
 is_last (refuses why) n at = tt
 is_last (gives made) n at = tt
+is_last other n at = absurd cc
 
 module _ (words : List (List ℕ)) (exchanges : Option (List Exchange)) (x : Execution)
     (well : WentWell words exchanges x) where

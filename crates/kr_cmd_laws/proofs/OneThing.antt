@@ -163,10 +163,6 @@ given unopened stale = (λ a b x y. absurd a, λ a x. absurd a)
 -- a value that no plugin reads is as stale, whatever is taken for its envelope
 stale_alike : (list : List Who) (bytes : List ℕ) (seeds : List SeedRow) (a b : Envelope)
     → IsNoPlugin (reader_in list bytes) → is_stale a seeds list bytes ≡ is_stale b seeds list bytes
-stale_alike [] bytes seeds a b without = refl
-stale_alike (Identity ∷ rest) bytes seeds a b without = refl
-stale_alike (Aescbc name secret ∷ rest) bytes seeds a b without = refl
-stale_alike (Aesgcm name secret ∷ rest) bytes seeds a b without = refl
 stale_alike (Kms name ∷ rest) bytes seeds a b without =
     by_first (is_reader bytes (Kms name)) (first_of (is_reader bytes) rest)
     (is_rotated a seeds (Kms name)) (is_rotated b seeds (Kms name)) without
@@ -175,6 +171,7 @@ stale_alike (Kms name ∷ rest) bytes seeds a b without =
         → IsNoPlugin (cond q (Some (Kms name)) others) → (not q || x) ≡ (not q || y)
     by_first true others x y without = absurd (cc)
     by_first false others x y without = refl
+stale_alike other bytes seeds a b without = refl
 
 answered : (read : Result Opened ValueNo) → IsOne (data_steps read)
 answered (Ok opened) = tt
@@ -349,18 +346,10 @@ module _ (exchanges : Option (List Exchange)) (once : AnswersOnce exchanges) whe
       → GoAlike exchanges KeptAlike (next source k) (more source l))
       → GoAlike exchanges KeptAlike (opening seeds reader object kept next)
       (opening seeds reader object other more)
-  opened seeds None object kept other held also next more each = each None kept other held also
-  opened seeds (Some Identity) object kept other held also next more each =
-      each None kept other held also
-  opened seeds (Some (Aescbc name secret)) object kept other held also next more each =
-      each None kept other held also
-  opened seeds (Some (Aesgcm name secret)) object kept other held also next more each =
-      each None kept other held also
-  opened seeds (Some (Kms name)) (Err why) kept other held also next more each =
-      each None kept other held also
   opened seeds (Some (Kms name)) (Ok object) kept other held also next more each =
       sourced (seed_key name object) kept other held also next more each
       (published_source (seed_of name seeds) (seed_key name object))
+  opened seeds another object kept other held also next more each = each None kept other held also
 
   -- ---- a value, with any object that it has
 

@@ -56,15 +56,13 @@ alike_if false a b c d h k = k
 
 alike_empty : (one other : Option (Option (List ℕ))) → HoldAlike one other
     → HoldAlike (or_empty one) (or_empty other)
-alike_empty None other h = tt
-alike_empty (Some None) None h = tt
-alike_empty (Some (Some x)) None h = tt
 alike_empty (Some None) (Some None) h = inl refl
 alike_empty (Some None) (Some (Some y)) (inl e) = absurd cc
 alike_empty (Some None) (Some (Some y)) (inr (store, a, b)) = absurd a
 alike_empty (Some (Some x)) (Some None) (inl e) = absurd cc
 alike_empty (Some (Some x)) (Some None) (inr (store, a, b)) = absurd b
 alike_empty (Some (Some x)) (Some (Some y)) h = h
+alike_empty other another h = tt
 
 alike_rows : (store : Stored) (one other : Option (List ℕ)) → HoldsRows store one
     → HoldsRows store other → HoldAlike (option_map Some one) (option_map Some other)
@@ -89,13 +87,12 @@ none_left rest r e d = subst IsAtEnd e d
 
 same_front : (a b r s : List ℕ) → length a ≡ length b → a ++ r ≡ b ++ s → (b ≡ a) × (s ≡ r)
 same_front [] [] r s l e = (refl, sym e)
-same_front [] (y ∷ b) r s l e = absurd (omega (arith, l))
-same_front (x ∷ a) [] r s l e = absurd (omega (arith, l))
 same_front (x ∷ a) (y ∷ b) r s l e =
     let first : x ≡ y = cc in
     let rest : a ++ r ≡ b ++ s = cc in
     let t = same_front a b r s (omega (arith, l)) rest in
     ((λ i. sym first i ∷ t.0 i), t.1)
+same_front other another r s l e = absurd (omega (arith, l))
 
 -- ---- exchanges
 

@@ -72,6 +72,12 @@ module _ {A : Type 0} (P : Exchange → Type 0) (point : Point A) (end : Left) w
       → Fine
   at left a e = subst (λ (l : Left). AllHeard P l.heard) (sym e.1) a
 
+  -- the last that was asked
+  at_asked : (call : Exchange) (left : Left) {here : Point A} → P call → AllHeard P left.heard
+      → (point ≡ here) × (end ≡ record left { heard = hearing (call ∷ []) left.heard }) → Fine
+  at_asked call left p a e = at (record left { heard = hearing (call ∷ []) left.heard })
+      (one_more P call left.heard p a) e
+
   pub only_asked : (s : Steps A) (left : Left) → OnlyAsks P s left → AllHeard P left.heard
       → Goes point end s left → Fine
   only_asked (load name next) left g a (inl e) = at left a e
@@ -116,32 +122,26 @@ module _ {A : Type 0} (P : Exchange → Type 0) (point : Point A) (end : Left) w
       only_asked next _ g a goes
   only_asked (ask_status seat plugin next) left g a (inl e) = at left a e
   only_asked (ask_status seat plugin next) left g a (inr (inl (answer, e))) =
-      at (record left { heard = hearing (StatusCall plugin answer ∷ []) left.heard })
-      (one_more P (StatusCall plugin answer) left.heard (g.0 answer) a) e
+      at_asked (StatusCall plugin answer) left (g.0 answer) a e
   only_asked (ask_status seat plugin next) left g a (inr (inr (inl e))) =
-      at (record left { heard = hearing (StatusCall plugin (Err Failed) ∷ []) left.heard })
-      (one_more P (StatusCall plugin (Err Failed)) left.heard (g.0 (Err Failed)) a) e
+      at_asked (StatusCall plugin (Err Failed)) left (g.0 (Err Failed)) a e
   only_asked (ask_status seat plugin next) left g a (inr (inr (inr (status, agrees, goes)))) =
       only_asked (next status) _ (g.1 status (hearing (StatusCall plugin (Ok status) ∷ []) left.heard))
       (one_more P (StatusCall plugin (Ok status)) left.heard (g.0 (Ok status)) a) goes
   only_asked (wrap seat plugin plain next) left g a (inl e) = at left a e
   only_asked (wrap seat plugin plain next) left g a (inr (inl (answer, e))) =
-      at (record left { heard = hearing (WrapCall plugin plain answer ∷ []) left.heard })
-      (one_more P (WrapCall plugin plain answer) left.heard (g.0 answer) a) e
+      at_asked (WrapCall plugin plain answer) left (g.0 answer) a e
   only_asked (wrap seat plugin plain next) left g a (inr (inr (inl e))) =
-      at (record left { heard = hearing (WrapCall plugin plain (Err Failed) ∷ []) left.heard })
-      (one_more P (WrapCall plugin plain (Err Failed)) left.heard (g.0 (Err Failed)) a) e
+      at_asked (WrapCall plugin plain (Err Failed)) left (g.0 (Err Failed)) a e
   only_asked (wrap seat plugin plain next) left g a
       (inr (inr (inr (wrapped, within, goes)))) = only_asked (next wrapped) _
       (g.1 wrapped (hearing (WrapCall plugin plain (Ok wrapped) ∷ []) left.heard))
       (one_more P (WrapCall plugin plain (Ok wrapped)) left.heard (g.0 (Ok wrapped)) a) goes
   only_asked (unwrap seat key next) left g a (inl e) = at left a e
   only_asked (unwrap seat key next) left g a (inr (inl (answer, e))) =
-      at (record left { heard = hearing (UnwrapCall key answer ∷ []) left.heard })
-      (one_more P (UnwrapCall key answer) left.heard (g.0 answer) a) e
+      at_asked (UnwrapCall key answer) left (g.0 answer) a e
   only_asked (unwrap seat key next) left g a (inr (inr (inl e))) =
-      at (record left { heard = hearing (UnwrapCall key (Err Failed) ∷ []) left.heard })
-      (one_more P (UnwrapCall key (Err Failed)) left.heard (g.0 (Err Failed)) a) e
+      at_asked (UnwrapCall key (Err Failed)) left (g.0 (Err Failed)) a e
   only_asked (unwrap seat key next) left g a (inr (inr (inr (bytes, goes)))) =
       only_asked (next bytes) _ (g.1 bytes (hearing (UnwrapCall key (Ok bytes) ∷ []) left.heard))
       (one_more P (UnwrapCall key (Ok bytes)) left.heard (g.0 (Ok bytes)) a) goes

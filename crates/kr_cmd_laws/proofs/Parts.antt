@@ -34,15 +34,11 @@ module _ {A B : Type 0} (others : A → Steps B) (p : Point B) (end : Left) wher
   parts (borrow_tape name access absent next) left r (inr (inl at)) = inl (ends_at at tt)
   parts (borrow_tape name access absent next) left r (inr (inr (inl (may, agrees, at)))) =
       inl (ends_at at tt)
-  parts (borrow_tape name ToMake absent next) left r (inr (inr (inr (may, goes)))) = absurd r.0
-  parts (borrow_tape name ToWrite absent next) left r (inr (inr (inr (may, goes)))) = absurd r.0
   parts (borrow_tape name ToRead absent next) left r (inr (inr (inr (may, goes)))) =
       parts next _ r.1 goes
   parts (read_tape object name next) left r (inl at) = inl (ends_at at tt)
   parts (read_tape object name next) left r (inr (bytes, agrees, goes)) =
       parts (next bytes) left (r bytes) goes
-  parts (write_row object name store row next) left r goes = absurd r.0
-  parts (keep_rows name store next) left r goes = absurd r.0
   parts (settle object name next) left r (inl at) = inl (ends_at at tt)
   parts (settle object name next) left r (inr goes) = parts next _ r goes
   parts (draw seat size next) left r (inl at) = inl (ends_at at tt)
@@ -73,3 +69,4 @@ module _ {A B : Type 0} (others : A → Steps B) (p : Point B) (end : Left) wher
   parts (find D P next) left r (inr (d, is, goes)) = parts (next d) _ (r d) goes
   parts (refuse why) left r at = inl (ends_at at tt)
   parts (give x) left r goes = inr (x, left, refl, goes)
+  parts other left r goes = absurd r.0

@@ -8,7 +8,7 @@ use Rattle.std.specs.Prelude.{length, nat_lt}
 use Rattle.kr_config.specs.Kept.{ConfigEntry}
 use Rattle.kr_config.specs.Lists.{list_of}
 use Rattle.kr_config.specs.declared.who.Who.{Who}
-use Rattle.kr_config.specs.declared.who.Who.TheVariants.{Identity, Aescbc, Aesgcm, Kms}
+use Rattle.kr_config.specs.declared.who.Who.TheVariants.{Kms}
 use Rattle.kr_envelope.specs.declared.object.EncryptedObject.{EncryptedObject}
 use Rattle.kr_envelope.specs.declared.object.ObjectNo.{ObjectNo}
 use Rattle.kr_kms.specs.Cache.{CacheState, seed_at, with_used}
@@ -64,6 +64,7 @@ use Rattle.kr_cmd_steps.specs.Ran.{Answers, Closes, EndsAll, ReachesEnd}
 use Rattle.kr_cmd_steps.specs.Steps.{Steps, borrow_dice, settle, find, give, and_then, with_asked, with_tape, Left, Goes, Point, amid, awaits, gives, refuses, give_back}
 use Rattle.kr_cmd_steps.specs.StoreFiles.{IsStored, Stored, none_there, with_row}
 use Rattle.kr_cmd_steps.specs.declared.programs.Program.{Program}
+use Rattle.kr_cmd_laws.specs.VerifyLaws.{AreLive}
 use Rattle.kr_cmd_laws.specs.PluginLaws.{IsInput, IsLiveOf, IsQuestion, IsRowOf, PluginsSee, Sees, verified_as}
 use Rattle.kr_cmd_laws.proofs.OnlyAsks.{plain_asks, AllHeard, OnlyAsks, only_asked, only_then}
 use Rattle.kr_cmd_laws.proofs.Plain.{plain}
@@ -180,7 +181,7 @@ module _ (IsHeld : List ℕ → Type 0) where
   seed_only plugin None left = λ bytes rest fits. (λ answer. fits, λ wrapped h. tt)
   seed_only plugin (Some breach) left = tt
 
-  seeds_only : (plugins : List (List ℕ)) (left : Left) → OnlyAsks P (make_seeds plugins) left
+  pub seeds_only : (plugins : List (List ℕ)) (left : Left) → OnlyAsks P (make_seeds plugins) left
   seeds_only [] left = tt
   seeds_only (plugin ∷ plugins) left = only_then P
       (λ row. and_then (make_seeds plugins) (λ rows. give (row ∷ rows)))
@@ -217,17 +218,10 @@ module _ (IsHeld : List ℕ → Type 0) where
       → IsHeld bytes → HasObject reader bytes object
       → ((o : Option (List ℕ)) (after : CacheState) (l : Left) → OnlyAsks P (next o after) l)
       → OnlyAsks P (opening seeds reader object kept next) left
-  opened_only seeds None bytes object kept next left held has o = o None kept left
-  opened_only seeds (Some Identity) bytes object kept next left held has o = o None kept left
-  opened_only seeds (Some (Aescbc name secret)) bytes object kept next left held has o =
-      o None kept left
-  opened_only seeds (Some (Aesgcm name secret)) bytes object kept next left held has o =
-      o None kept left
-  opened_only seeds (Some (Kms name)) bytes (Err why) kept next left held has o =
-      o None kept left
   opened_only seeds (Some (Kms name)) bytes (Ok object) kept next left held has o =
       source_only (published_source (seed_of name seeds) (seed_key name object)) kept
       (seed_key name object) next left (λ answer. (bytes, name, object, held, has, refl)) o
+  opened_only seeds other bytes object kept next left held has o = o None kept left
 
   with_only : (seeds : List SeedRow) (list : List Who) (path bytes : List ℕ)
       (object : Result EncryptedObject ObjectNo) (source : Option (List ℕ)) (kept : CacheState)
@@ -462,6 +456,30 @@ module _ (old : Around) where
       on_store programs rows left bytes agrees (Ok held) is = λ u v.
           at programs rows left bytes agrees held is (live held.rows words.path) refl
 
+  -- a row that is found in the store is live there
+  found_live : (words : Verification) {bytes : List ℕ} {store : Stored} {found : List stored.Row}
+      → Agrees (old.world.tapes.told words.store) (Some bytes) → IsStored bytes (Ok store)
+      → IsListing store.rows found → AreLive words old found
+  found_live words {bytes} {store} agrees read listed = record {
+    bytes = bytes;
+    store = store;
+    held = agrees;
+    read = read;
+    listing = listed;
+  }
+
+  live_of : (words : Verification) {bytes : List ℕ} {store : Stored} {found : List stored.Row}
+      {row : stored.Row} → Agrees (old.world.tapes.told words.store) (Some bytes)
+      → IsStored bytes (Ok store) → IsListing store.rows found → Contains found row
+      → IsLiveOf words old row.stored
+  live_of words {found = found} {row} agrees read listed among = record {
+    live = found;
+    row = row;
+    are = found_live words agrees read listed;
+    among = among;
+    is = refl;
+  }
+
   verifies : (words : Verification)
       → OnlyAsks (Sees (Verify words) old) (steps (Verify words)) begin
   verifies words =
@@ -484,19 +502,7 @@ module _ (old : Around) where
       on_store programs rows left bytes agrees (Err why) is = tt
       on_store programs rows left bytes agrees (Ok held) is = λ found listed.
           verified_only (IsLiveOf words old) programs rows found
-          (with_asked (Returned words.store) left) (λ row among. record {
-            live = found;
-            row = row;
-            are = record {
-              bytes = bytes;
-              store = held;
-              held = agrees;
-              read = is;
-              listing = listed;
-            };
-            among = among;
-            is = refl;
-          })
+          (with_asked (Returned words.store) left) (λ row among. live_of words agrees is listed among)
 
   rewrites : (words : Rewriting)
       → OnlyAsks (Sees (Rewrite words) old) (steps (Rewrite words)) begin
@@ -520,19 +526,7 @@ module _ (old : Around) where
       on_store programs rows left bytes agrees (Err why) is = tt
       on_store programs rows left bytes agrees (Ok held) is = λ found listed.
           rewritten_only (IsLiveOf (verified_as words) old) words.store programs rows held found left
-          (λ row among. record {
-            live = found;
-            row = row;
-            are = record {
-              bytes = bytes;
-              store = held;
-              held = agrees;
-              read = is;
-              listing = listed;
-            };
-            among = among;
-            is = refl;
-          })
+          (λ row among. live_of (verified_as words) agrees is listed among)
 
   pub command_asks : (command : Command) → OnlyAsks (Sees command old) (steps command) begin
   command_asks (Convert words) = converts words

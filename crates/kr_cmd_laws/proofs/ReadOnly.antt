@@ -6,17 +6,15 @@ use Rattle.kr_store.specs.Rows.{live}
 use Rattle.kr_config.specs.declared.who.Who.{Who}
 use Rattle.kr_envelope.specs.declared.object.EncryptedObject.{EncryptedObject}
 use Rattle.kr_envelope.specs.declared.object.ObjectNo.{ObjectNo}
-use Rattle.kr_config.specs.declared.who.Who.TheVariants.{Identity, Aescbc, Aesgcm, Kms}
-use Rattle.kr_kms.specs.Cache.{CacheState, seed_at, with_used}
+use Rattle.kr_kms.specs.Cache.{CacheState}
 use Rattle.kr_kms.specs.Health.{breach_in}
 use Rattle.kr_kms.specs.declared.health.Field.{Field}
 use Rattle.kr_kms.specs.declared.plugin.Status.{Status}
 use Rattle.kr_kms.specs.declared.plugin.Wrapped.{Wrapped}
-use Rattle.kr_kms.specs.declared.seeds.SeedKey.{SeedKey}
 use Rattle.kr_kms.specs.declared.seeds.SeedRow.{SeedRow}
-use Rattle.kr_provider.specs.Envelopes.{seed_key, Envelope}
+use Rattle.kr_provider.specs.Envelopes.{Envelope}
 use Rattle.kr_provider.specs.PluginOrder.{plugin_order}
-use Rattle.kr_provider.specs.Publication.{Publication, seed_of}
+use Rattle.kr_provider.specs.Publication.{Publication}
 use Rattle.kr_store.specs.Stores.{IsListing}
 use Rattle.kr_store.specs.declared.rows.Row as stored
 use Rattle.kr_provider.specs.Reading.{Reading, data_of, refused, unopened, value_reading, is_stale}
@@ -32,7 +30,7 @@ use Rattle.kr_kms.specs.declared.world.Access.TheVariants.{ToRead, ToWrite, ToMa
 use Rattle.kr_cmd_steps.specs.Afterwards.{OthersStay}
 use Rattle.kr_cmd_steps.specs.Phases.{by_result, configuration, input_of, linking_programs, with_memory, read_for}
 use Rattle.kr_cmd_steps.specs.StoreSteps.{live_on, row_finding, row_findings, telling_findings, verifying_by, verifying_with, row_found, row_on}
-use Rattle.kr_cmd_steps.specs.ValueSteps.{bench_steps, draw_some, opening, published_source, reading_given, data_steps, value_read, value_sealed, value_with, source_steps, value_steps, working, working_by, fetching, none_kept}
+use Rattle.kr_cmd_steps.specs.ValueSteps.{bench_steps, draw_some, reading_given, data_steps, value_read, value_sealed, value_with, value_steps, working, working_by, none_kept}
 use Rattle.kr_cmd_steps.specs.Commands.{steps}
 use Rattle.kr_cmd_steps.specs.RowFindings.{finding_of}
 use Rattle.kr_cmd_steps.specs.Plugins.{borrow_links, make_seed, make_seeds, settings_programs, unless_breach, wrap_seed}
@@ -45,6 +43,7 @@ use Rattle.kr_cmd_messages.specs.declared.command.Direction.TheVariants.{Encrypt
 use Rattle.kr_cmd_steps.specs.declared.programs.Program.{Program}
 use Rattle.kr_cmd_messages.specs.declared.refusal.Refusal.{Refusal}
 use Rattle.kr_cmd_laws.proofs.Plain.{IsPlain, IsRead, plain}
+use Rattle.kr_cmd_laws.proofs.OpeningSteps.{opens}
 
 -- no tape is asked to be made, and only those of these names to be written
 abbrev pub MayAsk : (May : List ℕ → Type 0) → (name : List ℕ) → Access → Type 0
@@ -236,34 +235,6 @@ given_reads (data_of plain) stale = tt
 given_reads (refused why) stale = tt
 given_reads unopened stale = λ none. absurd none
 
-fetching_reads : {A : Type 0} (seed : Option (List ℕ)) (kept : CacheState) (key : SeedKey)
-    (next : Option (List ℕ) → CacheState → Steps A)
-    → ((o : Option (List ℕ)) (after : CacheState) → IsReadOnly (next o after))
-    → IsReadOnly (fetching seed kept key next)
-fetching_reads (Some seed) kept key next r = r (Some seed) (with_used kept key)
-fetching_reads None kept key next r = λ bytes after. r (Some bytes) after
-
-source_reads : {A : Type 0} (source : Option (List ℕ)) (kept : CacheState) (key : SeedKey)
-    (next : Option (List ℕ) → CacheState → Steps A)
-    → ((o : Option (List ℕ)) (after : CacheState) → IsReadOnly (next o after))
-    → IsReadOnly (source_steps source kept key next)
-source_reads (Some seed) kept key next r = r (Some seed) kept
-source_reads None kept key next r = fetching_reads (seed_at kept.rows key) kept key next r
-
-opening_reads : {A : Type 0} (seeds : List SeedRow) (reader : Option Who)
-    (object : Result EncryptedObject ObjectNo) (kept : CacheState)
-    (next : Option (List ℕ) → CacheState → Steps A)
-    → ((o : Option (List ℕ)) (after : CacheState) → IsReadOnly (next o after))
-    → IsReadOnly (opening seeds reader object kept next)
-opening_reads seeds None object kept next r = r None kept
-opening_reads seeds (Some Identity) object kept next r = r None kept
-opening_reads seeds (Some (Aescbc name secret)) object kept next r = r None kept
-opening_reads seeds (Some (Aesgcm name secret)) object kept next r = r None kept
-opening_reads seeds (Some (Kms name)) (Err why) kept next r = r None kept
-opening_reads seeds (Some (Kms name)) (Ok object) kept next r = source_reads
-    (published_source (seed_of name seeds) (seed_key name object)) kept (seed_key name object)
-    next r
-
 with_reads : (seeds : List SeedRow) (list : List Who) (path bytes : List ℕ)
     (object : Result EncryptedObject ObjectNo) (source : Option (List ℕ)) (kept : CacheState)
     → IsReadOnly (value_with seeds list path bytes object source kept)
@@ -276,8 +247,10 @@ with_reads seeds list path bytes object source kept =
 pub value_reads : (seeds : List SeedRow) (list : List Who) (path bytes : List ℕ)
     (kept : CacheState) → IsReadOnly (value_read seeds list path bytes kept)
 value_reads seeds list path bytes kept = λ object.
-    opening_reads seeds (reader_in list bytes) object kept
-    (value_with seeds list path bytes object) (with_reads seeds list path bytes object)
+    let on = with_reads seeds list path bytes object in
+    opens (λ (s : Steps (Result Opened ValueNo × CacheState)). IsReadOnly s)
+    (value_with seeds list path bytes object) on
+    (λ before key. λ seed after. on (Some seed) after) seeds (reader_in list bytes) object kept
 
 data_reads : (read : Result Opened ValueNo) → IsReadOnly (data_steps read)
 data_reads (Ok opened) = tt
@@ -353,8 +326,7 @@ findings_read programs rows live =
 module _ (name : List ℕ) where
   none_asked : (access : Access) → IsRead access → MayAsk (λ other. ⊥) name access
   none_asked ToRead r = tt
-  none_asked ToWrite r = absurd (r tt)
-  none_asked ToMake r = absurd (r tt)
+  none_asked other r = absurd (r tt)
 
 pub plain_reads : {A : Type 0} (s : Steps A) → IsPlain s → IsReadOnly s
 plain_reads (load name next) p = λ bytes. plain_reads (next bytes) (p bytes)

@@ -7,9 +7,9 @@ use Rattle.kr_kms.specs.Outside.{file_faults}
 use Rattle.kr_config.specs.declared.refusal.ConfigNo.{ConfigNo}
 use Rattle.kr_config.specs.declared.refusal.ConfigNo.TheVariants as config
 use Rattle.kr_cmd_steps.specs.Around.{Around, with_what_is_said, left_of, IsHome, IsFault, MayLack, faults_at, count_at}
-use Rattle.kr_cmd_messages.specs.Command.{Asks, AskBadly}
+use Rattle.kr_cmd_messages.specs.Command.{Asks, AskBadly, AskPage, AskReplicas, AskSize}
 use Rattle.kr_cmd_messages.specs.Message.{status_of, status_of_done, status_of_configuration, status_of_refusal, line_of, fault_line}
-use Rattle.kr_cmd_steps.specs.Steps.{Call, loading, reading, opening, lending, scanning, writing, settling, drawing, object_of, Point, awaits, amid, refuses, gives, linking, asking}
+use Rattle.kr_cmd_steps.specs.Steps.{Call, loading, opening, lending, object_of, Point, awaits, amid, refuses, gives, linking}
 use Rattle.kr_cmd_steps.specs.Ran.{WroteNothing, Reports, IsUntouched, StopsAtOnce, Did, Comes, ComesSaying, ComesReporting, Writes, Answers, FailsAt, FailsToWrite, ReachesEnd, Readings}
 use Rattle.kr_cmd_messages.specs.Receipts.{Receipt, Tells}
 use Rattle.kr_cmd_messages.specs.declared.command.Command.{Command}
@@ -18,11 +18,11 @@ use Rattle.kr_cmd_messages.specs.declared.refusal.BadWords.TheVariants.{Usage, R
 use Rattle.kr_cmd_messages.specs.declared.refusal.Object.{Object}
 use Rattle.kr_cmd_messages.specs.declared.refusal.Object.TheVariants.{Output}
 use Rattle.kr_cmd_messages.specs.declared.refusal.Refusal.{Refusal}
-use Rattle.kr_cmd_messages.specs.declared.refusal.Refusal.TheVariants.{Absent, Configuration, Limit, Value, Placed, Broken, NoPath, NotEmpty, NotOld, NoPlugin, Unhealthy, Stray, OtherSecret, Unfit, Clash, Script}
+use Rattle.kr_cmd_messages.specs.declared.refusal.Refusal.TheVariants.{Configuration, Limit, Value, Placed, NoPath, NotEmpty, Clash}
 use Rattle.kr_cmd_messages.specs.declared.refusal.Stop.{Stop}
 use Rattle.kr_cmd_messages.specs.declared.refusal.Stop.TheVariants.{Words, Refused, Fault, NoMemory}
 use Rattle.kr_cmd_messages.specs.declared.refusal.Done.{Done}
-use Rattle.kr_cmd_messages.specs.declared.refusal.Done.TheVariants.{Silent, Fresh, Stale, Blocked}
+use Rattle.kr_cmd_messages.specs.declared.refusal.Done.TheVariants.{Blocked}
 use Rattle.kr_cmd_messages.specs.declared.refusal.Outcome.{Outcome}
 use Rattle.kr_cmd_laws.proofs.Decided.{same_end}
 use Rattle.kr_cmd_messages.proofs.OneCommand.{asks_something, no_stop}
@@ -39,28 +39,18 @@ status_of_why (config.Yaml broken line) = inr (inl refl)
 status_of_why (config.Limit counted) = inr (inr refl)
 
 pub status_in : (why : Refusal) → Statuses (status_of_refusal why)
-status_in (Absent name) = inr (inl refl)
 status_in (Configuration why) = status_of_why why
-status_in (NoPlugin name) = inr (inl refl)
-status_in (Unhealthy name field text) = inr (inl refl)
 status_in (Limit which) = inr (inr refl)
 status_in (Value number) = inl refl
 status_in (Placed number at) = inl refl
-status_in (Broken why) = inr (inl refl)
 status_in (NoPath path) = inl refl
 status_in (NotEmpty length) = inr (inl refl)
-status_in NotOld = inr (inl refl)
-status_in (Stray path) = inr (inl refl)
-status_in (OtherSecret path) = inr (inl refl)
-status_in (Unfit replica verdict) = inr (inl refl)
 status_in (Clash text) = inl refl
-status_in (Script line) = inr (inl refl)
+status_in other = inr (inl refl)
 
 done_in : (done : Done) → (status_of_done done ≡ 0) ⊎ (status_of_done done ≡ 1)
-done_in Silent = inl refl
-done_in Fresh = inl refl
-done_in Stale = inl refl
 done_in Blocked = inr refl
+done_in other = inl refl
 
 -- ---- counts and texts
 
@@ -89,15 +79,10 @@ file_rose {old} {new} h r =
 pub object_rose : {old new : Around} (call : Call) → IsHome old new
     → Rose (faults_at call old) (faults_at call new) → Rose (count_at call old) (count_at call new)
 object_rose (loading name) h r = file_rose h (inl r)
-object_rose reading h r = r
 object_rose (opening seat) h r = file_rose h (inr (inr (inl r)))
 object_rose (lending name) h r = file_rose h (inr (inl r))
-object_rose (scanning object name) h r = r
-object_rose (writing object name) h r = r
-object_rose (settling object name) h r = r
-object_rose (drawing seat) h r = r
 object_rose (linking seat plugin) h r = file_rose h (inr (inr (inr r)))
-object_rose (asking seat plugin) h r = r
+object_rose other h r = r
 
 whole_front : (old new : Option (List ℕ)) (value : List ℕ) → Appends old new value
     → AppendsFront old new value
@@ -111,27 +96,34 @@ whole_front old new value a = (
 module _ (said : List ℕ) (a : Around) where
   same_faults : (call : Call) → faults_at call (with_what_is_said said a) ≡ faults_at call a
   same_faults (loading name) = refl
-  same_faults reading = refl
-  same_faults (opening seat) = refl
-  same_faults (lending name) = refl
-  same_faults (scanning object name) = refl
-  same_faults (writing object name) = refl
-  same_faults (settling object name) = refl
-  same_faults (drawing seat) = refl
-  same_faults (linking seat plugin) = refl
-  same_faults (asking seat plugin) = refl
+  same_faults other = refl
 
   same_count : (call : Call) → count_at call (with_what_is_said said a) ≡ count_at call a
   same_count (loading name) = refl
-  same_count reading = refl
-  same_count (opening seat) = refl
-  same_count (lending name) = refl
-  same_count (scanning object name) = refl
-  same_count (writing object name) = refl
-  same_count (settling object name) = refl
-  same_count (drawing seat) = refl
-  same_count (linking seat plugin) = refl
-  same_count (asking seat plugin) = refl
+  same_count other = refl
+
+-- what is around is at home too
+home_saying : (old new : Around) (said : List ℕ) → IsHome old (with_what_is_said said new)
+    → IsHome old new
+home_saying old new said home = record {
+  files = home.files;
+  dice = home.dice;
+  tapes = home.tapes;
+  links = home.links;
+  input = home.input;
+}
+
+pub comes_saying : (words : List (List ℕ)) (old new : Around) (said : List ℕ)
+    {made : Result Outcome Stop} {point : Point Outcome}
+    (did : Did words old (with_what_is_said said new) made)
+    → ReachesEnd did.command (left_of old) (with_what_is_said said new) point
+    → ComesSaying words old new said point
+comes_saying words old new said did r = record {
+  command = did.command;
+  asks = did.asks;
+  reaches = r;
+  home = home_saying old new said did.home;
+}
 
 -- ---- by how the call ended
 
@@ -150,6 +142,18 @@ module _ (words : List (List ℕ)) (old new : Around) (output errors : Receipt) 
       ⊎ ((made : Outcome) × Comes words old new (gives made)
       × AppendsFront output.old output.new made.bytes)
 
+  at_limit : AskReplicas words ⊎ AskSize words ⊎ AskPage words
+      → ((command : Command) → Asks words command → ⊥) → IsUntouched old new output → status ≡ 6
+      → AreRead
+  at_limit which no_command same six = record {
+    usage = (λ two. absurd (omega (arith, six, two)), λ nothing. inr (inr (inl (six, which))));
+    caused = λ four. absurd (omega (arith, six, four));
+    refused = λ limited. inr (inr (six, which, same));
+    decided = λ command point end asks unasked once told may at. absurd (no_command command asks);
+    done = λ zero_is. absurd (omega (arith, six, zero_is));
+    written = record { front = inl same.1; usage = λ two. same };
+  }
+
   at_words : (why : BadWords) → AskBadly why words → IsUntouched old new output
       → Told (Err (Words why)) → AreRead
   at_words Usage bad same t = record {
@@ -160,36 +164,9 @@ module _ (words : List (List ℕ)) (old new : Around) (output errors : Receipt) 
     done = λ zero_is. absurd (omega (arith, t.0, zero_is));
     written = record { front = inl same.1; usage = λ two. same };
   }
-  at_words Replicas bad same t = record {
-    usage = (λ two. absurd (omega (arith, t.0, two)), λ none. inr (inr (inl (t.0, inl bad))));
-    caused = λ four. absurd (omega (arith, t.0, four));
-    refused = λ which. inr (inr (t.0, inl bad, same));
-    decided = λ command point end asks unasked once told may at. absurd (no_stop Replicas asks bad);
-    done = λ zero_is. absurd (omega (arith, t.0, zero_is));
-    written = record { front = inl same.1; usage = λ two. same };
-  }
-  at_words Size bad same t = record {
-    usage = (
-      λ two. absurd (omega (arith, t.0, two)),
-      λ none. inr (inr (inl (t.0, inr (inl bad)))),
-    );
-    caused = λ four. absurd (omega (arith, t.0, four));
-    refused = λ which. inr (inr (t.0, inr (inl bad), same));
-    decided = λ command point end asks unasked once told may at. absurd (no_stop Size asks bad);
-    done = λ zero_is. absurd (omega (arith, t.0, zero_is));
-    written = record { front = inl same.1; usage = λ two. same };
-  }
-  at_words Page bad same t = record {
-    usage = (
-      λ two. absurd (omega (arith, t.0, two)),
-      λ none. inr (inr (inl (t.0, inr (inr bad)))),
-    );
-    caused = λ four. absurd (omega (arith, t.0, four));
-    refused = λ which. inr (inr (t.0, inr (inr bad), same));
-    decided = λ command point end asks unasked once told may at. absurd (no_stop Page asks bad);
-    done = λ zero_is. absurd (omega (arith, t.0, zero_is));
-    written = record { front = inl same.1; usage = λ two. same };
-  }
+  at_words Replicas bad same t = at_limit (inl bad) (λ c asks. no_stop Replicas asks bad) same t.0
+  at_words Size bad same t = at_limit (inr (inl bad)) (λ c asks. no_stop Size asks bad) same t.0
+  at_words Page bad same t = at_limit (inr (inr bad)) (λ c asks. no_stop Page asks bad) same t.0
 
   at_memory : Front → Told (Err NoMemory) → AreRead
   at_memory front t = record {
@@ -253,18 +230,7 @@ module _ (words : List (List ℕ)) (old new : Around) (output errors : Receipt) 
 
     comes : {made : Result Outcome Stop} {point : Point Outcome} (did : Did words old Now made)
         → ReachesEnd did.command (left_of old) Now point → ComesSaying words old new said point
-    comes did r = record {
-      command = did.command;
-      asks = did.asks;
-      reaches = r;
-      home = record {
-        files = did.home.files;
-        dice = did.home.dice;
-        tapes = did.home.tapes;
-        links = did.home.links;
-        input = did.home.input;
-      };
-    }
+    comes did r = comes_saying words old new said did r
 
   -- the line has the object and the count
   line_at : {object : Object} {count : ℕ} (same : Object) (number : ℕ) → object ≡ same
@@ -276,11 +242,9 @@ module _ (words : List (List ℕ)) (old new : Around) (output errors : Receipt) 
 
   at_once : (r : Result Done Stop) → StopsAtOnce words r → IsUntouched old new output → Told r
       → AreRead
-  at_once (Ok done) stops same t = absurd stops
   at_once (Err (Words why)) stops same t = at_words why stops same t
-  at_once (Err (Refused why)) stops same t = absurd stops
-  at_once (Err (Fault object count)) stops same t = absurd stops
   at_once (Err NoMemory) stops same t = at_memory (inl same.1) t
+  at_once other stops same t = absurd stops
 
   module _ (said : List ℕ) where
     -- where a step ended the command
@@ -326,8 +290,6 @@ module _ (words : List (List ℕ)) (old new : Around) (output errors : Receipt) 
         → Writes said output (Ok made) r → Told r → AreRead
     at_output made (Ok done) did w t =
         at_value made (said, comes said did did.ends) w.1 (subst (λ d. Told (Ok d)) w.0 t)
-    at_output made (Err (Words why)) did w t = absurd w
-    at_output made (Err (Refused why)) did w t = absurd w
     at_output made (Err (Fault object count)) did w t =
         at_fault object count did.command did.asks
         (inr (
@@ -340,7 +302,7 @@ module _ (words : List (List ℕ)) (old new : Around) (output errors : Receipt) 
           ),
         ))
         (inr (inr (made, (said, comes said did did.ends), w.0))) t
-    at_output made (Err NoMemory) did w t = absurd w
+    at_output made (Err other) did w t = absurd w
 
   by_end : (r : Result Done Stop) → Answers words old new output r → Told r → AreRead
   by_end r (inl (stops, same)) t = at_once r stops same t
@@ -354,12 +316,10 @@ module _ (words : List (List ℕ)) (old new : Around) (output errors : Receipt) 
     (said, comes said did did.ends),
     whole_front output.old output.new made.bytes w.1,
   ))
-  front_of (Err (Words why)) (inr (said, Ok made, did, w)) = absurd w
-  front_of (Err (Refused why)) (inr (said, Ok made, did, w)) = absurd w
   front_of (Err (Fault object count)) (inr (said, Ok made, did, w)) =
       inr (inr (made, (said, comes said did did.ends), w.0))
-  front_of (Err NoMemory) (inr (said, Ok made, did, w)) = absurd w
   front_of r (inr (said, Err stop, did, w)) = reported said stop did w.1
+  front_of (Err other) (inr (said, Ok made, did, w)) = absurd w
 
 pub readings : (words : List (List ℕ)) (old new : Around) (output errors : Receipt) (status : ℕ)
     (r : Result Done Stop) → Answers words old new output r

@@ -4,14 +4,13 @@ use Rattle.std.specs.Prelude.{nat_lt, if◌then◌else◌}
 use Rattle.kr_base.specs.Limits.{data_limit, store_limit}
 use Rattle.kr_config.specs.Lists.{list_of}
 use Rattle.kr_config.specs.declared.who.Who.{Who}
-use Rattle.kr_config.specs.declared.who.Who.TheVariants.{Identity, Aescbc, Aesgcm, Kms}
 use Rattle.kr_envelope.specs.declared.object.EncryptedObject.{EncryptedObject}
 use Rattle.kr_envelope.specs.declared.object.ObjectNo.{ObjectNo}
-use Rattle.kr_kms.specs.Cache.{CacheState, seed_at, with_used}
+use Rattle.kr_kms.specs.Cache.{CacheState}
 use Rattle.kr_kms.specs.declared.seeds.SeedKey.{SeedKey}
 use Rattle.kr_kms.specs.declared.seeds.SeedRow.{SeedRow}
-use Rattle.kr_provider.specs.Envelopes.{seed_key, Envelope}
-use Rattle.kr_provider.specs.Publication.{Publication, seed_of}
+use Rattle.kr_provider.specs.Envelopes.{Envelope}
+use Rattle.kr_provider.specs.Publication.{Publication}
 use Rattle.kr_provider.specs.Reading.{Reading, data_of, refused, unopened, value_reading, is_stale}
 use Rattle.kr_provider.specs.Readers.{reader_in, writer_of}
 use Rattle.kr_provider.specs.Sealing.{draw_size, sealed_by}
@@ -27,10 +26,11 @@ use Rattle.kr_cmd_messages.specs.declared.refusal.Refusal.TheVariants.{Limit}
 use Rattle.kr_cmd_steps.specs.Phases.{adding, by_result}
 use Rattle.kr_cmd_steps.specs.RewriteSteps.{Progress, driving, one_fresh, one_rewritten, replacing, resealing, row_anew, row_by, row_data, row_steps}
 use Rattle.kr_cmd_steps.specs.StoreFiles.{Stored, with_row}
-use Rattle.kr_cmd_steps.specs.ValueSteps.{draw_some, opening, published_source, reading_given, source_steps, value_read, value_sealed, value_with, fetching}
+use Rattle.kr_cmd_steps.specs.ValueSteps.{draw_some, reading_given, value_read, value_sealed, value_with, fetching}
 use Rattle.kr_cmd_steps.specs.Steps.{Steps, write_row, give, and_then, Point, awaits, amid, refuses, gives, Left, Goes}
 use Rattle.kr_cmd_steps.proofs.Goes.{Further}
 use Rattle.kr_cmd_laws.proofs.Behind.{parted}
+use Rattle.kr_cmd_laws.proofs.OpeningSteps.{opens}
 
 -- this point is no refusal
 abbrev IsNone : {A : Type 0} → Point A → Type 0
@@ -42,10 +42,8 @@ none_refused : {A B : Type 0} {why : Refusal} {here : Point A} → refuses why �
 none_refused {A} {B} e none = absurd (subst (λ (q : Point A). IsNone q) (sym e) none)
 
 abbrev refusal_of : {A : Type 0} → Refusal → Point A → Refusal
-refusal_of other (awaits call) = other
-refusal_of other amid = other
 refusal_of other (refuses why) = why
-refusal_of other (gives x) = other
+refusal_of other another = other
 
 module _ (P : Refusal → Type 0) where
   same_refusal : {A : Type 0} (why cause : Refusal)
@@ -80,41 +78,17 @@ module _ (P : Refusal → Type 0) where
   given_refuses unopened stale why end left (inl at) = none_refused at.0 tt
   given_refuses unopened stale why end left (inr (none, u, goes)) = absurd none
 
-  fetching_refuses : {A : Type 0} (seed : Option (List ℕ)) (kept : CacheState) (key : SeedKey)
+  asking_refuses : {A : Type 0} (kept : CacheState) (key : SeedKey)
       (next : Option (List ℕ) → CacheState → Steps A)
       → ((o : Option (List ℕ)) (after : CacheState) → RefusesOnly (next o after))
-      → RefusesOnly (fetching seed kept key next)
-  fetching_refuses (Some seed) kept key next r why end left goes =
-      r (Some seed) (with_used kept key) why end left goes
-  fetching_refuses None kept key next r why end left (inl at) = none_refused at.0 tt
-  fetching_refuses None kept key next r why end left (inr (inl (answer, at))) =
+      → RefusesOnly (fetching None kept key next)
+  asking_refuses kept key next r why end left (inl at) = none_refused at.0 tt
+  asking_refuses kept key next r why end left (inr (inl (answer, at))) = none_refused at.0 tt
+  asking_refuses kept key next r why end left (inr (inr (inl at))) = none_refused at.0 tt
+  asking_refuses kept key next r why end left (inr (inr (inr (bytes, inl at)))) =
       none_refused at.0 tt
-  fetching_refuses None kept key next r why end left (inr (inr (inl at))) = none_refused at.0 tt
-  fetching_refuses None kept key next r why end left (inr (inr (inr (bytes, inl at)))) =
-      none_refused at.0 tt
-  fetching_refuses None kept key next r why end left
+  asking_refuses kept key next r why end left
       (inr (inr (inr (bytes, inr (after, keeps, goes))))) = r (Some bytes) after why end _ goes
-
-  source_refuses : {A : Type 0} (source : Option (List ℕ)) (kept : CacheState) (key : SeedKey)
-      (next : Option (List ℕ) → CacheState → Steps A)
-      → ((o : Option (List ℕ)) (after : CacheState) → RefusesOnly (next o after))
-      → RefusesOnly (source_steps source kept key next)
-  source_refuses (Some seed) kept key next r = r (Some seed) kept
-  source_refuses None kept key next r = fetching_refuses (seed_at kept.rows key) kept key next r
-
-  opening_refuses : {A : Type 0} (seeds : List SeedRow) (reader : Option Who)
-      (object : Result EncryptedObject ObjectNo) (kept : CacheState)
-      (next : Option (List ℕ) → CacheState → Steps A)
-      → ((o : Option (List ℕ)) (after : CacheState) → RefusesOnly (next o after))
-      → RefusesOnly (opening seeds reader object kept next)
-  opening_refuses seeds None object kept next r = r None kept
-  opening_refuses seeds (Some Identity) object kept next r = r None kept
-  opening_refuses seeds (Some (Aescbc name secret)) object kept next r = r None kept
-  opening_refuses seeds (Some (Aesgcm name secret)) object kept next r = r None kept
-  opening_refuses seeds (Some (Kms name)) (Err why) kept next r = r None kept
-  opening_refuses seeds (Some (Kms name)) (Ok object) kept next r = source_refuses
-      (published_source (seed_of name seeds) (seed_key name object)) kept (seed_key name object)
-      next r
 
   with_refuses : (seeds : List SeedRow) (list : List Who) (path bytes : List ℕ)
       (object : Result EncryptedObject ObjectNo) (source : Option (List ℕ)) (kept : CacheState)
@@ -129,9 +103,11 @@ module _ (P : Refusal → Type 0) where
       (kept : CacheState) → RefusesOnly (value_read seeds list path bytes kept)
   read_refuses seeds list path bytes kept why end left (inl at) = none_refused at.0 tt
   read_refuses seeds list path bytes kept why end left (inr (object, has, goes)) =
-      opening_refuses seeds (reader_in list bytes) object kept
-      (value_with seeds list path bytes object) (with_refuses seeds list path bytes object) why end
-      left goes
+      let on = with_refuses seeds list path bytes object in
+      opens (λ (s : Steps (Result Opened ValueNo × CacheState)). RefusesOnly s)
+      (value_with seeds list path bytes object) on
+      (λ before key. asking_refuses before key (value_with seeds list path bytes object) on) seeds
+      (reader_in list bytes) object kept why end left goes
 
   draws_refuse : {A : Type 0} (size : ℕ) (next : List ℕ → Steps A)
       → ((drawn : List ℕ) → RefusesOnly (next drawn)) → RefusesOnly (draw_some size next)

@@ -165,8 +165,7 @@ prints text ending output errors status (Err (Fault object n)) w t = inr (inl (
   tells_output object n errors status output.new_faults w.1 w.3 t,
 ))
 prints text ending output errors status (Err NoMemory) w t = inr (inr (w, t))
-prints text ending output errors status (Err (Words why)) w t = absurd w
-prints text ending output errors status (Err (Refused why)) w t = absurd w
+prints text ending output errors status (Err other) w t = absurd w
 
 module _ (T : Type 0) {L D : Type 0} (link : L → Link)
     (step : L → Exchange → L → Type 0) (lent took : ℕ → L → Type 0)

@@ -3,13 +3,11 @@ use Rattle.std.proofs.Common.{ℕ, zero, suc, ◌+◌, List, [], ◌∷◌, ◌+
 use Rattle.std.specs.Prelude.{false}
 use Rattle.kr_config.specs.Kept.{ConfigEntry}
 use Rattle.kr_kms.specs.Exchanges.{Exchange}
-use Rattle.kr_kms.specs.Health.{breach_in}
-use Rattle.kr_kms.specs.declared.health.Field.{Field}
 use Rattle.kr_provider.specs.PluginOrder.{plugin_order}
 use Rattle.kr_cmd_messages.specs.declared.fleet_words.FleetWords.{FleetWords}
 use Rattle.kr_cmd_messages.specs.declared.refusal.Refusal.{Refusal}
 use Rattle.kr_cmd_steps.specs.Phases.{by_result, configuration, with_memory}
-use Rattle.kr_cmd_steps.specs.Plugins.{borrow_links_of, make_seed, make_seeds, settings_programs, unless_breach, wrap_seed}
+use Rattle.kr_cmd_steps.specs.Plugins.{borrow_links_of, make_seeds, settings_programs}
 use Rattle.kr_cmd_steps.specs.Steps.{Left, Steps, and_then, give}
 use Rattle.kr_cmd_steps.specs.StoreFiles.{Stored}
 use Rattle.kr_cmd_steps.specs.declared.programs.Program.{Program}
@@ -17,6 +15,7 @@ use Rattle.kr_cmd_fleet.specs.FleetFiles.{FleetPlan, NamedRows, all_files, all_r
 use Rattle.kr_cmd_fleet.specs.Fleets.{Replicas, beginning, equipping, equipping_all, fleet_steps, launching, over_store, publishes, publishing, rows_of_replica, starting_with}
 use Rattle.kr_cmd_laws.specs.PluginLaws.{IsQuestion}
 use Rattle.kr_cmd_laws.proofs.OnlyAsks.{OnlyAsks, only_then}
+use Rattle.kr_cmd_laws.proofs.Questions.{seeds_only}
 
 -- a status, or to wrap 32 bytes
 abbrev pub P : Exchange → Type 0
@@ -75,19 +74,6 @@ equipped_only programs (suc more) seat next o left =
 
 -- ---- what the replicas publish
 
-seed_only : (plugin : List ℕ) (breach : Option (Field × List ℕ)) (left : Left)
-    → OnlyAsks P (unless_breach plugin breach (wrap_seed plugin)) left
-seed_only plugin None left = λ bytes rest fits. (λ answer. fits, λ wrapped h. tt)
-seed_only plugin (Some breach) left = tt
-
-seeds_only : (plugins : List (List ℕ)) (left : Left) → OnlyAsks P (make_seeds plugins) left
-seeds_only [] left = tt
-seeds_only (plugin ∷ plugins) left = only_then P
-    (λ row. and_then (make_seeds plugins) (λ rows. give (row ∷ rows)))
-    (λ row l. only_then P (λ rows. give (row ∷ rows)) (λ rows m. tt) (make_seeds plugins) l
-    (seeds_only plugins l)) (make_seed plugin) left
-    (λ answer. tt, λ status h. seed_only plugin (breach_in status) _)
-
 published_by : (files : List NamedRows) (replicas : List (List ℕ × List ℕ)) (made : Replicas)
     (rows : Option (List ConfigEntry)) (left : Left)
     → ((more : Replicas) (l : Left) → OnlyAsks P (publishing files more replicas) l)
@@ -96,7 +82,7 @@ published_by files replicas made None left o = o (made ++ None ∷ []) left
 published_by files replicas made (Some rows) left o = λ u v. only_then P
     (λ seeds. publishing files (made ++ Some (record { rows = rows; seeds = seeds }) ∷ []) replicas)
     (λ seeds l. o (made ++ Some (record { rows = rows; seeds = seeds }) ∷ []) l)
-    (make_seeds (plugin_order rows)) left (seeds_only (plugin_order rows) left)
+    (make_seeds (plugin_order rows)) left (seeds_only (λ value. ⊥) (plugin_order rows) left)
 
 published_only : (files : List NamedRows) (replicas : List (List ℕ × List ℕ)) (made : Replicas)
     (left : Left) → OnlyAsks P (publishing files made replicas) left

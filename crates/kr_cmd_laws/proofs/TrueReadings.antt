@@ -390,8 +390,7 @@ data_again : (reading : Reading) (opened : Opened) (read : Result Opened ValueNo
     → (again : Opened) × (read ≡ Ok again) × (again.plain ≡ opened.plain)
 data_again (data_of plain) opened (Ok again) a b = (again, refl, b ∙ sym a)
 data_again (data_of plain) opened (Err cause) a b = absurd b
-data_again (refused why) opened read a b = absurd a
-data_again unopened opened read a b = absurd a
+data_again other opened read a b = absurd a
 
 pub read_again : (opens : Opens) (list : List Who) (path bytes : List ℕ) (opened : Opened)
     (read : Result Opened ValueNo) → IsTrueReading opens list path bytes (Ok opened)

@@ -73,17 +73,15 @@ module _ {A B : Type 0} {P Q : A → B → Type 0} where
   pub in_pairs : (R : A → Type 0) (f : (x : A) (y : B) → R x → P x y → Q x y) (xs : List A)
       (ys : List B) → All R xs → InPairs P xs ys → InPairs Q xs ys
   in_pairs R f [] [] all p = tt
-  in_pairs R f [] (y ∷ ys) all p = absurd p
-  in_pairs R f (x ∷ xs) [] all p = absurd p
   in_pairs R f (x ∷ xs) (y ∷ ys) all p =
       (f x y (All-head R x xs all) p.0, in_pairs R f xs ys (All-tail R x xs all) p.1)
+  in_pairs R f other another all p = absurd p
 
   pub map_pairs : (f : (x : A) (y : B) → P x y → Q x y) (xs : List A) (ys : List B)
       → InPairs P xs ys → InPairs Q xs ys
   map_pairs f [] [] p = tt
-  map_pairs f [] (y ∷ ys) p = absurd p
-  map_pairs f (x ∷ xs) [] p = absurd p
   map_pairs f (x ∷ xs) (y ∷ ys) p = (f x y p.0, map_pairs f xs ys p.1)
+  map_pairs f other another p = absurd p
 
 -- ---- the files of a command
 

@@ -257,11 +257,9 @@ module _ (opens : Opens) (name : List ℕ) (p : Publication)
 has_seed : (rows : List ConfigEntry) (seeds : List SeedRow) (w : Who)
     → map (λ row. row.name) seeds ≡ plugin_order rows → IsNamedIn (plugins_in rows) w
     → HasSeed seeds w
-has_seed rows seeds who.Identity names named = tt
-has_seed rows seeds (who.Aescbc name secret) names named = tt
-has_seed rows seeds (who.Aesgcm name secret) names named = tt
 has_seed rows seeds (who.Kms name) names named = seed_there seeds name
     (subst (λ l. Contains l name) (sym names) ((order_has (plugins_in rows) name).1 named))
+has_seed rows seeds other names named = tt
 
 has_seeds : (rows : List ConfigEntry) (seeds : List SeedRow) (list : List Who)
     → map (λ row. row.name) seeds ≡ plugin_order rows → AreNamedIn (plugins_in rows) list
@@ -332,13 +330,12 @@ module _ (opens : Opens) (words : Verification) (old : Around) (made : Outcome)
       → ((row : stored.Row) → Contains live row → Contains f.live row)
       → count_by is_refused findings ≡ 0 → InPairs Come live findings → All Kept live
   all_kept [] [] sub none p = All-nil Kept
-  all_kept [] (finding ∷ findings) sub none p = absurd p
-  all_kept (row ∷ live) [] sub none p = absurd p
   all_kept (row ∷ live) (finding ∷ findings) sub none p =
       let n = none_first finding findings none in
       All-cons Kept row live
       (kept_row row finding (sub row (0, omega arith, refl)) p.0 p.0.read refl n.0)
       (all_kept live findings (λ r c. sub r (suc c.0, omega (arith, c.1), c.2)) n.1 p.1)
+  all_kept other another sub none p = absurd p
 
 -- ---- from the beginning
 
@@ -507,6 +504,4 @@ none_left words old made (gives done) opens file tape sealable (es, all, verify)
     (found (AgreesWith opens) words old made verify.end
     (es, verify.heard, each_agrees opens es all) verify.goes) file tape sealable silent done
     rewrite.end (own, rewrite.heard, each_agrees opens own agree) rewrite.goes
-none_left words old made (refuses why) opens file tape sealable verify silent come = tt
-none_left words old made (awaits call) opens file tape sealable verify silent come = tt
-none_left words old made amid opens file tape sealable verify silent come = tt
+none_left words old made other opens file tape sealable verify silent come = tt

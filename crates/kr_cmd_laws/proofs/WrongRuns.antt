@@ -26,11 +26,7 @@ use Rattle.kr_cmd_laws.specs.WrongRuns.{EachRunIsWrong}
 
 done_alone : (it : Ending) → status_of_replies it ≡ 0 → it ≡ ending.Done
 done_alone ending.Done is = refl
-done_alone ending.Refused is = absurd (omega (arith, is))
-done_alone ending.Unhealthy is = absurd (omega (arith, is))
-done_alone ending.Full is = absurd (omega (arith, is))
-done_alone ending.Memory is = absurd (omega (arith, is))
-done_alone ending.Fault is = absurd (omega (arith, is))
+done_alone other is = absurd (omega (arith, is))
 
 -- a line that was told has this status, or 4 where it couldn't be written
 line_status : (line : List ℕ) (status answered : ℕ) (errors : Receipt)

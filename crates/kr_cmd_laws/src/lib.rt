@@ -1,6 +1,6 @@
-//! What readers take from the relation of a command that was done alone, that it ends in one result,
-//! what it leaves of the tapes, what plugins see of it, what readers take from the relation of a
-//! fleet, its headline, and what `verify` tells of `get` and `rewrite`.
+//! What readers take from the relation of a command that was done alone, that it ends in one
+//! result, what it leaves of the tapes, what plugins see of it, what readers take from the relation
+//! of a fleet, its headline, and what `verify` tells of `get` and `rewrite`.
 #![tactic(auto)]
 
 mod commands;

@@ -4,13 +4,11 @@ use Rattle.std.specs.Prelude.{IfOk, IfSome}
 use Rattle.kr_base.specs.declared.errors.NoMemory.{NoMemory}
 use Rattle.kr_base.specs.Limits.{path_limit}
 use Rattle.kr_base.specs.Rules.{IsPath, IsResource}
-use Rattle.kr_words.specs.Grammar.{Means, ReadsWords, HasFewReplicas, IsWithinPage, IsWithinSize}
+use Rattle.kr_words.specs.Grammar.{Means, HasFewReplicas, IsWithinPage, IsWithinSize}
 use Rattle.kr_words.specs.Options.{value_of}
 use Rattle.kr_words.specs.Rules.{IsCommand, MayHaveEmptyPath}
 use Rattle.kr_words.specs.declared.command.Verb.{Verb}
 use Rattle.kr_words.specs.declared.command.Verb.TheVariants.{Decrypt, Encrypt, Put}
-use Rattle.kr_words.specs.declared.command.WordsNo.{WordsNo}
-use Rattle.kr_words.specs.declared.command.WordsNo.TheVariants.{Usage}
 use Rattle.kr_words.specs.declared.name.OptionName.TheVariants.{Path, Resource}
 use Rattle.kr_words.proofs.Values.{value_rule}
 use Rattle.kr_words.proofs.Meanings.{mean_one}
@@ -55,12 +53,6 @@ pub put_resource : {verb : Verb} {options : List (List ℕ × List ℕ)} → IsC
     → IfSome resource IsResource
 put_resource {verb} {options} command resource is = subst (λ o. IfSome o IsResource) (sym is)
     (value_rule {verb = verb} {options = options} Resource command)
-
--- words that mean nothing ask for nothing
-pub means_nothing : {words : List (List ℕ)} (why : WordsNo) → why ≡ Usage
-    → ReadsWords words (Err why) → AskNothing words
-means_nothing {words} why e r verb options means =
-    absurd (subst (λ w. ReadsWords words (Err w)) e r verb options means)
 
 module _ {words : List (List ℕ)} {verb : Verb} {options : List (List ℕ × List ℕ)}
     (command : Option Command) (means : Means words verb options)

@@ -2,6 +2,7 @@
 pub mod Asked
 pub mod FleetAsked
 pub mod LoadAsked
+pub mod NoneAsked
 pub mod OneCommand
 pub mod Pieces
 pub mod VisibleTexts

@@ -2,5 +2,6 @@
 pub mod Asking
 pub mod FleetAnswers
 pub mod LoadAnswers
+pub mod Reading
 pub mod Sayings
 pub mod WatchAnswers

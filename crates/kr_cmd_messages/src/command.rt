@@ -12,9 +12,10 @@ ghost use Rattle.kr_cmd_messages.specs.Command.{verification_command};
 ghost use Rattle.kr_cmd_messages.specs.inner.Asking.{IsReadAs, KeepsRules};
 
 use crate::options::Options;
+use crate::reading::command_words;
 use crate::refusal::{BadWords, Stop};
 use kr_base::{NoMemory, Text};
-use kr_words::{Verb, WordsNo, read_words};
+use kr_words::Verb;
 use std::alloc::Global;
 
 /// Which way an object goes.
@@ -162,13 +163,9 @@ pub enum Command {
 pub fn read_command(alloc: Global, words: &[String]) -> Result<Command, Stop>
     ensures { IsReadAs (texts words.now) result }
 {
-    let words = match read_words(alloc, words) {
+    let words = match command_words(alloc, words) {
         Ok(words) => words,
-        Err(WordsNo::Usage) => return Err(Stop::Words(BadWords::Usage)),
-        Err(WordsNo::Replicas) => return Err(Stop::Words(BadWords::Replicas)),
-        Err(WordsNo::Size) => return Err(Stop::Words(BadWords::Size)),
-        Err(WordsNo::Page) => return Err(Stop::Words(BadWords::Page)),
-        Err(WordsNo::NoMemory) => return Err(Stop::NoMemory),
+        Err(stop) => return Err(stop),
     };
     let command = match verb_command(alloc, words) {
         Ok(command) => command,

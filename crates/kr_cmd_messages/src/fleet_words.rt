@@ -1,12 +1,13 @@
 //! The words of `fleet`.
 ghost use Rattle.std.specs.Prelude.{IfOk};
 ghost use Rattle.kr_words.specs.Grammar.{texts};
-ghost use Rattle.kr_cmd_messages.specs.inner.FleetAnswers.{IsFleetAsked, IsFleetOf};
+ghost use Rattle.kr_cmd_messages.specs.inner.FleetAnswers.{IsFleetAsked, IsFleetOf, NamesFleet};
 
 use crate::options::Options;
-use crate::refusal::{BadWords, Stop};
+use crate::reading::words_behind;
+use crate::refusal::Stop;
 use kr_base::{NoMemory, Text};
-use kr_words::{Verb, WordsNo, read_words};
+use kr_words::{CommandWords, Verb};
 use std::alloc::Global;
 
 /// Which fleet is to be run.
@@ -24,19 +25,13 @@ pub struct FleetWords {
 pub fn read_fleet(alloc: Global, words: &[String]) -> Result<Option<FleetWords>, Stop>
     ensures { IsFleetAsked (texts words.now) result }
 {
-    let Some(first) = words.first() else {
-        return Ok(None);
+    let read = match words_behind(alloc, "fleet", words) {
+        Ok(read) => read,
+        Err(stop) => return Err(stop),
     };
-    if first.as_str() != "fleet" {
-        return Ok(None);
-    }
-    let words = match read_words(alloc, words) {
-        Ok(words) => words,
-        Err(WordsNo::Usage) => return Err(Stop::Words(BadWords::Usage)),
-        Err(WordsNo::Replicas) => return Err(Stop::Words(BadWords::Replicas)),
-        Err(WordsNo::Size) => return Err(Stop::Words(BadWords::Size)),
-        Err(WordsNo::Page) => return Err(Stop::Words(BadWords::Page)),
-        Err(WordsNo::NoMemory) => return Err(Stop::NoMemory),
+    let words = match read {
+        Some(words) => words,
+        None => return Ok(None),
     };
     match fleet_request(alloc, words) {
         Ok(asked) => Ok(asked),
@@ -44,16 +39,20 @@ pub fn read_fleet(alloc: Global, words: &[String]) -> Result<Option<FleetWords>,
     }
 }
 
-/// The words of `fleet`, if they are its.
-fn fleet_request(
-    alloc: Global,
-    words: kr_words::CommandWords,
-) -> Result<Option<FleetWords>, NoMemory>
+/// The fleet of the words, if they are those of `fleet`.
+fn fleet_request(alloc: Global, words: CommandWords) -> Result<Option<FleetWords>, NoMemory>
     ensures { IfOk result (λ asked. IsFleetOf words.verb words.options.0 asked) }
 {
     let Verb::Fleet = words.verb else {
         return Ok(None);
     };
+    named_fleet(alloc, words)
+}
+
+/// The fleet that options name, if they name one.
+pub fn named_fleet(alloc: Global, words: CommandWords) -> Result<Option<FleetWords>, NoMemory>
+    ensures { IfOk result (λ fleet. NamesFleet words.options.0 fleet) }
+{
     let Some(file) = words.value("file") else {
         return Ok(None);
     };

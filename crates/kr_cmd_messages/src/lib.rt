@@ -6,6 +6,7 @@ mod fleet_words;
 mod load_words;
 mod message;
 mod options;
+mod reading;
 mod refusal;
 mod report;
 mod text;

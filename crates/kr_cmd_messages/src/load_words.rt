@@ -6,9 +6,10 @@ ghost use Rattle.kr_words.specs.Rules.{IsCommand};
 ghost use Rattle.kr_words.specs.declared.command.Verb.{Verb};
 ghost use Rattle.kr_cmd_messages.specs.inner.LoadAnswers.{IsLoadAsked, IsLoadOf};
 
-use crate::refusal::{BadWords, Stop};
+use crate::reading::words_behind;
+use crate::refusal::Stop;
 use kr_base::{NoMemory, Text};
-use kr_words::{CommandWords, Verb, WordsNo, read_words};
+use kr_words::{CommandWords, Verb};
 use std::alloc::Global;
 
 /// Which load is to be generated.
@@ -26,19 +27,13 @@ pub struct LoadWords {
 pub fn read_load(alloc: Global, words: &[String]) -> Result<Option<LoadWords>, Stop>
     ensures { IsLoadAsked (texts words.now) result }
 {
-    let Some(first) = words.first() else {
-        return Ok(None);
+    let read = match words_behind(alloc, "gen", words) {
+        Ok(read) => read,
+        Err(stop) => return Err(stop),
     };
-    if first.as_str() != "gen" {
-        return Ok(None);
-    }
-    let words = match read_words(alloc, words) {
-        Ok(words) => words,
-        Err(WordsNo::Usage) => return Err(Stop::Words(BadWords::Usage)),
-        Err(WordsNo::Replicas) => return Err(Stop::Words(BadWords::Replicas)),
-        Err(WordsNo::Size) => return Err(Stop::Words(BadWords::Size)),
-        Err(WordsNo::Page) => return Err(Stop::Words(BadWords::Page)),
-        Err(WordsNo::NoMemory) => return Err(Stop::NoMemory),
+    let words = match read {
+        Some(words) => words,
+        None => return Ok(None),
     };
     match load_asked(alloc, &words) {
         Ok(asked) => Ok(asked),
@@ -46,7 +41,7 @@ pub fn read_load(alloc: Global, words: &[String]) -> Result<Option<LoadWords>, S
     }
 }
 
-/// The words of `gen`, if they are its.
+/// The load of the words, if they are those of `gen`.
 fn load_asked(alloc: Global, words: &CommandWords) -> Result<Option<LoadWords>, NoMemory>
     requires command { IsCommand words.now.verb words.now.options.0 }
     requires small { IsWithinSize words.now.options.0 }

@@ -7,11 +7,11 @@ ghost use Rattle.kr_words.specs.declared.command.Verb.{Verb};
 ghost use Rattle.kr_cmd_messages.specs.WatchAsked.{IsSince};
 ghost use Rattle.kr_cmd_messages.specs.inner.WatchAnswers.{IsWatchAsked, IsWatchOf};
 
-use crate::fleet_words::FleetWords;
-use crate::options::Options;
-use crate::refusal::{BadWords, Stop};
+use crate::fleet_words::{FleetWords, named_fleet};
+use crate::reading::words_behind;
+use crate::refusal::Stop;
 use kr_base::{NoMemory, Text};
-use kr_words::{CommandWords, Verb, WordsNo, read_words};
+use kr_words::{CommandWords, Verb};
 use std::alloc::Global;
 
 /// Which fleet is to be run, and what of it is to be shown.
@@ -31,19 +31,13 @@ pub struct WatchWords {
 pub fn read_watch(alloc: Global, words: &[String]) -> Result<Option<WatchWords>, Stop>
     ensures { IsWatchAsked (texts words.now) result }
 {
-    let Some(first) = words.first() else {
-        return Ok(None);
+    let read = match words_behind(alloc, "watch", words) {
+        Ok(read) => read,
+        Err(stop) => return Err(stop),
     };
-    if first.as_str() != "watch" {
-        return Ok(None);
-    }
-    let words = match read_words(alloc, words) {
-        Ok(words) => words,
-        Err(WordsNo::Usage) => return Err(Stop::Words(BadWords::Usage)),
-        Err(WordsNo::Replicas) => return Err(Stop::Words(BadWords::Replicas)),
-        Err(WordsNo::Size) => return Err(Stop::Words(BadWords::Size)),
-        Err(WordsNo::Page) => return Err(Stop::Words(BadWords::Page)),
-        Err(WordsNo::NoMemory) => return Err(Stop::NoMemory),
+    let words = match read {
+        Some(words) => words,
+        None => return Ok(None),
     };
     match watch_request(alloc, words) {
         Ok(asked) => Ok(asked),
@@ -51,7 +45,7 @@ pub fn read_watch(alloc: Global, words: &[String]) -> Result<Option<WatchWords>,
     }
 }
 
-/// The words of `watch`, if they are its.
+/// The watch of the words, if they are those of `watch`.
 fn watch_request(alloc: Global, words: CommandWords) -> Result<Option<WatchWords>, NoMemory>
     requires command { IsCommand words.verb words.options.0 }
     requires small { IsWithinPage words.options.0 }
@@ -60,26 +54,17 @@ fn watch_request(alloc: Global, words: CommandWords) -> Result<Option<WatchWords
     let Verb::Watch = words.verb else {
         return Ok(None);
     };
-    let Some(file) = words.value("file") else {
-        return Ok(None);
-    };
-    let Some(store) = words.value("store") else {
-        return Ok(None);
-    };
     let Some(resource) = words.value("resource") else {
         return Ok(None);
     };
-    let file = Text::copy(alloc, file)?;
-    let store = Text::copy(alloc, store)?;
     let resource = Text::copy(alloc, resource)?;
     let limit = watch_limit(&words);
     let since = since_number(&words);
+    let Some(fleet) = named_fleet(alloc, words)? else {
+        return Ok(None);
+    };
     Ok(Some(WatchWords {
-        fleet: FleetWords {
-            file,
-            store,
-            options: Options::new(words),
-        },
+        fleet,
         resource,
         limit,
         since,

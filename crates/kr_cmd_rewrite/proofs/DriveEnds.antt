@@ -59,17 +59,7 @@ module _ {D : Type 0} (names : List (List ℕ)) (left : D → Option (List ℕ))
   may_replace answer.NoMemory d = subst May (same_why why no.NoMemory d) tt
   may_replace (answer.Written n) d = not_err (step.Rewritten row.path) why (sym d)
   may_replace (answer.Changed last) d = not_err (step.Changed row.path) why (sym d)
-  may_replace (answer.Adopted n q) d = absurd d
-  may_replace (answer.Gone other) d = absurd d
-  may_replace (answer.Found other) d = absurd d
-  may_replace answer.Absent d = absurd d
-  may_replace answer.Released d = absurd d
-  may_replace (answer.Reloaded n) d = absurd d
-  may_replace (answer.Joined n) d = absurd d
-  may_replace (answer.Refused verdict) d = absurd d
-  may_replace (answer.Moved n) d = absurd d
-  may_replace (answer.Present n) d = absurd d
-  may_replace (answer.Departed n) d = absurd d
+  may_replace other d = absurd d
 
   may_reseal : (plain : List ℕ) (sealed : Result (List ℕ) SealNo)
       → ResealsBy p row plain sealed found (Err why) acted → May why
@@ -105,21 +95,7 @@ none_written : (path : List ℕ) (revision : ℕ) (given : Answer) (why : CallNo
     → new_rows (gave_of given) (did.Replace path revision) found ≡ []
 none_written path revision (answer.Written n) why d found =
     not_err (step.Rewritten path) why (sym d)
-none_written path revision answer.StoreFailed why d found = refl
-none_written path revision (answer.StoreFull needed) why d found = refl
-none_written path revision answer.NoMemory why d found = refl
-none_written path revision (answer.Changed last) why d found = refl
-none_written path revision (answer.Adopted n q) why d found = refl
-none_written path revision (answer.Gone other) why d found = refl
-none_written path revision (answer.Found other) why d found = refl
-none_written path revision answer.Absent why d found = refl
-none_written path revision answer.Released why d found = refl
-none_written path revision (answer.Reloaded n) why d found = refl
-none_written path revision (answer.Joined n) why d found = refl
-none_written path revision (answer.Refused verdict) why d found = refl
-none_written path revision (answer.Moved n) why d found = refl
-none_written path revision (answer.Present n) why d found = refl
-none_written path revision (answer.Departed n) why d found = refl
+none_written path revision other why d found = refl
 
 cut_rows : (o : Opening) (p : Publication) (one : o.reloads ≡ 0 ∷ []) (row : Row)
     (found acted : Caller) (why : CallNo) → IsLone o p found
@@ -166,20 +142,10 @@ cut_count o p one row found acted why lone (inr (stored, given, a, by)) =
 none_leaves : (above : List ℕ) (adopted acted : Caller) (done : Result Step CallNo)
     → 2 ≤ adopted.left → FindsNone above adopted done acted → 0 < acted.left
 none_leaves above adopted acted (Ok step.End) l n = let e = n.left_is in omega (arith, e, l)
-none_leaves above adopted acted (Ok (step.Rewritten path)) l n = absurd n
-none_leaves above adopted acted (Ok (step.Fresh path)) l n = absurd n
-none_leaves above adopted acted (Ok (step.Changed path)) l n = absurd n
-none_leaves above adopted acted (Ok (step.Left path)) l n = absurd n
 none_leaves above adopted acted (Err no.NoMemory) l n = let e = n.left_is in omega (arith, e, l)
 none_leaves above adopted acted (Err no.Spent) l n =
     let e = n.spent in absurd (omega (arith, e, l))
-none_leaves above adopted acted (Err (no.Refused reason)) l n = absurd n
-none_leaves above adopted acted (Err (no.PluginFailed plugin)) l n = absurd n
-none_leaves above adopted acted (Err no.DiceFailed) l n = absurd n
-none_leaves above adopted acted (Err no.StoreFailed) l n = absurd n
-none_leaves above adopted acted (Err (no.StoreFull needed)) l n = absurd n
-none_leaves above adopted acted (Err (no.Unhealthy plugin field text)) l n = absurd n
-none_leaves above adopted acted (Err no.Gone) l n = absurd n
+none_leaves above adopted acted other l n = absurd n
 
 module _ {D : Type 0} (all : List Exchange) (left : D → Option (List ℕ))
     (count : D → ℕ) (o : Opening) (p : Publication) (one : o.reloads ≡ 0 ∷ []) (above : List ℕ)
@@ -233,12 +199,7 @@ module _ {D : Type 0} (all : List Exchange) (left : D → Option (List ℕ))
   })
   early no.Spent n l d = let e = n.spent in absurd (omega (arith, e, room))
   early no.Gone a l d = absurd (not_gone o p one old new driven.lone a)
-  early (no.Refused reason) a l d = absurd a
-  early (no.PluginFailed plugin) a l d = absurd a
-  early no.DiceFailed a l d = absurd a
-  early no.StoreFailed a l d = absurd a
-  early (no.StoreFull needed) a l d = absurd a
-  early (no.Unhealthy plugin field text) a l d = absurd a
+  early other a l d = absurd a
 
   module _ (number : ℕ) (q : Publication) (adopted : Caller)
       (adopts : AddsEntry old (event.Adopt 0) (answer.Adopted number q) adopted) where
@@ -289,13 +250,7 @@ module _ {D : Type 0} (all : List Exchange) (left : D → Option (List ℕ))
     })
     not_found no.Spent acted n l d lets =
         let e = n.spent in absurd (omega (arith, e, enough))
-    not_found no.Gone acted n l d lets = absurd n
-    not_found (no.Refused reason) acted n l d lets = absurd n
-    not_found (no.PluginFailed plugin) acted n l d lets = absurd n
-    not_found no.DiceFailed acted n l d lets = absurd n
-    not_found no.StoreFailed acted n l d lets = absurd n
-    not_found (no.StoreFull needed) acted n l d lets = absurd n
-    not_found (no.Unhealthy plugin field text) acted n l d lets = absurd n
+    not_found other acted n l d lets = absurd n
 
     -- what is left once a row was found
     found_left : (row : Row) (found : Caller)

@@ -213,32 +213,28 @@ module _ (p : Publication) (row : Row) (at next : Progress) where
   pub path_is : (above : List ℕ) (taken : Step) → Becomes p row at next taken
       → path_of above taken ≡ row.path
   path_is above step.End b = absurd b
-  path_is above (step.Rewritten path) b = b.0
-  path_is above (step.Fresh path) b = b.0
   path_is above (step.Changed path) b = absurd b
-  path_is above (step.Left path) b = b.0
+  path_is above other b = b.0
 
   pub same_format : (taken : Step) → Becomes p row at next taken
       → next.store.format ≡ at.store.format
-  same_format step.End b = absurd b
   same_format (step.Rewritten path) b = ap (λ (n : Progress). n.store.format) b.2
   same_format (step.Fresh path) b = ap (λ (n : Progress). n.store.format) b.1
-  same_format (step.Changed path) b = absurd b
   same_format (step.Left path) b = ap (λ (n : Progress). n.store.format) b.1
+  same_format other b = absurd b
 
   pub next_follow : (rest : List Row) (taken : Step) → Becomes p row at next taken
       → FollowEachOther at.store.rows row.path rest
       → FollowEachOther next.store.rows row.path rest
-  next_follow rest step.End b f = absurd b
   next_follow rest (step.Rewritten path) b f =
       subst (λ (n : Progress). FollowEachOther n.store.rows row.path rest) (sym b.2)
       (still_follows at.store.rows (row_anew at.store.format p row b.1) row.path rest
       (λ q less. less) f)
   next_follow rest (step.Fresh path) b f =
       subst (λ (n : Progress). FollowEachOther n.store.rows row.path rest) (sym b.1) f
-  next_follow rest (step.Changed path) b f = absurd b
   next_follow rest (step.Left path) b f =
       subst (λ (n : Progress). FollowEachOther n.store.rows row.path rest) (sym b.1) f
+  next_follow rest other b f = absurd b
 
 -- ---- a step that found a row
 
@@ -312,10 +308,7 @@ module _ {L D : Type 0} (link : L → Link) (links : List L)
   not_end : (taken : Step) (adopted acted : Caller) → FindsRow taken
       → FindsNone above adopted (Ok taken) acted → Passes taken
   not_end step.End adopted acted finds n = absurd finds
-  not_end (step.Rewritten path) adopted acted finds n = absurd n
-  not_end (step.Fresh path) adopted acted finds n = absurd n
-  not_end (step.Changed path) adopted acted finds n = absurd n
-  not_end (step.Left path) adopted acted finds n = absurd n
+  not_end other adopted acted finds n = absurd n
 
   goes_by : (taken : Step) (number : ℕ) (q : Publication) (adopted acted : Caller)
       → FindsRow taken → AddsEntry old (event.Adopt 0) (answer.Adopted number q) adopted

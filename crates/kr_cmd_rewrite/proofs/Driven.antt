@@ -105,10 +105,7 @@ all_added : (x : Step) (c : RewriteCounts)
     × ((one_more x c).changed ≡ c.changed + cond (is_changed x) 1 0)
     × ((one_more x c).left ≡ c.left + cond (is_left x) 1 0)
 all_added step.End c = (omega arith, omega arith, omega arith, omega arith)
-all_added (step.Rewritten path) c = (omega arith, omega arith, omega arith, omega arith)
-all_added (step.Fresh path) c = (omega arith, omega arith, omega arith, omega arith)
-all_added (step.Changed path) c = (omega arith, omega arith, omega arith, omega arith)
-all_added (step.Left path) c = (omega arith, omega arith, omega arith, omega arith)
+all_added other c = (omega arith, omega arith, omega arith, omega arith)
 
 abbrev pub no_counts : RewriteCounts
 no_counts = record { rewritten = 0; fresh = 0; changed = 0; left = 0 }
@@ -129,11 +126,10 @@ counts_are above steps report few r = λ i. record {
 
 next_counts : (p : Publication) (row : Row) (at next : Progress) (taken : Step)
     → Becomes p row at next taken → next.counts ≡ one_more taken at.counts
-next_counts p row at next step.End b = absurd b
 next_counts p row at next (step.Rewritten path) b = ap (λ (n : Progress). n.counts) b.2
 next_counts p row at next (step.Fresh path) b = ap (λ (n : Progress). n.counts) b.1
-next_counts p row at next (step.Changed path) b = absurd b
 next_counts p row at next (step.Left path) b = ap (λ (n : Progress). n.counts) b.1
+next_counts p row at next other b = absurd b
 
 -- ---- the tape in the end
 
@@ -185,6 +181,18 @@ since_opening o p c lone = counted_on o (start_of o) c.seen
     (subst (λ (x : Opening). IsRun x (start_of x) c.seen) lone.opening lone.caller.legal.runs)
 
 -- ---- the walk
+
+-- how a drive ended over this store, and what is made of it
+abbrev pub EndsSo : {L D : Type 0} (link : L → Link) (first last : List L) (store : Kept)
+    (left : D → Option (List ℕ)) (count : D → ℕ) (old : Caller) (olds : Ahead) (dice : D)
+    (report : Report) (new : Caller) (news : Ahead) (after : D) → Result Outcome Stop → Type 0
+EndsSo link first last store left count old olds dice report new news after made =
+    (DrivesOver ReadsRow (λ from to. ⊤) left count 0 [] old olds dice report new news after
+    × ((made ≡ Ok (report_outcome (report_counts report))) ⊎ (made ≡ Err NoMemory)))
+    ⊎ ((why : CallNo) × (stop : Stop) × IsDriveStop link store last (count after) why stop
+    × ((plugin : List ℕ) → why ≡ no.PluginFailed plugin → FaultRose link plugin first last)
+    × (IsCutOver ReadsRow (λ from to. ⊤) left count 0 [] old olds dice why report new news after
+    ⊎ CopiesNoPath old olds dice why report new news after) × (made ≡ Err stop))
 
 module _ {L D : Type 0} (link : L → Link) (first last : List L)
     (asked : AskedOnly link (names_of link first) first last)
@@ -346,7 +354,7 @@ module _ {L D : Type 0} (link : L → Link) (first last : List L)
         ∙ counts_are [] steps report (omega (arith, many, few)) r
 
     -- it came to the end
-    pub drives_all : (made : Result Outcome Stop) → count dice ≤ count after
+    drives_all : (made : Result Outcome Stop) → count dice ≤ count after
         → DrivesOver ReadsRow (λ from to. ⊤) left count 0 [] old olds dice report new news after
         → (made ≡ Ok (report_outcome (report_counts report))) ⊎ (made ≡ Err NoMemory)
         → Does (driving name p rows olds.cache at) Begin End made
@@ -479,16 +487,9 @@ module _ {L D : Type 0} (link : L → Link) (first last : List L)
       drawn_later : (between : D) → count dice ≤ count between → count dice ≤ count after
           → (cause : CallNo) → count dice ≤ drawn_by (count between) (count after) cause
       drawn_later between walked more no.DiceFailed = walked
-      drawn_later between walked more no.StoreFailed = more
-      drawn_later between walked more (no.Refused reason) = more
-      drawn_later between walked more (no.PluginFailed plugin) = more
-      drawn_later between walked more (no.StoreFull needed) = more
-      drawn_later between walked more (no.Unhealthy plugin field text) = more
-      drawn_later between walked more no.Gone = more
-      drawn_later between walked more no.Spent = more
-      drawn_later between walked more no.NoMemory = more
+      drawn_later between walked more other = more
 
-      pub cut_short : count dice ≤ count after
+      cut_short : count dice ≤ count after
           → IsCutOver ReadsRow (λ from to. ⊤) left count 0 [] old olds dice why report new news after
           → Does (driving name p rows olds.cache at) Begin End (Err stop)
       cut_short more d = raises a.said (links_by first last why) (asked_by why) olds dice
@@ -516,7 +517,7 @@ module _ {L D : Type 0} (link : L → Link) (first last : List L)
               (cuts all left count o p one (last_of [] d.steps) rest then e.middle new e.mids
               news e.between after there enough why e.ends))
 
-      pub copied_none : CopiesNoPath old olds dice why report new news after
+      copied_none : CopiesNoPath old olds dice why report new news after
           → Does (driving name p rows olds.cache at) Begin End (Err stop)
       copied_none n =
           let same : at.counts ≡ report_counts report =
@@ -535,3 +536,14 @@ module _ {L D : Type 0} (link : L → Link) (first last : List L)
           told o.count)
           (At (report_text c) last news after (count after) store.told store.count) (Err stop)) same
           begun)
+
+    pub drives_so : (made : Result Outcome Stop) → count dice ≤ count after
+        → EndsSo link first last store left count old olds dice report new news after made
+        → Does (driving name p rows olds.cache at) Begin End made
+    drives_so made drawn (inl (d, is)) = drives_all made drawn d is
+    drives_so made drawn (inr (why, stop, h, fails, inl d, is)) =
+        subst (λ m. Does (driving name p rows olds.cache at) Begin End m) (sym is)
+        (cut_short why stop h fails drawn d)
+    drives_so made drawn (inr (why, stop, h, fails, inr n, is)) =
+        subst (λ m. Does (driving name p rows olds.cache at) Begin End m) (sym is)
+        (copied_none why stop h fails n)

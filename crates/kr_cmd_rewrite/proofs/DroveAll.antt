@@ -26,6 +26,7 @@ use Rattle.kr_cmd_rewrite.proofs.RowCuts.{links_by}
 use Rattle.kr_history.specs.declared.call.CallNo.TheVariants as no
 use Rattle.kr_cmd_steps.specs.RewriteSteps.{nothing_done, driving}
 use Rattle.kr_cmd_messages.specs.declared.refusal.Ended.{Ended}
+use Rattle.kr_cmd_messages.specs.declared.refusal.Outcome.{Outcome}
 use Rattle.kr_cmd_messages.specs.declared.refusal.Stop.{Stop}
 use Rattle.kr_cmd_messages.specs.declared.report.RewriteCounts.{RewriteCounts}
 use Rattle.kr_cmd_steps.specs.inner.Phases.{Does}
@@ -33,7 +34,7 @@ use Rattle.kr_cmd_steps.specs.inner.Reporting.{saying}
 use Rattle.kr_cmd_rewrite.specs.inner.Rewriting.{IsAlone, IsDriveStop, IsReported, report_counts, opened_store}
 use Rattle.kr_cmd_steps.proofs.RisingCounts.{counted as counted_on}
 use Rattle.kr_cmd_rewrite.proofs.DriveSteps.{IsDriven}
-use Rattle.kr_cmd_rewrite.proofs.Driven.{copied_none, cut_short, drives_all}
+use Rattle.kr_cmd_rewrite.proofs.Driven.{EndsSo, drives_so}
 use Rattle.kr_cmd_rewrite.proofs.LiveRows.{listing_follows}
 use Rattle.kr_cmd_rewrite.proofs.Said.{All_lent}
 
@@ -163,64 +164,44 @@ module _ {L D : Type 0} (link : L → Link) (first last : List L)
     rose t = whole_then core.opening.torn alone.whole
         (subst (λ (x : Opening). (x.torn ≡ true) ⊎ Rose x.count store.count) opening_is (torn t))
 
-    reported_all : DrivesOver ReadsRow (λ from to. ⊤) left count 0 [] (only_caller core) olds dice report new news
-        after
-        → IsReported (report_counts report) ended → Whole
-    reported_all d r = subst (λ said. Does
-        (driving name p live olds.cache (nothing_done (opened_store core))) Old
-        (saying said New) ended.made) (sym r.0)
-        (drives_all link first last asked distinct all left count core.opening p alone.reloads
-        alone.within name a store live (nothing_done (opened_store core)) (only_caller core) new olds news dice after
-        report refl (format_is ∙ ap (λ (x : Opening). x.format) opening_is) rows_now count_now later
+    by_end : (made : Result Outcome Stop) → EndsSo link first last store left count
+        (only_caller core) olds dice report new news after made
+        → Does (driving name p live olds.cache (nothing_done (opened_store core))) Old
+        (saying (Some (report_counts report)) New) made
+    by_end made d = drives_so link first last asked distinct all left count core.opening p
+        alone.reloads alone.within name a store live (nothing_done (opened_store core))
+        (only_caller core) new olds news dice after report refl
+        (format_is ∙ ap (λ (x : Opening). x.format) opening_is) rows_now count_now later
         bounded rose alone.counts store_holds
         (begins all core alone known olds follows live p is replicas_are)
         (are_few all core alone known olds follows live p is replicas_are)
-        (has_room all core alone known olds follows live p is replicas_are) told ended.made
-        drawn d r.1)
+        (has_room all core alone known olds follows live p is replicas_are) told made drawn d
+
+    reported_all : DrivesOver ReadsRow (λ from to. ⊤) left count 0 [] (only_caller core) olds dice
+        report new news after → IsReported (report_counts report) ended → Whole
+    reported_all d r = subst (λ said. Does
+        (driving name p live olds.cache (nothing_done (opened_store core))) Old
+        (saying said New) ended.made) (sym r.0) (by_end ended.made (inl (d, r.1)))
 
     cut_all : (why : CallNo) (stop : Stop)
-        → IsCutOver ReadsRow (λ from to. ⊤) left count 0 [] (only_caller core) olds dice why report new news after
+        → IsCutOver ReadsRow (λ from to. ⊤) left count 0 [] (only_caller core) olds dice why report
+        new news after ⊎ CopiesNoPath (only_caller core) olds dice why report new news after
         → IsDriveStop link store last (count after) why stop
         → Fails why → ended ≡ record { made = Err stop; said = Some (report_counts report) } → Whole
     cut_all why stop d h fails e = subst (λ (x : Ended). Does
         (driving name p live olds.cache (nothing_done (opened_store core))) Old (saying x.said New)
-        x.made) (sym e)
-        (cut_short link first last asked distinct all left count core.opening p alone.reloads
-        alone.within name a store live (nothing_done (opened_store core)) (only_caller core) new olds news dice after
-        report refl (format_is ∙ ap (λ (x : Opening). x.format) opening_is) rows_now count_now later
-        bounded rose alone.counts store_holds
-        (begins all core alone known olds follows live p is replicas_are)
-        (are_few all core alone known olds follows live p is replicas_are)
-        (has_room all core alone known olds follows live p is replicas_are) told why stop h
-        fails drawn d)
+        x.made) (sym e) (by_end (Err stop) (inr (why, stop, h, fails, d, refl)))
 
-    none_all : (why : CallNo) (stop : Stop)
-        → CopiesNoPath (only_caller core) olds dice why report new news after
-        → IsDriveStop link store last (count after) why stop
-        → Fails why → ended ≡ record { made = Err stop; said = Some (report_counts report) } → Whole
-    none_all why stop d h fails e = subst (λ (x : Ended). Does
-        (driving name p live olds.cache (nothing_done (opened_store core))) Old (saying x.said New)
-        x.made) (sym e)
-        (copied_none link first last asked distinct all left count core.opening p alone.reloads
-        alone.within name a store live (nothing_done (opened_store core)) (only_caller core) new olds news dice after
-        report refl (format_is ∙ ap (λ (x : Opening). x.format) opening_is) rows_now count_now later
-        bounded rose alone.counts store_holds
-        (begins all core alone known olds follows live p is replicas_are)
-        (are_few all core alone known olds follows live p is replicas_are)
-        (has_room all core alone known olds follows live p is replicas_are) told why stop h
-        fails d)
-
-  pub drove_all : DrivesOver ReadsRow (λ from to. ⊤) left count 0 [] (only_caller core) olds dice report new news
-      after
-      → IsReported (report_counts report) ended → Whole
+  pub drove_all : DrivesOver ReadsRow (λ from to. ⊤) left count 0 [] (only_caller core) olds dice
+      report new news after → IsReported (report_counts report) ended → Whole
   drove_all d r = reported_all (ap (λ (c : Caller). c.opening) d.ends.few.1.new_is) d r
 
   pub drove_some : (why : CallNo) (stop : Stop)
-      → IsCutOver ReadsRow (λ from to. ⊤) left count 0 [] (only_caller core) olds dice why report new news after
-      ⊎ CopiesNoPath (only_caller core) olds dice why report new news after
+      → IsCutOver ReadsRow (λ from to. ⊤) left count 0 [] (only_caller core) olds dice why report
+      new news after ⊎ CopiesNoPath (only_caller core) olds dice why report new news after
       → IsDriveStop link store last (count after) why stop
       → Fails why → ended ≡ record { made = Err stop; said = Some (report_counts report) } → Whole
   drove_some why stop (inl d) h fails e =
-      cut_all (ap (λ (c : Caller). c.opening) d.ends.few.1.new_is) why stop d h fails e
+      cut_all (ap (λ (c : Caller). c.opening) d.ends.few.1.new_is) why stop (inl d) h fails e
   drove_some why stop (inr d) h fails e =
-      none_all (ap (λ (c : Caller). c.opening) d.same) why stop d h fails e
+      cut_all (ap (λ (c : Caller). c.opening) d.same) why stop (inr d) h fails e

@@ -44,6 +44,15 @@ heard_core left count solo old new cache kept dice between after result ended es
     (subst (λ x. IsDriveBy left count 0 [] old cache dice result new kept x es) (sym dice_is)
     (subst (λ c. IsDriveBy left count 0 [] c cache dice result new kept between es) same d))
 
+-- a drive that ended so is told so, with this store and these links behind it
+abbrev pub IsToldBy : {L : Type 0} → (L → Link) → (first last : List L) → Kept → ℕ
+    → Result Report (Report × CallNo) → Ended → Type 0
+IsToldBy link first last store count (Ok report) ended = IsReported (report_counts report) ended
+IsToldBy link first last store count (Err (report, why)) ended = (stop : Stop)
+    × IsDriveStop link store last count why stop
+    × ((plugin : List ℕ) → why ≡ no.PluginFailed plugin → FaultRose link plugin first last)
+    × (ended ≡ record { made = Err stop; said = Some (report_counts report) })
+
 -- where a drive begins nothing was asked
 pub first_follows : (es : List Exchange) (cache : CacheState) → Follows es (before cache es)
 first_follows es cache = record { done = []; are = refl }
@@ -86,8 +95,7 @@ module _ {L : Type 0} (link : L → Link) (first last : List L) (distinct : AreD
         (drawn : count dice ≤ count after) (name : List ℕ) (a : Around) (live : List Row)
         (told : Option (List ℕ)) (p : Publication)
         (is : IsListing core.opening.rows live)
-        (replicas_are : core.opening.replicas ≡ Some p ∷ []) (report : Report)
-        (ended : Ended) where
+        (replicas_are : core.opening.replicas ≡ Some p ∷ []) (ended : Ended) where
       abbrev Before : Around → Around
       Before b = All_lent link first (left dice) (count dice) name told core.opening.count b
 
@@ -107,22 +115,30 @@ module _ {L : Type 0} (link : L → Link) (first last : List L) (distinct : AreD
           (subst (λ l. Whole (with_exchanges (past es (before cache es)) a)
           (with_exchanges l a)) (past_is es es (behind kept) (sym (append-nil es))) d))
 
-      pub heard_all : IsDriveBy left count 0 [] (only_caller core) cache dice (Ok report) new kept
-          after es → IsReported (report_counts report) ended → Whole a (with_exchanges es a)
-      heard_all d r = in_all (drove_all link first last asked all_distinct es left count core
+      heard_all : (report : Report)
+          → IsDriveBy left count 0 [] (only_caller core) cache dice (Ok report) new kept after es
+          → IsReported (report_counts report) ended → Whole a (with_exchanges es a)
+      heard_all report d r = in_all (drove_all link first last asked all_distinct es left count core
           closed alone known new known_now back (before cache es) (behind kept) dice after
           (first_follows es cache) store rows_are count_is format_is torn store_holds
           bounded drawn name a live told p is replicas_are report
           ended d r)
 
-      pub heard_some : (why : CallNo) (stop : Stop)
+      heard_some : (report : Report) (why : CallNo) (stop : Stop)
           → IsDriveBy left count 0 [] (only_caller core) cache dice (Err (report, why)) new kept
           after es → IsDriveStop link store last (count after) why stop
           → ((plugin : List ℕ) → why ≡ no.PluginFailed plugin → FaultRose link plugin first last)
           → ended ≡ record { made = Err stop; said = Some (report_counts report) }
           → Whole a (with_exchanges es a)
-      heard_some why stop d h fails e = in_all (drove_some link first last asked all_distinct
+      heard_some report why stop d h fails e = in_all (drove_some link first last asked all_distinct
           es left count core closed alone known new known_now back (before cache es) (behind kept)
           dice after (first_follows es cache) store rows_are count_is format_is torn
           store_holds bounded drawn name a live told p is
           replicas_are report ended why stop d h fails e)
+
+      pub heard_so : (made : Result Report (Report × CallNo))
+          → IsDriveBy left count 0 [] (only_caller core) cache dice made new kept after es
+          → IsToldBy link first last store (count after) made ended → Whole a (with_exchanges es a)
+      heard_so (Ok report) d r = heard_all report d r
+      heard_so (Err (report, why)) d (stop, h, fails, e) =
+          heard_some report why stop d h fails e

@@ -101,12 +101,7 @@ quiet_generation (did.Adopt replica) q = refl
 quiet_generation (did.After path) q = refl
 quiet_generation (did.Replace path revision) q = refl
 quiet_generation did.LetGo q = refl
-quiet_generation (did.Fetch path) q = absurd q
-quiet_generation (did.Put path resource plain) q = absurd q
-quiet_generation (did.Delete path) q = absurd q
-quiet_generation (did.Reload replica p expect) q = absurd q
-quiet_generation (did.Join replica p) q = absurd q
-quiet_generation (did.Leave replica) q = absurd q
+quiet_generation other q = absurd q
 
 quiet_current : (asked : Did) (number : Option ℕ) (current : List (Option ℕ)) → IsQuiet asked
     → with_current asked number current ≡ current
@@ -114,49 +109,19 @@ quiet_current (did.Adopt replica) number current q = refl
 quiet_current (did.After path) number current q = refl
 quiet_current (did.Replace path revision) number current q = refl
 quiet_current did.LetGo number current q = refl
-quiet_current (did.Fetch path) number current q = absurd q
-quiet_current (did.Put path resource plain) number current q = absurd q
-quiet_current (did.Delete path) number current q = absurd q
-quiet_current (did.Reload replica p expect) number current q = absurd q
-quiet_current (did.Join replica p) number current q = absurd q
-quiet_current (did.Leave replica) number current q = absurd q
+quiet_current other number current q = absurd q
 
 no_generation : (given : Gave) (asked : Did) → IsQuiet asked → new_generations given asked ≡ []
 no_generation (gave.Reloaded number) asked q = quiet_generation asked q
 no_generation (gave.Joined number) asked q = quiet_generation asked q
-no_generation (gave.Adopted number) asked q = refl
-no_generation (gave.Found revision) asked q = refl
-no_generation gave.Absent asked q = refl
-no_generation (gave.Written revision) asked q = refl
-no_generation (gave.Changed revision) asked q = refl
-no_generation gave.Released asked q = refl
-no_generation (gave.Refused verdict) asked q = refl
-no_generation (gave.Moved number) asked q = refl
-no_generation (gave.Present number) asked q = refl
-no_generation (gave.Departed number) asked q = refl
-no_generation (gave.Gone replica) asked q = refl
-no_generation gave.StoreFailed asked q = refl
-no_generation (gave.StoreFull needed) asked q = refl
-no_generation gave.Nothing asked q = refl
+no_generation other asked q = refl
 
 same_current : (given : Gave) (asked : Did) (current : List (Option ℕ)) → IsQuiet asked
     → current_after given asked current ≡ current
 same_current (gave.Reloaded number) asked current q = quiet_current asked (Some number) current q
 same_current (gave.Joined number) asked current q = quiet_current asked (Some number) current q
 same_current (gave.Departed number) asked current q = quiet_current asked None current q
-same_current (gave.Adopted number) asked current q = refl
-same_current (gave.Found revision) asked current q = refl
-same_current gave.Absent asked current q = refl
-same_current (gave.Written revision) asked current q = refl
-same_current (gave.Changed revision) asked current q = refl
-same_current gave.Released asked current q = refl
-same_current (gave.Refused verdict) asked current q = refl
-same_current (gave.Moved number) asked current q = refl
-same_current (gave.Present number) asked current q = refl
-same_current (gave.Gone replica) asked current q = refl
-same_current gave.StoreFailed asked current q = refl
-same_current (gave.StoreFull needed) asked current q = refl
-same_current gave.Nothing asked current q = refl
+same_current other asked current q = refl
 
 module _ (o : Opening) (p : Publication) (one : o.reloads ≡ 0 ∷ []) (old new : Caller)
     (asked : Event) (given : Answer) (lone : IsLone o p old)

@@ -74,10 +74,8 @@ count_by before final why = final
 
 -- the plugin that failed is one
 abbrev plugin_of : List ℕ → Result Opened UnsealNo → List ℕ
-plugin_of other (Ok opened) = other
-plugin_of other (Err (unseal.Refused why)) = other
 plugin_of other (Err (unseal.PluginFailed plugin)) = plugin
-plugin_of other (Err unseal.NoMemory) = other
+plugin_of other another = other
 
 same_plugin : (n plugin : List ℕ)
     → ◌≡◌ {A = Result Opened UnsealNo} (Err (unseal.PluginFailed n))
@@ -243,25 +241,13 @@ module _ {L D : Type 0} (link : L → Link) (first last : List L)
             (with_lent_links link 0 last (with_lent_dice 0 (left after) drawn (Now news))))))
         cut_by (answer.Written n) why stop h r d = absurd (cc)
         cut_by (answer.Changed last) why stop h r d = absurd (cc)
-        cut_by (answer.Adopted n q) why stop h r d = absurd d
-        cut_by (answer.Gone other) why stop h r d = absurd d
-        cut_by (answer.Found other) why stop h r d = absurd d
-        cut_by answer.Absent why stop h r d = absurd d
-        cut_by answer.Released why stop h r d = absurd d
-        cut_by (answer.Reloaded n) why stop h r d = absurd d
-        cut_by (answer.Joined n) why stop h r d = absurd d
-        cut_by (answer.Refused verdict) why stop h r d = absurd d
-        cut_by (answer.Moved n) why stop h r d = absurd d
-        cut_by (answer.Present n) why stop h r d = absurd d
-        cut_by (answer.Departed n) why stop h r d = absurd d
+        cut_by other why stop h r d = absurd d
 
       -- the data weren't sealed
       unsealed_cut : (reason : SealNo) (why : CallNo) (stop : Stop) → Stops why stop
           → Seals left count p.seeds writer row.path plain dice after (Err reason)
           → ◌≡◌ {A = Result Step CallNo} (Err why) (unsealed_step row.path reason)
           → Cut Anew news dice why stop
-      unsealed_cut seal.LooksEncrypted why stop h s e = absurd (cc)
-      unsealed_cut (seal.TooLarge size) why stop h s e = absurd (cc)
       unsealed_cut seal.DiceFailed why stop h s e =
           let is = same_why why no.DiceFailed e in
           let at_stop = subst (λ w. Stops w stop) (sym is) h in
@@ -283,6 +269,7 @@ module _ {L D : Type 0} (link : L → Link) (first last : List L)
           subst (λ w. Cut Anew news dice w stop) is
           (lacked (resealing (nat_lt data_limit (length plain)) name p row plain at) stop
           (subst (λ w. Stops w stop) (sym is) h) s)
+      unsealed_cut other why stop h s e = absurd (cc)
 
       data_cut : (stale : Bool) (why : CallNo) (stop : Stop) → Stops why stop
           → RewritesData left count p row plain stale found dice (Err why) acted after

@@ -221,17 +221,28 @@ module _ {L D : Type 0} (link : L → Link) (links : List L)
             replaced stored (answer.StoreFull needed) taken sealing s r d =
                 not_err taken (no.StoreFull needed) d
             replaced stored answer.NoMemory taken sealing s r d = not_err taken no.NoMemory d
-            replaced stored (answer.Adopted n q) taken sealing s r d = absurd d
-            replaced stored (answer.Gone other) taken sealing s r d = absurd d
-            replaced stored (answer.Found other) taken sealing s r d = absurd d
-            replaced stored answer.Absent taken sealing s r d = absurd d
-            replaced stored answer.Released taken sealing s r d = absurd d
-            replaced stored (answer.Reloaded n) taken sealing s r d = absurd d
-            replaced stored (answer.Joined n) taken sealing s r d = absurd d
-            replaced stored (answer.Refused verdict) taken sealing s r d = absurd d
-            replaced stored (answer.Moved n) taken sealing s r d = absurd d
-            replaced stored (answer.Present n) taken sealing s r d = absurd d
-            replaced stored (answer.Departed n) taken sealing s r d = absurd d
+            replaced stored other taken sealing s r d = absurd d
+
+            -- the row is left as it was
+            left_there : (long : Bool) → nat_lt data_limit (length plain) ≡ long → after ≡ dice
+                → acted ≡ found → (taken : Step)
+                → ◌≡◌ {A = Result Step CallNo} (Ok taken) (Ok (step.Left row.path))
+                → Does (resealing long name p row plain at) (Out news dice None m)
+                (Out news after None m) (Ok (one_left at))
+                → Done (resealing (nat_lt data_limit (length plain)) name p row plain at) news dice
+                taken
+            left_there long is kept same taken e d =
+                let rest = stays_so (one_left at) (step.Left row.path) refl same kept (refl, refl)
+                in
+                subst (λ t. Done (resealing (nat_lt data_limit (length plain)) name p row plain at)
+                news
+                dice t) (same_step taken (step.Left row.path) e) (
+                  rest.0,
+                  rest.1,
+                  subst (λ b. Does (resealing b name p row plain at) (Out news dice None m)
+                      (Out news after None m) (Ok (one_left at))) (sym is) d,
+                  rest.3,
+                )
 
             -- data that can't be sealed leave the row
             unsealed : (why : SealNo) (taken : Step) → acted ≡ found
@@ -240,35 +251,16 @@ module _ {L D : Type 0} (link : L → Link) (links : List L)
                 → Done (resealing (nat_lt data_limit (length plain)) name p row plain at) news dice
                 taken
             unsealed seal.LooksEncrypted taken same s e =
-                let long = le-ltb data_limit (length plain) s.0 in
-                let rest = stays_so (one_left at) (step.Left row.path) refl same s.3 (refl, refl) in
-                subst (λ t. Done (resealing (nat_lt data_limit (length plain)) name p row plain at)
-                news
-                dice t) (same_step taken (step.Left row.path) e) (
-                  rest.0,
-                  rest.1,
-                  subst (λ b. Does (resealing b name p row plain at) (Out news dice None m)
-                      (Out news after None m) (Ok (one_left at))) (sym long)
-                      (goes_on (value_sealed p.seeds who row.path plain) (replacing name p row at)
-                      None
-                      (sealed_does link left count links dice after drawn drawn
-                      (with_lent_tape name None m (Now news)) who
-                      p.seeds row.path plain (Err seal.LooksEncrypted) (omega arith) s.0 tt s)
-                      (given (one_left at) (Out news after None m))),
-                  rest.3,
-                )
+                left_there false (le-ltb data_limit (length plain) s.0) s.3 same taken e
+                (goes_on (value_sealed p.seeds who row.path plain) (replacing name p row at)
+                None
+                (sealed_does link left count links dice after drawn drawn
+                (with_lent_tape name None m (Now news)) who
+                p.seeds row.path plain (Err seal.LooksEncrypted) (omega arith) s.0 tt s)
+                (given (one_left at) (Out news after None m)))
             unsealed (seal.TooLarge size) taken same s e =
-                let long = lt-ltb data_limit (length plain) s.1 in
-                let rest = stays_so (one_left at) (step.Left row.path) refl same s.2 (refl, refl) in
-                subst (λ t. Done (resealing (nat_lt data_limit (length plain)) name p row plain at)
-                news
-                dice t) (same_step taken (step.Left row.path) e) (
-                  rest.0,
-                  rest.1,
-                  subst (λ b. Does (resealing b name p row plain at) (Out news dice None m)
-                      (Out news after None m) (Ok (one_left at))) (sym long) rest.2,
-                  rest.3,
-                )
+                left_there true (lt-ltb data_limit (length plain) s.1) s.2 same taken e
+                (stays_so (one_left at) (step.Left row.path) refl same s.2 (refl, refl)).2
             unsealed seal.DiceFailed taken same s e = not_err taken no.DiceFailed e
             unsealed seal.NoMemory taken same s e = not_err taken no.NoMemory e
 

@@ -27,10 +27,8 @@ use Rattle.kr_cmd_steps.proofs.Loading.{count_here}
 -- ---- a command that says nothing ends as its steps do
 
 pub says_nothing : (stop : Point Outcome) (end : Left) → end.said ≡ [] → SaysNothing stop end
-says_nothing (awaits call) end e = e
-says_nothing amid end e = e
-says_nothing (refuses why) end e = e
 says_nothing (gives x) end e = tt
+says_nothing other end e = e
 
 module _ (command : Command) {left : Left} {new : Around} where
   pub reaches_end : {point : Point Outcome} → new.said ≡ [] → Reaches (steps command) left new point
@@ -170,15 +168,7 @@ module _ (command : Command) (name : List ℕ) (is : ReportsOf command name)
     same_fault : (old : Around) (call : Call) (object : Object) (n : ℕ) → IsFault call object n old Unsettled
         → IsFault call object n old IsBack
     same_fault old (loading other) object n f = f
-    same_fault old reading object n f = f
-    same_fault old (opening seat) object n f = f
-    same_fault old (lending other) object n f = f
-    same_fault old (scanning it other) object n f = f
-    same_fault old (writing it other) object n f = f
-    same_fault old (settling it other) object n f = f
-    same_fault old (drawing seat) object n f = f
-    same_fault old (linking seat plugin) object n f = f
-    same_fault old (asking seat plugin) object n f = f
+    same_fault old other object n f = f
 
     settled_reach : {left : Left} {point : Point Outcome} → IsStop point
         → Reaches (steps command) left Unsettled point → ReachesEnd command left IsBack point

@@ -63,7 +63,6 @@ module _ {A : Type 0} (Q : A → Left → Type 0) where
     allowed (load name next) left g (inr (inl e)) = at (awaits (loading name)) _ tt e
     allowed (load name next) left g (inr (inr (bytes, agrees, goes))) =
         allowed (next bytes) _ (g bytes agrees) goes
-    allowed (take_input limit long next) left g goes = absurd g
     allowed (borrow_dice seat next) left g (inl e) = at amid _ tt e
     allowed (borrow_dice seat next) left g (inr (inl e)) = at (awaits (opening seat)) _ tt e
     allowed (borrow_dice seat next) left g (inr (inr goes)) = allowed next _ g goes
@@ -117,8 +116,8 @@ module _ {A : Type 0} (Q : A → Left → Type 0) where
     allowed (note text next) left g goes = allowed next _ g goes
     allowed (find B P next) left g (inl e) = at amid _ tt e
     allowed (find B P next) left g (inr (b, is, goes)) = allowed (next b) _ (g b is) goes
-    allowed (refuse why) left g goes = absurd g
     allowed (give x) left g e = at (gives x) _ g e
+    allowed other left g goes = absurd g
 
 -- ---- one behind another
 
@@ -127,7 +126,6 @@ module _ {A B : Type 0} (R : A → Left → Type 0) (Q : B → Left → Type 0) 
   pub gives_then : (first : Steps A) (left : Left) → GivesOnly R first left
       → GivesOnly Q (and_then first others) left
   gives_then (load name next) left g = λ bytes agrees. gives_then (next bytes) _ (g bytes agrees)
-  gives_then (take_input limit long next) left g = absurd g
   gives_then (borrow_dice seat next) left g = gives_then next _ g
   gives_then (borrow_tape name access absent next) left g = (g.0, gives_then next _ g.1)
   gives_then (read_tape object name next) left g =
@@ -145,5 +143,5 @@ module _ {A B : Type 0} (R : A → Left → Type 0) (Q : B → Left → Type 0) 
   gives_then (unwrap seat key next) left g = λ bytes. gives_then (next bytes) _ (g bytes)
   gives_then (note text next) left g = gives_then next _ g
   gives_then (find D P next) left g = λ d is. gives_then (next d) _ (g d is)
-  gives_then (refuse why) left g = absurd g
   gives_then (give x) left r = go_on x left r
+  gives_then other left g = absurd g

@@ -359,11 +359,8 @@ takes_in {old} {new} {before} {count} wanted result a is t later =
 -- a call that was made, whatever came of it
 pub asked_for : {T : Type 0} {new : Option (List WorldCall)} (old : Option (List WorldCall)) (call : WorldCall)
     (result : Result T Stop) → new ≡ with_call call old → AskedFor old new call result
-asked_for old call (Ok x) e = e
-asked_for old call (Err (Words why)) e = e
-asked_for old call (Err (Refused why)) e = e
-asked_for old call (Err (Fault object count)) e = e
 asked_for old call (Err NoMemory) e = inr e
+asked_for old call other e = e
 
 module _ {old new : Outside} (files : KeepsFiles old new) (objects : KeepsObjects old new)
     (a : Around) where
@@ -453,8 +450,6 @@ module _ {old new : Outside} (files : KeepsFiles old new) (objects : KeepsObject
         (file_faults new) stop
         → AskedUnless old.asked new.asked asked stop
         → Does step (with_world old a) (with_world new a) (Err stop)
-    not_lent (Words why) n q = absurd n
-    not_lent (Refused why) n q = absurd n
     not_lent (Fault object count) n q = record {
       home = asked_home;
       ends = λ left s. (
@@ -467,6 +462,7 @@ module _ {old new : Outside} (files : KeepsFiles old new) (objects : KeepsObject
         record { home = asked_home; ends = λ left s. inr (unasked s q (lacked left)) }
     not_lent NoMemory n (inr q) =
         record { home = asked_home; ends = λ left s. inl (call, may, not_lent_at s q) }
+    not_lent other n q = absurd n
 
   pub not_opened : (seat : ℕ) {A : Type 0} {next : Steps A} (stop : Stop)
       → LendsNothing old.faults.dice new.faults.dice (file_faults new) stop

@@ -99,8 +99,6 @@ module _ {L : Type 0} (link : L → Link) (seat : ℕ) (x : LinksOf) where
   pub seen_asked : (names : List (List ℕ)) (olds news : List L) → AskedOnly link names olds news
       → AreSeen (lent_links link seat olds x) (lent_links link seat news x)
   seen_asked names [] [] a = seen_same refl
-  seen_asked names [] (new ∷ news) a = absurd a
-  seen_asked names (old ∷ olds) [] a = absurd a
   seen_asked names (old ∷ olds) (new ∷ news) a =
       let there = lent_links link seat news x in
       let first = lent_links link seat (old ∷ olds) x in
@@ -110,6 +108,7 @@ module _ {L : Type 0} (link : L → Link) (seat : ℕ) (x : LinksOf) where
       (link new).count there)) (sym a.0.status)
       (seen_behind same_link (seat, (link old).name) (link old).status a.0.later
       (seen_asked names olds news a.2)))
+  seen_asked names other another a = absurd a
 
 -- ---- what is told of one that is out
 

@@ -129,9 +129,8 @@ module _ (options : List (List ℕ × List ℕ)) where
       (programs : List Program) → plugin_program options name ≡ o → join_program name o r ≡ Ok programs
       → (more : List Program) × (file : List ℕ) × (o ≡ Some file) × (r ≡ Ok more)
       × (programs ≡ record { plugin = name; file = file } ∷ more)
-  joins name None r programs is e = absurd cc
-  joins name (Some file) (Err why) programs is e = absurd cc
   joins name (Some file) (Ok more) programs is e = (more, file, refl, refl, cc)
+  joins name other r programs is e = absurd cc
 
   -- one more has a program
   pub one_program : (names : List (List ℕ)) (programs : List Program) (plugin file : List ℕ)

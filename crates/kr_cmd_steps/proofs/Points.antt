@@ -9,10 +9,8 @@ use Rattle.kr_cmd_messages.specs.declared.refusal.Refusal.TheVariants.{Limit}
 
 -- no value
 abbrev pub IsShort : {A : Type 0} → Point A → Type 0
-IsShort (awaits call) = Unit {0}
-IsShort amid = Unit {0}
-IsShort (refuses why) = Unit {0}
 IsShort (gives x) = ⊥
+IsShort other = Unit {0}
 
 -- memory lacks between two calls, or a limit would be passed
 abbrev pub IsAmidRows : {A : Type 0} → Point A → Type 0
@@ -24,9 +22,7 @@ IsAmidRows (gives x) = ⊥
 -- a write to the store
 abbrev pub IsTorn : {A : Type 0} → Object → (store : List ℕ) → Point A → Type 0
 IsTorn object store (awaits call) = call ≡ writing object store
-IsTorn object store amid = ⊥
-IsTorn object store (refuses why) = ⊥
-IsTorn object store (gives x) = ⊥
+IsTorn object store other = ⊥
 
 -- a value with nothing beside it, or the settling in front of it
 abbrev pub IsThrough : Object → (store : List ℕ) → Point Outcome → Type 0

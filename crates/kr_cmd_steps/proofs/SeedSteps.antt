@@ -487,7 +487,4 @@ pub fails_named : {L D : Type 0} (link : L → Link) (left : D → Option (List 
 fails_named link left count rows olds news old new (publishing.PluginFailed name) p =
     subst (Contains (names_of link news)) p.0.new_named
     (named_there link news p.0.new p.0.new_there)
-fails_named link left count rows olds news old new publishing.DiceFailed p = tt
-fails_named link left count rows olds news old new (publishing.Unhealthy name field text) p =
-    tt
-fails_named link left count rows olds news old new publishing.NoMemory p = tt
+fails_named link left count rows olds news old new other p = tt

@@ -46,9 +46,8 @@ held_made (Some (Some bytes)) make held e = ap (option_map Some) e
 
 may_borrow : (told : Option (Option (List ℕ))) (make : Bool) (held : Option (List ℕ))
     → IsTape told make held → MayBorrow told make
-may_borrow None make held e n = absurd cc
 may_borrow (Some None) make held t n = t.0
-may_borrow (Some (Some bytes)) make held e n = absurd cc
+may_borrow other make held e n = absurd cc
 
 pub one_of : {B : Type 0} (q : Bool) (x y u v : B) → x ≡ u → (q ≡ false → y ≡ v)
     → (if q then x else y) ≡ (if q then u else v)

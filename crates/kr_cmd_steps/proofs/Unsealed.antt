@@ -111,9 +111,7 @@ one_staleness : (seeds : List SeedRow) (who : Who) (object : Result EncryptedObj
     (s t : Option (List ℕ))
     → is_rotated (envelope_of object s) seeds who ≡ is_rotated (envelope_of object t) seeds who
 one_staleness seeds Identity object s t = refl
-one_staleness seeds (Aescbc name secret) object s t = refl
-one_staleness seeds (Aesgcm name secret) object s t = refl
-one_staleness seeds (Kms name) object s t = refl
+one_staleness seeds other object s t = refl
 
 pub as_stale : (seeds : List SeedRow) (list : List Who) (bytes : List ℕ)
     (object : Result EncryptedObject ObjectNo) (s t : Option (List ℕ))
@@ -154,8 +152,6 @@ pub asks_reader : {L : Type 0} (link : L → Link) (seeds : List SeedRow)
     (list : List Who) (path bytes : List ℕ) (olds news : List L) (result : Result Opened UnsealNo)
     → UnsealsBy link seeds list path bytes olds result news
     → AskedOnly link (plugin_reading (reader_in list bytes)) olds news
-asks_reader link seeds list path bytes olds news (Ok opened) u = u.asked
-asks_reader link seeds list path bytes olds news (Err (unseal.Refused why)) u = u.asked
 asks_reader link seeds list path bytes olds news (Err (unseal.PluginFailed name)) u =
     subst (λ r. AskedOnly link (plugin_reading r) olds news) (sym u.reader) u.others
-asks_reader link seeds list path bytes olds news (Err unseal.NoMemory) u = u.asked
+asks_reader link seeds list path bytes olds news other u = u.asked

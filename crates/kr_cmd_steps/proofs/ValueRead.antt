@@ -371,12 +371,7 @@ module _ {L D : Type 0} (link : L → Link) (left : D → Option (List ℕ)) (co
       → Keeps (left old) (left new) → Stays l Undrawn
       → Reaches (value_sealed seeds who path plain) l Drawn (awaits (drawing 0))
   undrawn Identity seeds path plain l n k s = absurd (n refl)
-  undrawn (Aescbc name secret) seeds path plain l n k s =
-      enough (reach l (inl (refl, refl)) (still k l s))
-  undrawn (Aesgcm name secret) seeds path plain l n k s =
-      enough (reach l (inl (refl, refl)) (still k l s))
-  undrawn (Kms name) seeds path plain l n k s =
-      enough (reach l (inl (refl, refl)) (still k l s))
+  undrawn other seeds path plain l n k s = enough (reach l (inl (refl, refl)) (still k l s))
 
   sealed_ends : (who : Who) (seeds : List SeedRow) (path plain : List ℕ)
       (result : Result (List ℕ) SealNo) (l : Left) → length plain ≤ data_limit

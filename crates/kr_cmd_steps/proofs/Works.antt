@@ -119,9 +119,7 @@ pub sealed_size : (faults : ℕ) (sealed : Result (List ℕ) SealNo)
     → IfOk (seal_outcome faults sealed) (λ made. length made.bytes ≤ value_limit)
 sealed_size faults (Ok value) s = s
 sealed_size faults (Err seal.LooksEncrypted) s = tt
-sealed_size faults (Err (seal.TooLarge size)) s = tt
-sealed_size faults (Err seal.DiceFailed) s = tt
-sealed_size faults (Err seal.NoMemory) s = tt
+sealed_size faults (Err other) s = tt
 
 -- ---- what a bench read
 
@@ -219,14 +217,11 @@ pub names_unread : {L : Type 0} (link : L → Link) (resource path bytes : List 
     result news)
     → NamesAnUnread (names_of link news) result
 names_unread link resource path bytes None olds news result some u = absurd (cc)
-names_unread link resource path bytes (Some p) olds news (Ok opened) some u = tt
-names_unread link resource path bytes (Some p) olds news (Err (unseal.Refused why)) some u =
-    tt
 names_unread link resource path bytes (Some p) olds news (Err (unseal.PluginFailed name)) some
     u =
     subst (Contains (names_of link news)) u.rose.new_named
     (named_there link news u.rose.new u.rose.new_there)
-names_unread link resource path bytes (Some p) olds news (Err unseal.NoMemory) some u = tt
+names_unread link resource path bytes (Some p) olds news other some u = tt
 
 pub names_stay_read : {L : Type 0} (link : L → Link) (resource path bytes : List ℕ)
     (published : Option Publication) (olds news : List L) (result : Result Opened UnsealNo)

@@ -109,8 +109,8 @@ MayEndAmidRows status = (status ≡ 4) ⊎ (status ≡ 5) ⊎ (status ≡ 6)
 
 -- no row of a store is lost, and nothing but puts at its live paths was added: the tape has the
 -- rows that it had, puts of some of the live rows up to one behind them, and no more. At status 0
--- and 1 all live rows were met; else the status is 4, 5 or 6. The write of a further row failed only
--- where the tape's count rose and the status is 4, and the tape then begins with those rows
+-- and 1 all live rows were met; else the status is 4, 5 or 6. The write of a further row failed
+-- only where the tape's count rose and the status is 4, and the tape then begins with those rows
 pub record KeepsRows (status : ℕ) (was is : ToldTape) (before count : ℕ) : Type 0 where
   pub bytes : List ℕ
   pub store : Stored

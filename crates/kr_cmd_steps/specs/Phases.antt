@@ -1,4 +1,5 @@
--- Phases that commands share: a configuration, a tape that is lent, the input, a row that is written.
+-- Phases that commands share: a configuration, a tape that is lent, the input, a row that is
+-- written.
 use Rattle.std.specs.Prelude.{ℕ, List, Result, Ok, Err, ⊤, if◌then◌else◌, length, nat_lt}
 use Rattle.kr_base.specs.Limits.{data_limit, value_limit, store_limit}
 use Rattle.kr_config.specs.Kept.{ConfigEntry}

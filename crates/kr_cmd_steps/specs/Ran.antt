@@ -215,8 +215,8 @@ abbrev pub IsUnasked : (old new : Around) → Type 0
 IsUnasked old new = old.heard ≡ option_map (λ told. []) new.heard
 
 -- where all that a call touches is told, the last step that its own way comes to decides the status
--- and the line, whatever it wrote; only a fault, 4, and want of memory, 5, stand in its place. So 1,
--- 3 and 6 come exactly where that step refuses so
+-- and the line, whatever it wrote; only a fault, 4, and want of memory, 5, stand in its place. So
+-- 1, 3 and 6 come exactly where that step refuses so
 abbrev pub IsDecided : List (List ℕ) → (old new : Around) → Receipt → ℕ → Type 0
 IsDecided words old new errors status =
     (command : Command) (point : Point Outcome) (end : Result Done Stop) → Asks words command

@@ -28,9 +28,8 @@ pub looks_up : (path : List ℕ) (rows : List LogRow) (a : Around) (result : Res
 looks_up path rows a (Ok row) is =
     subst (λ found. Does (with_memory (by_result (row_found path found))) a a (Ok row)) (sym is)
     (remembers (given row a))
-looks_up path rows a (Err (Words why)) is = absurd is
 looks_up path rows a (Err (Refused why)) is =
     subst (λ found. Does (with_memory (by_result (row_found path found))) a a (Err (Refused why)))
     (sym is.0) (remembers (refused_so why _ a is.1))
-looks_up path rows a (Err (Fault object count)) is = absurd is
 looks_up path rows a (Err NoMemory) is = lacks (by_result (row_found path (live rows path))) a
+looks_up path rows a (Err other) is = absurd is

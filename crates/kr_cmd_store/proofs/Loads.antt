@@ -23,9 +23,7 @@ module _ {old new : Outside} (files : KeepsFiles old new) (objects : KeepsObject
       → Configures (with_tapes tapes old) (with_tapes tapes new) name result
   moved name (Ok settings) c = c
   moved name (Err (Words why)) c = c
-  moved name (Err (Refused why)) c = c
-  moved name (Err (Fault object count)) c = c
-  moved name (Err NoMemory) c = c
+  moved name (Err other) c = c
 
   pub configures_behind : (name : List ℕ) (result : Result Settings Stop)
       → Configures old new name result → AskedFor old.asked new.asked (File name) result

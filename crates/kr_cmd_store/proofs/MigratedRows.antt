@@ -45,8 +45,6 @@ row_there (row ∷ rows) (suc n) lt = row_there rows n (omega (arith, lt))
 pub follows_at : (format : Format) (before rows : List LogRow) (n : ℕ) (row : LogRow)
     → AllFollow format before rows → slice_get rows n ≡ Some row
     → MayFollow format (before ++ take n rows) row
-follows_at format before [] zero row all is = absurd (let none : None ≡ Some row = is in cc)
-follows_at format before [] (suc n) row all is = absurd (let none : None ≡ Some row = is in cc)
 follows_at format before (first ∷ rows) zero row all is =
     let same : first ≡ row = cc in
     subst (λ r. MayFollow format (before ++ []) r) same
@@ -54,6 +52,7 @@ follows_at format before (first ∷ rows) zero row all is =
 follows_at format before (first ∷ rows) (suc n) row all is =
     subst (λ b. MayFollow format b row) (append_assoc before (first ∷ []) (take n rows))
     (follows_at format (before ++ first ∷ []) rows n row all.1 is)
+follows_at format before [] other row all is = absurd (let none : None ≡ Some row = is in cc)
 
 -- a put is lent as it is handed out
 module _ (config : List ConfigEntry) where
@@ -110,21 +109,19 @@ module _ (config : List ConfigEntry) where
 
   pub next_of : (rows : List LogRow) (n : ℕ) (row : LogRow) → slice_get rows n ≡ Some row
       → drop n (all_of rows) ≡ migrated_row config row ∷ drop (suc n) (all_of rows)
-  next_of [] zero row is = absurd (let none : None ≡ Some row = is in cc)
-  next_of [] (suc n) row is = absurd (let none : None ≡ Some row = is in cc)
   next_of (first ∷ rows) zero row is =
       let same : first ≡ row = cc in
       ap (λ r. migrated_row config r ∷ all_of rows) same
   next_of (first ∷ rows) (suc n) row is = next_of rows n row is
+  next_of [] other row is = absurd (let none : None ≡ Some row = is in cc)
 
   pub one_more_of : (rows : List LogRow) (n : ℕ) (row : LogRow) → slice_get rows n ≡ Some row
       → all_of (take (suc n) rows) ≡ all_of (take n rows) ++ migrated_row config row ∷ []
-  one_more_of [] zero row is = absurd (let none : None ≡ Some row = is in cc)
-  one_more_of [] (suc n) row is = absurd (let none : None ≡ Some row = is in cc)
   one_more_of (first ∷ rows) zero row is =
       let same : first ≡ row = cc in ap (λ r. migrated_row config r ∷ []) same
   one_more_of (first ∷ rows) (suc n) row is =
       ap (λ l. migrated_row config first ∷ l) (one_more_of rows n row is)
+  one_more_of [] other row is = absurd (let none : None ≡ Some row = is in cc)
 
   -- ---- what is live
 

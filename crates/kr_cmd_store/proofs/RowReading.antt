@@ -83,14 +83,11 @@ module _ {L : Type 0} (link : L → Link) (row : Row) (p : Publication)
   finds (Err (unseal.Refused why)) finding u is =
       reads (Err (unseal.Refused why)) (Err why) finding (cc)
       (value_so (Err (unseal.Refused why)) (Ok (Err why)) u refl)
-  finds (Err (unseal.PluginFailed name)) finding u is = absurd (cc)
-  finds (Err unseal.NoMemory) finding u is = absurd (cc)
+  finds (Err other) finding u is = absurd (cc)
 
   pub finds_none : (opened : Result Opened UnsealNo) (why : Unread) (end : Stop) → Unseals opened
       → Err why ≡ value_finding opened → IsUnreadStop link news why end
       → Does (row_finding p row cache) Before After (Err end)
-  finds_none (Ok opened) why end u is h = absurd (cc)
-  finds_none (Err (unseal.Refused cause)) why end u is h = absurd (cc)
   finds_none (Err (unseal.PluginFailed name)) why end u is h =
       let same : why ≡ PluginFailed name = cc in
       let l = subst (λ w. IsUnreadStop link news w end) same h in
@@ -102,16 +99,16 @@ module _ {L : Type 0} (link : L → Link) (row : Row) (p : Publication)
       stops Value next end
       (value_so (Err unseal.NoMemory) (Err end) u
       (ap (λ s. Err s) (subst (λ w. IsUnreadStop link news w end) same h)))
+  finds_none other why end u is h = absurd (cc)
 
 -- there is a link to the plugin that failed
 pub unread_named : (names : List (List ℕ)) (opened : Result Opened UnsealNo) (why : Unread)
     → NamesAnUnread names opened → Err why ≡ value_finding opened → NamesUnread names why
-unread_named names (Ok opened) why n is = absurd (cc)
-unread_named names (Err (unseal.Refused cause)) why n is = absurd (cc)
 unread_named names (Err (unseal.PluginFailed name)) why n is =
     let same : PluginFailed name ≡ why = cc in subst (NamesUnread names) same n
 unread_named names (Err unseal.NoMemory) why n is =
     let same : NoMemory ≡ why = cc in subst (NamesUnread names) same tt
+unread_named names other why n is = absurd (cc)
 
 -- ---- rows
 

@@ -29,9 +29,7 @@ apart_of : (q r : Bool) (n : ℕ) → (q ≡ true → r ≡ false)
     → (n + (if r then 1 else 0)) - (if q then 1 else 0)
     ≡ (n - (if q then 1 else 0)) + (if r then 1 else 0)
 apart_of true true n h = absurd (let t : true ≡ false = h refl in cc)
-apart_of true false n h = omega arith
-apart_of false true n h = omega arith
-apart_of false false n h = omega arith
+apart_of other another n h = omega arith
 
 -- this one is out, and the other one is borrowed
 module _ (name other : List ℕ) (told : Option (List ℕ)) (count : ℕ)

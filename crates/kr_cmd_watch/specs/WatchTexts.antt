@@ -1,5 +1,5 @@
 -- What `watch` prints: the objects of a resource in pages, or the changes since a revision.
-use Rattle.std.specs.Prelude.{◌≡◌, ℕ, List, [], ◌∷◌, ◌++◌, length, codes, decimal, All, Option, None, Some}
+use Rattle.std.specs.Prelude.{◌≡◌, ℕ, List, [], ◌++◌, length, codes, decimal, All, Option, None, Some}
 use Rattle.std.specs.List.{flat_map}
 use Rattle.kr_script.specs.Output.{data_text, three, two}
 use Rattle.kr_watch.specs.Pages.{AreTaken, Taken}

@@ -63,8 +63,8 @@ Shows (Some revision) words opening history items ended text told =
 
 -- The items are what is shown of the history since what was read of the opening's rows. They are
 -- what is shown of it by all openings that agree with these exchanges, those up to the workers;
--- what the workers' plugins answered doesn't matter, since a line that puts data tells them. Without
--- a program for a plugin they are so whatever sources open to.
+-- what the workers' plugins answered doesn't matter, since a line that puts data tells them.
+-- Without a program for a plugin they are so whatever sources open to.
 pub record AreShown (exchanges : List Exchange) (begun : Begun) (o : Opening)
     (history : List Entry) (items : List Item) : Type 0 where
   pub since : IsShownSince begun.items o history items

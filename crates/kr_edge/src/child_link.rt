@@ -15,8 +15,8 @@ ghost use Rattle.kr_edge.specs.Wiped.{IsWiped};
 
 use crate::answer_room::AnswerRoom;
 use crate::plugin_lines::PluginLines;
-use kr_base::{Annotations, Bytes, Text};
-use kr_kms::{Kms, KmsNo, Status, Wrapped};
+use kr_base::{Bytes, Text};
+use kr_kms::{Kms, KmsNo, Status, Wrapped, WrappedRef};
 use std::alloc::Global;
 use std::io::{Read, Write};
 use std::process::{Child, ChildStdin, ChildStdout, SystemProcess};
@@ -180,18 +180,12 @@ impl<C, W: Write, R: Read> Kms for LineLink<C, W, R> {
         self.lines.wrap(alloc, plain)
     }
 
-    fn unwrap_source(
-        &mut self,
-        alloc: Global,
-        key_id: &str,
-        annotations: &Annotations,
-        source: &[u8],
-    ) -> Result<Bytes, KmsNo>
+    fn unwrap_source(&mut self, alloc: Global, wrapped: &WrappedRef<'_>) -> Result<Bytes, KmsNo>
         ensures answers { AnswersRequest Reply.Decrypt (λ _. ⊤)
             (ends_of W.contents R.remaining self.old.lines.exchange)
             (ends_of W.contents R.remaining self.new.lines.exchange)
-            Asked.Decrypt (Request.Decrypt source.now key_id.now annotations.now
-            (next_number self.old.lines.uid)) result }
+            Asked.Decrypt (Request.Decrypt wrapped.now.cipher.now wrapped.now.key_id.now
+            wrapped.now.annotations.now (next_number self.old.lines.uid)) result }
         ensures uid { self.new.lines.uid ≡ next_number self.old.lines.uid }
         ensures once { CountsFailures result self.old.lines.faults self.new.lines.faults }
         ensures wiped { IsWiped self.new.lines.exchange.line.line.items }
@@ -200,9 +194,10 @@ impl<C, W: Write, R: Read> Kms for LineLink<C, W, R> {
         ensures unwraps { AsksLink (line_link self.old.name self.old.lines.faults) result
             (line_link self.new.name self.new.lines.faults) }
         ensures asked { LineStep W.contents R.remaining self.old (UnwrapCall (asked_key
-            self.old.name key_id.now annotations.now source.now) result) self.new }
+            self.old.name wrapped.now.key_id.now wrapped.now.annotations.now wrapped.now.cipher.now)
+            result) self.new }
     {
-        self.lines.unwrap_source(alloc, key_id, annotations, source)
+        self.lines.unwrap_source(alloc, wrapped)
     }
 }
 

@@ -13,8 +13,8 @@ ghost use Rattle.kr_edge.specs.Wiped.{IsWiped};
 
 use crate::answer_room::AnswerRoom;
 use crate::exchange::Exchange;
-use kr_base::{Annotations, Bytes, FaultCount, NoMemory, Text};
-use kr_kms::{KmsNo, Status, Wrapped, is_within_limits};
+use kr_base::{Bytes, FaultCount, NoMemory, Text};
+use kr_kms::{KmsNo, Status, Wrapped, WrappedRef, is_within_limits};
 use kr_kms_wire::{Asked, Reply, ReplyNo, Request, read_reply, request_line};
 use std::alloc::Global;
 use std::io::{Read, Write};
@@ -120,28 +120,22 @@ impl<W: Write, R: Read> PluginLines<W, R> {
         }
     }
 
-    /// Unwraps what was wrapped under this key id with these annotations.
+    /// Unwraps what was wrapped under its key id with its annotations.
     #[tactic(auto, using(crate::proofs::Asking::passes_on, crate::proofs::Asking::other_kind, crate::proofs::Asking::counts_behind))]
-    pub fn unwrap_source(
-        &mut self,
-        alloc: Global,
-        key_id: &str,
-        annotations: &Annotations,
-        source: &[u8],
-    ) -> Result<Bytes, KmsNo>
+    pub fn unwrap_source(&mut self, alloc: Global, wrapped: &WrappedRef<'_>) -> Result<Bytes, KmsNo>
         ensures later { self.old.faults ≤ self.new.faults }
         ensures failed { IsErrOf result KmsNo.Failed → Rose self.old.faults self.new.faults }
         ensures once { CountsFailures result self.old.faults self.new.faults }
         ensures answers { AnswersRequest Reply.Decrypt (λ _. ⊤)
             (ends_of W.contents R.remaining self.old.exchange)
             (ends_of W.contents R.remaining self.new.exchange)
-            Asked.Decrypt (Request.Decrypt source.now key_id.now annotations.now
-            (next_number self.old.uid)) result }
+            Asked.Decrypt (Request.Decrypt wrapped.now.cipher.now wrapped.now.key_id.now
+            wrapped.now.annotations.now (next_number self.old.uid)) result }
         ensures uid { self.new.uid ≡ next_number self.old.uid }
         ensures wiped { IsWiped self.new.exchange.line.line.items }
     {
         let uid = self.next_uid();
-        let Ok(request) = decrypt_request(alloc, source, key_id, annotations, uid) else {
+        let Ok(request) = decrypt_request(alloc, wrapped, uid) else {
             self.exchange.wipe();
             return Err(KmsNo::NoMemory);
         };
@@ -233,22 +227,16 @@ fn ask_once<W: Write, R: Read>(
 }
 
 /// The request to unwrap.
-fn decrypt_request(
-    alloc: Global,
-    source: &[u8],
-    key_id: &str,
-    annotations: &Annotations,
-    uid: u64,
-) -> Result<Request, NoMemory>
-    ensures { IfOk result (λ request. request
-        ≡ Request.Decrypt source.now key_id.now annotations.now uid) }
+fn decrypt_request(alloc: Global, wrapped: &WrappedRef<'_>, uid: u64) -> Result<Request, NoMemory>
+    ensures { IfOk result (λ request. request ≡ Request.Decrypt wrapped.now.cipher.now
+        wrapped.now.key_id.now wrapped.now.annotations.now uid) }
 {
-    let source = Bytes::copy(alloc, source)?;
-    let Ok(key_id) = Text::copy(alloc, key_id) else {
+    let source = Bytes::copy(alloc, wrapped.cipher)?;
+    let Ok(key_id) = Text::copy(alloc, wrapped.key_id) else {
         drop(source);
         return Err(NoMemory);
     };
-    match annotations.copy(alloc) {
+    match wrapped.annotations.copy(alloc) {
         Ok(annotations) => Ok(Request::Decrypt {
             source,
             key_id,

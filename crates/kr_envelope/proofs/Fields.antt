@@ -7,12 +7,11 @@ use Rattle.kr_envelope.proofs.Varints.{one_varint, some_groups}
 -- two fronts of one length
 pub same_front : (a b rest tail : List ℕ) → length a ≡ length b → a ++ rest ≡ b ++ tail → (a ≡ b) × (rest ≡ tail)
 same_front [] [] rest tail l e = (refl, e)
-same_front [] (y ∷ b) rest tail l e = absurd (omega arith)
-same_front (x ∷ a) [] rest tail l e = absurd (omega arith)
 same_front (x ∷ a) (y ∷ b) rest tail l e =
     let tails : a ++ rest ≡ b ++ tail = cc in
     let more = same_front a b rest tail (omega arith) tails in
     (cc, more.1)
+same_front other another rest tail l e = absurd (omega arith)
 
 -- behind the size of bytes stand these and the rest
 sized : (text content rest : List ℕ) → (s : BeginsSpelled IsPayload text (bytes content) rest) → BeginsSpelled IsVarint text (length content) (content ++ rest)
@@ -21,26 +20,20 @@ sized text content rest s = (s.1.0, s.1.1, s.2 ∙ ap (λ l. l ++ rest) s.1.2 �
 pub no_varint : (text : List ℕ) (kind : ℕ) → 0 ≡ kind → ((n : ℕ) (rest : List ℕ) → BeginsSpelled IsVarint text n rest → ⊥)
     → (payload : Payload) (rest : List ℕ) → wire_type payload ≡ kind → BeginsSpelled IsPayload text payload rest → ⊥
 no_varint text kind k h (varint n) rest w s = h n rest s
-no_varint text kind k h (fixed64 content) rest w s = absurd (omega arith)
-no_varint text kind k h (bytes content) rest w s = absurd (omega arith)
-no_varint text kind k h (fixed32 content) rest w s = absurd (omega arith)
+no_varint text kind k h other rest w s = absurd (omega arith)
 
 pub no_size : (text : List ℕ) (kind : ℕ) → 2 ≡ kind → ((n : ℕ) (rest : List ℕ) → BeginsSpelled IsVarint text n rest → ⊥)
     → (payload : Payload) (rest : List ℕ) → wire_type payload ≡ kind → BeginsSpelled IsPayload text payload rest → ⊥
-no_size text kind k h (varint n) rest w s = absurd (omega arith)
-no_size text kind k h (fixed64 content) rest w s = absurd (omega arith)
 no_size text kind k h (bytes content) rest w s = h (length content) (content ++ rest) (sized text content rest s)
-no_size text kind k h (fixed32 content) rest w s = absurd (omega arith)
+no_size text kind k h other rest w s = absurd (omega arith)
 
 pub too_long : (text : List ℕ) (kind n : ℕ) (behind : List ℕ) → 2 ≡ kind → BeginsSpelled IsVarint text n behind → length behind < n
     → (payload : Payload) (rest : List ℕ) → wire_type payload ≡ kind → BeginsSpelled IsPayload text payload rest → ⊥
-too_long text kind n behind k v h (varint m) rest w s = absurd (omega arith)
-too_long text kind n behind k v h (fixed64 content) rest w s = absurd (omega arith)
 too_long text kind n behind k v h (bytes content) rest w s =
     let one = one_varint text n (length content) behind (content ++ rest) v (sized text content rest s) in
     let size : length behind ≡ length content + length rest = ap length one.1 ∙ length-append content rest in
     absurd (omega (arith, one.0, size))
-too_long text kind n behind k v h (fixed32 content) rest w s = absurd (omega arith)
+too_long text kind n behind k v h other rest w s = absurd (omega arith)
 
 pub with_bytes : (text : List ℕ) (n : ℕ) (behind content rest : List ℕ) → BeginsSpelled IsVarint text n behind → n ≤ length behind → content ≡ take n behind → rest ≡ drop n behind → BeginsSpelled IsPayload text (bytes content) rest
 with_bytes text n behind content rest v h c r =
@@ -52,9 +45,7 @@ with_bytes text n behind content rest v h c r =
 
 small_type : (payload : Payload) → wire_type payload < 8
 small_type (varint n) = omega arith
-small_type (fixed64 content) = omega arith
-small_type (bytes content) = omega arith
-small_type (fixed32 content) = omega arith
+small_type other = omega arith
 
 -- a field begins with its key
 keyed : (text : List ℕ) (field : WireField) (rest : List ℕ) → (s : BeginsSpelled IsField text field rest) → BeginsSpelled IsVarint text (field.number * 8 + wire_type field.payload) (s.1.content ++ rest)
@@ -96,25 +87,14 @@ one_fixed text a b rest tail n l m e f = same_front a b rest tail (l ∙ sym m) 
 
 pub one_payload : (text : List ℕ) (p q : Payload) (rest tail : List ℕ) → wire_type p ≡ wire_type q → BeginsSpelled IsPayload text p rest → BeginsSpelled IsPayload text q tail → (p ≡ q) × (rest ≡ tail)
 one_payload text (varint n) (varint m) rest tail w s t = let one = one_varint text n m rest tail s t in (ap varint one.0, one.1)
-one_payload text (varint n) (fixed64 b) rest tail w s t = absurd (omega arith)
-one_payload text (varint n) (bytes b) rest tail w s t = absurd (omega arith)
-one_payload text (varint n) (fixed32 b) rest tail w s t = absurd (omega arith)
-one_payload text (fixed64 a) (varint m) rest tail w s t = absurd (omega arith)
 one_payload text (fixed64 a) (fixed64 b) rest tail w s t =
     let one = one_fixed text a b rest tail 8 s.1.1 t.1.1 (s.2 ∙ ap (λ l. l ++ rest) s.1.0) (t.2 ∙ ap (λ l. l ++ tail) t.1.0) in (ap fixed64 one.0, one.1)
-one_payload text (fixed64 a) (bytes b) rest tail w s t = absurd (omega arith)
-one_payload text (fixed64 a) (fixed32 b) rest tail w s t = absurd (omega arith)
-one_payload text (bytes a) (varint m) rest tail w s t = absurd (omega arith)
-one_payload text (bytes a) (fixed64 b) rest tail w s t = absurd (omega arith)
 one_payload text (bytes a) (bytes b) rest tail w s t =
     let size = one_varint text (length a) (length b) (a ++ rest) (b ++ tail) (sized text a rest s) (sized text b tail t) in
     let one = same_front a b rest tail size.0 size.1 in (ap bytes one.0, one.1)
-one_payload text (bytes a) (fixed32 b) rest tail w s t = absurd (omega arith)
-one_payload text (fixed32 a) (varint m) rest tail w s t = absurd (omega arith)
-one_payload text (fixed32 a) (fixed64 b) rest tail w s t = absurd (omega arith)
-one_payload text (fixed32 a) (bytes b) rest tail w s t = absurd (omega arith)
 one_payload text (fixed32 a) (fixed32 b) rest tail w s t =
     let one = one_fixed text a b rest tail 4 s.1.1 t.1.1 (s.2 ∙ ap (λ l. l ++ rest) s.1.0) (t.2 ∙ ap (λ l. l ++ tail) t.1.0) in (ap fixed32 one.0, one.1)
+one_payload text other another rest tail w s t = absurd (omega arith)
 
 pub one_field : (text : List ℕ) (f g : WireField) (rest tail : List ℕ) → BeginsSpelled IsField text f rest → BeginsSpelled IsField text g tail → (f ≡ g) × (rest ≡ tail)
 one_field text f g rest tail s t =

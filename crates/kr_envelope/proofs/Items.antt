@@ -25,12 +25,10 @@ own_number false n = 0
 
 tagged : (field : WireField) (item : WireItem) → MeansItem field item → tag item ≡ own_number (is_own field) field.number
 unfolding tag own_number
-tagged field (encrypted content) m = sym (ap (λ (f : WireField). own_number (is_own f) f.number) m)
-tagged field (key_id content) m = sym (ap (λ (f : WireField). own_number (is_own f) f.number) m)
-tagged field (source content) m = sym (ap (λ (f : WireField). own_number (is_own f) f.number) m)
 tagged field (annotation key value) m = sym (ap (λ (f : WireField). own_number (is_own f) f.number) m.1)
 tagged field (kind n) m = sym (ap (λ (f : WireField). own_number (is_own f) f.number) m.1)
 tagged field other m = sym (ap (λ b. own_number b field.number) m)
+tagged field content m = sym (ap (λ (f : WireField). own_number (is_own f) f.number) m)
 
 some_one : {T : Type 0} (x y : T) → Some x ≡ Some y → x ≡ y
 some_one x y e = cc
@@ -40,9 +38,7 @@ one_content field n m a b e f = some_one a b (sym (ap (λ (g : WireField). conte
 
 varint_in : Payload → ℕ
 varint_in (varint n) = n
-varint_in (fixed64 content) = 0
-varint_in (bytes content) = 0
-varint_in (fixed32 content) = 0
+varint_in payload = 0
 
 one_number : (field : WireField) (n m : ℕ) → field ≡ record { number = 5; payload = varint n } → field ≡ record { number = 5; payload = varint m } → n ≡ m
 unfolding varint_in
@@ -51,20 +47,15 @@ one_number field n m e f = sym (ap (λ (g : WireField). varint_in g.payload) e) 
 same_tag : (field : WireField) (a b : WireItem) → MeansItem field a → MeansItem field b → tag a ≡ tag b → a ≡ b
 unfolding tag
 same_tag field (encrypted a) (encrypted b) m n t = ap encrypted (one_content field 1 1 a b m n)
-same_tag field (encrypted a) b m n t = absurd (omega arith)
 same_tag field (key_id a) (key_id b) m n t = ap key_id (one_content field 2 2 a b m n)
-same_tag field (key_id a) b m n t = absurd (omega arith)
 same_tag field (source a) (source b) m n t = ap source (one_content field 3 3 a b m n)
-same_tag field (source a) b m n t = absurd (omega arith)
 same_tag field (annotation k v) (annotation l w) m n t =
     let text : m.0 ≡ n.0 = one_content field 4 4 m.0 n.0 m.1 n.1 in
     let fields : m.2.0 ≡ n.2.0 = spells_one IsField fields_code n.0 m.2.0 n.2.0 (subst (λ x. Spells IsField x m.2.0) text m.2.1) n.2.1 in
     ap (λ x. annotation x v) (m.2.2 ∙ ap (last_bytes 1) fields ∙ sym n.2.2) ∙ ap (annotation l) (m.2.3 ∙ ap (last_bytes 2) fields ∙ sym n.2.3)
-same_tag field (annotation k v) b m n t = absurd (omega arith)
 same_tag field (kind a) (kind b) m n t = ap kind (m.2 ∙ ap (λ x. x % 2 ^ 32) (one_number field m.0 n.0 m.1 n.1) ∙ sym n.2)
-same_tag field (kind a) b m n t = absurd (omega arith)
 same_tag field other other m n t = refl
-same_tag field other b m n t = absurd (omega arith)
+same_tag field a b m n t = absurd (omega arith)
 
 pub one_meaning : (field : WireField) (a b : WireItem) → MeansItem field a → MeansItem field b → a ≡ b
 one_meaning field a b m n = same_tag field a b m n (tagged field a m ∙ sym (tagged field b n))

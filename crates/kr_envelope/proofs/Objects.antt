@@ -107,14 +107,12 @@ entry_begun text = record { front = []; fields = []; parts = refl; spelled = ref
 
 -- an entry whose fields end where none begins says nothing
 pub no_entry : (text rest key value : List ℕ) → SeesEntry text rest key value → rest ≢ [] → ((field : WireField) (tail : List ℕ) → BeginsSpelled IsField rest field tail → ⊥) → (item : WireItem) → MeansItem (of_bytes 4 text) item → ⊥
-no_entry text rest key value s some none (encrypted content) m = absurd (omega (arith, ap (λ (f : WireField). f.number) m))
-no_entry text rest key value s some none (key_id content) m = absurd (omega (arith, ap (λ (f : WireField). f.number) m))
-no_entry text rest key value s some none (source content) m = absurd (omega (arith, ap (λ (f : WireField). f.number) m))
 no_entry text rest key value s some none (annotation k v) m =
     let same : text ≡ m.0 = one_content (of_bytes 4 text) 4 4 text m.0 refl m.1 in
     spells_none IsField fields_code text s.front rest s.fields s.spelled s.parts some none m.2.0 (subst (λ l. Spells IsField l m.2.0) (sym same) m.2.1)
 no_entry text rest key value s some none (kind n) m = absurd (omega (arith, ap (λ (f : WireField). f.number) m.1))
 no_entry text rest key value s some none other m = cc
+no_entry text rest key value s some none item m = absurd (omega (arith, ap (λ (f : WireField). f.number) m))
 
 -- a whole entry is an annotation
 pub whole_entry : (text rest key value : List ℕ) → SeesEntry text rest key value → rest ≡ [] → MeansItem (of_bytes 4 text) (annotation key value)
@@ -147,15 +145,10 @@ walk_broken Breach text rest partial at w e b = record {
 }
 
 judged : (text : List ℕ) (items : List WireItem) → IsMessage text items → (result : Result EncryptedObject ObjectNo) → Judges (raw_of items) result → ReadsMessage text result
-judged text items m (Ok object) j = (items, m, j)
-judged text items m (Err (Wire at)) j = absurd j
-judged text items m (Err KeyId) j = (items, m, j)
-judged text items m (Err Source) j = (items, m, j)
-judged text items m (Err Annotations) j = (items, m, j)
-judged text items m (Err SourceType) j = (items, m, j)
-judged text items m (Err NoData) j = (items, m, j)
-judged text items m (Err (NotUtf8 at)) j = absurd j
 judged text items m (Err NoMemory) j = tt
+judged text items m (Err (Wire at)) j = absurd j
+judged text items m (Err (NotUtf8 at)) j = absurd j
+judged text items m result j = (items, m, j)
 
 -- and the whole
 pub walk_ended : (text rest : List ℕ) (partial : PartialObject) (result : Result EncryptedObject ObjectNo) → Walks text rest partial → rest ≡ [] → ((raw : Raw) → Sees partial raw → Judges raw result) → ReadsMessage text result

@@ -7,7 +7,7 @@ use Rattle.kr_envelope.specs.declared.object.ObjectNo.TheVariants.{Wire, KeyId, 
 use Rattle.kr_envelope.specs.declared.object.EncryptedObject.{EncryptedObject}
 use Rattle.kr_envelope.specs.Wire.{BeginsSpelled}
 use Rattle.kr_envelope.specs.Messages.{WireItem, IsItem, IsText, IsMessage, Raw, raw_of}
-use Rattle.kr_envelope.specs.Limits.{breach_of, raw_in, IsNoItem, IsNoText, ReadsMessage, AreOne}
+use Rattle.kr_envelope.specs.Limits.{breach_of, raw_in, BreaksAt, IsNoItem, IsNoText, ReadsMessage, AreOne}
 use Rattle.kr_envelope.proofs.Items.{items_code}
 use Rattle.kr_envelope.proofs.RoundTrip.{same_object}
 
@@ -84,31 +84,33 @@ whole text items answer m j = record {
 place : (text front rest : List ℕ) (at : ℕ) → text ≡ front ++ rest → at ≡ length front → at ≡ length text - length rest
 place text front rest at e l = omega (arith, ap length e, length-append front rest)
 
-run : (text : List ℕ) (answer : Result EncryptedObject ObjectNo) → ReadsMessage text answer → (answer ≡ Err NoMemory) ⊎ Run text answer
-run text (Ok object) (items, m, j) = inr (whole text items (Ok object) m j)
-run text (Err (Wire at)) b = inr (record {
+unread : {Breach : List ℕ → Type 0} {text : List ℕ} {at : ℕ} (name : ℕ → ObjectNo) (b : BreaksAt Breach text at) → Unread Breach name text b.rest (Err (name at))
+unread {Breach} {text} {at} name b = record {
+  is = ap (λ n. Err (name n)) (place text b.front b.rest at b.parts b.place);
+  breach = b.breach;
+}
+
+broken : {Breach : List ℕ → Type 0} {text : List ℕ} {at : ℕ} {answer : Result EncryptedObject ObjectNo} (b : BreaksAt Breach text at) → Stuck b.rest
+    → Whole text b.rest b.items answer ⊎ Unread IsNoItem Wire text b.rest answer ⊎ Unread IsNoText NotUtf8 text b.rest answer → Run text answer
+broken b stuck ending = record {
   front = b.front;
   rest = b.rest;
   items = b.items;
   parts = b.parts;
   message = b.message;
-  stuck = stuck_at_no_item b.rest b.breach;
-  ending = inr (inl (record { is = ap (λ n. Err (Wire n)) (place text b.front b.rest at b.parts b.place); breach = b.breach }));
-})
+  stuck = stuck;
+  ending = ending;
+}
+
+run : (text : List ℕ) (answer : Result EncryptedObject ObjectNo) → ReadsMessage text answer → (answer ≡ Err NoMemory) ⊎ Run text answer
+run text (Ok object) (items, m, j) = inr (whole text items (Ok object) m j)
+run text (Err (Wire at)) b = inr (broken b (stuck_at_no_item b.rest b.breach) (inr (inl (unread Wire b))))
 run text (Err KeyId) (items, m, j) = inr (whole text items (Err KeyId) m j)
 run text (Err Source) (items, m, j) = inr (whole text items (Err Source) m j)
 run text (Err Annotations) (items, m, j) = inr (whole text items (Err Annotations) m j)
 run text (Err SourceType) (items, m, j) = inr (whole text items (Err SourceType) m j)
 run text (Err NoData) (items, m, j) = inr (whole text items (Err NoData) m j)
-run text (Err (NotUtf8 at)) b = inr (record {
-  front = b.front;
-  rest = b.rest;
-  items = b.items;
-  parts = b.parts;
-  message = b.message;
-  stuck = stuck_at_no_text b.rest b.breach;
-  ending = inr (inr (record { is = ap (λ n. Err (NotUtf8 n)) (place text b.front b.rest at b.parts b.place); breach = b.breach }));
-})
+run text (Err (NotUtf8 at)) b = inr (broken b (stuck_at_no_text b.rest b.breach) (inr (inr (unread NotUtf8 b))))
 run text (Err NoMemory) j = inl refl
 
 not_both : (rest : List ℕ) → IsNoItem rest → IsNoText rest → ⊥

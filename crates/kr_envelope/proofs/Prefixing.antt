@@ -108,13 +108,10 @@ one_name n m b c p q e =
 one_head : (k l : Kind) (x y : List ℕ) → head k ++ x ≡ head l ++ y → (k ≡ l) × (x ≡ y)
 one_head Aescbc Aescbc x y e = (refl, append_cancel_left (head Aescbc) x y e)
 one_head Aescbc Aesgcm x y e = absurd (omega (arith, ap (λ (l : List ℕ). get_or l 11 0) e))
-one_head Aescbc Kms x y e = absurd (omega (arith, ap (λ (l : List ℕ). get_or l 8 0) e))
 one_head Aesgcm Aescbc x y e = absurd (omega (arith, ap (λ (l : List ℕ). get_or l 11 0) e))
 one_head Aesgcm Aesgcm x y e = (refl, append_cancel_left (head Aesgcm) x y e)
-one_head Aesgcm Kms x y e = absurd (omega (arith, ap (λ (l : List ℕ). get_or l 8 0) e))
-one_head Kms Aescbc x y e = absurd (omega (arith, ap (λ (l : List ℕ). get_or l 8 0) e))
-one_head Kms Aesgcm x y e = absurd (omega (arith, ap (λ (l : List ℕ). get_or l 8 0) e))
 one_head Kms Kms x y e = (refl, append_cancel_left (head Kms) x y e)
+one_head other another x y e = absurd (omega (arith, ap (λ (l : List ℕ). get_or l 8 0) e))
 
 -- the prefix that bytes begin with is the only one: its kind, its name, and the body behind it
 pub one_prefix : (k l : Kind) (n m b c : List ℕ) → IsName n → IsName m → prefix k n ++ b ≡ prefix l m ++ c → (k ≡ l) × (n ≡ m) × (b ≡ c)
@@ -137,8 +134,7 @@ begins_is start bytes =
 -- every prefix begins with the mark
 head_marked : (kind : Kind) → head kind ≡ mark ++ drop 8 (head kind)
 head_marked Aescbc = refl
-head_marked Aesgcm = refl
-head_marked Kms = refl
+head_marked other = refl
 
 pub prefix_marked : (kind : Kind) (name bytes : List ℕ) → Begins (prefix kind name) bytes → Begins mark bytes
 prefix_marked kind name bytes b = (

@@ -65,16 +65,12 @@ abbrev Uncarried : ℕ → List ℕ → Type 0
 Uncarried k text = (p : Payload) (rest : List ℕ) → wire_type p ≡ k → BeginsSpelled IsPayload text p rest → ⊥
 
 no_eight : (text : List ℕ) → length text < 8 → Uncarried 1 text
-no_eight text h (varint n) rest w s = absurd (omega arith)
 no_eight text h (fixed64 content) rest w s = absurd (omega (arith, h, s.1.1, ap length s.1.0, ap length s.2, length-append s.0 rest))
-no_eight text h (bytes content) rest w s = absurd (omega arith)
-no_eight text h (fixed32 content) rest w s = absurd (omega arith)
+no_eight text h payload rest w s = absurd (omega arith)
 
 no_four : (text : List ℕ) → length text < 4 → Uncarried 5 text
-no_four text h (varint n) rest w s = absurd (omega arith)
-no_four text h (fixed64 content) rest w s = absurd (omega arith)
-no_four text h (bytes content) rest w s = absurd (omega arith)
 no_four text h (fixed32 content) rest w s = absurd (omega (arith, h, s.1.1, ap length s.1.0, ap length s.2, length-append s.0 rest))
+no_four text h payload rest w s = absurd (omega arith)
 
 no_type : (k : ℕ) (text : List ℕ) → k ≢ 0 → k ≢ 1 → k ≢ 2 → k ≢ 5 → Uncarried k text
 no_type k text a b c d (varint n) rest w s = absurd (a (sym w))
@@ -88,12 +84,20 @@ number_carried text = elim (some_varint text) [
   | inr n ↦ inr (no_varint text 0 refl n)
 ]
 
-eight_carried : (text : List ℕ) → Carried 1 text ⊎ Uncarried 1 text
-eight_carried text = by (nat_lt (length text) 8) refl
+-- a payload of a fixed size
+sized_carried : (k size : ℕ) (make : List ℕ → Payload) (text : List ℕ) → (length text < size → Uncarried k text)
+    → ((content : List ℕ) → length content ≡ size → (wire_type (make content) ≡ k) × IsPayload content (make content))
+    → Carried k text ⊎ Uncarried k text
+sized_carried k size make text short long = by (nat_lt (length text) size) refl
   where
-    by : (b : Bool) → nat_lt (length text) 8 ≡ b → Carried 1 text ⊎ Uncarried 1 text
-    by true e = inr (no_eight text (below _ _ e))
-    by false e = inl (fixed64 (take 8 text), (drop 8 text, (refl, (take 8 text, (refl, length-take-le 8 text (not_below _ _ e)), sym (take-append-drop 8 text)))))
+    by : (b : Bool) → nat_lt (length text) size ≡ b → Carried k text ⊎ Uncarried k text
+    by true e = inr (short (below _ _ e))
+    by false e =
+        let is = long (take size text) (length-take-le size text (not_below _ _ e)) in
+        inl (make (take size text), (drop size text, (is.0, (take size text, is.1, sym (take-append-drop size text)))))
+
+eight_carried : (text : List ℕ) → Carried 1 text ⊎ Uncarried 1 text
+eight_carried text = sized_carried 1 8 fixed64 text (no_eight text) (λ content h. (refl, (refl, h)))
 
 bytes_carried : (text : List ℕ) → Carried 2 text ⊎ Uncarried 2 text
 bytes_carried text = elim (some_varint text) [
@@ -106,11 +110,7 @@ bytes_carried text = elim (some_varint text) [
     sized n behind v false e = inl (bytes (take n behind), (drop n behind, (refl, with_bytes text n behind (take n behind) (drop n behind) v (not_below _ _ e) refl refl)))
 
 four_carried : (text : List ℕ) → Carried 5 text ⊎ Uncarried 5 text
-four_carried text = by (nat_lt (length text) 4) refl
-  where
-    by : (b : Bool) → nat_lt (length text) 4 ≡ b → Carried 5 text ⊎ Uncarried 5 text
-    by true e = inr (no_four text (below _ _ e))
-    by false e = inl (fixed32 (take 4 text), (drop 4 text, (refl, (take 4 text, (refl, length-take-le 4 text (not_below _ _ e)), sym (take-append-drop 4 text)))))
+four_carried text = sized_carried 5 4 fixed32 text (no_four text) (λ content h. (refl, (refl, h)))
 
 some_payload : (k : ℕ) (text : List ℕ) → Carried k text ⊎ Uncarried k text
 some_payload k text = zeroth (nat_eq k 0) refl
@@ -195,14 +195,12 @@ abbrev Unmeant : WireField → Type 0
 Unmeant field = (item : WireItem) → MeansItem field item → ⊥
 
 no_entry : (text : List ℕ) → Unlisted IsField text → Unmeant (of_bytes 4 text)
-no_entry text none (encrypted content) m = absurd (omega (arith, ap (λ (f : WireField). f.number) m))
-no_entry text none (key_id content) m = absurd (omega (arith, ap (λ (f : WireField). f.number) m))
-no_entry text none (source content) m = absurd (omega (arith, ap (λ (f : WireField). f.number) m))
 no_entry text none (annotation k v) m =
     let same : text ≡ m.0 = one_content (of_bytes 4 text) 4 4 text m.0 refl m.1 in
     none m.2.0 (subst (λ l. Spells IsField l m.2.0) (sym same) m.2.1)
 no_entry text none (kind n) m = absurd (omega (arith, ap (λ (f : WireField). f.number) m.1))
 no_entry text none other m = cc
+no_entry text none item m = absurd (omega (arith, ap (λ (f : WireField). f.number) m))
 
 not_own : (n : ℕ) → n ≢ 1 → n ≢ 2 → n ≢ 3 → n ≢ 4 → (nat_le 1 n && nat_le n 4) ≡ false
 not_own n a b c d = grind (arith, nat_tests)
@@ -256,12 +254,9 @@ is_text content = by (is_utf8 content) refl
     by false e = inr (λ u. let t = is_utf8-from_IsUtf8 content u in cc)
 
 texts : (item : WireItem) → IsText item ⊎ (IsText item → ⊥)
-texts (encrypted content) = inl tt
 texts (key_id content) = is_text content
-texts (source content) = inl tt
 texts (annotation key value) = is_text key
-texts (kind n) = inl tt
-texts other = inl tt
+texts item = inl tt
 
 -- messages
 

@@ -30,9 +30,8 @@ use Rattle.kr_envelope.proofs.Numbers.{shortest_is}
 
 same_kind : (a b : SourceKind) → number_of a ≡ number_of b → a ≡ b
 same_kind Key Key e = refl
-same_kind Key Seed e = absurd (omega arith)
-same_kind Seed Key e = absurd (omega arith)
 same_kind Seed Seed e = refl
+same_kind other another e = absurd (omega arith)
 
 object : List ℕ → List ℕ → List ℕ → Pairs → SourceKind → EncryptedObject
 object e k s a n = record { encrypted = e; key_id = k; source = s; annotations = a; kind = n }
@@ -119,16 +118,14 @@ some_spelled n (byte ∷ tail) l h f = (content_field n (byte ∷ tail), [], con
 last_key : (key value : List ℕ) → key ≡ last_bytes 1 (some_field 1 key ++ some_field 2 value)
 unfolding some_field
 last_key [] [] = refl
-last_key [] (v ∷ vs) = refl
-last_key (k ∷ ks) [] = refl
-last_key (k ∷ ks) (v ∷ vs) = refl
+last_key (byte ∷ key) [] = refl
+last_key other another = refl
 
 last_value : (key value : List ℕ) → value ≡ last_bytes 2 (some_field 1 key ++ some_field 2 value)
 unfolding some_field
 last_value [] [] = refl
-last_value [] (v ∷ vs) = refl
-last_value (k ∷ ks) [] = refl
-last_value (k ∷ ks) (v ∷ vs) = refl
+last_value (byte ∷ key) [] = refl
+last_value other another = refl
 
 pub content_length : (n : ℕ) (content : List ℕ) → length content < 2 ^ 64 → length (content_field n content) ≤ 11 + length content
 content_length n [] h = omega arith

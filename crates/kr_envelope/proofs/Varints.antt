@@ -13,10 +13,9 @@ pub number_drop : (bytes : List ℕ) (i : ℕ) → i < length bytes → number (
 number_drop bytes i h = ap number (drop-cons bytes i 0 h)
 
 pub number_tail : (bytes : List ℕ) (i : ℕ) → number (drop i bytes) ≤ number bytes
-number_tail [] zero = omega arith
-number_tail [] (suc i) = omega arith
-number_tail (byte ∷ bytes) zero = omega arith
 number_tail (byte ∷ bytes) (suc i) = omega (arith, number_tail bytes i)
+number_tail [] zero = omega arith
+number_tail other another = omega arith
 
 pub number_past : (bytes : List ℕ) (i : ℕ) → 0 < i → i ≤ length bytes → 2 ^ 57 ≤ number (drop i bytes) → 2 ^ 64 ≤ number bytes
 number_past bytes zero p h l = absurd (omega arith)
@@ -39,10 +38,9 @@ groups_end (byte ∷ next ∷ bytes) rest g =
 
 -- and such a byte ends groups
 pub groups_take : (bytes : List ℕ) (i : ℕ) → i < length bytes → get_or bytes i 0 < 128 → ((k : ℕ) → k < i → 128 ≤ get_or bytes k 0) → AreGroups (take (suc i) bytes)
-groups_take [] i h l m = absurd (omega arith)
 groups_take (byte ∷ bytes) zero h l m = l
-groups_take (byte ∷ []) (suc i) h l m = absurd (omega arith)
 groups_take (byte ∷ next ∷ bytes) (suc i) h l m = (m 0 (omega arith), groups_take (next ∷ bytes) i (omega arith) l (λ k c. m (suc k) (omega arith)))
+groups_take other i h l m = absurd (omega arith)
 
 below_some : (i n : ℕ) → i < n → cond (nat_lt i n) (Some i) None ≡ Some i
 below_some i n h = grind (arith, nat_tests)

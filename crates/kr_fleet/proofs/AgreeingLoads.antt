@@ -17,17 +17,14 @@ use Rattle.kr_history.specs.Calls.{AdoptsNothing, KeepsHonestBy, LetsGo}
 use Rattle.kr_history.specs.Honesty.{SeedsOpen}
 use Rattle.kr_history.specs.declared.call.CallNo.{CallNo}
 use Rattle.kr_history.specs.declared.call.CallNo.TheVariants as refusal
-use Rattle.kr_history.proofs.KeptByEvents.{keeps_adopt, keeps_let_go, keeps_same}
+use Rattle.kr_history.proofs.KeptByEvents.{keeps_adopt, keeps_join, keeps_let_go, keeps_reload, keeps_same}
+use Rattle.kr_history.proofs.NothingAdopted.{nothing_adopted}
 use Rattle.kr_fleet.specs.CallExchanges.{IsJoinBy, IsRefreshBy, IsReloadBy, RefreshesBy, RenewsAfter}
 use Rattle.kr_fleet.specs.CallForms.{BringsWhere, CutShortWhere, JoinsWhere, ReloadsWhere, reload_of}
-use Rattle.kr_fleet.specs.declared.outcome.Joining.{Joining}
-use Rattle.kr_fleet.specs.declared.outcome.Joining.TheVariants as joining
+use Rattle.kr_history.specs.declared.outcome.Joining.{Joining}
+use Rattle.kr_history.specs.declared.outcome.Joining.TheVariants as joining
 use Rattle.kr_fleet.specs.declared.outcome.Loaded.{Loaded}
 use Rattle.kr_fleet.specs.declared.outcome.Loaded.TheVariants as loaded
-use Rattle.kr_fleet.specs.declared.loading.Way.{Way}
-use Rattle.kr_fleet.specs.declared.loading.Way.TheVariants as way
-use Rattle.kr_fleet.specs.inner.Stages.{brought_by}
-use Rattle.kr_fleet.proofs.Bringing.{keeps_bring}
 
 -- ---- what is brought
 
@@ -47,11 +44,8 @@ module _ (opens : Opens) (Publishes : Result Publication PublishNo → Type 0)
 
   cut_keeps : (brings : Publication → Event) (replica : ℕ) (why : CallNo) → Keeping brings
       → CutShortWhere Publishes brings replica old why new → KeepsHonestBy opens old new
-  cut_keeps brings replica (refusal.Refused x) keeps c = absurd c
   cut_keeps brings replica (refusal.PluginFailed name) keeps c = same_keeps c.1
   cut_keeps brings replica refusal.DiceFailed keeps c = same_keeps c.1
-  cut_keeps brings replica refusal.StoreFailed keeps c = absurd c
-  cut_keeps brings replica (refusal.StoreFull needed) keeps c = absurd c
   cut_keeps brings replica (refusal.Unhealthy name field text) keeps c = same_keeps c.1
   cut_keeps brings replica refusal.Gone keeps c =
       brought_keeps brings (answer.Gone replica) keeps c
@@ -60,39 +54,39 @@ module _ (opens : Opens) (Publishes : Result Publication PublishNo → Type 0)
   cut_keeps brings replica refusal.NoMemory keeps (inr (inl c)) = same_keeps c.1
   cut_keeps brings replica refusal.NoMemory keeps (inr (inr c)) =
       brought_keeps brings answer.NoMemory keeps c
+  cut_keeps brings replica other keeps c = absurd c
 
-  keeping : (by : Way) (replica : ℕ) → Keeping (brought_by by replica)
-  keeping by replica p given s a = keeps_bring opens old new by replica p given s a
+  reload_keeping : (replica : ℕ) (expect : Option ℕ) → Keeping (reload_of replica expect)
+  reload_keeping replica expect p given s a = keeps_reload opens old new replica p expect given s a
+
+  join_keeping : (replica : ℕ) → Keeping (event.Join replica)
+  join_keeping replica p given s a = keeps_join opens old new replica p given s a
 
   reload_keeps : (replica : ℕ) (result : Result Loaded CallNo)
       → ReloadsWhere Publishes replica old result new → KeepsHonestBy opens old new
   reload_keeps replica (Ok (loaded.Generation number)) w = brought_keeps (reload_of replica None)
-      (answer.Reloaded number) (keeping (way.Reload None) replica) w
+      (answer.Reloaded number) (reload_keeping replica None) w
   reload_keeps replica (Ok (loaded.Refused verdict)) w = brought_keeps (reload_of replica None)
-      (answer.Refused verdict) (keeping (way.Reload None) replica) w
-  reload_keeps replica (Ok (loaded.Moved number)) w = absurd w
-  reload_keeps replica (Ok (loaded.Unchanged number)) w = absurd w
+      (answer.Refused verdict) (reload_keeping replica None) w
   reload_keeps replica (Err why) w =
-      cut_keeps (reload_of replica None) replica why (keeping (way.Reload None) replica) w
+      cut_keeps (reload_of replica None) replica why (reload_keeping replica None) w
+  reload_keeps replica (Ok other) w = absurd w
 
   join_keeps : (replica : ℕ) (result : Result Joining CallNo)
       → JoinsWhere Publishes replica old result new → KeepsHonestBy opens old new
   join_keeps replica (Ok (joining.Generation number)) w = brought_keeps (event.Join replica)
-      (answer.Joined number) (keeping way.Join replica) w
+      (answer.Joined number) (join_keeping replica) w
   join_keeps replica (Ok (joining.Refused verdict)) w = brought_keeps (event.Join replica)
-      (answer.Refused verdict) (keeping way.Join replica) w
+      (answer.Refused verdict) (join_keeping replica) w
   join_keeps replica (Ok (joining.Present number)) w = brought_keeps (event.Join replica)
-      (answer.Present number) (keeping way.Join replica) w
-  join_keeps replica (Err (refusal.Refused x)) w = absurd w
+      (answer.Present number) (join_keeping replica) w
   join_keeps replica (Err (refusal.PluginFailed name)) w = same_keeps w.1
   join_keeps replica (Err refusal.DiceFailed) w = same_keeps w.1
-  join_keeps replica (Err refusal.StoreFailed) w = absurd w
-  join_keeps replica (Err (refusal.StoreFull needed)) w = absurd w
   join_keeps replica (Err (refusal.Unhealthy name field text)) w = same_keeps w.1
-  join_keeps replica (Err refusal.Gone) w = absurd w
   join_keeps replica (Err refusal.Spent) w = same_keeps w.1.same
   join_keeps replica (Err refusal.NoMemory) w =
-      cut_keeps (event.Join replica) replica refusal.NoMemory (keeping way.Join replica) w
+      cut_keeps (event.Join replica) replica refusal.NoMemory (join_keeping replica) w
+  join_keeps replica (Err other) w = absurd w
 
 -- ---- by exchanges
 
@@ -135,8 +129,8 @@ module _ (opens : Opens) {D : Type 0} (left : D → Option (List ℕ)) (count : 
         brought_keeps opens Made
         (published_open p.rows dice after r.others (others_agree _ r)) old new
         (reload_of replica (Some number)) given
-        (keeping opens Made (published_open p.rows dice after r.others (others_agree _ r)) old new
-        (way.Reload (Some number)) replica) r.brings
+        (reload_keeping opens Made (published_open p.rows dice after r.others (others_agree _ r)) old new
+        replica (Some number)) r.brings
 
     stops : (why : CallNo) → RenewsAfter p.seeds es (λ others. CutShortWhere
         (λ made. PublishesBy left count p.rows dice made after others)
@@ -147,8 +141,8 @@ module _ (opens : Opens) {D : Type 0} (left : D → Option (List ℕ)) (count : 
         cut_keeps opens Made
         (published_open p.rows dice after r.others (others_agree _ r)) old new
         (reload_of replica (Some number)) replica why
-        (keeping opens Made (published_open p.rows dice after r.others (others_agree _ r)) old new
-        (way.Reload (Some number)) replica) r.brings
+        (reload_keeping opens Made (published_open p.rows dice after r.others (others_agree _ r)) old new
+        replica (Some number)) r.brings
 
     held_keeps : (result : Result Loaded CallNo)
         → RefreshesBy left count replica number p old dice result new after es
@@ -163,18 +157,9 @@ module _ (opens : Opens) {D : Type 0} (left : D → Option (List ℕ)) (count : 
 
   early_keeps : (replica : ℕ) (old new : Caller) (why : CallNo) → AdoptsNothing replica old why new
       → KeepsHonestBy opens old new
-  early_keeps replica old new (refusal.Refused x) a = absurd a
-  early_keeps replica old new (refusal.PluginFailed name) a = absurd a
-  early_keeps replica old new refusal.DiceFailed a = absurd a
-  early_keeps replica old new refusal.StoreFailed a = absurd a
-  early_keeps replica old new (refusal.StoreFull needed) a = absurd a
-  early_keeps replica old new (refusal.Unhealthy name field text) a = absurd a
-  early_keeps replica old new refusal.Gone a =
-      keeps_adopt old new replica (answer.Gone replica) a opens
-  early_keeps replica old new refusal.Spent a = keeps_same old new a.same opens
-  early_keeps replica old new refusal.NoMemory (inl same) = keeps_same old new same opens
-  early_keeps replica old new refusal.NoMemory (inr a) =
-      keeps_adopt old new replica answer.NoMemory a opens
+  early_keeps replica old new why a = nothing_adopted replica old new
+      (KeepsHonestBy opens old new) (λ e. keeps_same old new e opens)
+      (λ given stays e. keeps_adopt old new replica given e opens) why a
 
   go_keeps : {T : Type 0} (old : Caller) (done result : Result T CallNo) (new : Caller)
       → LetsGo old done result new → KeepsHonestBy opens old new

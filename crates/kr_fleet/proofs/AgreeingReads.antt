@@ -44,15 +44,11 @@ found_so path old new Reads Quiet P some none (Err (refusal.Refused why)) f =
     some f.0 (Err (unsealing.Refused why)) f.1
 found_so path old new Reads Quiet P some none (Err (refusal.PluginFailed name)) f =
     some f.0 (Err (unsealing.PluginFailed name)) f.1
-found_so path old new Reads Quiet P some none (Err refusal.DiceFailed) f = absurd f
-found_so path old new Reads Quiet P some none (Err refusal.StoreFailed) f = absurd f
-found_so path old new Reads Quiet P some none (Err (refusal.StoreFull needed)) f = absurd f
-found_so path old new Reads Quiet P some none (Err (refusal.Unhealthy name field text)) f = absurd f
-found_so path old new Reads Quiet P some none (Err refusal.Gone) f = absurd f
 found_so path old new Reads Quiet P some none (Err refusal.Spent) f = none f.1
 found_so path old new Reads Quiet P some none (Err refusal.NoMemory) (inl f) =
     some f.0 (Err unsealing.NoMemory) f.1
 found_so path old new Reads Quiet P some none (Err refusal.NoMemory) (inr f) = none f.1
+found_so path old new Reads Quiet P some none (Err other) f = absurd f
 
 module _ (opens : Opens) (cache after : CacheState) (es : List Exchange) (agree : AgreeAll opens es)
     (so : AreOpenBy opens cache.rows) where
@@ -155,14 +151,7 @@ module _ (opens : Opens) (cache after : CacheState) (es : List Exchange) (agree 
         told_before (answer.Found f.0) f.1.found (Some (refused why))
         (refusal_is path number p adopted acted is_caller
         (adopted_law old adopted replica number p a) f.0 why f.1)
-    finds_tells (Err (refusal.PluginFailed name)) f = tt
-    finds_tells (Err refusal.DiceFailed) f = tt
-    finds_tells (Err refusal.StoreFailed) f = tt
-    finds_tells (Err (refusal.StoreFull needed)) f = tt
-    finds_tells (Err (refusal.Unhealthy name field text)) f = tt
-    finds_tells (Err refusal.Gone) f = tt
-    finds_tells (Err refusal.Spent) f = tt
-    finds_tells (Err refusal.NoMemory) f = tt
+    finds_tells (Err other) f = tt
 
   held_tells : (path : List ℕ) (replica number : ℕ) (p : Publication)
       (old adopted acted new : Caller) (done result : Result Read CallNo) → IsCaller old
@@ -179,14 +168,7 @@ module _ (opens : Opens) (cache after : CacheState) (es : List Exchange) (agree 
       → AdoptsNothing replica old why new
       → TellsContent (Err why) (IsContentBefore opens path old new)
   early_tells path replica old new (refusal.Refused x) e = absurd e
-  early_tells path replica old new (refusal.PluginFailed name) e = tt
-  early_tells path replica old new refusal.DiceFailed e = tt
-  early_tells path replica old new refusal.StoreFailed e = tt
-  early_tells path replica old new (refusal.StoreFull needed) e = tt
-  early_tells path replica old new (refusal.Unhealthy name field text) e = tt
-  early_tells path replica old new refusal.Gone e = tt
-  early_tells path replica old new refusal.Spent e = tt
-  early_tells path replica old new refusal.NoMemory e = tt
+  early_tells path replica old new other e = tt
 
 pub reads_agree : ReadsAgree
 reads_agree opens path replica old cache (Ok done) new after es k (inl e) agree so = absurd e

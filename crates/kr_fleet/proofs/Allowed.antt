@@ -9,7 +9,7 @@ use Rattle.kr_envelope.specs.declared.object.ObjectNo.TheVariants as object
 use Rattle.kr_envelope.specs.declared.object.SourceKind.{SourceKind}
 use Rattle.kr_envelope.specs.declared.object.SourceKind.TheVariants.{Key, Seed}
 use Rattle.kr_modes.specs.declared.ModeNo.{ModeNo}
-use Rattle.kr_modes.specs.declared.ModeNo.TheVariants.{Short, BadBlock, BadPadding, BadTag}
+use Rattle.kr_modes.specs.declared.ModeNo.TheVariants.{Short}
 use Rattle.kr_modes.specs.Cbc.{cbc_opened}
 use Rattle.kr_modes.specs.Gcm.{gcm_opened}
 use Rattle.kr_provider.specs.Ciphers.{cipher_under, inverse_under}
@@ -27,19 +27,11 @@ IsAllowed unopened = ⊤
 body_allowed : (read : Result (List ℕ) ModeNo) → IsAllowed (body_reading read)
 body_allowed (Ok plain) = tt
 body_allowed (Err Short) = tt
-body_allowed (Err BadBlock) = tt
-body_allowed (Err BadPadding) = tt
-body_allowed (Err BadTag) = tt
+body_allowed (Err other) = tt
 
 refusal_allowed : (why : ObjectNo) → IsAllowed (object_refusal why)
 refusal_allowed (object.Wire at) = tt
-refusal_allowed object.KeyId = tt
-refusal_allowed object.Source = tt
-refusal_allowed object.Annotations = tt
-refusal_allowed object.SourceType = tt
-refusal_allowed object.NoData = tt
-refusal_allowed (object.NotUtf8 at) = tt
-refusal_allowed object.NoMemory = tt
+refusal_allowed other = tt
 
 under_allowed : (kind : SourceKind) (source path encrypted : List ℕ)
     → IsAllowed (body_under kind source path encrypted)

@@ -8,7 +8,6 @@ pub asked_among : {L : Type 0} (link : L → Link) (names more : List (List ℕ)
     → ((name : List ℕ) → Contains names name → Contains more name)
     → AskedOnly link names olds news → AskedOnly link more olds news
 asked_among link names more [] [] t a = tt
-asked_among link names more [] (y ∷ ys) t a = absurd a
-asked_among link names more (x ∷ xs) [] t a = absurd a
 asked_among link names more (x ∷ xs) (y ∷ ys) t a =
     (a.0, λ none. a.1 (λ c. none (t (link x).name c)), asked_among link names more xs ys t a.2)
+asked_among link names more other another t a = absurd a

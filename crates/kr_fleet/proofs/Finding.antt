@@ -1,6 +1,6 @@
 -- What `read` finds is the content at its path.
 use Rattle.std.proofs.Common.{◌≡◌, inl, inr, ℕ, List, ◌++◌, length, Option, None, Some, Result, Ok, Err, refl, sym, ap, subst, ◌∙◌}
-use Rattle.std.specs.Prelude.{IfOk, IfSome, ◌≤◌}
+use Rattle.std.specs.Prelude.{IfSome, ◌≤◌}
 use Rattle.kr_base.specs.Limits.{value_limit}
 use Rattle.kr_base.specs.Lines.{of_seat}
 use Rattle.kr_config.specs.Lists.{list_of}
@@ -35,11 +35,11 @@ use Rattle.kr_history.specs.declared.call.CallNo.{CallNo}
 use Rattle.kr_history.specs.declared.call.CallNo.TheVariants as refusal
 use Rattle.kr_fleet.specs.declared.outcome.Read.{Read}
 use Rattle.kr_fleet.specs.declared.outcome.Read.TheVariants.{Absent}
-use Rattle.kr_history.specs.Calls.{LetsGo}
+use Rattle.kr_history.specs.Asking.{AsksFetch}
+use Rattle.kr_history.specs.Calls.{HoldsAdopted, LetsGo}
 use Rattle.kr_fleet.specs.CallForms.{FindsWhere}
 use Rattle.kr_fleet.specs.ReadCalls.{FindsRow, Finds, IsContentOf, IsKnownContent, IsOfValue, IsRead, IsReadByAny}
-use Rattle.kr_fleet.specs.inner.Answering.{FetchesBy}
-use Rattle.kr_fleet.specs.inner.Stages.{Fetches, HoldsAdopted, row_value}
+use Rattle.kr_fleet.specs.inner.Stages.{row_value}
 use Rattle.kr_fleet.proofs.Allowed.{refused_allowed}
 use Rattle.kr_fleet.proofs.Bare.{reads_bare}
 use Rattle.kr_history.proofs.Nexts.{front_own, found_row, legal_now}
@@ -55,23 +55,17 @@ module _ (path : List ℕ) (old new : Caller) (Reads : Row → Result Opened Uns
   value_found row (Err (unsealing.PluginFailed name)) f = (row, f)
   value_found row (Err unsealing.NoMemory) f = inl (row, f)
 
-  pub none_fetched : (why : CallNo) → Fetches path old (Err why) new → AsksNone
+  pub none_fetched : (why : CallNo) → AsksFetch path old (Err why) new → AsksNone
       → FindsWhere path old new Reads AsksNone (Err why)
-  none_fetched (refusal.Refused x) a none = absurd a
-  none_fetched (refusal.PluginFailed name) a none = absurd a
-  none_fetched refusal.DiceFailed a none = absurd a
-  none_fetched refusal.StoreFailed a none = absurd a
-  none_fetched (refusal.StoreFull needed) a none = absurd a
-  none_fetched (refusal.Unhealthy name field text) a none = absurd a
-  none_fetched refusal.Gone a none = absurd a
   none_fetched refusal.Spent a none = (a, none)
   none_fetched refusal.NoMemory a none = inr (a, none)
+  none_fetched other a none = absurd a
 
-  pub absent_fetched : (found : Option Row) → found ≡ None → Fetches path old (Ok found) new
+  pub absent_fetched : (found : Option Row) → found ≡ None → AsksFetch path old (Ok found) new
       → AsksNone → FindsWhere path old new Reads AsksNone (Ok Absent)
   absent_fetched found is a none =
       let f : AddsEntry old (event.Fetch path) answer.Absent new =
-      subst (λ f. Fetches path old (Ok f) new) is a in (
+      subst (λ f. AsksFetch path old (Ok f) new) is a in (
         record {
           absent = f;
           content = λ opens. absent_is_nothing opens old.opening (old.seen ++ f.others) f.entry path
@@ -84,31 +78,6 @@ module _ (path : List ℕ) (old new : Caller) (Reads : Row → Result Opened Uns
 -- what was fetched isn't too long, and stands at its path
 abbrev pub IsAt : (path : List ℕ) → Row → Type 0
 IsAt path row = (row.path ≡ path) × (length row.stored ≤ value_limit)
-
-pub fetched_known : (old new : Caller) (path : List ℕ) (given : Answer)
-    (result : Result (Option Row) CallNo) → IsCaller old
-    → AddsEntry old (event.Fetch path) given new → FetchesBy given result
-    → IfOk result (λ found. IfSome found (IsAt path))
-fetched_known old new path (answer.Adopted number q) result k a d = absurd d
-fetched_known old new path (answer.Gone other) result k a d = absurd d
-fetched_known old new path (answer.Found row) result k a d =
-    let r = found_row old new path row k a in
-    subst (λ r. IfOk r (λ found. IfSome found (IsAt path))) (sym d) (r.path_is, r.short)
-fetched_known old new path answer.Absent result k a d =
-    subst (λ r. IfOk r (λ found. IfSome found (IsAt path))) (sym d) tt
-fetched_known old new path (answer.Written revision) result k a d = absurd d
-fetched_known old new path (answer.Changed revision) result k a d = absurd d
-fetched_known old new path answer.StoreFailed result k a d = absurd d
-fetched_known old new path (answer.StoreFull needed) result k a d = absurd d
-fetched_known old new path answer.Released result k a d = absurd d
-fetched_known old new path (answer.Reloaded number) result k a d = absurd d
-fetched_known old new path (answer.Joined number) result k a d = absurd d
-fetched_known old new path (answer.Refused verdict) result k a d = absurd d
-fetched_known old new path (answer.Moved number) result k a d = absurd d
-fetched_known old new path (answer.Present number) result k a d = absurd d
-fetched_known old new path (answer.Departed number) result k a d = absurd d
-fetched_known old new path answer.NoMemory result k a d =
-    subst (λ r. IfOk r (λ found. IfSome found (IsAt path))) (sym d) tt
 
 -- ---- the content before a Fetch
 
@@ -209,14 +178,14 @@ module _ (old : Caller) (k : IsCaller old) (number : ℕ) (p : Publication)
 
 module _ {L : Type 0} (link : L → Link) (path : List ℕ) (old new : Caller)
     (olds news : List L) where
-  pub fetch_refused : (p : Publication) (why : CallNo) → Fetches path old (Err why) new
+  pub fetch_refused : (p : Publication) (why : CallNo) → AsksFetch path old (Err why) new
       → Finds link path p old olds (Err why) new olds
   fetch_refused p why a = none_fetched path old new
       (λ row opened. FindsRow link path p old olds row opened new olds) (olds ≡ olds) why a
       refl
 
   pub fetch_absent : (p : Publication) (found : Option Row) → found ≡ None
-      → Fetches path old (Ok found) new → Finds link path p old olds (Ok Absent) new olds
+      → AsksFetch path old (Ok found) new → Finds link path p old olds (Ok Absent) new olds
   fetch_absent p found is a = absent_fetched path old new
       (λ row opened. FindsRow link path p old olds row opened new olds) (olds ≡ olds) found is
       a refl
@@ -225,7 +194,7 @@ module _ {L : Type 0} (link : L → Link) (path : List ℕ) (old new : Caller)
   pub find_done : (published : Option Publication) (found : Option Row) (row lent : Row)
       (opened : Result Opened UnsealNo) (result : Result Read CallNo) → IsCaller old
       → HoldsAdopted published old.mine
-      → Fetches path old (Ok found) new → found ≡ Some row → IsAt path row → lent ≡ row
+      → AsksFetch path old (Ok found) new → found ≡ Some row → IsAt path row → lent ≡ row
       → IfSome published (λ p. UnsealsBy link p.seeds (list_at p lent.resource) lent.path
       lent.stored olds opened news)
       → result ≡ row_value lent.revision opened
@@ -233,7 +202,7 @@ module _ {L : Type 0} (link : L → Link) (path : List ℕ) (old new : Caller)
   find_done published found row lent opened result k h fetched is at same unsealed e =
       let p = h.p in
       let f : AddsEntry old (event.Fetch path) (answer.Found row) new =
-      subst (λ f. Fetches path old (Ok f) new) is fetched in
+      subst (λ f. AsksFetch path old (Ok f) new) is fetched in
       let u : UnsealsBy link p.seeds (list_at p row.resource) path row.stored olds opened
       news =
       subst (λ q. UnsealsBy link p.seeds (list_at p row.resource) q row.stored olds opened

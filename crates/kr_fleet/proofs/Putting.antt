@@ -5,54 +5,34 @@ use Rattle.kr_provider.specs.Publication.{Publication, writer_at}
 use Rattle.kr_provider.specs.Sealing.{Seals, IsSealing}
 use Rattle.kr_provider.specs.declared.refusal.SealNo.{SealNo}
 use Rattle.kr_provider.specs.declared.refusal.SealNo.TheVariants as sealing
-use Rattle.kr_rollout.specs.declared.answer.Answer.{Answer}
 use Rattle.kr_rollout.specs.declared.answer.Answer.TheVariants as answer
 use Rattle.kr_rollout.specs.declared.event.Event.TheVariants as event
 use Rattle.kr_history.specs.Acting.{Caller, AddsEntry}
 use Rattle.kr_history.specs.declared.call.CallNo.{CallNo}
 use Rattle.kr_history.specs.declared.call.CallNo.TheVariants as refusal
-use Rattle.kr_history.specs.Calls.{AddsNothing, LetsGo}
+use Rattle.kr_history.specs.Asking.{AsksPut}
+use Rattle.kr_history.specs.Calls.{LetsGo}
 use Rattle.kr_fleet.specs.WriteCalls.{IsWrite, Puts}
-use Rattle.kr_fleet.specs.inner.Answering.{PutsBy}
 use Rattle.kr_fleet.specs.inner.Stages.{seal_refusal}
 
 module _ {D : Type 0} (left : D → Option (List ℕ)) (count : D → ℕ)
     (resource path plain : List ℕ) (p : Publication) (old new : Caller) (dice after : D) where
-  pub put_answered : (stored : List ℕ) (given : Answer) (result : Result ℕ CallNo)
+  pub put_answered : (stored : List ℕ) (result : Result ℕ CallNo)
       → Seals left count p.seeds (writer_at p resource) path plain dice after (Ok stored)
       → IsSealing p resource path plain stored
-      → AddsEntry old (event.Put path resource plain stored) given new → PutsBy given result
+      → AsksPut path resource plain stored old result new
       → Puts left count resource path plain p old dice result new after
-  put_answered stored (answer.Adopted number q) result s t a d = absurd d
-  put_answered stored (answer.Gone other) result s t a d = absurd d
-  put_answered stored (answer.Found row) result s t a d = absurd d
-  put_answered stored answer.Absent result s t a d = absurd d
-  put_answered stored (answer.Written revision) result s t a d =
-      subst (λ r. Puts left count resource path plain p old dice r new after) (sym d)
-      (record { stored = stored; seals = s; sealing = t; put = a })
-  put_answered stored (answer.Changed revision) result s t a d = absurd d
-  put_answered stored answer.StoreFailed result s t a d =
-      subst (λ r. Puts left count resource path plain p old dice r new after) (sym d)
-      (record { stored = stored; seals = s; sealing = t; put = a })
-  put_answered stored (answer.StoreFull needed) result s t a d =
-      subst (λ r. Puts left count resource path plain p old dice r new after) (sym d)
-      (record { stored = stored; seals = s; sealing = t; put = a })
-  put_answered stored answer.Released result s t a d = absurd d
-  put_answered stored (answer.Reloaded number) result s t a d = absurd d
-  put_answered stored (answer.Joined number) result s t a d = absurd d
-  put_answered stored (answer.Refused verdict) result s t a d = absurd d
-  put_answered stored (answer.Moved number) result s t a d = absurd d
-  put_answered stored (answer.Present number) result s t a d = absurd d
-  put_answered stored (answer.Departed number) result s t a d = absurd d
-  put_answered stored answer.NoMemory result s t a d =
-      subst (λ r. Puts left count resource path plain p old dice r new after) (sym d)
-      (inr (record { stored = stored; seals = s; sealing = t; put = a }))
-
-  pub put_in_vain : (stored : List ℕ)
-      → Seals left count p.seeds (writer_at p resource) path plain dice after (Ok stored)
-      → AddsNothing old new
-      → Puts left count resource path plain p old dice (Err refusal.Spent) new after
-  put_in_vain stored s n = record { stored = stored; seals = s; nothing = n }
+  put_answered stored (Ok revision) s t a =
+      record { stored = stored; seals = s; sealing = t; put = a }
+  put_answered stored (Err refusal.StoreFailed) s t a =
+      record { stored = stored; seals = s; sealing = t; put = a }
+  put_answered stored (Err (refusal.StoreFull needed)) s t a =
+      record { stored = stored; seals = s; sealing = t; put = a }
+  put_answered stored (Err refusal.NoMemory) s t a =
+      inr (record { stored = stored; seals = s; sealing = t; put = a })
+  put_answered stored (Err refusal.Spent) s t a =
+      record { stored = stored; seals = s; nothing = a }
+  put_answered stored (Err other) s t a = absurd a
 
   pub put_refused : (why : SealNo)
       → Seals left count p.seeds (writer_at p resource) path plain dice after (Err why)
@@ -106,24 +86,12 @@ put_stays left count resource path plain (Some p) old dice after why refused e s
 
 pub put_done : {D : Type 0} (left : D → Option (List ℕ)) (count : D → ℕ)
     (resource path plain stored : List ℕ) (published : Option Publication) (old new : Caller)
-    (dice after : D) (given : Answer) (result : Result ℕ CallNo)
+    (dice after : D) (result : Result ℕ CallNo)
     → IfSome published (λ p. Seals left count p.seeds (writer_at p resource) path plain dice after
     (Ok stored))
     → IfSome published (λ p. IsSealing p resource path plain stored)
-    → AddsEntry old (event.Put path resource plain stored) given new → PutsBy given result
+    → AsksPut path resource plain stored old result new
     → IfSome published (λ p. Puts left count resource path plain p old dice result new after)
-put_done left count resource path plain stored None old new dice after given result s t a d = tt
-put_done left count resource path plain stored (Some p) old new dice after given result s t a d =
-    put_answered left count resource path plain p old new dice after stored given result s t a d
-
-pub put_spent : {D : Type 0} (left : D → Option (List ℕ)) (count : D → ℕ)
-    (resource path plain stored : List ℕ) (published : Option Publication) (old new : Caller)
-    (dice after : D)
-    → IfSome published (λ p. Seals left count p.seeds (writer_at p resource) path plain dice after
-    (Ok stored))
-    → AddsNothing old new
-    → IfSome published (λ p. Puts left count resource path plain p old dice
-    (Err refusal.Spent) new after)
-put_spent left count resource path plain stored None old new dice after s n = tt
-put_spent left count resource path plain stored (Some p) old new dice after s n =
-    put_in_vain left count resource path plain p old new dice after stored s n
+put_done left count resource path plain stored None old new dice after result s t a = tt
+put_done left count resource path plain stored (Some p) old new dice after result s t a =
+    put_answered left count resource path plain p old new dice after stored result s t a

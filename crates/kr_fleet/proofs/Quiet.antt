@@ -39,11 +39,7 @@ module _ {L : Type 0} (link : L → Link) (path : List ℕ) (p : Publication)
   finds (Err refusal.NoMemory) (inr f) =
       quiet_one old new (event.Fetch path) answer.NoMemory tt f.0
   finds (Err refusal.Spent) f = quiet_none old new f.0.same
-  finds (Err refusal.DiceFailed) f = absurd f
-  finds (Err refusal.StoreFailed) f = absurd f
-  finds (Err (refusal.StoreFull needed)) f = absurd f
-  finds (Err (refusal.Unhealthy name field text)) f = absurd f
-  finds (Err refusal.Gone) f = absurd f
+  finds (Err other) f = absurd f
 
 -- by the configuration that the bench has
 pub finds_quietly : {L : Type 0} (link : L → Link) (path : List ℕ)
@@ -75,7 +71,6 @@ module _ {D : Type 0} (left : D → Option (List ℕ)) (count : D → ℕ)
   puts (Err refusal.Spent) f = quiet_none old new f.nothing.same
   puts (Err refusal.NoMemory) (inl f) = quiet_none old new f.1
   puts (Err refusal.NoMemory) (inr f) = puts_sealed answer.NoMemory tt f
-  puts (Err (refusal.Refused why)) f = absurd f
   puts (Err why) f = absurd f
 
 -- by the configuration that the bench has

@@ -13,19 +13,20 @@ use Rattle.kr_store.specs.declared.rows.Row.{Row}
 use Rattle.kr_rollout.specs.declared.answer.Answer.TheVariants as answer
 use Rattle.kr_rollout.specs.declared.event.Event.TheVariants as event
 use Rattle.kr_history.specs.Acting.{Caller, AddsEntry, IsCaller}
-use Rattle.kr_history.specs.Calls.{LetsGo}
+use Rattle.kr_history.specs.Asking.{AsksFetch}
+use Rattle.kr_history.specs.Calls.{HoldsAdopted, LetsGo}
 use Rattle.kr_history.specs.declared.call.CallNo.{CallNo}
 use Rattle.kr_history.proofs.HeldFacts.{held_is_named}
 use Rattle.kr_fleet.specs.CallExchanges.{AsksNone, FindsBy, FindsRowBy, IsReadBy}
 use Rattle.kr_fleet.specs.declared.outcome.Read.{Read}
 use Rattle.kr_fleet.specs.declared.outcome.Read.TheVariants.{Absent}
-use Rattle.kr_fleet.specs.inner.Stages.{Fetches, HoldsAdopted, row_value}
+use Rattle.kr_fleet.specs.inner.Stages.{row_value}
 use Rattle.kr_fleet.proofs.Finding.{IsAt, absent_fetched, none_fetched, value_found}
 
 module _ {S : Type 0} (step : S → Exchange → S → Type 0) (path : List ℕ) (old new : Caller)
     (links news : S) (cache after : CacheState) where
   -- nothing was fetched, and no link was asked
-  pub refused_talk : (p : Publication) (why : CallNo) → Fetches path old (Err why) new
+  pub refused_talk : (p : Publication) (why : CallNo) → AsksFetch path old (Err why) new
       → Talk step links links (FindsBy path p old cache (Err why) new cache)
   refused_talk p why a = talk_none step (FindsBy path p old cache (Err why) new cache) links
       (none_fetched path old new
@@ -33,7 +34,7 @@ module _ {S : Type 0} (step : S → Exchange → S → Type 0) (path : List ℕ)
       why a (refl, refl))
 
   pub absent_talk : (p : Publication) (found : Option Row) → found ≡ None
-      → Fetches path old (Ok found) new
+      → AsksFetch path old (Ok found) new
       → Talk step links links (FindsBy path p old cache (Ok Absent) new cache)
   absent_talk p found is a = talk_none step (FindsBy path p old cache (Ok Absent) new cache) links
       (absent_fetched path old new
@@ -44,7 +45,7 @@ module _ {S : Type 0} (step : S → Exchange → S → Type 0) (path : List ℕ)
   pub found_talk : (published : Option Publication) (found : Option Row) (row lent : Row)
       (opened : Result Opened UnsealNo) (result : Result Read CallNo) → IsCaller old
       → HoldsAdopted published old.mine
-      → Fetches path old (Ok found) new → found ≡ Some row → IsAt path row → lent ≡ row
+      → AsksFetch path old (Ok found) new → found ≡ Some row → IsAt path row → lent ≡ row
       → IfSome published (λ p. Talk step links news (ReadsBy p.seeds (list_at p lent.resource)
       lent.path lent.stored cache opened after))
       → result ≡ row_value lent.revision opened
@@ -52,7 +53,7 @@ module _ {S : Type 0} (step : S → Exchange → S → Type 0) (path : List ℕ)
   found_talk published found row lent opened result k h fetched is at same unsealed e =
       let p = h.p in
       let f : AddsEntry old (event.Fetch path) (answer.Found row) new =
-      subst (λ f. Fetches path old (Ok f) new) is fetched in
+      subst (λ f. AsksFetch path old (Ok f) new) is fetched in
       let u : Talk step links news (ReadsBy p.seeds (list_at p row.resource) path row.stored cache
       opened after) =
       subst (λ q. Talk step links news (ReadsBy p.seeds (list_at p row.resource) q row.stored cache

@@ -169,10 +169,9 @@ module _ {S D : Type 0} (step : S → Exchange → S → Type 0) (left : D → O
               record { asked = es; others = fs; exchanges_are = refl; compares = c; brings = w }
           renewed_by (Ok (loaded.Moved current)) es fs c w =
               record { asked = es; others = fs; exchanges_are = refl; compares = c; brings = w }
-          renewed_by (Ok (loaded.Unchanged same)) es fs c w = absurd w
-          renewed_by (Ok (loaded.Refused verdict)) es fs c w = absurd w
           renewed_by (Err why) es fs c w = inr (inr
               (record { asked = es; others = fs; exchanges_are = refl; compares = c; brings = w }))
+          renewed_by (Ok other) es fs c w = absurd w
 
           pub renewed_talk : (result : Result Loaded CallNo)
               → Talk step mids news (Anew rows between result)

@@ -22,16 +22,18 @@ use Rattle.kr_rollout.specs.Histories.{state_of}
 use Rattle.kr_rollout.specs.States.{held_by}
 use Rattle.kr_rollout.proofs.Holdings.{holding_of}
 use Rattle.kr_history.proofs.Judging.{refresh_is_not_refused}
+use Rattle.kr_history.specs.Asking.{AsksReload}
 use Rattle.kr_history.specs.declared.call.CallNo.{CallNo}
+use Rattle.kr_history.specs.declared.outcome.Reloading.{Reloading}
+use Rattle.kr_history.specs.declared.outcome.Reloading.TheVariants as reloading
 use Rattle.kr_fleet.specs.declared.outcome.Loaded.{Loaded}
 use Rattle.kr_fleet.specs.declared.outcome.Loaded.TheVariants as loaded
 use Rattle.kr_fleet.specs.CallForms.{BringsWhere, CutShortWhere}
 use Rattle.kr_fleet.specs.LoadCalls.{IsKeyChanged, Refreshes, plugin_names, reload_of}
-use Rattle.kr_fleet.specs.inner.Answering.{ReloadsBy}
-use Rattle.kr_fleet.specs.inner.Stages.{ComparesKeys, IsBrought}
+use Rattle.kr_fleet.specs.inner.Stages.{ComparesKeys, SharesPublished, load_done}
 use Rattle.kr_provider.proofs.AskedLists.{asked_then}
 use Rattle.kr_fleet.proofs.Asked.{asked_among}
-use Rattle.kr_fleet.proofs.Bringing.{cut_short}
+use Rattle.kr_fleet.proofs.Bringing.{not_shared, reload_cut}
 use Rattle.kr_history.proofs.Nexts.{front_own, legal_now}
 
 -- ---- the generation that is held
@@ -97,34 +99,25 @@ module _ (Publishes : Result Publication PublishNo → Type 0) (replica number :
   Renewed (Ok (loaded.Refused verdict)) = ⊥
   Renewed (Err why) = CutShortWhere Publishes (reload_of replica (Some number)) replica old why new
 
-  pub renew_answered : (given : Answer) (result : Result Loaded CallNo) → IsCaller old
-      → holding old.mine ≡ Some (number, p)
-      → (b : BringsWhere Publishes (reload_of replica (Some number)) old given new)
-      → b.p.rows ≡ p.rows → ReloadsBy given result → Renewed result
-  renew_answered (answer.Adopted n r) result k held b rows d = absurd d
-  renew_answered (answer.Gone other) result k held b rows d =
-      let step = reload_step old new replica number p b.p (answer.Gone other) b.brought in
-      subst (λ r. Renewed r) (sym d)
-      (subst (λ r. BringsWhere Publishes (reload_of replica (Some number)) old (answer.Gone r) new)
-      step.0 b)
-  renew_answered (answer.Found row) result k held b rows d = absurd d
-  renew_answered answer.Absent result k held b rows d = absurd d
-  renew_answered (answer.Written revision) result k held b rows d = absurd d
-  renew_answered (answer.Changed revision) result k held b rows d = absurd d
-  renew_answered answer.StoreFailed result k held b rows d = absurd d
-  renew_answered (answer.StoreFull needed) result k held b rows d = absurd d
-  renew_answered answer.Released result k held b rows d = absurd d
-  renew_answered (answer.Reloaded made) result k held b rows d =
-      subst (λ r. Renewed r) (sym d) b
-  renew_answered (answer.Joined made) result k held b rows d = absurd d
-  renew_answered (answer.Refused verdict) result k held b rows d =
-      absurd (not_refused old new replica number p b.p verdict k held rows b.brought)
-  renew_answered (answer.Moved current) result k held b rows d =
-      subst (λ r. Renewed r) (sym d) b
-  renew_answered (answer.Present n) result k held b rows d = absurd d
-  renew_answered (answer.Departed n) result k held b rows d = absurd d
-  renew_answered answer.NoMemory result k held b rows d =
-      subst (λ r. Renewed r) (sym d) (inr (inr b))
+  renew_done : (q : Publication) (done : Result Reloading CallNo) → IsCaller old
+      → holding old.mine ≡ Some (number, p) → Publishes (Ok q) → q.rows ≡ p.rows
+      → AsksReload replica (Some number) q old done new → Renewed (load_done done)
+  renew_done q (Ok (reloading.Generation made)) k held w rows a =
+      record { p = q; publishes = w; brought = a }
+  renew_done q (Ok (reloading.Moved current)) k held w rows a =
+      record { p = q; publishes = w; brought = a }
+  renew_done q (Ok (reloading.Refused verdict)) k held w rows a =
+      absurd (not_refused old new replica number p q verdict k held rows a)
+  renew_done q (Err why) k held w rows a =
+      reload_cut Publishes old new replica q w (Some number) why a
+
+  pub renew_answered : (q : Publication) (done : Result Reloading CallNo)
+      (result : Result Loaded CallNo) → IsCaller old → holding old.mine ≡ Some (number, p)
+      → Publishes (Ok q) → q.rows ≡ p.rows
+      → AsksReload replica (Some number) q old done new → result ≡ load_done done
+      → Renewed result
+  renew_answered q done result k held w rows a is =
+      subst (λ r. Renewed r) (sym is) (renew_done q done k held w rows a)
 
 module _ {L D : Type 0} (link : L → Link) (left : D → Option (List ℕ))
     (count : D → ℕ) (replica number : ℕ) (p : Publication) (old new : Caller)
@@ -139,10 +132,9 @@ module _ {L D : Type 0} (link : L → Link) (left : D → Option (List ℕ))
       record { asked = asked; links = links; changed = changed; brought = b }
   renewed (Ok (loaded.Moved current)) b =
       record { asked = asked; links = links; changed = changed; brought = b }
-  renewed (Ok (loaded.Unchanged same)) b = absurd b
-  renewed (Ok (loaded.Refused verdict)) b = absurd b
   renewed (Err why) b =
       inr (record { asked = asked; links = links; changed = changed; brought = b })
+  renewed (Ok other) b = absurd b
 
 -- ---- behind a comparison of key ids
 
@@ -177,34 +169,29 @@ module _ {L D : Type 0} (link : L → Link) (left : D → Option (List ℕ))
   changed_then = subst (λ s. IsKeyChanged link olds s) seeds_are
       (subst (λ b. ComparesKeys link seeds olds (Ok b) mids) is compares)
 
-  brought_then : (result : Result Answer CallNo)
-      → IsBrought link left count rows (reload_of replica (Some number)) old mids between result
-      new news after
-      → IsBrought link left count p.rows (reload_of replica (Some number)) old mids dice result
-      new news after
-  brought_then result w =
-      subst (λ d. IsBrought link left count p.rows (reload_of replica (Some number)) old mids d
-      result new news after) dice_is
-      (subst (λ r. IsBrought link left count r (reload_of replica (Some number)) old mids between
-      result new news after) rows_are w)
+  shared_then : (result : Result Publication CallNo)
+      → SharesPublished link left count rows mids between result news after
+      → SharesPublished link left count p.rows mids dice result news after
+  shared_then result w =
+      subst (λ d. SharesPublished link left count p.rows mids d result news after) dice_is
+      (subst (λ r. SharesPublished link left count r mids between result news after) rows_are w)
 
   pub not_brought : (why : CallNo)
-      → IsBrought link left count rows (reload_of replica (Some number)) old mids between (Err why)
-      new news after
+      → SharesPublished link left count rows mids between (Err why) news after → new ≡ old
       → Refreshes link left count replica number p old olds dice (Err why) new news after
-  not_brought why w = renewed link left count replica number p old new olds mids
+  not_brought why w same = renewed link left count replica number p old new olds mids
       news dice after asked_of changed_then (Err why)
-      (cut_short (λ made. Publishes link left count p.rows mids dice made news after) old new
-      (reload_of replica (Some number)) replica why (brought_then (Err why) w))
+      (not_shared (λ made. Publishes link left count p.rows mids dice made news after) old new
+      (reload_of replica (Some number)) replica why same (shared_then (Err why) w))
 
-  pub brought_anew : (given : Answer) (result : Result Loaded CallNo)
-      → IsCaller old → holding old.mine ≡ Some (number, p)
-      → IsBrought link left count rows (reload_of replica (Some number)) old mids between (Ok given)
-      new news after → ReloadsBy given result
+  pub brought_anew : (q : Publication) (done : Result Reloading CallNo)
+      (result : Result Loaded CallNo) → IsCaller old → holding old.mine ≡ Some (number, p)
+      → SharesPublished link left count rows mids between (Ok q) news after
+      → AsksReload replica (Some number) q old done new → result ≡ load_done done
       → Refreshes link left count replica number p old olds dice result new news after
-  brought_anew given result k held w d =
-      let b = brought_then (Ok given) w in
+  brought_anew q done result k held w a is =
+      let b = shared_then (Ok q) w in
       renewed link left count replica number p old new olds mids news dice after asked_of
       changed_then result (renew_answered
       (λ made. Publishes link left count p.rows mids dice made news after) replica number p
-      old new given result k held b b.publishes.0 d)
+      old new q done result k held b b.0 a is)

@@ -115,22 +115,17 @@ module _ {L : Type 0} (link : L → Link) (seeds : List SeedRow) (row : SeedRow)
   pub stopped_later : AreSameBelow link olds seeds k → (why : CallNo)
       → ComparesKeys link (row ∷ []) mids (Err why) news
       → ComparesKeys link seeds olds (Err why) news
-  stopped_later before (refusal.Refused x) c = c
   stopped_later before (refusal.PluginFailed name) c = (
     asks_up_to before name c.0,
     rose_later link (plugin_names seeds) name olds mids news asked c.1,
   )
-  stopped_later before refusal.DiceFailed c = c
-  stopped_later before refusal.StoreFailed c = c
-  stopped_later before (refusal.StoreFull needed) c = c
   stopped_later before (refusal.Unhealthy name field text) c = (
     asks_up_to before name c.0,
     had link (plugin_names seeds) name (λ it. HasBreach it (Some (field, text))) olds mids
         (breach_back (Some (field, text))) asked c.1,
   )
-  stopped_later before refusal.Gone c = c
-  stopped_later before refusal.Spent c = c
   stopped_later before refusal.NoMemory c = tt
+  stopped_later before other c = c
 
   -- its key hasn't changed
   pub same_later : (changed : Bool) → changed ≡ false

@@ -17,8 +17,8 @@ use Rattle.kr_history.specs.Calls.{AddsNothing}
 use Rattle.kr_history.specs.Contents.{IsContent}
 use Rattle.kr_history.specs.declared.call.CallNo.{CallNo}
 use Rattle.kr_history.specs.declared.call.CallNo.TheVariants as refusal
-use Rattle.kr_fleet.specs.declared.outcome.Joining.{Joining}
-use Rattle.kr_fleet.specs.declared.outcome.Joining.TheVariants as joining
+use Rattle.kr_history.specs.declared.outcome.Joining.{Joining}
+use Rattle.kr_history.specs.declared.outcome.Joining.TheVariants as joining
 use Rattle.kr_fleet.specs.declared.outcome.Loaded.{Loaded}
 use Rattle.kr_fleet.specs.declared.outcome.Loaded.TheVariants as loaded
 use Rattle.kr_fleet.specs.declared.outcome.Read.{Read}

@@ -19,7 +19,7 @@ use Rattle.kr_history.specs.declared.call.CallNo.{CallNo}
 use Rattle.kr_history.specs.declared.call.CallNo.TheVariants as refusal
 use Rattle.kr_fleet.specs.CallForms.{BringsWhere, BringsNothingWhere, CutShortWhere, JoinsWhere, NotJoinedWhere, PublishesNothingWhere, ReloadsWhere}
 pub use Rattle.kr_fleet.specs.CallForms.{reload_of}
-use Rattle.kr_fleet.specs.declared.outcome.Joining.{Joining}
+use Rattle.kr_history.specs.declared.outcome.Joining.{Joining}
 use Rattle.kr_fleet.specs.declared.outcome.Loaded.{Loaded}
 use Rattle.kr_fleet.specs.declared.outcome.Loaded.TheVariants as loaded
 use Rattle.kr_history.specs.Calls.{EndsEarly, HoldsMeanwhile}

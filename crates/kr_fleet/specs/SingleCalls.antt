@@ -5,16 +5,13 @@ use Rattle.kr_history.specs.declared.call.CallNo.{CallNo}
 use Rattle.kr_history.specs.declared.call.CallNo.TheVariants as refusal
 use Rattle.kr_rollout.specs.declared.event.Event.TheVariants as event
 use Rattle.kr_history.specs.Acting.{Caller, AddsEntry}
+use Rattle.kr_history.specs.Asking.{AsksLeave}
 use Rattle.kr_history.specs.Calls.{AddsNothing}
 
 -- ---- leave: a Leave
 
 abbrev pub IsLeave : (replica : ℕ) → Caller → Result (Option ℕ) CallNo → Caller → Type 0
-IsLeave replica old (Ok (Some number)) new =
-    AddsEntry old (event.Leave replica) (answer.Departed number) new
-IsLeave replica old (Ok None) new = AddsEntry old (event.Leave replica) (answer.Gone replica) new
-IsLeave replica old (Err refusal.Spent) new = AddsNothing old new
-IsLeave replica old (Err why) new = ⊥
+IsLeave replica old result new = AsksLeave replica old result new
 
 -- ---- delete: a Delete, unless there was no memory for its path
 

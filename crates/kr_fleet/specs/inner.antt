@@ -1,3 +1,2 @@
 -- Definitions that serve inner contracts alone.
-pub mod Answering
 pub mod Stages

@@ -5,11 +5,9 @@ ghost use Rattle.kr_rollout.specs.Callers.{holding};
 ghost use Rattle.kr_history.specs.Calls.{KeepsHonesty};
 ghost use Rattle.kr_history.specs.Parts.{AddsWithin};
 ghost use Rattle.kr_fleet.specs.SingleCalls.{IsDelete};
-ghost use Rattle.kr_fleet.specs.inner.Answering.{AnswersDelete, DeletesBy};
 
-use kr_base::{Spent, Text};
+use kr_base::Text;
 use kr_history::{Acts, CallNo};
-use kr_rollout::{Answer, Event};
 use std::alloc::Global;
 
 /// Deletes the path's live row. It answers the revision of the row that was written, or `None`
@@ -26,24 +24,5 @@ pub fn delete<A: Acts>(alloc: Global, acts: &mut A, path: &str) -> Result<Option
     let Ok(path) = Text::copy(alloc, path) else {
         return Err(CallNo::NoMemory);
     };
-    acts.known();
-    match acts.act(Event::Delete { path }) {
-        Ok(answer) => deleted(answer),
-        Err(Spent) => Err(CallNo::Spent),
-    }
-}
-
-/// The revision of the row that was written.
-fn deleted(answer: Answer) -> Result<Option<u64>, CallNo>
-    requires { AnswersDelete answer }
-    ensures { DeletesBy answer result }
-{
-    match answer {
-        Answer::Written { revision } => Ok(Some(revision)),
-        Answer::Absent => Ok(None),
-        Answer::StoreFailed => Err(CallNo::StoreFailed),
-        Answer::StoreFull { needed } => Err(CallNo::StoreFull { needed }),
-        Answer::NoMemory => Err(CallNo::NoMemory),
-        _ => unreachable!(),
-    }
+    kr_history::delete(acts, path)
 }

@@ -4,11 +4,8 @@ ghost use Rattle.kr_rollout.specs.Callers.{holding};
 ghost use Rattle.kr_history.specs.Calls.{KeepsHonesty};
 ghost use Rattle.kr_history.specs.Parts.{AddsWithin};
 ghost use Rattle.kr_fleet.specs.SingleCalls.{IsLeave};
-ghost use Rattle.kr_fleet.specs.inner.Answering.{AnswersLeave, DepartsBy};
 
-use kr_base::Spent;
 use kr_history::{Acts, CallNo};
-use kr_rollout::{Answer, Event};
 
 /// Takes the replica's current generation away. It answers the generation, or `None` where the
 /// replica had none. It takes no memory.
@@ -21,21 +18,5 @@ pub fn leave<A: Acts>(acts: &mut A, replica: u32) -> Result<Option<u32>, CallNo>
     ensures idle { holding (A.caller acts.new).mine ≡ None }
     ensures place { A.place acts.new ≡ A.place acts.old }
 {
-    acts.known();
-    match acts.act(Event::Leave { replica }) {
-        Ok(answer) => Ok(departed(answer)),
-        Err(Spent) => Err(CallNo::Spent),
-    }
-}
-
-/// The generation that was taken away.
-fn departed(answer: Answer) -> Option<u32>
-    requires { AnswersLeave answer }
-    ensures { DepartsBy answer result }
-{
-    match answer {
-        Answer::Departed { generation } => Some(generation),
-        Answer::Gone { replica: _ } => None,
-        _ => unreachable!(),
-    }
+    kr_history::leave(acts, replica)
 }

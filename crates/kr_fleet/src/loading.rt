@@ -11,16 +11,14 @@ ghost use Rattle.kr_history.specs.Parts.{AddsWithin};
 ghost use Rattle.kr_fleet.specs.CallExchanges.{IsJoinBy, IsReloadBy};
 ghost use Rattle.kr_fleet.specs.CallForms.{publish_refusal};
 ghost use Rattle.kr_fleet.specs.LoadCalls.{IsJoin, IsReload};
-ghost use Rattle.kr_fleet.specs.inner.Answering.{AnswersJoin, AnswersReload, JoinsBy, ReloadsBy};
-ghost use Rattle.kr_fleet.specs.inner.Stages.{IsBrought, IsBroughtBy, SharesPublished, SharesPublishedBy, brought_by};
+ghost use Rattle.kr_fleet.specs.inner.Stages.{SharesPublished, SharesPublishedBy, load_done};
 
-use crate::outcome::{Joining, Loaded};
-use kr_base::{Dice, Shared, Spent};
+use crate::outcome::Loaded;
+use kr_base::{Dice, Shared};
 use kr_config::Settings;
-use kr_history::{Acts, CallNo};
+use kr_history::{Acts, CallNo, Joining, Reloading};
 use kr_kms::Kms;
 use kr_provider::{Bench, PublishNo, Published};
-use kr_rollout::{Answer, Event};
 use std::alloc::Global;
 
 /// Publishes the settings, and gives them to the replica, which is in, in place of its current
@@ -53,17 +51,11 @@ pub fn reload<A: Acts, L: Kms, D: Dice>(
     ensures adds { AddsWithin 1 1 [] (A.caller acts.old) (A.caller acts.new) }
     ensures place { A.place acts.new ≡ A.place acts.old }
 {
-    match bring(
-        alloc,
-        acts,
-        bench,
-        replica,
-        Way::Reload { expect: None },
-        settings,
-    ) {
-        Ok(answer) => reloaded(answer),
-        Err(why) => Err(why),
-    }
+    let published = match publish(alloc, bench, settings) {
+        Ok(published) => published,
+        Err(why) => return Err(why),
+    };
+    load_done(kr_history::reload(acts, replica, published, None))
 }
 
 /// Publishes the settings, and gives them to the replica, which isn't in.
@@ -95,77 +87,15 @@ pub fn join<A: Acts, L: Kms, D: Dice>(
     ensures adds { AddsWithin 1 1 [] (A.caller acts.old) (A.caller acts.new) }
     ensures place { A.place acts.new ≡ A.place acts.old }
 {
-    match bring(alloc, acts, bench, replica, Way::Join, settings) {
-        Ok(answer) => joined(answer),
-        Err(why) => Err(why),
-    }
-}
-
-/// How a configuration comes to a replica.
-#[derive(Drop)]
-pub(crate) enum Way {
-    /// The replica is in, and has the expected generation; any, where none is expected.
-    Reload { expect: Option<u32> },
-    /// The replica isn't in.
-    Join,
-}
-
-/// Publishes the settings, and brings them to the replica by one event.
-pub(crate) fn bring<A: Acts, L: Kms, D: Dice>(
-    alloc: Global,
-    acts: &mut A,
-    bench: &mut Bench<L, D>,
-    replica: u32,
-    way: Way,
-    settings: Shared<Settings>,
-) -> Result<Answer, CallNo>
-    requires replica { replica < length (A.caller acts.old).opening.replicas }
-    requires names { NamesAmong (A.caller acts.old).opening.names (rows_of settings.entries.0) }
-    requires room { reloads_in (A.caller acts.old).mine
-        < get_or (A.caller acts.old).opening.reloads (A.caller acts.old).seat 0 }
-    requires links { HasLinks (names_of L.link bench.old.links) (rows_of settings.entries.0) }
-    ensures brings { IsBrought L.link D.left D.count (rows_of settings.entries.0)
-        (brought_by way replica) (A.caller acts.old) bench.old.links bench.old.dice result
-        (A.caller acts.new) bench.new.links bench.new.dice }
-    ensures exchanged { Talk (Among L.step) bench.old.links bench.new.links (IsBroughtBy D.left
-        D.count (rows_of settings.entries.0) (brought_by way replica) (A.caller acts.old)
-        bench.old.dice result (A.caller acts.new) bench.new.dice) }
-    ensures holds { holding (A.caller acts.new).mine ≡ holding (A.caller acts.old).mine }
-    ensures asked { AskedOnly L.link (plugins_in (rows_of settings.entries.0)) bench.old.links
-        bench.new.links }
-    ensures later { D.count bench.old.dice ≤ D.count bench.new.dice }
-    ensures kept { bench.new
-        ≡ record bench.old { links = bench.new.links; dice = bench.new.dice } }
-    ensures adds { AddsWithin 1 1 [] (A.caller acts.old) (A.caller acts.new) }
-    ensures place { A.place acts.new ≡ A.place acts.old }
-{
     let published = match publish(alloc, bench, settings) {
         Ok(published) => published,
         Err(why) => return Err(why),
     };
-    acts.known();
-    match acts.act(brought_by(way, replica, published)) {
-        Ok(answer) => Ok(answer),
-        Err(Spent) => Err(CallNo::Spent),
-    }
-}
-
-/// The event that brings the configuration.
-fn brought_by(way: Way, replica: u32, published: Shared<Published>) -> Event
-    ensures { result ≡ brought_by way replica published }
-{
-    match way {
-        Way::Reload { expect } => Event::Reload {
-            replica,
-            published,
-            expect,
-        },
-        Way::Join => Event::Join { replica, published },
-    }
+    kr_history::join(acts, replica, published)
 }
 
 /// Publishes the settings to be shared.
-fn publish<L: Kms, D: Dice>(
+pub(crate) fn publish<L: Kms, D: Dice>(
     alloc: Global,
     bench: &mut Bench<L, D>,
     settings: Shared<Settings>,
@@ -203,31 +133,14 @@ pub(crate) fn publish_refusal(why: PublishNo) -> CallNo
     }
 }
 
-/// What the replica has now.
-pub(crate) fn reloaded(answer: Answer) -> Result<Loaded, CallNo>
-    requires { AnswersReload answer }
-    ensures { ReloadsBy answer result }
+/// What the replica has now, by what its Reload did.
+pub(crate) fn load_done(done: Result<Reloading, CallNo>) -> Result<Loaded, CallNo>
+    ensures { result ≡ load_done done }
 {
-    match answer {
-        Answer::Reloaded { generation } => Ok(Loaded::Generation(generation)),
-        Answer::Refused(verdict) => Ok(Loaded::Refused(verdict)),
-        Answer::Moved { generation } => Ok(Loaded::Moved(generation)),
-        Answer::Gone { replica: _ } => Err(CallNo::Gone),
-        Answer::NoMemory => Err(CallNo::NoMemory),
-        _ => unreachable!(),
-    }
-}
-
-/// What the replica that may have joined has now.
-fn joined(answer: Answer) -> Result<Joining, CallNo>
-    requires { AnswersJoin answer }
-    ensures { JoinsBy answer result }
-{
-    match answer {
-        Answer::Joined { generation } => Ok(Joining::Generation(generation)),
-        Answer::Refused(verdict) => Ok(Joining::Refused(verdict)),
-        Answer::Present { generation } => Ok(Joining::Present(generation)),
-        Answer::NoMemory => Err(CallNo::NoMemory),
-        _ => unreachable!(),
+    match done {
+        Ok(Reloading::Generation(generation)) => Ok(Loaded::Generation(generation)),
+        Ok(Reloading::Refused(verdict)) => Ok(Loaded::Refused(verdict)),
+        Ok(Reloading::Moved(generation)) => Ok(Loaded::Moved(generation)),
+        Err(why) => Err(why),
     }
 }

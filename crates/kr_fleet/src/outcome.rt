@@ -30,14 +30,3 @@ pub enum Loaded {
     /// No plugin tells another key id than that with which this adopted generation was published.
     Unchanged(u32),
 }
-
-/// What `join` did.
-#[derive(Drop)]
-pub enum Joining {
-    /// The replica has this new generation.
-    Generation(u32),
-    /// The configuration is refused, for this first reason.
-    Refused(Verdict),
-    /// The replica has this current generation already.
-    Present(u32),
-}

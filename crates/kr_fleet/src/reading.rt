@@ -1,28 +1,24 @@
 //! The data at a path.
-ghost use Rattle.std.specs.Prelude.{◌≡◌, ◌<◌, ◌≤◌, [], length, None, Some, IfSome, IfOk, IsSome};
+ghost use Rattle.std.specs.Prelude.{◌≡◌, ◌<◌, ◌≤◌, [], length, None, IfSome};
 ghost use Rattle.kr_base.specs.Rules.{IsPath};
-ghost use Rattle.kr_base.specs.Limits.{value_limit};
 ghost use Rattle.kr_base.specs.Walks.{Talk, Walk};
 ghost use Rattle.kr_provider.specs.AskedLinks.{Among, AskedOnly};
 ghost use Rattle.kr_provider.specs.BenchKeys.{LeavesKeys, adoption_of};
 ghost use Rattle.kr_provider.specs.KeyPages.{size_of};
 ghost use Rattle.kr_provider.specs.Names.{names_of};
 ghost use Rattle.kr_rollout.specs.Callers.{holding};
-ghost use Rattle.kr_history.specs.Calls.{AreServed, IsIdle, KeepsHonesty};
+ghost use Rattle.kr_history.specs.Calls.{AreServed, HoldsAdopted, IsIdle, KeepsHonesty};
 ghost use Rattle.kr_history.specs.KeyMoments.{Happens, call_moments, has_adopted};
 ghost use Rattle.kr_history.specs.Parts.{AddsWithin};
 ghost use Rattle.kr_fleet.specs.CallExchanges.{FindsBy, IsReadBy};
 ghost use Rattle.kr_fleet.specs.ReadCalls.{Finds, IsRead};
-ghost use Rattle.kr_fleet.specs.inner.Answering.{AnswersFetch, FetchesBy};
-ghost use Rattle.kr_fleet.specs.inner.Stages.{Fetches, HoldsAdopted, row_value};
+ghost use Rattle.kr_fleet.specs.inner.Stages.{row_value};
 
 use crate::outcome::Read;
-use kr_base::{Dice, Shared, Spent, Text};
-use kr_history::{Acts, CallNo, adopt, adopt_configuration, hand_back, unseal};
+use kr_base::{Dice, Text};
+use kr_history::{Acts, CallNo, adopt, adopt_configuration, fetch, hand_back, unseal};
 use kr_kms::Kms;
 use kr_provider::{Bench, Opened, UnsealNo};
-use kr_rollout::{Answer, Event};
-use kr_store::Row;
 use std::alloc::Global;
 
 /// Reads the data at the path by the replica's current generation, which the seat holds meanwhile.
@@ -103,38 +99,6 @@ fn find<A: Acts, L: Kms, D: Dice>(
     let lent = row.get();
     let opened = unseal(alloc, bench, lent);
     row_value(lent.revision, opened)
-}
-
-/// The path's live row.
-fn fetch<A: Acts>(acts: &mut A, path: Text) -> Result<Option<Shared<Row>>, CallNo>
-    requires path { IsPath path }
-    requires held { IsSome (holding (A.caller acts.old).mine) }
-    ensures fetches { Fetches path (A.caller acts.old) result (A.caller acts.new) }
-    ensures adds { AddsWithin 1 0 [] (A.caller acts.old) (A.caller acts.new) }
-    ensures honest { KeepsHonesty (A.caller acts.old) (A.caller acts.new) }
-    ensures holds { holding (A.caller acts.new).mine ≡ holding (A.caller acts.old).mine }
-    ensures row { IfOk result (λ found. IfSome found
-        (λ row. (row.path ≡ path) × (length row.stored ≤ value_limit))) }
-    ensures place { A.place acts.new ≡ A.place acts.old }
-{
-    acts.known();
-    match acts.act(Event::Fetch { path }) {
-        Ok(answer) => fetched(answer),
-        Err(Spent) => Err(CallNo::Spent),
-    }
-}
-
-/// The row that was found.
-fn fetched(answer: Answer) -> Result<Option<Shared<Row>>, CallNo>
-    requires { AnswersFetch answer }
-    ensures { FetchesBy answer result }
-{
-    match answer {
-        Answer::Found(row) => Ok(Some(row)),
-        Answer::Absent => Ok(None),
-        Answer::NoMemory => Err(CallNo::NoMemory),
-        _ => unreachable!(),
-    }
 }
 
 /// What a row of this revision holds.

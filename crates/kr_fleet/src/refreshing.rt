@@ -13,7 +13,7 @@ ghost use Rattle.kr_fleet.specs.CallExchanges.{ComparesKeysBy, IsRefreshBy, Refr
 ghost use Rattle.kr_fleet.specs.LoadCalls.{IsRefresh, Refreshes, plugin_names};
 ghost use Rattle.kr_fleet.specs.inner.Stages.{ComparesKeyBy, ComparesKeys};
 
-use crate::loading::{Way, bring, publish_refusal, reloaded};
+use crate::loading::{load_done, publish, publish_refusal};
 use crate::outcome::Loaded;
 use kr_base::{Dice, NoMemory, Shared};
 use kr_config::Settings;
@@ -101,14 +101,12 @@ fn renew<A: Acts, L: Kms, D: Dice>(
     let Ok(settings) = share_published_settings(published) else {
         return Err(CallNo::NoMemory);
     };
-    let way = Way::Reload {
-        expect: Some(generation),
+    let anew = match publish(alloc, bench, settings) {
+        Ok(anew) => anew,
+        Err(why) => return Err(why),
     };
     acts.known();
-    match bring(alloc, acts, bench, replica, way, settings) {
-        Ok(answer) => reloaded(answer),
-        Err(why) => Err(why),
-    }
+    load_done(kr_history::reload(acts, replica, anew, Some(generation)))
 }
 
 /// The seeds of the configuration.

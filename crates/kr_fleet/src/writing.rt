@@ -7,18 +7,16 @@ ghost use Rattle.kr_provider.specs.KeyPages.{size_of};
 ghost use Rattle.kr_provider.specs.Names.{names_of};
 ghost use Rattle.kr_rollout.specs.declared.line.Did.TheVariants.{Put};
 ghost use Rattle.kr_rollout.specs.Callers.{holding};
-ghost use Rattle.kr_history.specs.Calls.{AreServed, IsIdle, KeepsHonesty};
+ghost use Rattle.kr_history.specs.Calls.{AreServed, HoldsAdopted, IsIdle, KeepsHonesty};
 ghost use Rattle.kr_history.specs.KeyMoments.{Happens, call_moments, has_adopted};
 ghost use Rattle.kr_history.specs.Parts.{AddsWithin};
 ghost use Rattle.kr_fleet.specs.WriteCalls.{IsWrite, Puts};
-ghost use Rattle.kr_fleet.specs.inner.Answering.{AnswersPut, PutsBy};
-ghost use Rattle.kr_fleet.specs.inner.Stages.{HoldsAdopted, seal_refusal};
+ghost use Rattle.kr_fleet.specs.inner.Stages.{seal_refusal};
 
-use kr_base::{Bytes, Dice, Spent, Text};
+use kr_base::{Bytes, Dice, Text};
 use kr_history::{Acts, CallNo, adopt, adopt_configuration, hand_back, seal};
 use kr_kms::Kms;
 use kr_provider::{Bench, SealNo, ValueNo};
-use kr_rollout::{Answer, Event};
 use std::alloc::Global;
 
 /// Puts the data under the path, as an object of the resource, sealed by the replica's current
@@ -96,29 +94,7 @@ fn put<A: Acts, L: Kms, D: Dice>(
         Err(why) => return Err(seal_refusal(why)),
     };
     acts.known();
-    match acts.act(Event::Put {
-        path,
-        resource,
-        plain,
-        stored,
-    }) {
-        Ok(answer) => written(answer),
-        Err(Spent) => Err(CallNo::Spent),
-    }
-}
-
-/// The revision of the row that was written.
-fn written(answer: Answer) -> Result<u64, CallNo>
-    requires { AnswersPut answer }
-    ensures { PutsBy answer result }
-{
-    match answer {
-        Answer::Written { revision } => Ok(revision),
-        Answer::StoreFailed => Err(CallNo::StoreFailed),
-        Answer::StoreFull { needed } => Err(CallNo::StoreFull { needed }),
-        Answer::NoMemory => Err(CallNo::NoMemory),
-        _ => unreachable!(),
-    }
+    kr_history::put(acts, path, resource, plain, stored)
 }
 
 /// Why the data aren't put.

@@ -6,7 +6,6 @@ use Rattle.std.proofs.lemmas.List.Elements.{Contains-append_cases, Contains-appe
 use Rattle.std.proofs.lemmas.Option.{none-some, same_Some}
 use Rattle.lru.proofs.CallerLemmas.{Contains-promoted, Contains-take}
 use Rattle.lru.proofs.Splits.{Contains-cons}
-use Rattle.kr_config.specs.Kept.{ConfigEntry as setting}
 use Rattle.kr_config.specs.declared.who.Who.{Who}
 use Rattle.kr_config.specs.declared.who.Who.TheVariants.{Kms}
 use Rattle.kr_envelope.specs.declared.object.EncryptedObject.{EncryptedObject}
@@ -45,11 +44,10 @@ use Rattle.kr_rewrite.specs.declared.outcome.Step.TheVariants as step_variants
 use Rattle.kr_script.specs.declared.script.ScriptLine.{ScriptLine}
 use Rattle.kr_script.specs.declared.script.ScriptLine.TheVariants as line
 use Rattle.kr_workers.specs.declared.files.SettingsFile.{SettingsFile}
-use Rattle.kr_workers.specs.Files.{rows_at}
-use Rattle.kr_workers.specs.LineExchanges.{DoesBy, DoesJoinBy, DoesReloadBy}
+use Rattle.kr_workers.specs.LineExchanges.{DoesBy}
 use Rattle.kr_workers.specs.Replies.{Reply}
 use Rattle.kr_workers.specs.Runs.{DoesAll, LineDone, exchanges_in}
-use Rattle.kr_workers.specs.ScriptLines.{IfRead, Workplace}
+use Rattle.kr_workers.specs.ScriptLines.{Workplace}
 
 -- the reading that a call's answer is, if it is one
 abbrev pub reading_by : Result Opened UnsealNo → Option Reading
@@ -66,10 +64,7 @@ read_so envelope seeds list path bytes (Ok opened) reading u is =
     ap (λ (r : Reading). Some r) u.0 ∙ is
 read_so envelope seeds list path bytes (Err (unsealing.Refused why)) reading u is =
     ap (λ (r : Reading). Some r) u ∙ is
-read_so envelope seeds list path bytes (Err (unsealing.PluginFailed name)) reading u is =
-    absurd (none-some reading is)
-read_so envelope seeds list path bytes (Err unsealing.NoMemory) reading u is =
-    absurd (none-some reading is)
+read_so envelope seeds list path bytes (Err other) reading u is = absurd (none-some reading is)
 
 -- the object of a result, or another
 abbrev object_in : EncryptedObject → Result EncryptedObject ObjectNo → EncryptedObject
@@ -257,15 +252,11 @@ module _ (Was : SeedKey → List ℕ → Type 0) where
         row_known path p old new f.0 (Err (unsealing.Refused why)) f.1
     found_known path p old new (Err (refusal.PluginFailed name)) f =
         row_known path p old new f.0 (Err (unsealing.PluginFailed name)) f.1
-    found_known path p old new (Err refusal.DiceFailed) f = absurd f
-    found_known path p old new (Err refusal.StoreFailed) f = absurd f
-    found_known path p old new (Err (refusal.StoreFull needed)) f = absurd f
-    found_known path p old new (Err (refusal.Unhealthy name field text)) f = absurd f
-    found_known path p old new (Err refusal.Gone) f = absurd f
     found_known path p old new (Err refusal.Spent) f = none_known f.1
     found_known path p old new (Err refusal.NoMemory) (inl f) =
         row_known path p old new f.0 (Err unsealing.NoMemory) f.1
     found_known path p old new (Err refusal.NoMemory) (inr f) = none_known f.1
+    found_known path p old new (Err other) f = absurd f
 
     get_known : (path : List ℕ) (replica : ℕ) (old new : Caller) (result : Result Read CallNo)
         → IsReadBy path replica old cache result new after es → AreKnown after.rows
@@ -368,44 +359,25 @@ module _ (Was : SeedKey → List ℕ → Type 0) where
     nothing_done old new same known =
         same_known old.cache new.cache (ap (λ (w : Workplace L D). w.cache) same) known
 
-    reloaded : (named : ℕ) (rows : Option (List setting)) (old new : Workplace L D)
-        (reply : Reply) (es : List Exchange)
-        → IfRead rows (λ rows. DoesReloadBy left count named rows old reply new es)
-        → AreKnown old.cache.rows → AreKnown new.cache.rows
-    reloaded named None old new reply es d known = absurd d
-    reloaded named (Some rows) old new reply es (inl d) known = nothing_done old new d.0.1 known
-    reloaded named (Some rows) old new reply es (inr d) known =
-        same_known old.cache new.cache d.3 known
-
-    joined : (named : ℕ) (rows : Option (List setting)) (old new : Workplace L D)
-        (reply : Reply) (es : List Exchange)
-        → IfRead rows (λ rows. DoesJoinBy left count named rows old reply new es)
-        → AreKnown old.cache.rows → AreKnown new.cache.rows
-    joined named None old new reply es d known = absurd d
-    joined named (Some rows) old new reply es (inl d) known = nothing_done old new d.0.1 known
-    joined named (Some rows) old new reply es (inr d) known =
-        same_known old.cache new.cache d.3 known
-
     line_known : (replica : ℕ) (asked : ScriptLine) (old new : Workplace L D) (reply : Reply)
         (es : List Exchange) → DoesBy left count files replica asked old reply new es
         → AreAnswers es → AreKnown old.cache.rows → AreKnown new.cache.rows
-    line_known replica (line.Put resource path plain) old new reply es d answers known =
-        same_known old.cache new.cache d.1 known
     line_known replica (line.Get path) old new reply es d answers known =
         get_known old.cache new.cache es answers known path replica old.caller new.caller d.0 d.2
-    line_known replica (line.Delete path) old new reply es d answers known =
-        same_known old.cache new.cache d.1 known
     line_known replica line.Rewrite old new reply es d answers known =
         drive_known left count replica [] old.caller new.caller old.cache new.cache old.dice
         new.dice d.0 es d.2 answers known
-    line_known replica (line.Reload named file) old new reply es d answers known =
-        reloaded named (rows_at files file) old new reply es d known
+    line_known replica (line.Reload named file) old new reply es (rows, read, inl d) answers known =
+        nothing_done old new d.0.1 known
+    line_known replica (line.Reload named file) old new reply es (rows, read, inr d) answers known =
+        same_known old.cache new.cache d.3 known
     line_known replica line.Refresh old new reply es d answers known =
         same_known old.cache new.cache d.3 known
-    line_known replica (line.Join named file) old new reply es d answers known =
-        joined named (rows_at files file) old new reply es d known
-    line_known replica (line.Leave named) old new reply es d answers known =
-        same_known old.cache new.cache d.1 known
+    line_known replica (line.Join named file) old new reply es (rows, read, inl d) answers known =
+        nothing_done old new d.0.1 known
+    line_known replica (line.Join named file) old new reply es (rows, read, inr d) answers known =
+        same_known old.cache new.cache d.3 known
+    line_known replica other old new reply es d answers known = same_known old.cache new.cache d.1 known
 
     pub run_known : (replica : ℕ) (first : Workplace L D) (run : List LineDone)
         (last : Workplace L D) → DoesAll link step left count files replica first run last

@@ -9,7 +9,7 @@ use Rattle.std.proofs.lemmas.Option.{none-some, same_Some}
 use Rattle.kr_kms.specs.Calls.{Link}
 use Rattle.kr_kms.specs.Exchanges.{Exchange}
 use Rattle.kr_provider.specs.Publication.{Publication}
-use Rattle.kr_provider.specs.Reading.{Reading, data_of, refused, unopened}
+use Rattle.kr_provider.specs.Reading.{Reading, data_of, refused}
 use Rattle.kr_history.proofs.ContentSteps.{one_path}
 use Rattle.kr_rollout.specs.declared.opening.Entry.{Entry}
 use Rattle.kr_rollout.specs.declared.line.Did.{Did}
@@ -28,16 +28,12 @@ use Rattle.kr_headline.specs.Values.{sealed_values}
 use Rattle.kr_headline.proofs.Folds.{object_from, reading_of}
 
 abbrev bytes_in : Option Reading → List ℕ
-bytes_in None = []
 bytes_in (Some (data_of bytes)) = bytes
-bytes_in (Some (refused why)) = []
-bytes_in (Some unopened) = []
+bytes_in other = []
 
 abbrev is_data : Option Reading → Bool
-is_data None = false
 is_data (Some (data_of bytes)) = true
-is_data (Some (refused why)) = false
-is_data (Some unopened) = false
+is_data other = false
 
 -- the data that were put there
 abbrev put_there : Option Object → Option (List ℕ)

@@ -137,11 +137,9 @@ module _ {D : Type 0} (left : D → Option (List ℕ)) (count : D → ℕ) where
 judged_bears : (name : List ℕ) (status : Status) (result : Result (List ℕ) SeedNo)
     → IsStatusJudged status result
     → Bears (StatusCall name (Ok status) ∷ []) (seed_blame_of name result)
-judged_bears name status (Ok key_id) j = tt
 judged_bears name status (Err (seed.Unhealthy field text)) j = (status, (0, omega arith, refl), j)
 judged_bears name status (Err seed.Failed) j = absurd j
-judged_bears name status (Err seed.DiceFailed) j = tt
-judged_bears name status (Err seed.NoMemory) j = tt
+judged_bears name status other j = tt
 
 key_bears : (name : List ℕ) (result : Result (List ℕ) SeedNo) (es : List Exchange)
     → TellsKeyIdBy name result es → Bears es (seed_blame_of name result)
@@ -207,9 +205,7 @@ Compared es seeds (Err why) = IsNotGone why × Bears es (blame_of why)
 
 not_gone : (cause : PublishNo) → IsNotGone (publish_refusal cause)
 not_gone (publishing.PluginFailed name) = tt
-not_gone publishing.DiceFailed = tt
-not_gone (publishing.Unhealthy name field text) = tt
-not_gone publishing.NoMemory = tt
+not_gone other = tt
 
 status_key : (es : List Exchange) (name key_id : List ℕ) (status : Status)
     → IsStatusJudged status (Ok key_id) → HasKeyId (StatusCall name (Ok status) ∷ es) name key_id
@@ -277,18 +273,14 @@ keys_compared _ _ _ (compared_on {exchanges = es} {others = fs} {result = result
 -- ---- a value is read
 
 abbrev pub unseal_blame : Result Opened UnsealNo → Option Blame
-unseal_blame (Ok opened) = None
 unseal_blame (Err (unsealing.PluginFailed name)) = Some (Fails name)
-unseal_blame (Err (unsealing.Refused why)) = None
-unseal_blame (Err unsealing.NoMemory) = None
+unseal_blame other = None
 
 unsealed_bears : (es : List Exchange) (envelope : Envelope) (seeds : List SeedRow)
     (list : List Who) (path bytes : List ℕ) (opened : Result Opened UnsealNo)
     → Unseals envelope seeds list path bytes opened → Bears es (unseal_blame opened)
-unsealed_bears es envelope seeds list path bytes (Ok opened) u = tt
-unsealed_bears es envelope seeds list path bytes (Err (unsealing.Refused why)) u = tt
 unsealed_bears es envelope seeds list path bytes (Err (unsealing.PluginFailed name)) u = absurd u
-unsealed_bears es envelope seeds list path bytes (Err unsealing.NoMemory) u = tt
+unsealed_bears es envelope seeds list path bytes other u = tt
 
 abbrev HasNoMemory : Result (List ℕ) KmsNo → Type 0
 HasNoMemory (Err kms.NoMemory) = ⊤

@@ -25,8 +25,8 @@ use Rattle.kr_history.specs.declared.call.CallNo.{CallNo}
 use Rattle.kr_history.specs.declared.call.CallNo.TheVariants as refusal
 use Rattle.kr_fleet.specs.CallExchanges.{FindsBy, IsReadBy, IsRefreshBy, RefreshesBy, StopsBy}
 use Rattle.kr_fleet.specs.CallForms.{CutShortWhere, JoinsWhere, ReloadsWhere}
-use Rattle.kr_fleet.specs.declared.outcome.Joining.{Joining}
-use Rattle.kr_fleet.specs.declared.outcome.Joining.TheVariants as joining
+use Rattle.kr_history.specs.declared.outcome.Joining.{Joining}
+use Rattle.kr_history.specs.declared.outcome.Joining.TheVariants as joining
 use Rattle.kr_fleet.specs.declared.outcome.Loaded.{Loaded}
 use Rattle.kr_fleet.specs.declared.outcome.Loaded.TheVariants as loaded
 use Rattle.kr_fleet.specs.declared.outcome.Read.{Read}
@@ -40,10 +40,9 @@ use Rattle.kr_script.specs.declared.script.ScriptLine.{ScriptLine}
 use Rattle.kr_script.specs.declared.script.ScriptLine.TheVariants as line
 use Rattle.kr_script.specs.declared.told.Told.TheVariants as told
 use Rattle.kr_workers.specs.declared.files.SettingsFile.{SettingsFile}
-use Rattle.kr_workers.specs.Files.{rows_at}
-use Rattle.kr_workers.specs.LineExchanges.{DoesBy, DoesJoinBy, DoesReloadBy}
+use Rattle.kr_workers.specs.LineExchanges.{DoesBy}
 use Rattle.kr_workers.specs.Replies.{Reply, told_of_drive, told_of_join, told_of_read, told_of_refresh, told_of_refusal, told_of_reload}
-use Rattle.kr_workers.specs.ScriptLines.{IfRead, Workplace, seat_at}
+use Rattle.kr_workers.specs.ScriptLines.{Workplace, seat_at}
 use Rattle.kr_headline.proofs.HeardFaults.{Bears, Blame, Breaks, Fails, bears_left, bears_right, blame_of, keys_compared, reads_bear, seeds_bear, unseal_blame}
 
 abbrev result_blame : {T : Type 0} → Result T CallNo → Option Blame
@@ -171,9 +170,7 @@ module _ (es : List Exchange) where
 
   unsealed_bears : (path : List ℕ) (why : SealNo) → Borne (unsealed_step path why)
   unsealed_bears path sealing.LooksEncrypted = tt
-  unsealed_bears path (sealing.TooLarge size) = tt
-  unsealed_bears path sealing.DiceFailed = tt
-  unsealed_bears path sealing.NoMemory = tt
+  unsealed_bears path other = tt
 
   resealed_bears : (p : Publication) (row : Row) (plain : List ℕ)
       (sealed : Result (List ℕ) SealNo) (old new : Caller) (result : Result Step CallNo)
@@ -309,14 +306,7 @@ blame_in reply = None
 module _ (seat : ℕ) where
   refusal_told : (why : CallNo) → blame_in (told_of_refusal seat why) ≡ blame_of why
   refusal_told (refusal.Refused cause) = refl
-  refusal_told (refusal.PluginFailed name) = refl
-  refusal_told refusal.DiceFailed = refl
-  refusal_told refusal.StoreFailed = refl
-  refusal_told (refusal.StoreFull needed) = refl
-  refusal_told (refusal.Unhealthy name field text) = refl
-  refusal_told refusal.Gone = refl
-  refusal_told refusal.Spent = refl
-  refusal_told refusal.NoMemory = refl
+  refusal_told other = refl
 
   read_told : (result : Result Read CallNo)
       → blame_in (told_of_read seat result) ≡ result_blame result
@@ -327,25 +317,20 @@ module _ (seat : ℕ) where
   reload_told : (result : Result Loaded CallNo)
       → blame_in (told_of_reload seat result) ≡ result_blame result
   reload_told (Ok (loaded.Generation number)) = refl
-  reload_told (Ok (loaded.Refused verdict)) = refl
-  reload_told (Ok (loaded.Moved number)) = refl
-  reload_told (Ok (loaded.Unchanged number)) = refl
   reload_told (Err why) = refusal_told why
+  reload_told (Ok other) = refl
 
   refresh_told : (result : Result Loaded CallNo)
       → blame_in (told_of_refresh seat result) ≡ result_blame result
   refresh_told (Ok (loaded.Generation number)) = refl
-  refresh_told (Ok (loaded.Refused verdict)) = refl
-  refresh_told (Ok (loaded.Moved number)) = refl
-  refresh_told (Ok (loaded.Unchanged number)) = refl
   refresh_told (Err why) = refusal_told why
+  refresh_told (Ok other) = refl
 
   join_told : (result : Result Joining CallNo)
       → blame_in (told_of_join seat result) ≡ result_blame result
   join_told (Ok (joining.Generation number)) = refl
-  join_told (Ok (joining.Refused verdict)) = refl
-  join_told (Ok (joining.Present number)) = refl
   join_told (Err why) = refusal_told why
+  join_told (Ok other) = refl
 
   drive_told : (result : Result Report (Report × CallNo))
       → blame_in (told_of_drive seat result) ≡ drive_blame result
@@ -369,36 +354,26 @@ module _ {L D : Type 0} (left : D → Option (List ℕ)) (count : D → ℕ) (fi
   abbrev Told_so : Type 0
   Told_so = Bears es (blame_in reply)
 
-  reloaded_bears : (named : ℕ) (rows : Option (List setting))
-      → IfRead rows (λ rows. DoesReloadBy left count named rows old reply new es) → Told_so
-  reloaded_bears named None d = absurd d
-  reloaded_bears named (Some rows) (inl d) = as_told es reply _ None d.0.0 refl tt
-  reloaded_bears named (Some rows) (inr d) = as_told es reply _ (result_blame d.0) d.1
-      (reload_told (seat_at old) d.0)
-      (reload_bears left count rows old.dice new.dice es named old.caller new.caller d.0 d.2)
-
-  joined_bears : (named : ℕ) (rows : Option (List setting))
-      → IfRead rows (λ rows. DoesJoinBy left count named rows old reply new es) → Told_so
-  joined_bears named None d = absurd d
-  joined_bears named (Some rows) (inl d) = as_told es reply _ None d.0.0 refl tt
-  joined_bears named (Some rows) (inr d) = as_told es reply _ (result_blame d.0) d.1
-      (join_told (seat_at old) d.0)
-      (join_bears left count rows old.dice new.dice es named old.caller new.caller d.0 d.2)
-
   pub line_bears : (asked : ScriptLine) → AsksPlugins asked
       → DoesBy left count files replica asked old reply new es → Told_so
-  line_bears (line.Put resource path plain) asks d = absurd asks
   line_bears (line.Get path) asks d = as_told es reply _ (result_blame d.0) d.1
       (read_told (seat_at old) d.0)
       (get_bears path old.cache new.cache es replica old.caller new.caller d.0 d.2)
-  line_bears (line.Delete path) asks d = absurd asks
   line_bears line.Rewrite asks d = as_told es reply _ (drive_blame d.0) d.1
       (drive_told (seat_at old) d.0)
       (drive_bears left count replica [] old.caller new.caller old.cache new.cache old.dice
       new.dice d.0 es d.2)
-  line_bears (line.Reload named file) asks d = reloaded_bears named (rows_at files file) d
+  line_bears (line.Reload named file) asks (rows, read, inl d) =
+      as_told es reply _ None d.0.0 refl tt
+  line_bears (line.Reload named file) asks (rows, read, inr d) =
+      as_told es reply _ (result_blame d.0) d.1 (reload_told (seat_at old) d.0)
+      (reload_bears left count rows old.dice new.dice es named old.caller new.caller d.0 d.2)
   line_bears line.Refresh asks d = as_told es reply _ (result_blame d.0) d.1
       (refresh_told (seat_at old) d.0)
       (refresh_bears left count replica old.dice new.dice es old.caller new.caller d.0 d.2)
-  line_bears (line.Join named file) asks d = joined_bears named (rows_at files file) d
-  line_bears (line.Leave named) asks d = absurd asks
+  line_bears (line.Join named file) asks (rows, read, inl d) =
+      as_told es reply _ None d.0.0 refl tt
+  line_bears (line.Join named file) asks (rows, read, inr d) =
+      as_told es reply _ (result_blame d.0) d.1 (join_told (seat_at old) d.0)
+      (join_bears left count rows old.dice new.dice es named old.caller new.caller d.0 d.2)
+  line_bears other asks d = absurd asks

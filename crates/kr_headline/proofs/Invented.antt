@@ -1,11 +1,11 @@
 -- Of a wrapped key that stands in no answer a truth may say anything: so a seed with such a key is
 -- none that was published.
 use Rattle.std.specs.Prelude.{All, IfSome, cond}
-use Rattle.std.proofs.Common.{◌≡◌, ◌≢◌, ℕ, suc, Bool, true, false, List, [], ◌∷◌, Contains, Option, None, Some, Ok, Err, get_or, refl, ap, sym, subst, ◌∙◌, arith}
+use Rattle.std.proofs.Common.{◌≡◌, ◌≢◌, ℕ, suc, Bool, true, false, List, [], ◌∷◌, Contains, Option, None, Some, Ok, get_or, refl, ap, sym, subst, ◌∙◌, arith}
 use Rattle.std.proofs.lemmas.Option.{none-some}
 use Rattle.kr_kms.specs.Cache.{key_eq}
 use Rattle.kr_kms.specs.Calls.{key_in}
-use Rattle.kr_kms.specs.Exchanges.{AgreeAll, AgreesWith, Exchange, StatusCall, UnwrapCall, WrapCall}
+use Rattle.kr_kms.specs.Exchanges.{AgreeAll, AgreesWith, Exchange, UnwrapCall, WrapCall}
 use Rattle.kr_kms.specs.Opens.{OpenAll, Opens, key_of}
 use Rattle.kr_kms.specs.declared.seeds.SeedKey.{SeedKey}
 use Rattle.kr_kms.specs.declared.seeds.SeedRow.{SeedRow}
@@ -32,11 +32,9 @@ module _ (key : SeedKey) (opens : Opens) where
   shut = ap (λ (b : Bool). cond b None (opens key)) ((same_key key key).1 refl)
 
   one_agrees : (e : Exchange) → (TellsOfKey key e → ⊥) → AgreesWith opens e → AgreesWith other e
-  one_agrees (StatusCall name answer) none a = tt
   one_agrees (WrapCall name plain (Ok wrapped)) none a = stays (key_in name wrapped) none ∙ a
-  one_agrees (WrapCall name plain (Err why)) none a = tt
   one_agrees (UnwrapCall own (Ok bytes)) none a = stays own none ∙ a
-  one_agrees (UnwrapCall own (Err why)) none a = tt
+  one_agrees other none a = tt
 
   all_agree : (es : List Exchange) → ((e : Exchange) → Contains es e → TellsOfKey key e → ⊥)
       → AgreeAll opens es → AgreeAll other es

@@ -7,7 +7,7 @@ use Rattle.kr_config.specs.declared.who.Who.{Who}
 use Rattle.kr_kms.specs.Cache.{CacheState, FetchesBy, kept, no_memory as fetches_nothing, unwrapped}
 use Rattle.kr_kms.specs.Exchanges.{Exchange, StatusCall, UnwrapCall, WrapCall}
 use Rattle.kr_kms.specs.Health.{TellsKeyIdBy, judged, no_status as tells_none}
-use Rattle.kr_kms.specs.Seeds.{MakesSeedBy, dice_failed, made, no_memory as makes_nothing, no_status, not_wrapped, unhealthy}
+use Rattle.kr_kms.specs.Seeds.{MakesSeedBy, made, not_wrapped}
 use Rattle.kr_kms.specs.declared.health.SeedNo.{SeedNo}
 use Rattle.kr_kms.specs.declared.plugin.KmsNo.{KmsNo}
 use Rattle.kr_kms.specs.declared.seeds.SeedKey.{SeedKey}
@@ -28,8 +28,8 @@ use Rattle.kr_history.specs.declared.call.CallNo.{CallNo}
 use Rattle.kr_history.specs.declared.call.CallNo.TheVariants as refusal
 use Rattle.kr_fleet.specs.CallExchanges.{AsksNone, ComparesKeysBy, FindsBy, IsReadBy, IsRefreshBy, RefreshesBy, RenewsAfter, StopsBy, all_same, changed, told_none, went_on as compared_on}
 use Rattle.kr_fleet.specs.CallForms.{CutShortWhere, JoinsWhere, ReloadsWhere}
-use Rattle.kr_fleet.specs.declared.outcome.Joining.{Joining}
-use Rattle.kr_fleet.specs.declared.outcome.Joining.TheVariants as joining
+use Rattle.kr_history.specs.declared.outcome.Joining.{Joining}
+use Rattle.kr_history.specs.declared.outcome.Joining.TheVariants as joining
 use Rattle.kr_fleet.specs.declared.outcome.Loaded.{Loaded}
 use Rattle.kr_fleet.specs.declared.outcome.Loaded.TheVariants as loaded
 use Rattle.kr_fleet.specs.declared.outcome.Read.{Read}
@@ -43,10 +43,9 @@ use Rattle.kr_rewrite.specs.declared.outcome.Step.TheVariants as step_variants
 use Rattle.kr_script.specs.declared.script.ScriptLine.{ScriptLine}
 use Rattle.kr_script.specs.declared.script.ScriptLine.TheVariants as line
 use Rattle.kr_workers.specs.declared.files.SettingsFile.{SettingsFile}
-use Rattle.kr_workers.specs.Files.{rows_at}
-use Rattle.kr_workers.specs.LineExchanges.{DoesBy, DoesJoinBy, DoesReloadBy}
+use Rattle.kr_workers.specs.LineExchanges.{DoesBy}
 use Rattle.kr_workers.specs.Replies.{Reply}
-use Rattle.kr_workers.specs.ScriptLines.{IfRead, Workplace}
+use Rattle.kr_workers.specs.ScriptLines.{Workplace}
 use Rattle.kr_headline.specs.Outside.{AsksOf, IsLoad, IsUnwrap}
 
 -- ---- a value is read: its source is unwrapped once, or not at all
@@ -96,15 +95,11 @@ module _ (path : List ℕ) (cache after : CacheState) (es : List Exchange) where
       row_asks p f.0 (Err (unsealing.Refused why)) f.1.reads
   found_asks p old new (Err (refusal.PluginFailed name)) f =
       row_asks p f.0 (Err (unsealing.PluginFailed name)) f.1.reads
-  found_asks p old new (Err refusal.DiceFailed) f = absurd f
-  found_asks p old new (Err refusal.StoreFailed) f = absurd f
-  found_asks p old new (Err (refusal.StoreFull needed)) f = absurd f
-  found_asks p old new (Err (refusal.Unhealthy name field text)) f = absurd f
-  found_asks p old new (Err refusal.Gone) f = absurd f
   found_asks p old new (Err refusal.Spent) f = none_found f.1
   found_asks p old new (Err refusal.NoMemory) (inl f) =
       row_asks p f.0 (Err unsealing.NoMemory) f.1.reads
   found_asks p old new (Err refusal.NoMemory) (inr f) = none_found f.1
+  found_asks p old new (Err other) f = absurd f
 
   get_asks : (replica : ℕ) (old new : Caller) (result : Result Read CallNo)
       → IsReadBy path replica old cache result new after es → AsksOnce es
@@ -127,17 +122,13 @@ status_alone name exchange is = All-cons IsLoad exchange [] is (All-nil IsLoad)
 module _ {D : Type 0} (left : D → Option (List ℕ)) (count : D → ℕ) where
   seed_asks : (name : List ℕ) (dice : D) (result : Result SeedRow SeedNo) (after : D)
       (es : List Exchange) → MakesSeedBy left count name dice result after es → AreLoads es
-  seed_asks name dice result after _ (no_status why is same) = status_alone name _ tt
-  seed_asks name dice result after _ (unhealthy status field text breach is same) =
-      status_alone name _ tt
-  seed_asks name dice result after _ (makes_nothing status none is drew) = status_alone name _ tt
-  seed_asks name dice result after _ (dice_failed status none is fails) = status_alone name _ tt
   seed_asks name dice result after _ (not_wrapped status plain why none draws is) =
       All-cons IsLoad (StatusCall name (Ok status)) (WrapCall name plain (Err why) ∷ []) tt
       (status_alone name (WrapCall name plain (Err why)) tt)
   seed_asks name dice result after _ (made status plain wrapped none draws is) =
       All-cons IsLoad (StatusCall name (Ok status)) (WrapCall name plain (Ok wrapped) ∷ []) tt
       (status_alone name (WrapCall name plain (Ok wrapped)) tt)
+  seed_asks name dice result after _ other = status_alone name _ tt
 
   module _ (names : List (List ℕ)) where
     seeds_ask : (passed : List ℕ) (dice : D) (result : Result (List SeedRow) PublishNo) (after : D)
@@ -162,11 +153,8 @@ module _ {D : Type 0} (left : D → Option (List ℕ)) (count : D → ℕ) where
     cut_asks : (brings : Publication → Event) (replica : ℕ) (old new : Caller) (why : CallNo)
         → CutShortWhere (λ made. PublishesBy left count rows dice made after es) brings replica
         old why new → AreLoads es
-    cut_asks brings replica old new (refusal.Refused x) c = absurd c
     cut_asks brings replica old new (refusal.PluginFailed name) c = publish_asks (Err _) c.0
     cut_asks brings replica old new refusal.DiceFailed c = publish_asks (Err _) c.0
-    cut_asks brings replica old new refusal.StoreFailed c = absurd c
-    cut_asks brings replica old new (refusal.StoreFull needed) c = absurd c
     cut_asks brings replica old new (refusal.Unhealthy name field text) c =
         publish_asks (Err _) c.0
     cut_asks brings replica old new refusal.Gone c = publish_asks (Ok c.p) c.publishes
@@ -176,6 +164,7 @@ module _ {D : Type 0} (left : D → Option (List ℕ)) (count : D → ℕ) where
         publish_asks (Ok c.0.0) c.0.1
     cut_asks brings replica old new refusal.NoMemory (inr (inr c)) =
         publish_asks (Ok c.p) c.publishes
+    cut_asks brings replica old new other c = absurd c
 
     reload_asks : (replica : ℕ) (old new : Caller) (result : Result Loaded CallNo)
         → ReloadsWhere (λ made. PublishesBy left count rows dice made after es) replica old result
@@ -183,31 +172,26 @@ module _ {D : Type 0} (left : D → Option (List ℕ)) (count : D → ℕ) where
     reload_asks replica old new (Ok (loaded.Generation number)) w =
         publish_asks (Ok w.p) w.publishes
     reload_asks replica old new (Ok (loaded.Refused verdict)) w = publish_asks (Ok w.p) w.publishes
-    reload_asks replica old new (Ok (loaded.Moved number)) w = absurd w
-    reload_asks replica old new (Ok (loaded.Unchanged number)) w = absurd w
     reload_asks replica old new (Err why) w =
         cut_asks (λ p. event.Reload replica p None) replica old new why w
+    reload_asks replica old new (Ok other) w = absurd w
 
     join_asks : (replica : ℕ) (old new : Caller) (result : Result Joining CallNo)
         → JoinsWhere (λ made. PublishesBy left count rows dice made after es) replica old result
         new → AreLoads es
     join_asks replica old new (Ok (joining.Generation number)) w = publish_asks (Ok w.p) w.publishes
-    join_asks replica old new (Ok (joining.Refused verdict)) w = publish_asks (Ok w.p) w.publishes
-    join_asks replica old new (Ok (joining.Present number)) w = publish_asks (Ok w.p) w.publishes
-    join_asks replica old new (Err (refusal.Refused x)) w = absurd w
     join_asks replica old new (Err (refusal.PluginFailed name)) w =
         cut_asks (event.Join replica) replica old new (refusal.PluginFailed name) w
     join_asks replica old new (Err refusal.DiceFailed) w =
         cut_asks (event.Join replica) replica old new refusal.DiceFailed w
-    join_asks replica old new (Err refusal.StoreFailed) w = absurd w
-    join_asks replica old new (Err (refusal.StoreFull needed)) w = absurd w
     join_asks replica old new (Err (refusal.Unhealthy name field text)) w =
         cut_asks (event.Join replica) replica old new (refusal.Unhealthy name field text) w
-    join_asks replica old new (Err refusal.Gone) w = absurd w
     join_asks replica old new (Err refusal.Spent) w =
         cut_asks (event.Join replica) replica old new refusal.Spent w
     join_asks replica old new (Err refusal.NoMemory) w =
         cut_asks (event.Join replica) replica old new refusal.NoMemory w
+    join_asks replica old new (Err other) w = absurd w
+    join_asks replica old new (Ok other) w = publish_asks (Ok w.p) w.publishes
 
   -- ---- a refresh
 
@@ -346,30 +330,18 @@ module _ {D : Type 0} (left : D → Option (List ℕ)) (count : D → ℕ) where
 
 module _ {L D : Type 0} (left : D → Option (List ℕ)) (count : D → ℕ) (files : List SettingsFile)
     (replica : ℕ) (old new : Workplace L D) (reply : Reply) (es : List Exchange) where
-  reloaded_asks : (named : ℕ) (rows : Option (List setting))
-      → IfRead rows (λ rows. DoesReloadBy left count named rows old reply new es) → AreLoads es
-  reloaded_asks named None d = absurd d
-  reloaded_asks named (Some rows) (inl d) = none_loads es d.1
-  reloaded_asks named (Some rows) (inr d) =
-      reload_asks left count rows old.dice new.dice es named old.caller new.caller d.0 d.2
-
-  joined_asks : (named : ℕ) (rows : Option (List setting))
-      → IfRead rows (λ rows. DoesJoinBy left count named rows old reply new es) → AreLoads es
-  joined_asks named None d = absurd d
-  joined_asks named (Some rows) (inl d) = none_loads es d.1
-  joined_asks named (Some rows) (inr d) =
-      join_asks left count rows old.dice new.dice es named old.caller new.caller d.0 d.2
-
   pub line_asks : (asked : ScriptLine)
       → DoesBy left count files replica asked old reply new es → AsksOf asked es
-  line_asks (line.Put resource path plain) d = d.0
   line_asks (line.Get path) d =
       get_asks path old.cache new.cache es replica old.caller new.caller d.0 d.2
-  line_asks (line.Delete path) d = d.0
   line_asks line.Rewrite d = drive_asks left count replica [] old.caller new.caller old.cache
       new.cache old.dice new.dice d.0 es d.2
-  line_asks (line.Reload named file) d = reloaded_asks named (rows_at files file) d
+  line_asks (line.Reload named file) (rows, read, inl d) = none_loads es d.1
+  line_asks (line.Reload named file) (rows, read, inr d) =
+      reload_asks left count rows old.dice new.dice es named old.caller new.caller d.0 d.2
   line_asks line.Refresh d = refresh_asks left count replica old.dice new.dice es old.caller
       new.caller d.0 d.2
-  line_asks (line.Join named file) d = joined_asks named (rows_at files file) d
-  line_asks (line.Leave named) d = d.0
+  line_asks (line.Join named file) (rows, read, inl d) = none_loads es d.1
+  line_asks (line.Join named file) (rows, read, inr d) =
+      join_asks left count rows old.dice new.dice es named old.caller new.caller d.0 d.2
+  line_asks other d = d.0

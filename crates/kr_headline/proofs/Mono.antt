@@ -32,6 +32,24 @@ begins own part Is h = (
   ap first_published h.part_is ∙ h.adopted,
 )
 
+-- the same entries, of which something else holds
+holds_so : (own : ℕ) (part : List Entry)
+    {First Second : (p : Publication) → (number : ℕ) → List Entry → Type 0}
+    → (h : HoldsPart own part First) → Second h.p h.number h.mids → HoldsPart own part Second
+holds_so own part h is = record {
+  number = h.number;
+  p = h.p;
+  adopt = h.adopt;
+  mids = h.mids;
+  let_go = h.let_go;
+  part_is = h.part_is;
+  adopts = h.adopts;
+  adopted = h.adopted;
+  hold = h.hold;
+  lets_go = h.lets_go;
+  is = is;
+}
+
 module _ (F S O : Publication → Row → Type 0) (P Q : (name : List ℕ) → Type 0) (D E : Type 0)
     (M N : List Step → Type 0) (seat own : ℕ) (part : List Entry) (reply : Told)
     (plugin : (name : List ℕ) → reply ≡ told.FaultPlugin name → P name → Q name) (dice : D → E)
@@ -117,45 +135,21 @@ module _ (P Q : (name : List ℕ) → Type 0) (D E : Type 0)
 
     unchanged_mono : reply ≡ told.Unchanged → RenewsNot P D B K G N U R W seat own part K
         → RenewsNot Q E C J H N U R X seat own part J
-    unchanged_mono is h = record {
-      number = h.number;
-      p = h.p;
-      adopt = h.adopt;
-      mids = h.mids;
-      let_go = h.let_go;
-      part_is = h.part_is;
-      adopts = h.adopts;
-      adopted = h.adopted;
-      hold = h.hold;
-      lets_go = h.lets_go;
-      is = (
-        h.is.0,
-        keys h.p refreshes is (begins own part (λ p number mids. (mids ≡ []) × K p) h) h.is.1,
-      );
-    }
+    unchanged_mono is h = holds_so own part h (
+      h.is.0,
+      keys h.p refreshes is (begins own part (λ p number mids. (mids ≡ []) × K p) h) h.is.1,
+    )
 
     renewed_mono : (given : Gave) → Renews reply → Renewed P D B K G N U R W seat own part given
         → Renewed Q E C J H N U R X seat own part given
-    renewed_mono given some h = record {
-      number = h.number;
-      p = h.p;
-      adopt = h.adopt;
-      mids = h.mids;
-      let_go = h.let_go;
-      part_is = h.part_is;
-      adopts = h.adopts;
-      adopted = h.adopted;
-      hold = h.hold;
-      lets_go = h.lets_go;
-      is = (
-        renews h.p refreshes some (begins own part (λ p number mids. G p × (anew : Publication)
-            × (anew.rows ≡ p.rows)
-            × IsOne mids (did.Reload own anew (Some number)) given (λ e. ⊤)) h) h.is.0,
-        h.is.1,
-        h.is.2,
-        h.is.3,
-      );
-    }
+    renewed_mono given some h = holds_so own part h (
+      renews h.p refreshes some (begins own part (λ p number mids. G p × (anew : Publication)
+          × (anew.rows ≡ p.rows)
+          × IsOne mids (did.Reload own anew (Some number)) given (λ e. ⊤)) h) h.is.0,
+      h.is.1,
+      h.is.2,
+      h.is.3,
+    )
 
     renewing : (given : Told) → Renews given → reply ≡ given → Renews reply
     renewing given some is = subst Renews (sym is) some

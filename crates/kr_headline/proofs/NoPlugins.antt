@@ -1,11 +1,11 @@
 -- Of a path that needs no plugin nothing has to be supposed.
 use Rattle.std.specs.Prelude.{All}
 use Rattle.std.specs.List.{list_any}
-use Rattle.std.proofs.Common.{◌≡◌, ℕ, false, List, [], ◌∷◌, ◌++◌, map, Option, None, Some, inr, refl, sym, subst}
+use Rattle.std.proofs.Common.{◌≡◌, ℕ, false, List, ◌∷◌, ◌++◌, map, Option, Some, inr, refl, sym, subst}
 use Rattle.std.proofs.lemmas.Bool.{false≢true}
 use Rattle.kr_config.specs.Providers.{is_kms}
 use Rattle.kr_config.specs.declared.who.Who.{Who}
-use Rattle.kr_config.specs.declared.who.Who.TheVariants.{Identity, Aescbc, Aesgcm, Kms}
+use Rattle.kr_config.specs.declared.who.Who.TheVariants.{Kms}
 use Rattle.kr_kms.specs.Calls.{Link}
 use Rattle.kr_kms.specs.Exchanges.{Exchange}
 use Rattle.kr_kms.specs.Opens.{Opens}
@@ -25,30 +25,24 @@ use Rattle.kr_script.specs.declared.told.Told.{Told}
 use Rattle.kr_workers.specs.declared.files.SettingsFile.{SettingsFile}
 use Rattle.kr_workers.specs.declared.worker.Worker as fleet_worker
 use Rattle.kr_workers.specs.Heard.{Heard}
+use Rattle.kr_workers.proofs.HonestPlugins.{at_middle}
 use Rattle.kr_headline.specs.Consequences.{NothingSupposed, UsesNoPlugin}
 use Rattle.kr_headline.specs.Fleets.{Readings, SealedBy, Unwraps, run_in}
 use Rattle.kr_headline.specs.Headline.{entries_of}
 use Rattle.kr_headline.specs.Values.{sealed_values}
 use Rattle.kr_headline.proofs.Consequences.{there_in}
-use Rattle.kr_headline.proofs.ReadBack.{at_middle}
 
 -- ---- a list with no plugin
 
 seed_opens : (opens : Opens) (seeds : List SeedRow) (list : List Who)
     → list_any is_kms list ≡ false → SeedOpens opens seeds (writer_of list)
-seed_opens opens seeds [] none = tt
-seed_opens opens seeds (Identity ∷ rest) none = tt
-seed_opens opens seeds (Aescbc name secret ∷ rest) none = tt
-seed_opens opens seeds (Aesgcm name secret ∷ rest) none = tt
 seed_opens opens seeds (Kms name ∷ rest) none = absurd (false≢true (sym none))
+seed_opens opens seeds other none = tt
 
 envelope_of_none : (opens : Opens) (reader : Option Who) (bytes : List ℕ) (v : Envelope)
     → IsNoPlugin reader → HasEnvelope opens reader bytes v
-envelope_of_none opens None bytes v n = tt
-envelope_of_none opens (Some Identity) bytes v n = tt
-envelope_of_none opens (Some (Aescbc name secret)) bytes v n = tt
-envelope_of_none opens (Some (Aesgcm name secret)) bytes v n = tt
 envelope_of_none opens (Some (Kms name)) bytes v n = absurd (false≢true (sym n))
+envelope_of_none opens other bytes v n = tt
 
 any_envelope_of : (opens : Opens) (list : List Who) (bytes : List ℕ) (v : Envelope)
     → list_any is_kms list ≡ false → IsEnvelopeOf opens list bytes v

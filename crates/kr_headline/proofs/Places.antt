@@ -8,6 +8,7 @@ use Rattle.kr_rollout.specs.declared.opening.Entry.{Entry}
 use Rattle.kr_script.specs.declared.script.ScriptLine.{ScriptLine}
 use Rattle.kr_script.specs.declared.told.Told.{Told}
 use Rattle.kr_workers.specs.Runs.{LineDone, entries_in, lines_in, replies_in}
+use Rattle.kr_workers.proofs.Hearing.{InFirst, InSecond, of_two}
 
 -- ---- the place of each entry's line, from some number on
 
@@ -52,47 +53,6 @@ place_there ahead done behind front e rest is = place_from 0 ahead done behind f
     ∙ (let same : 0 + length ahead ≡ length ahead = omega arith in same)
 
 -- ---- the line of an entry
-
--- an entry stands in the first list or in the second
-pub record InFirst {X : Type 0} (first xs : List X) (x : X) : Type 0 where
-  pub rest : List X
-  pub is : first ≡ xs ++ x ∷ rest
-
-pub record InSecond {X : Type 0} (first second xs : List X) (x : X) (ys : List X) : Type 0 where
-  pub front : List X
-  pub front_is : xs ≡ first ++ front
-  pub is : second ≡ front ++ x ∷ ys
-
-abbrev head_in : {X : Type 0} → X → List X → X
-head_in other [] = other
-head_in other (x ∷ xs) = x
-
-abbrev tail_in : {X : Type 0} → List X → List X
-tail_in [] = []
-tail_in (x ∷ xs) = xs
-
-pub of_two : {X : Type 0} (first second xs : List X) (x : X) (ys : List X)
-    → first ++ second ≡ xs ++ x ∷ ys
-    → InFirst first xs x ⊎ InSecond first second xs x ys
-of_two [] second xs x ys is = inr (record { front = xs; front_is = refl; is = is })
-of_two (f ∷ first) second [] x ys is = inl (record {
-  rest = first;
-  is = ap (λ h. h ∷ first) (ap (head_in f) is);
-})
-of_two {X} (f ∷ first) second (z ∷ xs) x ys is =
-    by (of_two first second xs x ys (ap tail_in is))
-  where
-    same : f ≡ z
-    same = ap (head_in f) is
-
-    by : InFirst first xs x ⊎ InSecond first second xs x ys
-        → InFirst (f ∷ first) (z ∷ xs) x ⊎ InSecond (f ∷ first) second (z ∷ xs) x ys
-    by (inl a) = inl (record { rest = a.rest; is = λ i. same i ∷ a.is i })
-    by (inr b) = inr (record {
-      front = b.front;
-      front_is = λ i. sym same i ∷ b.front_is i;
-      is = b.is;
-    })
 
 -- the line of the entry behind these
 pub record HasLineOf (run : List LineDone) (xs : List Entry) (e : Entry) : Type 0 where

@@ -40,16 +40,7 @@ use Rattle.kr_headline.specs.Fleets.{AreKnown, BroughtOpens, BroughtSeeds, Follo
 use Rattle.kr_headline.specs.Values.{sealed_values}
 use Rattle.kr_headline.proofs.Sourced.{IsSourced}
 use Rattle.kr_headline.proofs.Unsealed.{SealedAnew}
-
-pub step_there : (o : Opening) (st : State) (front : List Entry) (e : Entry) (rest : List Entry)
-    → IsRun o st (front ++ e ∷ rest) → IsStep o (state_from st front) e
-step_there o st [] e rest r = r.0
-step_there o st (x ∷ front) e rest r = step_there o (after st x) front e rest r.1
-
-pub at_middle : {X : Type 0} (P : X → Type 0) (xs : List X) (x : X) (ys : List X)
-    → All P (xs ++ x ∷ ys) → P x
-at_middle P [] x ys a = a 0 x (omega arith)
-at_middle P (y ∷ xs) x ys a = at_middle P xs x ys (λ k d l. a (suc k) d (omega arith))
+use Rattle.kr_workers.proofs.HonestPlugins.{at_middle, step_there}
 
 -- the seeds open of what an honest entry brought
 pub brought_opens : (opens : Opens) (given : Gave) (done : Did) (e : Entry)

@@ -107,11 +107,8 @@ module _ {D : Type 0} (left : D → Option (List ℕ)) (count : D → ℕ) (own 
     cut_longer : (others : List Exchange) (why : CallNo)
         → CutShortWhere (λ made. PublishesBy left count p.rows dice made after others)
         (λ q. event.Reload own q (Some number)) own adopted why acted → Longer adopted acted
-    cut_longer others (refusal.Refused cause) c = absurd c
     cut_longer others (refusal.PluginFailed name) c = same_long adopted acted c.1
     cut_longer others refusal.DiceFailed c = same_long adopted acted c.1
-    cut_longer others refusal.StoreFailed c = absurd c
-    cut_longer others (refusal.StoreFull needed) c = absurd c
     cut_longer others (refusal.Unhealthy name field text) c = same_long adopted acted c.1
     cut_longer others refusal.Gone c = one_longer adopted acted
         (event.Reload own c.p (Some number)) (answer.Gone own) c.brought
@@ -120,6 +117,7 @@ module _ {D : Type 0} (left : D → Option (List ℕ)) (count : D → ℕ) (own 
     cut_longer others refusal.NoMemory (inr (inl c)) = same_long adopted acted c.1
     cut_longer others refusal.NoMemory (inr (inr c)) = one_longer adopted acted
         (event.Reload own c.p (Some number)) answer.NoMemory c.brought
+    cut_longer others other c = absurd c
 
     abbrev Refreshed : Result Loaded CallNo → Type 0
     Refreshed done = RefreshesBy left count own number p adopted dice done acted after es
@@ -148,15 +146,8 @@ module _ {D : Type 0} (left : D → Option (List ℕ)) (count : D → ℕ) (own 
     refreshed_keys seat (Ok (loaded.Generation made)) r = renews_other es p.seeds _ r
     refreshed_keys seat (Ok (loaded.Moved current)) r = renews_other es p.seeds _ r
     refreshed_keys seat (Ok (loaded.Refused verdict)) r = absurd r
-    refreshed_keys seat (Err (refusal.Refused cause)) r = tt
-    refreshed_keys seat (Err (refusal.PluginFailed name)) r = tt
-    refreshed_keys seat (Err refusal.DiceFailed) r = tt
-    refreshed_keys seat (Err refusal.StoreFailed) r = tt
-    refreshed_keys seat (Err (refusal.StoreFull needed)) r = tt
-    refreshed_keys seat (Err (refusal.Unhealthy name field text)) r = tt
     refreshed_keys seat (Err refusal.Gone) r = gone_key r
-    refreshed_keys seat (Err refusal.Spent) r = tt
-    refreshed_keys seat (Err refusal.NoMemory) r = tt
+    refreshed_keys seat (Err other) r = tt
 
   module _ (old new : Caller) (part : List Entry) (adds : Adds old part new)
       (long : 2 ≤ length part) (p : Publication) (first_is : first_published part ≡ Some p)
@@ -169,15 +160,8 @@ module _ {D : Type 0} (left : D → Option (List ℕ)) (count : D → ℕ) (own 
 
     early_keys : (why : CallNo) → AdoptsNothing own old why new
         → KeysOf es p.seeds (told_of_refusal seat why)
-    early_keys (refusal.Refused cause) e = tt
-    early_keys (refusal.PluginFailed name) e = tt
-    early_keys refusal.DiceFailed e = tt
-    early_keys refusal.StoreFailed e = tt
-    early_keys (refusal.StoreFull needed) e = tt
-    early_keys (refusal.Unhealthy name field text) e = tt
     early_keys refusal.Gone e = absurd (one_alone (event.Adopt own) (answer.Gone own) e)
-    early_keys refusal.Spent e = tt
-    early_keys refusal.NoMemory e = tt
+    early_keys other e = tt
 
     pub refresh_keys : (result : Result Loaded CallNo)
         → IsRefreshBy left count own old dice result new after es

@@ -30,6 +30,7 @@ use Rattle.kr_workers.specs.ScriptLines.{Workplace}
 use Rattle.kr_workers.specs.declared.files.SettingsFile.{SettingsFile}
 use Rattle.kr_workers.specs.declared.worker.Worker as fleet_worker
 use Rattle.kr_workers.proofs.Sentencing.{histories_tell}
+use Rattle.kr_workers.proofs.HonestPlugins.{at_middle}
 use Rattle.kr_headline.specs.Fleets.{AreBenches, AtLine, FleetOutside, outside_of}
 use Rattle.kr_headline.specs.Headline.{OnlyReseals, Step, own_entries}
 use Rattle.kr_headline.proofs.Benches.{DoneThere, benches_of, benches_stay, done_in_run, exchanges_joined, exchanges_of, first_bench, last_bench, lines_ask, many_benches}
@@ -38,7 +39,6 @@ use Rattle.kr_headline.proofs.Cached as cached
 use Rattle.kr_headline.proofs.Marks.{mark, marks, marks_split, place_of}
 use Rattle.kr_headline.proofs.Own.{own_part}
 use Rattle.kr_headline.proofs.Places as place
-use Rattle.kr_headline.proofs.ReadBack.{at_middle}
 use Rattle.kr_headline.proofs.Sourced.{SourcedTold, gets_are_sourced}
 use Rattle.kr_headline.proofs.Seats.{below_of, first_in, past_end, plus_one, split_own}
 use Rattle.kr_headline.proofs.OnlyReseals.{only_reseals}

@@ -1,6 +1,6 @@
 -- A reply to a `get` tells what the row reads as with a source that its worker had.
 use Rattle.std.specs.Prelude.{⊤}
-use Rattle.std.proofs.Common.{◌≡◌, ℕ, List, [], ◌∷◌, ◌++◌, Option, Some, Result, Ok, Err, refl, ap, sym, subst}
+use Rattle.std.proofs.Common.{◌≡◌, ℕ, List, [], ◌∷◌, ◌++◌, Option, Some, Result, Ok, Err, refl, sym, subst}
 use Rattle.kr_kms.specs.Cache.{CacheState}
 use Rattle.kr_kms.specs.Calls.{Link}
 use Rattle.kr_kms.specs.Exchanges.{Exchange}
@@ -19,7 +19,6 @@ use Rattle.kr_rollout.specs.declared.line.Gave.TheVariants as gave
 use Rattle.kr_rollout.specs.declared.opening.Entry.{Entry}
 use Rattle.kr_rollout.specs.declared.opening.Opening.{Opening}
 use Rattle.kr_history.specs.Acting.{Caller, IsCaller}
-use Rattle.kr_history.specs.Calls.{AdoptsNothing}
 use Rattle.kr_history.specs.Contents.{IsContent}
 use Rattle.kr_history.specs.Honesty.{IsHonestAt}
 use Rattle.kr_history.specs.declared.call.CallNo.{CallNo}
@@ -40,10 +39,11 @@ use Rattle.kr_workers.specs.Gets.{FetchesWhere}
 use Rattle.kr_workers.specs.Heard.{Heard}
 use Rattle.kr_workers.specs.Histories.{StandsIn}
 use Rattle.kr_workers.specs.LineExchanges.{DoesBy}
-use Rattle.kr_workers.specs.Replies.{Reply, told_of_read, told_of_refusal}
+use Rattle.kr_workers.specs.Replies.{told_of_read}
 use Rattle.kr_workers.specs.Runs.{LineDone, entries_in, exchanges_in}
 use Rattle.kr_workers.specs.ScriptLines.{Workplace}
-use Rattle.kr_workers.proofs.Getting.{IsLineIn, call_tells, call_there, done_there, fetch_there, ok_no_err}
+use Rattle.kr_workers.proofs.Shaping.{IfTold}
+use Rattle.kr_workers.proofs.Getting.{IsLineIn, call_tells, call_there, done_there, fetch_there}
 use Rattle.kr_headline.specs.Sources.{HasSource, WasAnswered}
 use Rattle.kr_headline.proofs.Cached.{AreAnswers, AreKnown, parted, reading_by, run_known, was_read}
 
@@ -68,12 +68,6 @@ module _ (history : List Entry) (o : Opening) (seat : ℕ) (ahead part : List En
   abbrev pub FoundSo : (revision : ℕ) → Reading → Type 0
   FoundSo revision reading = FetchesWhere history seat path ahead part (λ front fetch.
       (fetch.line.gave ≡ gave.Found revision) × IsSourced heard o path reading front fetch)
-
-  abbrev SourcedFound : Result Read CallNo → Type 0
-  SourcedFound (Ok (read_finding.Value revision plain stale)) = FoundSo revision (data_of plain)
-  SourcedFound (Err (refusal.Refused why)) =
-      (revision : ℕ) × FoundSo revision (refused why)
-  SourcedFound result = ⊤
 
   abbrev pub SourcedTold : Told → Type 0
   SourcedTold (told.Got revision plain) = FoundSo revision (data_of plain)
@@ -121,44 +115,18 @@ module _ (history : List Entry) (o : Opening) (seat : ℕ) (ahead part : List En
             },
           )
 
-      found_sourced : (done : Result Read CallNo)
-          → FindsBy path p adopted cache done acted kept exchanges → SourcedFound done
-      found_sourced (Ok read_finding.Absent) d = tt
-      found_sourced (Ok (read_finding.Value revision plain stale)) d =
+      found_sourced : (number : ℕ) (done : Result Read CallNo)
+          → FindsBy path p adopted cache done acted kept exchanges
+          → IfTold SourcedTold (told_of_read number done)
+      found_sourced number (Ok read_finding.Absent) d = tt
+      found_sourced number (Ok (read_finding.Value revision plain stale)) d =
           subst (λ n. FoundSo n (data_of plain)) d.2
           (row_sourced d.0 (Ok (record { plain = plain; stale = stale })) (data_of plain) d.1 refl)
-      found_sourced (Err (refusal.Refused why)) d = (
+      found_sourced number (Err (refusal.Refused why)) d = (
         d.0.revision,
         row_sourced d.0 (Err (unsealing.Refused why)) (refused why) d.1 refl,
       )
-      found_sourced (Err why) d = tt
-
-  early_sourced : (replica : ℕ) (old new : Caller) (why : CallNo)
-      → AdoptsNothing replica old why new → SourcedFound (Err why)
-  early_sourced replica old new (refusal.Refused why) e = absurd e
-  early_sourced replica old new why e = tt
-
-  abbrev reply_in : Told → Reply → Told
-  reply_in other (Ok reply) = reply
-  reply_in other (Err spent) = other
-
-  -- the reply tells it
-  refusal_sourced : (number : ℕ) (why : CallNo) (reply : Told)
-      → Ok reply ≡ told_of_refusal number why → SourcedFound (Err why) → SourcedTold reply
-  refusal_sourced number (refusal.Refused why) reply is h =
-      subst (λ (r : Told). SourcedTold r) (sym (ap (reply_in reply) is)) h
-  refusal_sourced number refusal.Spent reply is h =
-      absurd (ok_no_err (Ok reply) (Err (record {})) tt (sym is))
-  refusal_sourced number why reply is h =
-      subst (λ (r : Told). SourcedTold r) (sym (ap (reply_in reply) is)) tt
-
-  read_sourced : (number : ℕ) (result : Result Read CallNo) (reply : Told)
-      → Ok reply ≡ told_of_read number result → SourcedFound result → SourcedTold reply
-  read_sourced number (Ok read_finding.Absent) reply is h =
-      subst (λ (r : Told). SourcedTold r) (sym (ap (reply_in reply) is)) tt
-  read_sourced number (Ok (read_finding.Value revision plain stale)) reply is h =
-      subst (λ (r : Told). SourcedTold r) (sym (ap (reply_in reply) is)) h
-  read_sourced number (Err why) reply is h = refusal_sourced number why reply is h
+      found_sourced number (Err why) d = tt
 
 -- what holds of a line's Fetch, by what holds of it
 pub fetches_so : (history : List Entry) (seat : ℕ) (path : List ℕ) (ahead part : List Entry)
@@ -208,13 +176,11 @@ module _ {L D : Type 0} (link : L → Link) (step : L → Exchange → L → Typ
       answers) in
       let known = run_known (WasAnswered heard) link step left count files part.replica first
       ahead w.before w.does_ahead parts.0 kept in
-      read_sourced history o seat entries done.part path heard w.before.caller.seat asks.0
-      done.reply asks.1 (call_tells history o seat entries done.part
+      call_tells history o seat entries done.part
       (λ p from found to. FindsBy path p from w.before.cache found to w.after.cache done.exchanges)
-      (AsksNone w.before.cache w.after.cache done.exchanges)
-      (SourcedFound history o seat entries done.part path heard)
-      (found_sourced history o seat entries done.part path heard w.before.cache w.after.cache
-      done.exchanges parts.1 known) part.replica w.before.caller w.after.caller
-      (early_sourced history o seat entries done.part path heard part.replica w.before.caller
-      w.after.caller) tt c.more c.is c.opening c.own c.seen_own w.is_done.adds w.is_done.known
-      asks.0 asks.2)
+      (AsksNone w.before.cache w.after.cache done.exchanges) w.before.caller.seat
+      (SourcedTold history o seat entries done.part path heard) tt tt
+      (λ p before adopted acted behind it. found_sourced history o seat entries done.part path heard
+      w.before.cache w.after.cache done.exchanges parts.1 known p before adopted acted behind it
+      w.before.caller.seat) part.replica w.before.caller w.after.caller c.more c.is c.opening c.own
+      c.seen_own w.is_done.adds w.is_done.known done.reply asks.0 asks.1 asks.2

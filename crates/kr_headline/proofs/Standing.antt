@@ -241,10 +241,9 @@ pub published_last : (generations : List Generation) (g : Generation) (number : 
     → number ≡ length generations
     → published_at (generations ++ g ∷ []) (Some number) ≡ Some g.published
 published_last [] g zero is = refl
-published_last [] g (suc number) is = absurd (omega (arith, is))
-published_last (x ∷ generations) g zero is = absurd (omega (arith, is))
 published_last (x ∷ generations) g (suc number) is =
     published_last generations g number (omega (arith, is))
+published_last other g another is = absurd (omega (arith, is))
 
 pub state_split : (st : State) (front : List Entry) (e : Entry) (rest : List Entry)
     → state_from st (front ++ e ∷ rest) ≡ state_from (after (state_from st front) e) rest

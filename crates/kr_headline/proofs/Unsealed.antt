@@ -202,30 +202,7 @@ module _ (heard : Heard) where
         subst (λ (own : List ℕ). SealedAnew heard own a.entry)
         (ap (replaced_path path) (sym a.records.did_is ∙ q.did_is))
         (resealed stored revision sealing a)
-    replaced_known stored (answer.Adopted n q) sealing a =
-        unwritten stored (answer.Adopted n q) refl a
-    replaced_known stored (answer.Gone other) sealing a =
-        unwritten stored (answer.Gone other) refl a
-    replaced_known stored (answer.Found x) sealing a = unwritten stored (answer.Found x) refl a
-    replaced_known stored answer.Absent sealing a = unwritten stored answer.Absent refl a
-    replaced_known stored (answer.Changed last) sealing a =
-        unwritten stored (answer.Changed last) refl a
-    replaced_known stored answer.StoreFailed sealing a =
-        unwritten stored answer.StoreFailed refl a
-    replaced_known stored (answer.StoreFull needed) sealing a =
-        unwritten stored (answer.StoreFull needed) refl a
-    replaced_known stored answer.Released sealing a = unwritten stored answer.Released refl a
-    replaced_known stored (answer.Reloaded n) sealing a =
-        unwritten stored (answer.Reloaded n) refl a
-    replaced_known stored (answer.Joined n) sealing a = unwritten stored (answer.Joined n) refl a
-    replaced_known stored (answer.Refused verdict) sealing a =
-        unwritten stored (answer.Refused verdict) refl a
-    replaced_known stored (answer.Moved n) sealing a = unwritten stored (answer.Moved n) refl a
-    replaced_known stored (answer.Present n) sealing a =
-        unwritten stored (answer.Present n) refl a
-    replaced_known stored (answer.Departed n) sealing a =
-        unwritten stored (answer.Departed n) refl a
-    replaced_known stored answer.NoMemory sealing a = unwritten stored answer.NoMemory refl a
+    replaced_known stored other sealing a = unwritten stored other refl a
 
     reseals_add : (sealed : Result (List ℕ) SealNo) (result : Result Step CallNo)
         → ResealsBy p row plain sealed old result new → Unsealing old new

@@ -7,7 +7,7 @@ use Rattle.std.proofs.lemmas.Option.{none-some, same_Some}
 use Rattle.kr_base.specs.Faults.{Rose}
 use Rattle.kr_kms.specs.Calls.{Link}
 use Rattle.kr_kms.specs.Exchanges.{Exchange}
-use Rattle.kr_provider.specs.Reading.{Reading, data_of, refused, unopened}
+use Rattle.kr_provider.specs.Reading.{Reading, data_of}
 use Rattle.kr_rollout.specs.declared.line.Did.{Did}
 use Rattle.kr_rollout.specs.declared.line.Did.TheVariants as did
 use Rattle.kr_rollout.specs.declared.line.Gave.{Gave}
@@ -34,10 +34,8 @@ use Rattle.kr_headline.proofs.WrongFaults.{held_adopted, wrong_faults}
 use Rattle.kr_headline.proofs.WrongRewrites.{wrong_rewrites}
 
 abbrev bytes_in : Option Reading → List ℕ
-bytes_in None = []
 bytes_in (Some (data_of bytes)) = bytes
-bytes_in (Some (refused why)) = []
-bytes_in (Some unopened) = []
+bytes_in other = []
 
 -- the member of a list of which all hold this
 holds_of : {X : Type 0} (P : X → Type 0) (xs : List X) (x : X) → All P xs → Contains xs x → P x

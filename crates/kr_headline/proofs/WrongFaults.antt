@@ -40,27 +40,22 @@ module _ (P : (name : List ℕ) → Type 0) (D : Type 0)
     (part : List Entry) (settings_in : (file : List ℕ) → Option (List setting)) where
   plugin_told : (name : List ℕ) → (W (told.FaultPlugin name) → P name) → (asked : ScriptLine)
       → PartIs P D B K G N U R W seat own part settings_in asked (told.FaultPlugin name) → P name
-  plugin_told name rewrote (line.Put resource path plain) x = absurd x
   plugin_told name rewrote (line.Get path) x = x.0
-  plugin_told name rewrote (line.Delete path) x = absurd x
   plugin_told name rewrote line.Rewrite x = rewrote x
   plugin_told name rewrote (line.Reload replica file) x = x.2.0
   plugin_told name rewrote line.Refresh x = x.0
   plugin_told name rewrote (line.Join replica file) x = x.2.0
-  plugin_told name rewrote (line.Leave replica) x = absurd x
+  plugin_told name rewrote other x = absurd x
 
   status_told : (name : List ℕ) (field : Field) (text : List ℕ)
       → (W (told.Unhealthy name field text) → ⊥) → (asked : ScriptLine)
       → PartIs P D B K G N U R W seat own part settings_in asked (told.Unhealthy name field text)
       → B name field text
-  status_told name field text rewrote (line.Put resource path plain) x = absurd x
-  status_told name field text rewrote (line.Get path) x = absurd x
-  status_told name field text rewrote (line.Delete path) x = absurd x
   status_told name field text rewrote line.Rewrite x = absurd (rewrote x)
   status_told name field text rewrote (line.Reload replica file) x = x.2.0
   status_told name field text rewrote line.Refresh x = x.0
   status_told name field text rewrote (line.Join replica file) x = x.2.0
-  status_told name field text rewrote (line.Leave replica) x = absurd x
+  status_told name field text rewrote other x = absurd x
 
 -- ---- what is held meanwhile was adopted
 

@@ -24,6 +24,7 @@ use Rattle.kr_workers.specs.RewriteParts.{FindsNone}
 use Rattle.kr_workers.specs.Shapes.{HoldsPart}
 use Rattle.kr_workers.specs.declared.files.SettingsFile.{SettingsFile}
 use Rattle.kr_workers.specs.declared.worker.Worker.{Worker}
+use Rattle.kr_workers.proofs.HonestPlugins.{at_middle}
 use Rattle.kr_headline.specs.Fleets.{AgreesWithAll, BroughtOpens, BroughtSeeds, FleetHeadline, HasSeeds, Reseals, Seals, run_in}
 use Rattle.kr_headline.specs.Headline.{Run, own_entries}
 use Rattle.kr_headline.specs.Sources.{HasSource}
@@ -31,7 +32,6 @@ use Rattle.kr_headline.specs.Values.{Values, sealed_values}
 use Rattle.kr_headline.specs.WrongSeals as wrong
 use Rattle.kr_headline.specs.WrongSeals.{EachSealIsWrong, WrongSeals}
 use Rattle.kr_headline.proofs.Invented.{none_invented, other}
-use Rattle.kr_headline.proofs.ReadBack.{at_middle}
 use Rattle.kr_headline.proofs.WrongRewrites.{none_by, none_fresh, none_left}
 
 module _ {T L D : Type 0} (values : Values) (link : L → Link) (step : L → Exchange → L → Type 0)

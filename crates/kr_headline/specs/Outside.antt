@@ -1,5 +1,5 @@
--- What one line's exchanges with plugins are, and what they bear out: that a plugin failed, what its
--- status was, and which key it has.
+-- What one line's exchanges with plugins are, and what they bear out: that a plugin failed, what
+-- its status was, and which key it has.
 use Rattle.std.specs.Prelude.{◌≡◌, ◌≢◌, ◌≤◌, ℕ, true, List, [], length, All, Contains, None, Some, Ok, ⊤}
 use Rattle.kr_kms.specs.Exchanges.{Exchange, StatusCall, UnwrapCall, asked_name, is_fault}
 use Rattle.kr_kms.specs.Health.{breach_in}

@@ -26,21 +26,9 @@ adopts old new replica (answer.Gone other) result a d =
     subst (λ r. Adopts replica old r new) (sym d)
     (subst (λ r. AddsEntry old (event.Adopt replica) (answer.Gone r) new)
     (gone_adopting old new replica other a) a)
-adopts old new replica (answer.Found row) result a d = absurd d
-adopts old new replica answer.Absent result a d = absurd d
-adopts old new replica (answer.Written revision) result a d = absurd d
-adopts old new replica (answer.Changed revision) result a d = absurd d
-adopts old new replica answer.StoreFailed result a d = absurd d
-adopts old new replica (answer.StoreFull needed) result a d = absurd d
-adopts old new replica answer.Released result a d = absurd d
-adopts old new replica (answer.Reloaded number) result a d = absurd d
-adopts old new replica (answer.Joined number) result a d = absurd d
-adopts old new replica (answer.Refused verdict) result a d = absurd d
-adopts old new replica (answer.Moved number) result a d = absurd d
-adopts old new replica (answer.Present number) result a d = absurd d
-adopts old new replica (answer.Departed number) result a d = absurd d
 adopts old new replica answer.NoMemory result a d =
     subst (λ r. Adopts replica old r new) (sym d) (inr a)
+adopts old new replica other result a d = absurd d
 
 -- what was adopted is held, and is one of those that a bench may adopt
 pub adopted_known : (old new : Caller) (replica : ℕ) (given : Answer)
@@ -55,22 +43,10 @@ adopted_known old new replica (answer.Adopted number p) result k a d =
 adopted_known old new replica (answer.Gone other) result k a d =
     subst (λ r. IfOk r (λ held. IsAdmitted old.opening.names held.1
     × (holding new.mine ≡ Some (held.0, held.1)))) (sym d) tt
-adopted_known old new replica (answer.Found row) result k a d = absurd d
-adopted_known old new replica answer.Absent result k a d = absurd d
-adopted_known old new replica (answer.Written revision) result k a d = absurd d
-adopted_known old new replica (answer.Changed revision) result k a d = absurd d
-adopted_known old new replica answer.StoreFailed result k a d = absurd d
-adopted_known old new replica (answer.StoreFull needed) result k a d = absurd d
-adopted_known old new replica answer.Released result k a d = absurd d
-adopted_known old new replica (answer.Reloaded number) result k a d = absurd d
-adopted_known old new replica (answer.Joined number) result k a d = absurd d
-adopted_known old new replica (answer.Refused verdict) result k a d = absurd d
-adopted_known old new replica (answer.Moved number) result k a d = absurd d
-adopted_known old new replica (answer.Present number) result k a d = absurd d
-adopted_known old new replica (answer.Departed number) result k a d = absurd d
 adopted_known old new replica answer.NoMemory result k a d =
     subst (λ r. IfOk r (λ held. IsAdmitted old.opening.names held.1
     × (holding new.mine ≡ Some (held.0, held.1)))) (sym d) tt
+adopted_known old new replica other result k a d = absurd d
 
 -- where nothing was adopted, nothing is held
 pub adopted_idle : (old new : Caller) (replica : ℕ) (given : Answer)
@@ -82,22 +58,10 @@ adopted_idle old new replica (answer.Adopted number p) result a d idle =
 adopted_idle old new replica (answer.Gone other) result a d idle =
     subst (λ r. IfErr r (λ why. IsIdleAfter why new)) (sym d)
     (stays_law old new (event.Adopt replica) (answer.Gone other) tt a ∙ idle)
-adopted_idle old new replica (answer.Found row) result a d idle = absurd d
-adopted_idle old new replica answer.Absent result a d idle = absurd d
-adopted_idle old new replica (answer.Written revision) result a d idle = absurd d
-adopted_idle old new replica (answer.Changed revision) result a d idle = absurd d
-adopted_idle old new replica answer.StoreFailed result a d idle = absurd d
-adopted_idle old new replica (answer.StoreFull needed) result a d idle = absurd d
-adopted_idle old new replica answer.Released result a d idle = absurd d
-adopted_idle old new replica (answer.Reloaded number) result a d idle = absurd d
-adopted_idle old new replica (answer.Joined number) result a d idle = absurd d
-adopted_idle old new replica (answer.Refused verdict) result a d idle = absurd d
-adopted_idle old new replica (answer.Moved number) result a d idle = absurd d
-adopted_idle old new replica (answer.Present number) result a d idle = absurd d
-adopted_idle old new replica (answer.Departed number) result a d idle = absurd d
 adopted_idle old new replica answer.NoMemory result a d idle =
     subst (λ r. IfErr r (λ why. IsIdleAfter why new)) (sym d)
     (stays_law old new (event.Adopt replica) answer.NoMemory tt a ∙ idle)
+adopted_idle old new replica other result a d idle = absurd d
 
 pub releases : (old new : Caller) (given : Answer) → AddsEntry old event.LetGo given new
     → AddsEntry old event.LetGo answer.Released new
@@ -113,15 +77,8 @@ pub lets_nothing_go : {T : Type 0} (old new : Caller) (done : Result T CallNo)
 lets_nothing_go old new done n = inr (n, refl)
 
 idle_after : (why : CallNo) (new : Caller) → holding new.mine ≡ None → IsIdleAfter why new
-idle_after (refusal.Refused x) new h = h
-idle_after (refusal.PluginFailed name) new h = h
-idle_after refusal.DiceFailed new h = h
-idle_after refusal.StoreFailed new h = h
-idle_after (refusal.StoreFull needed) new h = h
-idle_after (refusal.Unhealthy name field text) new h = h
-idle_after refusal.Gone new h = h
 idle_after refusal.Spent new h = tt
-idle_after refusal.NoMemory new h = h
+idle_after other new h = h
 
 pub let_go_idle : {T : Type 0} (old new : Caller) (given : Answer) (done : Result T CallNo)
     → AddsEntry old event.LetGo given new → IsIdle done new

@@ -30,22 +30,8 @@ may_give old new asked given a =
 
 released_by : (given : Answer) (st : State) (held : Option ℕ)
     → IsAnswer (did_of event.LetGo) (gave_of given) st held → given ≡ answer.Released
-released_by (answer.Adopted number p) st held a = absurd a
-released_by (answer.Gone other) st held a = absurd a
-released_by (answer.Found row) st held a = absurd a
-released_by answer.Absent st held a = absurd a
-released_by (answer.Written revision) st held a = absurd a
-released_by (answer.Changed revision) st held a = absurd a
-released_by answer.StoreFailed st held a = absurd a
-released_by (answer.StoreFull needed) st held a = absurd a
 released_by answer.Released st held a = refl
-released_by (answer.Reloaded number) st held a = absurd a
-released_by (answer.Joined number) st held a = absurd a
-released_by (answer.Refused verdict) st held a = absurd a
-released_by (answer.Moved number) st held a = absurd a
-released_by (answer.Present number) st held a = absurd a
-released_by (answer.Departed number) st held a = absurd a
-released_by answer.NoMemory st held a = absurd a
+released_by other st held a = absurd a
 
 -- nothing else is answered to a LetGo
 pub answers_let_go : (old new : Caller) (given : Answer) → AddsEntry old event.LetGo given new

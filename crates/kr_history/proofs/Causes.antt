@@ -104,25 +104,17 @@ module _ (replicas : List (Option (List ConfigEntry))) (needs : List Need) where
 pub one_cause : OneCause
 one_cause rows replicas (Stray p) (Stray q) n m a b =
     ap Stray (least_path (IsStray (first_rows replicas) rows) p q a.stray b.stray a.least b.least)
-one_cause rows replicas (Stray p) (OtherSecret q) n m a b =
-    absurd (not_stray (first_rows replicas) rows p a.stray b.0)
-one_cause rows replicas (Stray p) (Unfit j w) n m a b =
-    absurd (not_stray (first_rows replicas) rows p a.stray b.0)
-one_cause rows replicas (Stray p) NoMemory n m a b = absurd (m refl)
-one_cause rows replicas (OtherSecret p) (Stray q) n m a b =
-    absurd (not_stray (first_rows replicas) rows q b.stray a.0)
 one_cause rows replicas (OtherSecret p) (OtherSecret q) n m a b =
     ap OtherSecret (least_path (IsOtherSecret (first_rows replicas) rows) p q a.1.other b.1.other
     a.1.least b.1.least)
 one_cause rows replicas (OtherSecret p) (Unfit j w) n m a b = absurd (b.1 p a.1.other)
-one_cause rows replicas (OtherSecret p) NoMemory n m a b = absurd (m refl)
-one_cause rows replicas (Unfit i v) (Stray q) n m a b =
-    absurd (not_stray (first_rows replicas) rows q b.stray a.0)
 one_cause rows replicas (Unfit i v) (OtherSecret q) n m a b = absurd (a.1 q b.1.other)
 one_cause rows replicas (Unfit i v) (Unfit j w) n m a b =
     let needs = needs_of (first_rows replicas) rows in
     let same = one_replica replicas needs i j v w a.2 b.2 in
     let verdict = one_verdict replicas needs i j v w same a.2 b.2 in
     (λ t. Unfit (same t) (verdict t))
-one_cause rows replicas (Unfit i v) NoMemory n m a b = absurd (m refl)
 one_cause rows replicas NoMemory why n m a b = absurd (n refl)
+one_cause rows replicas other NoMemory n m a b = absurd (m refl)
+one_cause rows replicas (Stray p) other n m a b = absurd (not_stray (first_rows replicas) rows p a.stray b.0)
+one_cause rows replicas other (Stray q) n m a b = absurd (not_stray (first_rows replicas) rows q b.stray a.0)

@@ -15,7 +15,7 @@ use Rattle.kr_store.specs.declared.rows.Row as stored_row
 use Rattle.kr_store.specs.Rows.{latest, live, live_row, row_of, put_of, delete_of}
 use Rattle.kr_store.proofs.Places.{live_at_revision}
 use Rattle.kr_config.specs.declared.who.Who.{Who}
-use Rattle.kr_config.specs.declared.who.Who.TheVariants.{Identity, Aescbc, Aesgcm, Kms}
+use Rattle.kr_config.specs.declared.who.Who.TheVariants.{Kms}
 use Rattle.kr_config.specs.Kept.{ConfigEntry, keeps, keeps_providers}
 use Rattle.kr_config.specs.Lists.{list_of}
 use Rattle.kr_kms.specs.declared.seeds.SeedRow.{SeedRow}
@@ -78,12 +78,10 @@ one_of P xs x a c = subst P c.2 (a c.0 x c.1)
 
 pub seed_opens : (opens : Opens) (seeds : List SeedRow) (who : Who) → OpenAll opens seeds
     → SeedOpens opens seeds who
-seed_opens opens seeds Identity a = tt
-seed_opens opens seeds (Aescbc name secret) a = tt
-seed_opens opens seeds (Aesgcm name secret) a = tt
 seed_opens opens seeds (Kms name) a = λ row is.
     one_of (λ (r : SeedRow). opens (key_of r) ≡ Some r.seed) seeds row a
     (found (λ (r : SeedRow). bytes_eq r.name name) seeds row is).1
+seed_opens opens seeds other a = tt
 
 -- ---- what a live row reads as
 

@@ -185,9 +185,6 @@ module _ (opens : Opens) (o : Opening) (history : List Entry) (e : Entry) (path 
         (λ x. absurd (none-some new (sym x ∙ is))),
       )
 
-abbrev rows_after : State → Entry → List LogRow
-rows_after st e = (after st e).rows
-
 module _ (opens : Opens) (o : Opening) (st : State) (history : List Entry) (e : Entry)
     (path : List ℕ) (a : IsAlike opens o st.rows history path) where
   abbrev Next : List LogRow → Type 0

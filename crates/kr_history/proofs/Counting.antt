@@ -18,7 +18,7 @@ use Rattle.kr_judge.specs.Providers.{same_who}
 use Rattle.kr_judge.specs.Scans.{is_for, paths_for, live_from, live_numbers}
 use Rattle.kr_judge.specs.Verdicts.{with_numbers}
 use Rattle.kr_judge.proofs.Lacking.{filtered, passing, mapped, image}
-use Rattle.kr_judge.proofs.Lists.{there, cases}
+use Rattle.kr_config.proofs.ListParts.{there, cases}
 use Rattle.kr_judge.proofs.Members.{is_one, itself}
 use Rattle.kr_opening.proofs.Needing.{own_path}
 use Rattle.kr_opening.specs.declared.generation.Generation.{Generation}

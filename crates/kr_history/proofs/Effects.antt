@@ -16,7 +16,7 @@ use Rattle.kr_judge.specs.declared.need.Need.{Need}
 use Rattle.kr_judge.specs.declared.verdict.Verdict.TheVariants.{Pass}
 use Rattle.kr_judge.specs.Boards.{set_need, drop_need}
 use Rattle.kr_rollout.specs.declared.line.Did.{Did}
-use Rattle.kr_rollout.specs.declared.line.Did.TheVariants.{Adopt, Fetch, After, Put, Delete, Replace, LetGo, Reload, Join, Leave}
+use Rattle.kr_rollout.specs.declared.line.Did.TheVariants.{Adopt, Put, Delete, Replace, LetGo, Reload, Join, Leave}
 use Rattle.kr_rollout.specs.declared.line.Gave.{Gave}
 use Rattle.kr_rollout.specs.declared.line.Gave.TheVariants.{Adopted, Found, Absent, Written, Changed, Released, Reloaded, Joined, Refused, Moved, Present, Departed, Gone, StoreFailed, StoreFull, Nothing}
 use Rattle.kr_rollout.specs.declared.opening.Entry.{Entry}
@@ -333,69 +333,17 @@ module _ (o : Opening) (st : State) (seat : ℕ) (held : Option ℕ) (faults : �
       → Effect o st (entry did gave)
   effect_by (Adopt replica) (Adopted number) s = adopts replica number s.answer.1 (λ path. refl)
       (unchanged st st.current (slice_set st.held seat (Some number)) st.needs faults)
-  effect_by (Fetch path) (Adopted number) s = absurd s.answer
-  effect_by (After path) (Adopted number) s = absurd s.answer
-  effect_by (Put path resource plain) (Adopted number) s = absurd s.answer
-  effect_by (Delete path) (Adopted number) s = absurd s.answer
-  effect_by (Replace path from) (Adopted number) s = absurd s.answer
-  effect_by LetGo (Adopted number) s = absurd s.answer
-  effect_by (Reload replica p expect) (Adopted number) s = absurd s.answer
-  effect_by (Join replica p) (Adopted number) s = absurd s.answer
-  effect_by (Leave replica) (Adopted number) s = absurd s.answer
-  effect_by (Adopt replica) Released s = absurd s.answer
-  effect_by (Fetch path) Released s = absurd s.answer
-  effect_by (After path) Released s = absurd s.answer
-  effect_by (Put path resource plain) Released s = absurd s.answer
-  effect_by (Delete path) Released s = absurd s.answer
-  effect_by (Replace path from) Released s = absurd s.answer
   effect_by LetGo Released s = lets_go (λ path. refl)
       (unchanged st st.current (slice_set st.held seat None) st.needs faults)
-  effect_by (Reload replica p expect) Released s = absurd s.answer
-  effect_by (Join replica p) Released s = absurd s.answer
-  effect_by (Leave replica) Released s = absurd s.answer
-  effect_by (Adopt replica) (Departed number) s = absurd s.answer
-  effect_by (Fetch path) (Departed number) s = absurd s.answer
-  effect_by (After path) (Departed number) s = absurd s.answer
-  effect_by (Put path resource plain) (Departed number) s = absurd s.answer
-  effect_by (Delete path) (Departed number) s = absurd s.answer
-  effect_by (Replace path from) (Departed number) s = absurd s.answer
-  effect_by LetGo (Departed number) s = absurd s.answer
-  effect_by (Reload replica p expect) (Departed number) s = absurd s.answer
-  effect_by (Join replica p) (Departed number) s = absurd s.answer
   effect_by (Leave replica) (Departed number) s = leaves replica (λ path. refl)
       (unchanged st (slice_set st.current replica None) st.held st.needs faults)
-  effect_by (Adopt replica) (Reloaded number) s = absurd s.answer
-  effect_by (Fetch path) (Reloaded number) s = absurd s.answer
-  effect_by (After path) (Reloaded number) s = absurd s.answer
-  effect_by (Put path resource plain) (Reloaded number) s = absurd s.answer
-  effect_by (Delete path) (Reloaded number) s = absurd s.answer
-  effect_by (Replace path from) (Reloaded number) s = absurd s.answer
-  effect_by LetGo (Reloaded number) s = absurd s.answer
   effect_by (Reload replica p expect) (Reloaded number) s = gives replica p s.rules.0 s.rules.1.0 s.answer.1.0
       (λ opens h. h) (λ path. refl) (given st replica number p faults s.answer.1.1)
-  effect_by (Join replica p) (Reloaded number) s = absurd s.answer
-  effect_by (Leave replica) (Reloaded number) s = absurd s.answer
-  effect_by (Adopt replica) (Joined number) s = absurd s.answer
-  effect_by (Fetch path) (Joined number) s = absurd s.answer
-  effect_by (After path) (Joined number) s = absurd s.answer
-  effect_by (Put path resource plain) (Joined number) s = absurd s.answer
-  effect_by (Delete path) (Joined number) s = absurd s.answer
-  effect_by (Replace path from) (Joined number) s = absurd s.answer
-  effect_by LetGo (Joined number) s = absurd s.answer
-  effect_by (Reload replica p expect) (Joined number) s = absurd s.answer
   effect_by (Join replica p) (Joined number) s = gives replica p s.rules.0 s.rules.1.0 s.answer.1.0
       (λ opens h. h) (λ path. refl) (given st replica number p faults s.answer.1.1)
-  effect_by (Leave replica) (Joined number) s = absurd s.answer
-  effect_by (Adopt replica) (Written revision) s = absurd s.answer
-  effect_by (Fetch path) (Written revision) s = absurd s.answer
-  effect_by (After path) (Written revision) s = absurd s.answer
   effect_by (Put path resource plain) (Written revision) s = put_effect path resource plain revision s
   effect_by (Delete path) (Written revision) s = deletes_row path s.answer.0 (λ own. refl) (wrote st (drop_need st.needs path) (delete_of path ∷ []) faults)
   effect_by (Replace path from) (Written revision) s = replace_effect path from revision s
-  effect_by LetGo (Written revision) s = absurd s.answer
-  effect_by (Reload replica p expect) (Written revision) s = absurd s.answer
-  effect_by (Join replica p) (Written revision) s = absurd s.answer
-  effect_by (Leave replica) (Written revision) s = absurd s.answer
   effect_by did (Found revision) s = stays (λ path. refl)
       (unchanged st st.current st.held st.needs faults)
   effect_by did Absent s = stays (λ path. refl)
@@ -416,6 +364,7 @@ module _ (o : Opening) (st : State) (seat : ℕ) (held : Option ℕ) (faults : �
       (unchanged st st.current st.held st.needs faults)
   effect_by did Nothing s = stays (λ path. refl)
       (unchanged st st.current st.held st.needs faults)
+  effect_by other another s = absurd s.answer
 
 pub effect_of : (o : Opening) (st : State) (e : Entry) → IsStep o st e → Effect o st e
 effect_of o st e s = effect_by o st e.line.seat e.line.held e.line.faults e.published e.row

@@ -311,8 +311,6 @@ module _ (o : Opening) (st : State) (sound : IsSound o st) where
 own_from : (k m : ℕ) (rs : List (Option Publication)) (place n : ℕ)
     → number_at (current_from m rs) place ≡ Some n
     → (m ≤ n) × IsOwn (generations_from k rs) (k + place) (n - m)
-own_from k m [] place n e = absurd (none-some n e)
-own_from k m (None ∷ rs) zero n e = absurd (none-some n e)
 own_from k m (None ∷ rs) (suc place) n e =
     let r = own_from (k + 1) m rs place n e in (
       r.0,
@@ -342,6 +340,7 @@ own_from k m (Some p ∷ rs) (suc place) n e =
         replica_is = omega (arith, r.1.replica_is);
       },
     )
+own_from k m other place n e = absurd (none-some n e)
 
 kept_from : (names : List (List ℕ)) (k : ℕ) (rs : List (Option Publication)) (n : ℕ)
     (g : Generation) → All (λ replica. IfSome replica (IsAdmitted names)) rs

@@ -47,21 +47,8 @@ released_law old new a = holding_is old new event.LetGo answer.Released a
 stays_then : (given : Answer) (p : Option Publication) (now : Option (ℕ × Publication))
     → LeavesHolding given → holding_then (gave_of given) p now ≡ now
 stays_then (answer.Adopted number q) p now s = absurd s
-stays_then (answer.Gone replica) p now s = refl
-stays_then (answer.Found row) p now s = refl
-stays_then answer.Absent p now s = refl
-stays_then (answer.Written revision) p now s = refl
-stays_then (answer.Changed revision) p now s = refl
-stays_then answer.StoreFailed p now s = refl
-stays_then (answer.StoreFull needed) p now s = refl
 stays_then answer.Released p now s = absurd s
-stays_then (answer.Reloaded number) p now s = refl
-stays_then (answer.Joined number) p now s = refl
-stays_then (answer.Refused verdict) p now s = refl
-stays_then (answer.Moved number) p now s = refl
-stays_then (answer.Present number) p now s = refl
-stays_then (answer.Departed number) p now s = refl
-stays_then answer.NoMemory p now s = refl
+stays_then other p now s = refl
 
 pub stays_law : HoldingStays
 stays_law old new asked given s a = holding_is old new asked given a

@@ -6,7 +6,7 @@ use Rattle.kr_store.specs.Rows.{live, row_of, put_at}
 use Rattle.kr_store.proofs.Places.{live_at_revision}
 use Rattle.std.proofs.lemmas.Option.{same_Some}
 use Rattle.kr_rollout.specs.declared.line.Did.{Did}
-use Rattle.kr_rollout.specs.declared.line.Did.TheVariants.{Adopt, Fetch, After, Put, Delete, Replace, LetGo, Reload, Join, Leave}
+use Rattle.kr_rollout.specs.declared.line.Did.TheVariants.{Fetch, After, Replace}
 use Rattle.kr_provider.specs.Publication.{Publication}
 use Rattle.kr_rollout.specs.declared.line.Gave.{Gave}
 use Rattle.kr_rollout.specs.declared.line.Gave.TheVariants.{Found, Absent, Written}
@@ -48,14 +48,7 @@ module _ (st : State) (held : Option ℕ) (row : Option stored_row.Row) (revisio
     is = at_revision a.1.path a.1 a.2.1 a.3;
     fits = a.2;
   }
-  found_by (Adopt replica) a = absurd a
-  found_by (Put path resource plain) a = absurd a
-  found_by (Delete path) a = absurd a
-  found_by (Replace path from) a = absurd a
-  found_by LetGo a = absurd a
-  found_by (Reload replica p expect) a = absurd a
-  found_by (Join replica p) a = absurd a
-  found_by (Leave replica) a = absurd a
+  found_by other a = absurd a
 
 found_at : (o : Opening) (st : State) (e : Entry) (revision : ℕ) → IsStep o st e
     → e.line.gave ≡ Found revision → IsFound e.line.did st.rows e.row
@@ -76,14 +69,7 @@ found_path : (did : Did) (rows : List LogRow) (row : stored_row.Row) → IsRowFo
     → live rows row.path ≡ Some row
 found_path (Fetch path) rows row f = ap (live rows) f.1 ∙ f.0
 found_path (After path) rows row f = f.1
-found_path (Adopt replica) rows row f = absurd f
-found_path (Put path resource plain) rows row f = absurd f
-found_path (Delete path) rows row f = absurd f
-found_path (Replace path from) rows row f = absurd f
-found_path LetGo rows row f = absurd f
-found_path (Reload replica p expect) rows row f = absurd f
-found_path (Join replica p) rows row f = absurd f
-found_path (Leave replica) rows row f = absurd f
+found_path other rows row f = absurd f
 
 pub found_reads : FoundReads
 found_reads opens o history e revision row rows reading l honest is row_is lives =

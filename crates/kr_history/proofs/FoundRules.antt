@@ -26,7 +26,7 @@ use Rattle.kr_provider.proofs.SealedSizes.{sealing_is_sized}
 use Rattle.kr_rollout.specs.declared.line.Did.{Did}
 use Rattle.kr_rollout.specs.declared.line.Did.TheVariants as did
 use Rattle.kr_rollout.specs.declared.line.Gave.{Gave}
-use Rattle.kr_rollout.specs.declared.line.Gave.TheVariants.{Adopted, Found, Absent, Written, Changed, Released, Reloaded, Joined, Refused, Moved, Present, Departed, Gone, StoreFailed, StoreFull, Nothing}
+use Rattle.kr_rollout.specs.declared.line.Gave.TheVariants.{Written}
 use Rattle.kr_opening.specs.declared.generation.Generation.{Generation}
 use Rattle.kr_rollout.specs.declared.opening.Entry.{Entry}
 use Rattle.kr_rollout.specs.declared.opening.Opening.{Opening}
@@ -171,9 +171,6 @@ module _ (o : Opening) (rows : List LogRow) (a : All (KeepsRow o.format) rows)
       → WouldWrite o.format done rows published row
       → written ≡ row_of revision row.path row.change
       → All (KeepsRow o.format) (row_written_by done written)
-  written_keeps (did.Adopt replica) row k w is = absurd w
-  written_keeps (did.Fetch path) row k w is = absurd w
-  written_keeps (did.After path) row k w is = absurd w
   written_keeps (did.Put path resource plain) row k w is =
       put_keeps w.0 path resource plain row w.1 k.0 k.1 w.2 is
   written_keeps (did.Delete path) row k w is =
@@ -182,10 +179,7 @@ module _ (o : Opening) (rows : List LogRow) (a : All (KeepsRow o.format) rows)
       let old = row_keeps o.format rows w.1.revision w.1 a
       (live_at_revision rows path w.1 w.3).0 in
       put_keeps w.0 path w.1.resource w.5.plain row w.2 k old.1.0 w.5.sealed is
-  written_keeps did.LetGo row k w is = absurd w
-  written_keeps (did.Reload replica p expect) row k w is = absurd w
-  written_keeps (did.Join replica p) row k w is = absurd w
-  written_keeps (did.Leave replica) row k w is = absurd w
+  written_keeps other row k w is = absurd w
 
 named_admitted : (o : Opening) (generations : List Generation) (number : Option ℕ)
     (published : Option Publication) (p : Publication)
@@ -206,26 +200,12 @@ module _ (o : Opening) (st : State) (e : Entry) (s : IsStep o st e) (k : KeepsAl
 
   by_step : (gave : Gave) → Writes gave o st e
       → All (KeepsRow o.format) (new_rows gave e.line.did e.row)
-  by_step (Adopted n) w = All-nil (KeepsRow o.format)
-  by_step (Found n) w = All-nil (KeepsRow o.format)
-  by_step Absent w = All-nil (KeepsRow o.format)
   by_step (Written revision) w =
       written_keeps o st.rows k.rows e.published
       (λ p is. named_admitted o (after st e).generations (generation_named_in e.line) e.published
       p generations_keep (ap (λ (x : Entry). x.published) s.payload) is)
       revision e.row e.line.did w.0 s.rules w.1 w.3
-  by_step (Changed n) w = All-nil (KeepsRow o.format)
-  by_step Released w = All-nil (KeepsRow o.format)
-  by_step (Reloaded n) w = All-nil (KeepsRow o.format)
-  by_step (Joined n) w = All-nil (KeepsRow o.format)
-  by_step (Refused verdict) w = All-nil (KeepsRow o.format)
-  by_step (Moved n) w = All-nil (KeepsRow o.format)
-  by_step (Present n) w = All-nil (KeepsRow o.format)
-  by_step (Departed n) w = All-nil (KeepsRow o.format)
-  by_step (Gone replica) w = All-nil (KeepsRow o.format)
-  by_step StoreFailed w = All-nil (KeepsRow o.format)
-  by_step (StoreFull n) w = All-nil (KeepsRow o.format)
-  by_step Nothing w = All-nil (KeepsRow o.format)
+  by_step other w = All-nil (KeepsRow o.format)
 
   keeps_after : KeepsAll o (after st e)
   keeps_after = record {

@@ -34,7 +34,7 @@ use Rattle.kr_provider.proofs.SealedSizes.{sealing_is_sized}
 use Rattle.kr_rollout.specs.declared.line.Did.{Did}
 use Rattle.kr_rollout.specs.declared.line.Did.TheVariants as did
 use Rattle.kr_rollout.specs.declared.line.Gave.{Gave}
-use Rattle.kr_rollout.specs.declared.line.Gave.TheVariants.{Adopted, Found, Absent, Written, Changed, Released, Reloaded, Joined, Refused, Moved, Present, Departed, Gone, StoreFailed, StoreFull, Nothing}
+use Rattle.kr_rollout.specs.declared.line.Gave.TheVariants.{Absent, Written, Changed, StoreFailed, StoreFull, Nothing}
 use Rattle.kr_rollout.specs.declared.opening.Entry.{Entry}
 use Rattle.kr_rollout.specs.declared.opening.Opening.{Opening}
 use Rattle.kr_opening.specs.Checks.{written_check}
@@ -92,9 +92,8 @@ gcm_size body = length (take (length (drop 12 body) - 16) (drop 12 body))
 opened_is : (b c : Bool) (opened plain : List ℕ)
     → body_reading (if b then Err Short else ok_or (if c then Some opened else None) BadTag)
     ≡ data_of plain → opened ≡ plain
-opened_is true c opened plain e = absurd (cc)
 opened_is false true opened plain e = cc
-opened_is false false opened plain e = absurd (cc)
+opened_is other c opened plain e = absurd (cc)
 
 gcm_data : (key path body plain : List ℕ) → gcm_reading key path body ≡ data_of plain
     → length plain ≡ gcm_size body
@@ -135,13 +134,7 @@ kind_data kind (Some source) path encrypted plain e =
 
 no_data : (why : ObjectNo) (plain : List ℕ) → object_refusal why ≡ data_of plain → ⊥
 no_data (object.Wire at) plain e = cc
-no_data object.KeyId plain e = cc
-no_data object.Source plain e = cc
-no_data object.Annotations plain e = cc
-no_data object.SourceType plain e = cc
-no_data object.NoData plain e = cc
-no_data (object.NotUtf8 at) plain e = cc
-no_data object.NoMemory plain e = cc
+no_data other plain e = cc
 
 objects_alike : (read : Result EncryptedObject ObjectNo) (s t : Option (List ℕ))
     (path x y : List ℕ) → object_reading read s path ≡ data_of x
@@ -226,13 +219,7 @@ module _ (format : Format) (rows : List LogRow) (held : Option Publication) (a b
   alike (did.Put path resource plain) v w = puts_alike path resource plain v w
   alike (did.Delete path) v w = λ k. ap (λ r. length (row_bytes k r)) (v.1 ∙ sym w.1)
   alike (did.Replace path revision) v w = replaces_alike path revision v w
-  alike (did.Adopt replica) v w = absurd v
-  alike (did.Fetch path) v w = absurd v
-  alike (did.After path) v w = absurd v
-  alike did.LetGo v w = absurd v
-  alike (did.Reload replica p expect) v w = absurd v
-  alike (did.Join replica p) v w = absurd v
-  alike (did.Leave replica) v w = absurd v
+  alike other v w = absurd v
 
 -- ---- the answers
 
@@ -248,61 +235,30 @@ module _ (format : Format) (st : State) (held : Option ℕ) (published : Option 
     (row : LogRow) where
   put_answer : (path resource plain : List ℕ) (gave : Gave)
       → IsAnswer (did.Put path resource plain) gave st held → IsOfWrite gave
-  put_answer path resource plain (Adopted number) a = absurd a
-  put_answer path resource plain (Found revision) a = absurd a
-  put_answer path resource plain Absent a = absurd a
   put_answer path resource plain (Written revision) a = tt
-  put_answer path resource plain (Changed revision) a = absurd a
-  put_answer path resource plain Released a = absurd a
-  put_answer path resource plain (Reloaded number) a = absurd a
-  put_answer path resource plain (Joined number) a = absurd a
-  put_answer path resource plain (Refused verdict) a = absurd a
-  put_answer path resource plain (Moved number) a = absurd a
-  put_answer path resource plain (Present number) a = absurd a
-  put_answer path resource plain (Departed number) a = absurd a
-  put_answer path resource plain (Gone replica) a = absurd a
   put_answer path resource plain StoreFailed a = tt
   put_answer path resource plain (StoreFull needed) a = tt
   put_answer path resource plain Nothing a = tt
+  put_answer path resource plain other a = absurd a
 
   delete_answer : (path : List ℕ) (gave : Gave) → IsAnswer (did.Delete path) gave st held
       → IsSome (live st.rows path) → IsOfWrite gave
-  delete_answer path (Adopted number) a some = absurd a
-  delete_answer path (Found revision) a some = absurd a
   delete_answer path Absent a some = absurd (cc)
   delete_answer path (Written revision) a some = tt
-  delete_answer path (Changed revision) a some = absurd a
-  delete_answer path Released a some = absurd a
-  delete_answer path (Reloaded number) a some = absurd a
-  delete_answer path (Joined number) a some = absurd a
-  delete_answer path (Refused verdict) a some = absurd a
-  delete_answer path (Moved number) a some = absurd a
-  delete_answer path (Present number) a some = absurd a
-  delete_answer path (Departed number) a some = absurd a
-  delete_answer path (Gone replica) a some = absurd a
   delete_answer path StoreFailed a some = tt
   delete_answer path (StoreFull needed) a some = tt
   delete_answer path Nothing a some = tt
+  delete_answer path other a some = absurd a
 
   replace_answer : (path : List ℕ) (revision : ℕ) (gave : Gave) (old : Row)
       → IsAnswer (did.Replace path revision) gave st held → live st.rows path ≡ Some old
       → old.revision ≡ revision → IsOfWrite gave
-  replace_answer path revision (Adopted number) old a is at = absurd a
-  replace_answer path revision (Found last) old a is at = absurd a
-  replace_answer path revision Absent old a is at = absurd a
   replace_answer path revision (Written last) old a is at = tt
   replace_answer path revision (Changed last) old a is at = absurd (a.1 (old, record { is = is; revision_is = at }))
-  replace_answer path revision Released old a is at = absurd a
-  replace_answer path revision (Reloaded number) old a is at = absurd a
-  replace_answer path revision (Joined number) old a is at = absurd a
-  replace_answer path revision (Refused verdict) old a is at = absurd a
-  replace_answer path revision (Moved number) old a is at = absurd a
-  replace_answer path revision (Present number) old a is at = absurd a
-  replace_answer path revision (Departed number) old a is at = absurd a
-  replace_answer path revision (Gone replica) old a is at = absurd a
   replace_answer path revision StoreFailed old a is at = tt
   replace_answer path revision (StoreFull needed) old a is at = tt
   replace_answer path revision Nothing old a is at = tt
+  replace_answer path revision other old a is at = absurd a
 
   write_answer : (asked : Did) (gave : Gave) → IsAnswer asked gave st held
       → WouldWrite format asked st.rows published row → IsOfWrite gave
@@ -310,32 +266,14 @@ module _ (format : Format) (st : State) (held : Option ℕ) (published : Option 
   write_answer (did.Delete path) gave a w = delete_answer path gave a w.0
   write_answer (did.Replace path revision) gave a w =
       replace_answer path revision gave w.1 a w.3 w.4
-  write_answer (did.Adopt replica) gave a w = absurd w
-  write_answer (did.Fetch path) gave a w = absurd w
-  write_answer (did.After path) gave a w = absurd w
-  write_answer did.LetGo gave a w = absurd w
-  write_answer (did.Reload replica p expect) gave a w = absurd w
-  write_answer (did.Join replica p) gave a w = absurd w
-  write_answer (did.Leave replica) gave a w = absurd w
+  write_answer other gave a w = absurd w
 
 tells : (o : Opening) (st : State) (e : Entry) (row : LogRow) (gave : Gave)
     → WouldWrite o.format e.line.did st.rows e.published row → IsOfWrite gave
     → Writes gave o st e → TellsSize gave o.limit (file_size o.format st.rows row)
-tells o st e row (Adopted number) w is s = absurd is
-tells o st e row (Found revision) w is s = absurd is
-tells o st e row Absent w is s = absurd is
 tells o st e row (Written revision) w is s =
     subst (λ n. n ≤ o.limit) (files_long o.format st.rows s.0 row
     (alike o.format st.rows e.published s.0 row e.line.did s.1 w)) s.2
-tells o st e row (Changed revision) w is s = absurd is
-tells o st e row Released w is s = absurd is
-tells o st e row (Reloaded number) w is s = absurd is
-tells o st e row (Joined number) w is s = absurd is
-tells o st e row (Refused verdict) w is s = absurd is
-tells o st e row (Moved number) w is s = absurd is
-tells o st e row (Present number) w is s = absurd is
-tells o st e row (Departed number) w is s = absurd is
-tells o st e row (Gone replica) w is s = absurd is
 tells o st e row StoreFailed w is s =
     subst (λ n. n ≤ o.limit) (files_long o.format st.rows s.0 row
     (alike o.format st.rows e.published s.0 row e.line.did s.1 w)) s.2
@@ -344,6 +282,7 @@ tells o st e row (StoreFull needed) w is s =
     (alike o.format st.rows e.published s.0 row e.line.did s.1 w) in
     (s.2 ∙ same, subst (λ n. o.limit < n) (s.2 ∙ same) s.3)
 tells o st e row Nothing w is s = tt
+tells o st e row other w is s = absurd is
 
 pub full_is_exact : FullIsExact
 full_is_exact o history e row l w =

@@ -4,7 +4,7 @@ use Rattle.kr_envelope.proofs.Readable.{have_readings}
 use Rattle.kr_store.specs.declared.rows.Row.{Row}
 use Rattle.kr_store.specs.Rows.{live}
 use Rattle.kr_config.specs.declared.who.Who.{Who}
-use Rattle.kr_config.specs.declared.who.Who.TheVariants.{Identity, Aescbc, Aesgcm, Kms}
+use Rattle.kr_config.specs.declared.who.Who.TheVariants.{Kms}
 use Rattle.kr_config.specs.Lists.{list_of}
 use Rattle.kr_kms.specs.Opens.{Opens}
 use Rattle.kr_provider.specs.Envelopes.{Envelope, HasEnvelope, source_by, unknown}
@@ -17,15 +17,12 @@ use Rattle.kr_history.specs.ContentLaws.{SomeContent}
 
 some_envelope : (opens : Opens) (reader : Option Who) (bytes : List ℕ)
     → (envelope : Envelope) × HasEnvelope opens reader bytes envelope
-some_envelope opens None bytes = (unknown, tt)
-some_envelope opens (Some Identity) bytes = (unknown, tt)
-some_envelope opens (Some (Aescbc name secret)) bytes = (unknown, tt)
-some_envelope opens (Some (Aesgcm name secret)) bytes = (unknown, tt)
 some_envelope opens (Some (Kms name)) bytes =
     let r = have_readings (body_by (Kms name) bytes) in (
       record { object = r.0; source = source_by opens name r.0 },
       ((r.1, r.2), refl),
     )
+some_envelope opens other bytes = (unknown, tt)
 
 some_reading : (opens : Opens) (list : List Who) (path bytes : List ℕ)
     → (reading : Reading) × HasReading opens list path bytes reading

@@ -17,7 +17,7 @@ use Rattle.kr_opening.specs.declared.generation.Generation.{Generation}
 use Rattle.kr_rollout.specs.declared.line.Did.{Did}
 use Rattle.kr_rollout.specs.declared.line.Did.TheVariants as did
 use Rattle.kr_rollout.specs.declared.line.Gave.{Gave}
-use Rattle.kr_rollout.specs.declared.line.Gave.TheVariants.{Adopted, Found, Absent, Written, Changed, Released, Reloaded, Joined, Refused, Moved, Present, Departed, Gone, StoreFailed, StoreFull, Nothing}
+use Rattle.kr_rollout.specs.declared.line.Gave.TheVariants.{Reloaded, Joined}
 use Rattle.kr_rollout.specs.declared.opening.Entry.{Entry}
 use Rattle.kr_rollout.specs.declared.opening.Opening.{Opening}
 use Rattle.kr_rollout.specs.Entries.{published_at, generation_named_by, revision_replaced_in, seat_of}
@@ -63,35 +63,15 @@ module _ (o : Opening) where
 
   brought_admitted : (done : Did) → KeepsRules done o
       → All (IsAdmittedIn o.names) (new_generation done)
-  brought_admitted (did.Adopt replica) k = none_new
-  brought_admitted (did.Fetch path) k = none_new
-  brought_admitted (did.After path) k = none_new
-  brought_admitted (did.Put path resource plain) k = none_new
-  brought_admitted (did.Delete path) k = none_new
-  brought_admitted (did.Replace path from) k = none_new
-  brought_admitted did.LetGo k = none_new
   brought_admitted (did.Reload replica p expect) k = one_new replica p k.1
   brought_admitted (did.Join replica p) k = one_new replica p k.1
-  brought_admitted (did.Leave replica) k = none_new
+  brought_admitted other k = none_new
 
   new_admitted : (gave : Gave) (done : Did) → KeepsRules done o
       → All (IsAdmittedIn o.names) (new_generations gave done)
-  new_admitted (Adopted n) done k = none_new
-  new_admitted (Found n) done k = none_new
-  new_admitted Absent done k = none_new
-  new_admitted (Written n) done k = none_new
-  new_admitted (Changed n) done k = none_new
-  new_admitted Released done k = none_new
   new_admitted (Reloaded n) done k = brought_admitted done k
   new_admitted (Joined n) done k = brought_admitted done k
-  new_admitted (Refused verdict) done k = none_new
-  new_admitted (Moved n) done k = none_new
-  new_admitted (Present n) done k = none_new
-  new_admitted (Departed n) done k = none_new
-  new_admitted (Gone replica) done k = none_new
-  new_admitted StoreFailed done k = none_new
-  new_admitted (StoreFull n) done k = none_new
-  new_admitted Nothing done k = none_new
+  new_admitted other done k = none_new
 
   pub admitted_after : (st : State) (e : Entry) → KeepsRules e.line.did o
       → All (IsAdmittedIn o.names) st.generations

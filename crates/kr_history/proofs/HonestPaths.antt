@@ -10,9 +10,9 @@ use Rattle.kr_provider.specs.Publication.{Publication, writer_at}
 use Rattle.kr_opening.specs.declared.generation.Generation.{Generation}
 use Rattle.kr_opening.specs.Replicas.{generations_from}
 use Rattle.kr_rollout.specs.declared.line.Did.{Did}
-use Rattle.kr_rollout.specs.declared.line.Did.TheVariants.{Adopt, Fetch, After, Put, Delete, Replace, LetGo, Reload, Join, Leave}
+use Rattle.kr_rollout.specs.declared.line.Did.TheVariants.{Put, Replace}
 use Rattle.kr_rollout.specs.declared.line.Gave.{Gave}
-use Rattle.kr_rollout.specs.declared.line.Gave.TheVariants.{Adopted, Found, Absent, Written, Changed, Released, Reloaded, Joined, Refused, Moved, Present, Departed, Gone, StoreFailed, StoreFull, Nothing}
+use Rattle.kr_rollout.specs.declared.line.Gave.TheVariants.{Adopted, Written}
 use Rattle.kr_rollout.specs.declared.opening.Entry.{Entry}
 use Rattle.kr_rollout.specs.declared.opening.Opening.{Opening}
 use Rattle.kr_rollout.specs.Openings.{start_of}
@@ -106,13 +106,10 @@ module _ (opens : Opens) (o : Opening) (st : State) (all : AllOpen opens st) (se
     writes_at : (path : List ℕ) (done : Did) (given : Gave) → IsStep o st (entry done given)
         → HonestBy given done opens (entry done given)
         → WritesHonestly given done opens path (entry done given)
-    writes_at path (Adopt replica) (Written revision) s h = tt
-    writes_at path (Fetch own) (Written revision) s h = tt
-    writes_at path (After own) (Written revision) s h = tt
+    writes_at path done (Adopted number) s h = tt
     writes_at path (Put own resource plain) (Written revision) s h = λ same p is.
         seed_opens opens p.seeds (writer_at p resource)
         (held_seeds (Put own resource plain) revision p s s.answer.0 is)
-    writes_at path (Delete own) (Written revision) s h = tt
     writes_at path (Replace own from) (Written revision) s h = λ same.
         let k = subst (λ q. KeepsData opens q (entry (Replace own from) (Written revision))) same
         h in record {
@@ -120,25 +117,7 @@ module _ (opens : Opens) (o : Opening) (st : State) (all : AllOpen opens st) (se
           opens_it = seed_opens opens k.p.seeds (writer_at k.p k.old.resource)
               (held_seeds (Replace own from) revision k.p s s.answer.0 k.held);
         }
-    writes_at path LetGo (Written revision) s h = tt
-    writes_at path (Reload replica p expect) (Written revision) s h = tt
-    writes_at path (Join replica p) (Written revision) s h = tt
-    writes_at path (Leave replica) (Written revision) s h = tt
-    writes_at path done (Adopted number) s h = tt
-    writes_at path done (Found revision) s h = tt
-    writes_at path done Absent s h = tt
-    writes_at path done (Changed revision) s h = tt
-    writes_at path done Released s h = tt
-    writes_at path done (Reloaded number) s h = tt
-    writes_at path done (Joined number) s h = tt
-    writes_at path done (Refused verdict) s h = tt
-    writes_at path done (Moved number) s h = tt
-    writes_at path done (Present number) s h = tt
-    writes_at path done (Departed number) s h = tt
-    writes_at path done (Gone replica) s h = tt
-    writes_at path done StoreFailed s h = tt
-    writes_at path done (StoreFull needed) s h = tt
-    writes_at path done Nothing s h = tt
+    writes_at path done other s h = tt
 
 -- ---- what stands at each path
 

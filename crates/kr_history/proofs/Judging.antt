@@ -89,35 +89,13 @@ module _ (o : Opening) (st : State) (sound : IsSound o st) (held : Option ℕ) w
       absurd (none-some j.0 (sym a.1 ∙ j.1))
   judged_by (Reload replica p expect) (Moved current) j a k =
       absurd (a.1 (is_expected expect j.0 current (same_Some j.0 current (sym j.1 ∙ a.0)) j.2))
-  judged_by (Reload replica p expect) (Adopted number) j a k = absurd a
-  judged_by (Reload replica p expect) (Found revision) j a k = absurd a
-  judged_by (Reload replica p expect) Absent j a k = absurd a
-  judged_by (Reload replica p expect) (Written revision) j a k = absurd a
-  judged_by (Reload replica p expect) (Changed revision) j a k = absurd a
-  judged_by (Reload replica p expect) Released j a k = absurd a
-  judged_by (Reload replica p expect) (Joined number) j a k = absurd a
-  judged_by (Reload replica p expect) (Present number) j a k = absurd a
-  judged_by (Reload replica p expect) (Departed number) j a k = absurd a
-  judged_by (Reload replica p expect) StoreFailed j a k = absurd a
-  judged_by (Reload replica p expect) (StoreFull needed) j a k = absurd a
   judged_by (Join replica p) (Refused verdict) j a k =
       λ fits. a.1.1 (a.1.0 ∙ next_passes o st sound replica p k.0 fits)
   judged_by (Join replica p) (Joined number) j a k =
       next_fits o st sound replica p k.1.0 a.1.0
   judged_by (Join replica p) Nothing j a k = tt
   judged_by (Join replica p) (Present current) j a k = absurd (none-some current (sym j ∙ a))
-  judged_by (Join replica p) (Gone named) j a k = absurd a
-  judged_by (Join replica p) (Moved current) j a k = absurd a
-  judged_by (Join replica p) (Adopted number) j a k = absurd a
-  judged_by (Join replica p) (Found revision) j a k = absurd a
-  judged_by (Join replica p) Absent j a k = absurd a
-  judged_by (Join replica p) (Written revision) j a k = absurd a
-  judged_by (Join replica p) (Changed revision) j a k = absurd a
-  judged_by (Join replica p) Released j a k = absurd a
-  judged_by (Join replica p) (Reloaded number) j a k = absurd a
-  judged_by (Join replica p) (Departed number) j a k = absurd a
-  judged_by (Join replica p) StoreFailed j a k = absurd a
-  judged_by (Join replica p) (StoreFull needed) j a k = absurd a
+  judged_by other another j a k = absurd a
 
 pub judged_by_fit : JudgedByFit
 judged_by_fit o history e l j =
@@ -237,26 +215,8 @@ module _ (o : Opening) (st : State) (seat : ℕ) (held : Option ℕ) (faults : �
 
   follows_by : (did : Did) (gave : Gave) → IsStep o st (entry did gave) → IsDone gave
       → after st (entry did gave) ≡ record (judged_state did st) { count = faults }
-  follows_by (Adopt replica) (Reloaded number) s done = absurd s.answer
-  follows_by (Fetch path) (Reloaded number) s done = absurd s.answer
-  follows_by (After path) (Reloaded number) s done = absurd s.answer
-  follows_by (Put path resource plain) (Reloaded number) s done = absurd s.answer
-  follows_by (Delete path) (Reloaded number) s done = absurd s.answer
-  follows_by (Replace path from) (Reloaded number) s done = absurd s.answer
-  follows_by LetGo (Reloaded number) s done = absurd s.answer
   follows_by (Reload replica p expect) (Reloaded number) s done = given st replica number p faults s.answer.1.1
-  follows_by (Join replica p) (Reloaded number) s done = absurd s.answer
-  follows_by (Leave replica) (Reloaded number) s done = absurd s.answer
-  follows_by (Adopt replica) (Joined number) s done = absurd s.answer
-  follows_by (Fetch path) (Joined number) s done = absurd s.answer
-  follows_by (After path) (Joined number) s done = absurd s.answer
-  follows_by (Put path resource plain) (Joined number) s done = absurd s.answer
-  follows_by (Delete path) (Joined number) s done = absurd s.answer
-  follows_by (Replace path from) (Joined number) s done = absurd s.answer
-  follows_by LetGo (Joined number) s done = absurd s.answer
-  follows_by (Reload replica p expect) (Joined number) s done = absurd s.answer
   follows_by (Join replica p) (Joined number) s done = given st replica number p faults s.answer.1.1
-  follows_by (Leave replica) (Joined number) s done = absurd s.answer
   follows_by did (Adopted number) s done = absurd done
   follows_by did (Found revision) s done = absurd done
   follows_by did Absent s done = absurd done
@@ -271,6 +231,7 @@ module _ (o : Opening) (st : State) (seat : ℕ) (held : Option ℕ) (faults : �
   follows_by did StoreFailed s done = absurd done
   follows_by did (StoreFull needed) s done = absurd done
   follows_by did Nothing s done = absurd done
+  follows_by other another s done = absurd s.answer
 
 pub judged_state_follows : JudgedStateFollows
 judged_state_follows o history e l done =

@@ -21,8 +21,8 @@ use Rattle.kr_history.specs.CallerLaws.{LeavesHolding}
 use Rattle.kr_history.specs.Calls.{AdoptsNothing, LetsGo}
 use Rattle.kr_history.specs.KeyMoments.{Happens, KeysAtEachMoment, LaysDown, Moment, Said, TakesUp, added, adopts_in, call_moments, has_adopted, is_adoption, laid_down, moments_at, moments_of, taken_up}
 use Rattle.kr_history.specs.declared.call.CallNo.{CallNo}
-use Rattle.kr_history.specs.declared.call.CallNo.TheVariants as refusal
 use Rattle.kr_history.proofs.Following.{released_law, stays_law}
+use Rattle.kr_history.proofs.NothingAdopted.{nothing_adopted}
 
 -- ---- at every moment
 
@@ -50,9 +50,6 @@ pub added_is : (old new : Caller) (part : List Entry) → new.mine ≡ old.mine 
 added_is old new part e = ap (λ mine. drop (length old.mine) mine) e
     ∙ drop_at old.mine part (length old.mine) refl
 
-pub none_added : (c : Caller) → added c c ≡ []
-none_added c = added_is c c [] (sym (append-nil c.mine))
-
 moments_more : (first second : List Entry)
     → moments_of (first ++ second) ≡ moments_of first ++ moments_of second
 moments_more [] second = refl
@@ -75,39 +72,13 @@ adopts_more (e ∷ first) second = ap (λ b. is_adoption e.line.gave || b) (adop
 said_one : (given : Answer) (e : Entry) → LeavesHolding given
     → moments_at (gave_of given) e ≡ Said e ∷ []
 said_one (answer.Adopted number p) e s = absurd s
-said_one (answer.Gone replica) e s = refl
-said_one (answer.Found row) e s = refl
-said_one answer.Absent e s = refl
-said_one (answer.Written revision) e s = refl
-said_one (answer.Changed revision) e s = refl
-said_one answer.StoreFailed e s = refl
-said_one (answer.StoreFull needed) e s = refl
 said_one answer.Released e s = absurd s
-said_one (answer.Reloaded number) e s = refl
-said_one (answer.Joined number) e s = refl
-said_one (answer.Refused verdict) e s = refl
-said_one (answer.Moved number) e s = refl
-said_one (answer.Present number) e s = refl
-said_one (answer.Departed number) e s = refl
-said_one answer.NoMemory e s = refl
+said_one other e s = refl
 
 adopts_none : (given : Answer) → LeavesHolding given → is_adoption (gave_of given) ≡ false
 adopts_none (answer.Adopted number p) s = absurd s
-adopts_none (answer.Gone replica) s = refl
-adopts_none (answer.Found row) s = refl
-adopts_none answer.Absent s = refl
-adopts_none (answer.Written revision) s = refl
-adopts_none (answer.Changed revision) s = refl
-adopts_none answer.StoreFailed s = refl
-adopts_none (answer.StoreFull needed) s = refl
 adopts_none answer.Released s = absurd s
-adopts_none (answer.Reloaded number) s = refl
-adopts_none (answer.Joined number) s = refl
-adopts_none (answer.Refused verdict) s = refl
-adopts_none (answer.Moved number) s = refl
-adopts_none (answer.Present number) s = refl
-adopts_none (answer.Departed number) s = refl
-adopts_none answer.NoMemory s = refl
+adopts_none other s = refl
 
 -- entries around which nothing happens to the keys
 pub record AddsQuietly (old new : Caller) : Type 0 where
@@ -186,19 +157,9 @@ in_turn_same c keys idle = in_turn_quiet c c keys idle (quiet_none c c refl)
 -- nothing was adopted
 pub in_turn_early : (replica : ℕ) (old new : Caller) (why : CallNo) (keys : Adoption)
     → holding old.mine ≡ None → AdoptsNothing replica old why new → TakesInTurn old keys new keys
-in_turn_early replica old new why keys idle a = in_turn_quiet old new keys idle (by why a)
-  where
-    by : (why : CallNo) → AdoptsNothing replica old why new → AddsQuietly old new
-    by refusal.Gone a = quiet_one old new (event.Adopt replica) (answer.Gone replica) tt a
-    by refusal.Spent a = quiet_none old new a.same
-    by refusal.NoMemory (inl same) = quiet_none old new same
-    by refusal.NoMemory (inr a) = quiet_one old new (event.Adopt replica) answer.NoMemory tt a
-    by (refusal.Refused x) a = absurd a
-    by (refusal.PluginFailed name) a = absurd a
-    by refusal.DiceFailed a = absurd a
-    by refusal.StoreFailed a = absurd a
-    by (refusal.StoreFull needed) a = absurd a
-    by (refusal.Unhealthy name field text) a = absurd a
+in_turn_early replica old new why keys idle a = in_turn_quiet old new keys idle
+    (nothing_adopted replica old new (AddsQuietly old new) (quiet_none old new)
+    (λ given stays e. quiet_one old new (event.Adopt replica) given stays e) why a)
 
 -- the bench was given a configuration
 pub adopts_published : {L D : Type 0} (p : Publication) (old new : BenchState L D)

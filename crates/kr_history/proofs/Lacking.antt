@@ -18,7 +18,7 @@ use Rattle.kr_judge.specs.declared.need.Need.{Need}
 use Rattle.kr_judge.specs.Boards.{AreByPath, need_at, left_by}
 use Rattle.kr_judge.specs.Lacks.{LacksProvider, IsNeeded, IsLiveBeside}
 use Rattle.kr_judge.proofs.Lacking.{refuses_exactly, image, left_is, lives_other}
-use Rattle.kr_judge.proofs.Lists.{cases}
+use Rattle.kr_config.proofs.ListParts.{cases}
 use Rattle.kr_opening.proofs.Needing.{own_path}
 use Rattle.kr_rollout.specs.declared.line.Did.{Did}
 use Rattle.kr_rollout.specs.declared.line.Did.TheVariants.{Adopt, Fetch, After, Put, Delete, Replace, LetGo, Reload, Join, Leave}
@@ -177,18 +177,7 @@ exactly (Refused verdict) Lacks Fits f g a = (f a, a)
 exactly (Reloaded number) Lacks Fits f g a = (a, g a)
 exactly (Joined number) Lacks Fits f g a = (a, g a)
 exactly Nothing Lacks Fits f g a = tt
-exactly (Adopted number) Lacks Fits f g a = absurd a
-exactly (Found revision) Lacks Fits f g a = absurd a
-exactly Absent Lacks Fits f g a = absurd a
-exactly (Written revision) Lacks Fits f g a = absurd a
-exactly (Changed revision) Lacks Fits f g a = absurd a
-exactly Released Lacks Fits f g a = absurd a
-exactly (Moved current) Lacks Fits f g a = absurd a
-exactly (Present current) Lacks Fits f g a = absurd a
-exactly (Departed current) Lacks Fits f g a = absurd a
-exactly (Gone named) Lacks Fits f g a = absurd a
-exactly StoreFailed Lacks Fits f g a = absurd a
-exactly (StoreFull needed) Lacks Fits f g a = absurd a
+exactly other Lacks Fits f g a = absurd a
 
 module _ (o : Opening) (history : List Entry) (l : IsLegal o history) where
   given_exactly : (gave : Gave) (replica : ℕ) (p : Publication) → replica < length o.replicas
@@ -207,16 +196,9 @@ module _ (o : Opening) (history : List Entry) (l : IsLegal o history) where
       → AnswersFit gave (IsFit (judged_state did (state_of o history)))
       → AnswersExactly gave (LeavesLack did (state_of o history))
       (IsFit (judged_state did (state_of o history)))
-  by_did (Adopt replica) gave j k a = absurd j
-  by_did (Fetch path) gave j k a = absurd j
-  by_did (After path) gave j k a = absurd j
-  by_did (Put path resource plain) gave j k a = absurd j
-  by_did (Delete path) gave j k a = absurd j
-  by_did (Replace path from) gave j k a = absurd j
-  by_did LetGo gave j k a = absurd j
-  by_did (Leave replica) gave j k a = absurd j
   by_did (Reload replica p expect) gave j k a = given_exactly gave replica p k.0 k.1.0 a
   by_did (Join replica p) gave j k a = given_exactly gave replica p k.0 k.1.0 a
+  by_did other gave j k a = absurd j
 
 pub refused_exactly : RefusedExactly
 refused_exactly o history e l j =

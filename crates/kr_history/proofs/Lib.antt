@@ -2,6 +2,7 @@
 pub mod AdoptedLetGo
 pub mod Alone
 pub mod Answered
+pub mod AskedEvents
 pub mod AskedReaders
 pub mod Causes
 pub mod ContentReads
@@ -29,6 +30,7 @@ pub mod LivePuts
 pub mod NeedsLive
 pub mod Nexts
 pub mod NoNames
+pub mod NothingAdopted
 pub mod PartsAdd
 pub mod RevisionsRise
 pub mod Sound

@@ -16,7 +16,7 @@ use Rattle.kr_rollout.specs.Steps.{IsStep, HidesNoFault, after, put_row}
 use Rattle.kr_rollout.specs.declared.line.Did.{Did}
 use Rattle.kr_rollout.specs.declared.line.Did.TheVariants.{Adopt, Fetch, After, Put, Delete, Replace, LetGo, Reload, Join, Leave}
 use Rattle.kr_rollout.specs.declared.line.Gave.{Gave}
-use Rattle.kr_rollout.specs.declared.line.Gave.TheVariants.{Adopted, Found, Absent, Written, Changed, Released, Reloaded, Joined, Refused, Moved, Present, Departed, Gone, StoreFailed, StoreFull, Nothing}
+use Rattle.kr_rollout.specs.declared.line.Gave.TheVariants.{Written, StoreFailed}
 use Rattle.kr_rollout.specs.declared.opening.Entry.{Entry}
 use Rattle.kr_rollout.specs.declared.opening.Opening.{Opening}
 use Rattle.kr_rollout.proofs.Appending.{state_more}
@@ -122,21 +122,7 @@ module _ (o : Opening) (st : State) (seat : ℕ) (held : Option ℕ) (faults : �
   changes (Reload replica p expect) (Written revision) s = absurd s.answer
   changes (Join replica p) (Written revision) s = absurd s.answer
   changes (Leave replica) (Written revision) s = absurd s.answer
-  changes did (Adopted number) s = append-nil st.rows
-  changes did (Found revision) s = append-nil st.rows
-  changes did Absent s = append-nil st.rows
-  changes did (Changed revision) s = append-nil st.rows
-  changes did Released s = append-nil st.rows
-  changes did (Reloaded number) s = append-nil st.rows
-  changes did (Joined number) s = append-nil st.rows
-  changes did (Refused verdict) s = append-nil st.rows
-  changes did (Moved number) s = append-nil st.rows
-  changes did (Present number) s = append-nil st.rows
-  changes did (Departed number) s = append-nil st.rows
-  changes did (Gone replica) s = append-nil st.rows
-  changes did StoreFailed s = append-nil st.rows
-  changes did (StoreFull needed) s = append-nil st.rows
-  changes did Nothing s = append-nil st.rows
+  changes did other s = append-nil st.rows
 
 pub line_changes_live : LineChangesLive
 line_changes_live o history e l =
@@ -175,22 +161,8 @@ line_changes_content opens o history e path content =
 
 untold : (gave : Gave) (before now : ℕ) → TellsNoFault gave → HidesNoFault gave before now
     → now ≡ before
-untold (Written revision) before now t h = h
 untold StoreFailed before now t h = absurd t
-untold (Adopted number) before now t h = h
-untold (Found revision) before now t h = h
-untold Absent before now t h = h
-untold (Changed revision) before now t h = h
-untold Released before now t h = h
-untold (Reloaded number) before now t h = h
-untold (Joined number) before now t h = h
-untold (Refused verdict) before now t h = h
-untold (Moved number) before now t h = h
-untold (Present number) before now t h = h
-untold (Departed number) before now t h = h
-untold (Gone replica) before now t h = h
-untold (StoreFull needed) before now t h = h
-untold Nothing before now t h = h
+untold other before now t h = h
 
 count_stays : (o : Opening) (st : State) (history more : List Entry) → IsRun o st (history ++ more)
     → All (λ (e : Entry). TellsNoFault e.line.gave) more

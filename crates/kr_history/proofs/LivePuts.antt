@@ -9,9 +9,9 @@ use Rattle.kr_store.specs.declared.rows.Row.{Row}
 use Rattle.kr_store.specs.Rows.{later, live}
 use Rattle.kr_kms.specs.Opens.{Opens}
 use Rattle.kr_rollout.specs.declared.line.Did.{Did}
-use Rattle.kr_rollout.specs.declared.line.Did.TheVariants.{Adopt, Fetch, After, Put, Delete, Replace, LetGo, Reload, Join, Leave}
+use Rattle.kr_rollout.specs.declared.line.Did.TheVariants.{Put, Delete}
 use Rattle.kr_rollout.specs.declared.line.Gave.{Gave}
-use Rattle.kr_rollout.specs.declared.line.Gave.TheVariants.{Adopted, Found, Absent, Written, Changed, Released, Reloaded, Joined, Refused, Moved, Present, Departed, Gone, StoreFailed, StoreFull, Nothing}
+use Rattle.kr_rollout.specs.declared.line.Gave.TheVariants.{Written}
 use Rattle.kr_rollout.specs.declared.opening.Entry.{Entry}
 use Rattle.kr_history.specs.Contents.{ContentBy, ContentChange, change_at, change_by, OpeningContent, deletes, last_change, puts}
 use Rattle.kr_history.specs.ContentLaws.{LiveWasPut}
@@ -34,9 +34,6 @@ is_put other = false
 put_here : (did : Did) (path plain : List ℕ) (revision : ℕ)
     → change_by did path ≡ Some (puts plain)
     → IsPutAmong (written_put (Written revision) did) path plain
-put_here (Adopt replica) path plain n is = absurd (none-some (puts plain) is)
-put_here (Fetch own) path plain n is = absurd (none-some (puts plain) is)
-put_here (After own) path plain n is = absurd (none-some (puts plain) is)
 put_here (Put own resource bytes) path plain n is = by (bytes_eq own path) refl is
   where
     by : (b : Bool) → bytes_eq own path ≡ b
@@ -53,31 +50,13 @@ put_here (Delete own) path plain n is = by (bytes_eq own path) is
         → IsPutAmong [] path plain
     by true e = absurd (false≢true (ap is_put e))
     by false e = absurd (none-some (puts plain) e)
-put_here (Replace own from) path plain n is = absurd (none-some (puts plain) is)
-put_here LetGo path plain n is = absurd (none-some (puts plain) is)
-put_here (Reload replica p expect) path plain n is = absurd (none-some (puts plain) is)
-put_here (Join replica p) path plain n is = absurd (none-some (puts plain) is)
-put_here (Leave replica) path plain n is = absurd (none-some (puts plain) is)
+put_here other path plain n is = absurd (none-some (puts plain) is)
 
 put_at : (gave : Gave) (did : Did) (path plain : List ℕ)
     → change_at gave did path ≡ Some (puts plain)
     → IsPutAmong (written_put gave did) path plain
-put_at (Adopted n) did path plain is = absurd (none-some (puts plain) is)
-put_at (Found n) did path plain is = absurd (none-some (puts plain) is)
-put_at Absent did path plain is = absurd (none-some (puts plain) is)
 put_at (Written n) did path plain is = put_here did path plain n is
-put_at (Changed n) did path plain is = absurd (none-some (puts plain) is)
-put_at Released did path plain is = absurd (none-some (puts plain) is)
-put_at (Reloaded n) did path plain is = absurd (none-some (puts plain) is)
-put_at (Joined n) did path plain is = absurd (none-some (puts plain) is)
-put_at (Refused v) did path plain is = absurd (none-some (puts plain) is)
-put_at (Moved n) did path plain is = absurd (none-some (puts plain) is)
-put_at (Present n) did path plain is = absurd (none-some (puts plain) is)
-put_at (Departed n) did path plain is = absurd (none-some (puts plain) is)
-put_at (Gone r) did path plain is = absurd (none-some (puts plain) is)
-put_at StoreFailed did path plain is = absurd (none-some (puts plain) is)
-put_at (StoreFull n) did path plain is = absurd (none-some (puts plain) is)
-put_at Nothing did path plain is = absurd (none-some (puts plain) is)
+put_at other did path plain is = absurd (none-some (puts plain) is)
 
 put_since : (history : List Entry) (path plain : List ℕ)
     → last_change history path ≡ Some (puts plain)

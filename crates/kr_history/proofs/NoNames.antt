@@ -4,7 +4,7 @@ use Rattle.std.specs.List.{list_any}
 use Rattle.kr_config.specs.Kept.{ConfigEntry, plugins_in}
 use Rattle.kr_config.specs.Providers.{is_kms, plugins_among}
 use Rattle.kr_config.specs.declared.who.Who.{Who}
-use Rattle.kr_config.specs.declared.who.Who.TheVariants.{Identity, Aescbc, Aesgcm, Kms}
+use Rattle.kr_config.specs.declared.who.Who.TheVariants.{Kms}
 use Rattle.kr_provider.specs.Publication.{names_plugin}
 use Rattle.kr_opening.specs.declared.generation.Generation.{Generation}
 use Rattle.kr_history.specs.ContentLaws.{NoNamesNoPlugin}
@@ -22,11 +22,9 @@ no_second (x ∷ xs) ys e = absurd (omega (arith, ap length e))
 
 no_kms : (list : List Who) → plugins_among list ≡ [] → list_any is_kms list ≡ false
 no_kms [] e = refl
-no_kms (Identity ∷ list) e = no_kms list e
-no_kms (Aescbc name secret ∷ list) e = no_kms list e
-no_kms (Aesgcm name secret ∷ list) e = no_kms list e
 no_kms (Kms name ∷ list) e =
     absurd (omega (arith, ap (λ (l : List (List ℕ)). length l) e))
+no_kms (other ∷ list) e = no_kms list e
 
 no_plugin : (rows : List ConfigEntry) → plugins_in rows ≡ [] → names_plugin rows ≡ false
 no_plugin [] e = refl

@@ -8,7 +8,7 @@ use Rattle.kr_rollout.specs.declared.answer.Answer.{Answer}
 use Rattle.kr_rollout.specs.declared.event.Event.{Event}
 use Rattle.kr_rollout.specs.declared.line.Did.{Did}
 use Rattle.kr_rollout.specs.declared.line.Gave.{Gave}
-use Rattle.kr_rollout.specs.declared.line.Gave.TheVariants.{Adopted, Found, Absent, Written, Changed, Released, Reloaded, Joined, Refused, Moved, Present, Departed, Gone, StoreFailed, StoreFull, Nothing}
+use Rattle.kr_rollout.specs.declared.line.Gave.TheVariants.{Written}
 use Rattle.kr_rollout.specs.declared.opening.Entry.{Entry}
 use Rattle.kr_history.specs.Acting.{Caller, AddsEntry}
 use Rattle.kr_rollout.specs.Callers.{brings_settings, did_of, reloads_in}
@@ -120,22 +120,8 @@ same_within entries reloads puts old new same =
 
 written_or_not : (gave : Gave) (done : Did)
     → (written_put gave done ≡ []) ⊎ (written_put gave done ≡ put_by done)
-written_or_not (Adopted n) done = inl refl
-written_or_not (Found n) done = inl refl
-written_or_not Absent done = inl refl
 written_or_not (Written n) done = inr refl
-written_or_not (Changed n) done = inl refl
-written_or_not Released done = inl refl
-written_or_not (Reloaded n) done = inl refl
-written_or_not (Joined n) done = inl refl
-written_or_not (Refused v) done = inl refl
-written_or_not (Moved n) done = inl refl
-written_or_not (Present n) done = inl refl
-written_or_not (Departed n) done = inl refl
-written_or_not (Gone r) done = inl refl
-written_or_not StoreFailed done = inl refl
-written_or_not (StoreFull n) done = inl refl
-written_or_not Nothing done = inl refl
+written_or_not other done = inl refl
 
 one_put : (e : Entry) (done : Did) → e.line.did ≡ done
     → (written_puts (e ∷ []) ≡ []) ⊎ (written_puts (e ∷ []) ≡ put_by done)

@@ -1,7 +1,7 @@
 -- Written revisions rise strictly along a legal history: no write stands twice.
 use Rattle.std.proofs.Common.{◌≡◌, ℕ, ◌≤◌, ◌<◌, ◌+◌, List, [], ◌∷◌, ◌++◌, length, Option, ap, subst, arith, length-append}
 use Rattle.kr_rollout.specs.declared.line.Did.{Did}
-use Rattle.kr_rollout.specs.declared.line.Did.TheVariants.{Adopt, Fetch, After, Put, Delete, Replace, LetGo, Reload, Join, Leave}
+use Rattle.kr_rollout.specs.declared.line.Did.TheVariants.{Put, Delete, Replace}
 use Rattle.kr_rollout.specs.declared.line.Gave.TheVariants.{Written}
 use Rattle.kr_rollout.specs.declared.opening.Entry.{Entry}
 use Rattle.kr_rollout.specs.declared.opening.Opening.{Opening}
@@ -16,16 +16,10 @@ use Rattle.kr_history.specs.ContentLaws.{RevisionsRise}
 -- an entry's revision is the next row's
 next_revision : (done : Did) (revision : ℕ) (st : State) (held : Option ℕ)
     → IsAnswer done (Written revision) st held → revision ≡ length st.rows + 1
-next_revision (Adopt replica) revision st held a = absurd a
-next_revision (Fetch path) revision st held a = absurd a
-next_revision (After path) revision st held a = absurd a
 next_revision (Put path resource plain) revision st held a = a.1
 next_revision (Delete path) revision st held a = a.1
 next_revision (Replace path from) revision st held a = a.2
-next_revision LetGo revision st held a = absurd a
-next_revision (Reload replica p expect) revision st held a = absurd a
-next_revision (Join replica p) revision st held a = absurd a
-next_revision (Leave replica) revision st held a = absurd a
+next_revision other revision st held a = absurd a
 
 -- one that was written before is less than each that is written now
 later_revision : (o : Opening) (st : State) (written next : ℕ) → written ≤ length st.rows

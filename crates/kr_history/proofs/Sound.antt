@@ -163,8 +163,7 @@ tested true more true true e m n = absurd (clash more e)
     clash false e = cc
 tested true more false none e m n = (refl, refl)
 tested false true same none e m n = absurd (cc)
-tested false false same none e m n = absurd (cc)
-tested true more true false e m n = absurd (cc)
+tested other more same none e m n = absurd (cc)
 
 pub positive : (n : ℕ) → 0 < n → nat_lt 0 n ≡ true
 positive n l = grind (arith, nat_tests)
@@ -215,7 +214,7 @@ module _ (o : Opening) (st : State) (sound : IsSound o st) (replica : ℕ) where
   ]
 
 -- judged generations are those of the state
-judged_there : (current held : List (Option ℕ)) (k i : ℕ) (gs : List Generation) (g : Generation)
+pub judged_there : (current held : List (Option ℕ)) (k i : ℕ) (gs : List Generation) (g : Generation)
     → slice_get gs i ≡ Some g
     → Contains (judged_generations current held k gs) (judged_generation current held (k + i) g)
 judged_there current held k i [] g e = absurd (none-some g e)
@@ -232,14 +231,14 @@ judged_there current held k (suc i) (x ∷ gs) g e =
     (judged_generation current held m g)) n
     (suc r.0, omega (arith, r.1), r.2)
 
-record IsJudgedAt (current held : List (Option ℕ)) (k : ℕ) (gs : List Generation)
+pub record IsJudgedAt (current held : List (Option ℕ)) (k : ℕ) (gs : List Generation)
     (t : GenerationState) : Type 0 where
-  number : ℕ
-  generation : Generation
-  there : slice_get gs number ≡ Some generation
-  is : judged_generation current held (k + number) generation ≡ t
+  pub number : ℕ
+  pub generation : Generation
+  pub there : slice_get gs number ≡ Some generation
+  pub is : judged_generation current held (k + number) generation ≡ t
 
-judged_at : (current held : List (Option ℕ)) (k : ℕ) (gs : List Generation) (t : GenerationState)
+pub judged_at : (current held : List (Option ℕ)) (k : ℕ) (gs : List Generation) (t : GenerationState)
     → Contains (judged_generations current held k gs) t → IsJudgedAt current held k gs t
 judged_at current held k [] t c = absurd (omega (arith, c.1))
 judged_at current held k (g ∷ gs) t (zero, l, e) = record {

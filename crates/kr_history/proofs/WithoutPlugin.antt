@@ -24,9 +24,9 @@ use Rattle.kr_provider.proofs.OneReading as readings
 use Rattle.kr_provider.proofs.WithoutPlugins.{none_listed}
 use Rattle.kr_opening.specs.declared.generation.Generation.{Generation}
 use Rattle.kr_rollout.specs.declared.line.Did.{Did}
-use Rattle.kr_rollout.specs.declared.line.Did.TheVariants.{Adopt, Fetch, After, Put, Delete, Replace, LetGo, Reload, Join, Leave}
+use Rattle.kr_rollout.specs.declared.line.Did.TheVariants.{Replace, Reload, Join}
 use Rattle.kr_rollout.specs.declared.line.Gave.{Gave}
-use Rattle.kr_rollout.specs.declared.line.Gave.TheVariants.{Adopted, Found, Absent, Written, Changed, Released, Reloaded, Joined, Refused, Moved, Present, Departed, Gone, StoreFailed, StoreFull, Nothing}
+use Rattle.kr_rollout.specs.declared.line.Gave.TheVariants.{Adopted, Written, Reloaded, Joined}
 use Rattle.kr_rollout.specs.declared.opening.Entry.{Entry}
 use Rattle.kr_rollout.specs.declared.opening.Opening.{Opening}
 use Rattle.kr_opening.specs.Checks.{written_check}
@@ -152,49 +152,11 @@ module _ (opens : Opens) (o : Opening) (st : State) (seat : ℕ) (held : Option 
   honest_by : (did : Did) (gave : Gave) → IsStep o st (entry did gave)
       → AreWithout (after st (entry did gave)).generations
       → IsHonestEntry opens (entry did gave)
-  honest_by (Adopt replica) (Written revision) s n = tt
-  honest_by (Fetch path) (Written revision) s n = tt
-  honest_by (After path) (Written revision) s n = tt
-  honest_by (Put path resource plain) (Written revision) s n = tt
-  honest_by (Delete path) (Written revision) s n = tt
-  honest_by (Replace path from) (Written revision) s n = honest_replace path from revision s n
-  honest_by LetGo (Written revision) s n = tt
-  honest_by (Reload replica p expect) (Written revision) s n = tt
-  honest_by (Join replica p) (Written revision) s n = tt
-  honest_by (Leave replica) (Written revision) s n = tt
-  honest_by (Adopt replica) (Reloaded number) s n = tt
-  honest_by (Fetch path) (Reloaded number) s n = tt
-  honest_by (After path) (Reloaded number) s n = tt
-  honest_by (Put path resource plain) (Reloaded number) s n = tt
-  honest_by (Delete path) (Reloaded number) s n = tt
-  honest_by (Replace path from) (Reloaded number) s n = tt
-  honest_by LetGo (Reloaded number) s n = tt
-  honest_by (Reload replica p expect) (Reloaded number) s n = honest_given replica p s.rules.1.0 n
-  honest_by (Join replica p) (Reloaded number) s n = tt
-  honest_by (Leave replica) (Reloaded number) s n = tt
-  honest_by (Adopt replica) (Joined number) s n = tt
-  honest_by (Fetch path) (Joined number) s n = tt
-  honest_by (After path) (Joined number) s n = tt
-  honest_by (Put path resource plain) (Joined number) s n = tt
-  honest_by (Delete path) (Joined number) s n = tt
-  honest_by (Replace path from) (Joined number) s n = tt
-  honest_by LetGo (Joined number) s n = tt
-  honest_by (Reload replica p expect) (Joined number) s n = tt
-  honest_by (Join replica p) (Joined number) s n = honest_given replica p s.rules.1.0 n
-  honest_by (Leave replica) (Joined number) s n = tt
   honest_by did (Adopted number) s n = tt
-  honest_by did (Found revision) s n = tt
-  honest_by did Absent s n = tt
-  honest_by did (Changed revision) s n = tt
-  honest_by did Released s n = tt
-  honest_by did (Refused verdict) s n = tt
-  honest_by did (Moved number) s n = tt
-  honest_by did (Present number) s n = tt
-  honest_by did (Departed number) s n = tt
-  honest_by did (Gone replica) s n = tt
-  honest_by did StoreFailed s n = tt
-  honest_by did (StoreFull needed) s n = tt
-  honest_by did Nothing s n = tt
+  honest_by (Replace path from) (Written revision) s n = honest_replace path from revision s n
+  honest_by (Reload replica p expect) (Reloaded number) s n = honest_given replica p s.rules.1.0 n
+  honest_by (Join replica p) (Joined number) s n = honest_given replica p s.rules.1.0 n
+  honest_by did other s n = tt
 
 -- ---- histories
 

@@ -1,12 +1,13 @@
 -- What calls over a core have in common: what each of them keeps, and how one holds a generation
 -- meanwhile.
-use Rattle.std.specs.Prelude.{◌≡◌, ◌⊎◌, ℕ, true, List, All, Contains, None, Result, Ok, Err, ⊤}
+use Rattle.std.specs.Prelude.{◌≡◌, ◌⊎◌, ℕ, List, All, Contains, Option, None, Some, Result, Ok, Err, ⊤}
 use Rattle.kr_kms.specs.Opens.{Opens}
 use Rattle.kr_provider.specs.Publication.{Publication}
 use Rattle.kr_rollout.specs.declared.answer.Answer.TheVariants as answer
 use Rattle.kr_history.specs.declared.call.CallNo.{CallNo}
 use Rattle.kr_history.specs.declared.call.CallNo.TheVariants as refusal
 use Rattle.kr_rollout.specs.declared.event.Event.TheVariants as event
+use Rattle.kr_rollout.specs.declared.opening.Entry.{Entry}
 use Rattle.kr_history.specs.Acting.{Caller, AddsEntry}
 use Rattle.kr_rollout.specs.Callers.{holding}
 use Rattle.kr_history.specs.Honesty.{KeepsHonest}
@@ -41,6 +42,13 @@ abbrev pub AreServed : (names linked : List (List ℕ)) → Type 0
 AreServed names linked = All (λ name. Contains linked name) names
 
 -- ---- calls that hold a generation meanwhile: an Adopt, what is done by it, a LetGo
+
+-- the seat holds a generation of the configuration that the bench adopted
+pub record HoldsAdopted (published : Option Publication) (own : List Entry) : Type 0 where
+  pub number : ℕ
+  pub p : Publication
+  pub adopted : published ≡ Some p
+  pub held : holding own ≡ Some (number, p)
 
 -- nothing was adopted
 abbrev pub AdoptsNothing : (replica : ℕ) → Caller → CallNo → Caller → Type 0

@@ -1,5 +1,6 @@
 -- The definitions that public contracts and laws name.
 pub mod Acting
+pub mod Asking
 pub mod CallLaws
 pub mod CallerLaws
 pub mod Calls

@@ -1,2 +1,3 @@
 -- Definitions that serve inner contracts alone.
 pub mod Adopting
+pub mod Quiet

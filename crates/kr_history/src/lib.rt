@@ -3,6 +3,7 @@
 #![tactic(auto)]
 
 mod acts;
+mod asking;
 mod call;
 mod holding;
 mod laws_caller;
@@ -16,10 +17,12 @@ mod laws_lack;
 mod laws_line;
 mod laws_parts;
 mod laws_size;
+mod outcome;
 mod sealing;
 mod solo;
 
 pub use acts::Acts;
+pub use asking::{delete, fetch, join, leave, look_above, put, reload, replace};
 pub use call::CallNo;
 pub use holding::{adopt, adopt_configuration, hand_back, let_go};
 pub use laws_caller::{found_follows, holding_follows};
@@ -45,5 +48,6 @@ pub use laws_lack::{refused_exactly, verdict_refuses_exactly};
 pub use laws_line::{faults_are_told, line_changes_content, line_changes_live};
 pub use laws_parts::{bounds_follow, parts_follow, parts_sum_to_whole};
 pub use laws_size::full_is_exact;
+pub use outcome::{Joining, Reloading, Replacing};
 pub use sealing::{seal, seal_in_place, unseal};
 pub use solo::Solo;

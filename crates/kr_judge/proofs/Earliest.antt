@@ -20,7 +20,7 @@ use Rattle.kr_judge.specs.inner.Indexes.{AreSorted, need_of, needs_of, paths_of,
 use Rattle.kr_judge.specs.inner.Earliest.{path_cmp, at_path, stored_by, lost_path, earliest}
 use Rattle.std.specs.declared.cmp.Ordering.{Ordering}
 use Rattle.kr_judge.proofs.Parts.{drop_at, drop_end}
-use Rattle.kr_judge.proofs.Lists.{here, there}
+use Rattle.kr_config.proofs.ListParts.{here, there}
 use Rattle.kr_judge.proofs.Entries.{Entries, AreAbove}
 use Rattle.kr_judge.proofs.Indexed.{beyond_pairs}
 
@@ -121,8 +121,7 @@ below_next a k = grind arith
 parted : (u v w : Bool) → ((u || v) && w) ≡ ((u && w) || (v && w))
 parted true v true = refl
 parted true true false = refl
-parted true false false = refl
-parted false v w = refl
+parted other v w = refl
 
 abbrev among : List ConfigEntry → List (List ℕ × Who) → ℕ → List ℕ × ℕ → Bool
 among rows labels k e = nat_lt e.1 k && lost rows labels e

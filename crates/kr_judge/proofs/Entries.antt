@@ -20,7 +20,8 @@ use Rattle.kr_config.specs.declared.who.Who.TheVariants.{Identity}
 use Rattle.kr_config.specs.Nexts.{name_cmp}
 use Rattle.kr_judge.specs.Boards.{set_need, drop_need}
 use Rattle.kr_judge.specs.inner.Indexes.{AreSorted, need_of, needs_of, paths_of}
-use Rattle.kr_judge.proofs.Lists.{here, there, filtered_none, map_empty, one_truth}
+use Rattle.kr_config.proofs.ListParts.{here, there}
+use Rattle.kr_judge.proofs.Lists.{filtered_none, map_empty, one_truth}
 use Rattle.kr_judge.proofs.Needs.{equal_paths}
 
 abbrev pub Entries : Type 0

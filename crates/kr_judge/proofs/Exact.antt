@@ -17,7 +17,7 @@ use Rattle.kr_judge.specs.Boards.{GenerationState, is_live, AreByPath, need_at}
 use Rattle.kr_judge.specs.Providers.{same_who}
 use Rattle.kr_judge.specs.Scans.{is_for, paths_for, live_from, live_numbers}
 use Rattle.kr_judge.specs.Laws.{PathsAreNeeds, NumbersAreLive}
-use Rattle.kr_judge.proofs.Lists.{here, there, cases}
+use Rattle.kr_config.proofs.ListParts.{here, there, cases}
 use Rattle.kr_judge.proofs.Members.{is_one, itself, its_own, and_true}
 
 -- paths after this one

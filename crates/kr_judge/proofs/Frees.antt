@@ -10,7 +10,7 @@ use Rattle.kr_config.specs.Nexts.{name_cmp}
 use Rattle.kr_judge.specs.declared.pair.Pair.{Pair}
 use Rattle.kr_judge.specs.inner.Indexes.{kept_paths}
 use Rattle.kr_judge.specs.inner.Places.{paths_at, is_listed, AreFree, AreNeeded}
-use Rattle.kr_judge.proofs.Lists.{here, cases}
+use Rattle.kr_config.proofs.ListParts.{here, cases}
 use Rattle.kr_judge.proofs.Pairs.{paths_here}
 use Rattle.kr_judge.proofs.Indexed.{key_kept}
 
@@ -204,12 +204,6 @@ put_free {U} {F} result free pairs at own new path before h is listed put same =
     was_empty : (r : Result U F) → OnOk r (new.paths ≡ insert_key name_cmp own.paths path) → OnErr r (new.paths ≡ own.paths) → new.paths ≡ [] → own.paths ≡ []
     was_empty (Ok x) k l e = key_kept own.paths path (sym k ∙ e)
     was_empty (Err x) k l e = sym l ∙ e
-
--- a path is taken from a pair's
-pub take_free : (v : Bool) (free rest : List ℕ) (pairs : List Pair) (at : ℕ) (own new : Pair) → AreFree free pairs → at < length pairs → own ≡ get_or pairs at own
-    → (v ≡ false → new.listed ≡ own.listed) → (v ≡ false → new.paths ≡ [] → new.listed ≡ true) → (v ≡ true → (own.listed ≡ false) × (new.listed ≡ true)) → rest ≡ cond v (free ++ at ∷ []) free → AreFree rest (set pairs at new)
-take_free true free rest pairs at own new before h is stays empty now all = subst (λ l. AreFree l (set pairs at new)) (sym all) (free_listed free pairs at new before h (listed_here pairs at own h is ∙ (now refl).0) (now refl).1)
-take_free false free rest pairs at own new before h is stays empty now all = subst (λ l. AreFree l (set pairs at new)) (sym all) (free_set free pairs at new before h (stays refl ∙ sym (listed_here pairs at own h is)) (empty refl))
 
 -- the last place
 pub free_within : (free rest : List ℕ) (pairs : List Pair) (place : ℕ) → AreFree free pairs → free ≡ rest ++ place ∷ [] → place < length pairs

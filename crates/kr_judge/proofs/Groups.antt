@@ -1,6 +1,6 @@
 -- The places of each resource's pairs.
 use Rattle.std.proofs.Common.{◌≡◌, ◌≢◌, ℕ, ◌<◌, ◌≤◌, ◌+◌, Bool, true, false, List, [], ◌∷◌, ◌++◌, length, get_or, set, take, Option, None, Some, Contains, refl, sym, ap, subst, ◌∙◌, inl, inr, arith}
-use Rattle.std.specs.Prelude.{◌==◌, cond, not, position, IsSome}
+use Rattle.std.specs.Prelude.{◌==◌, cond, not, position}
 use Rattle.std.specs.List.{filter}
 use Rattle.std.specs.Str.{bytes_eq}
 use Rattle.std.specs.Ordering.{match_ordering, is_eq}
@@ -20,11 +20,12 @@ use Rattle.kr_config.specs.Nexts.{name_cmp}
 use Rattle.kr_judge.specs.declared.pair.Pair.{Pair}
 use Rattle.kr_judge.specs.inner.Indexes.{AreApart, AreAsBefore, is_pair, labels_of, kept_paths}
 use Rattle.kr_judge.specs.inner.Places.{Groups, group_at, all_or_none, places_at, label_at, IsPutAt, AreLeftAt, MovesTo, AreWithin, AreGrouped, AreOnce, AreNeeded, GrowsFor, paths_at}
-use Rattle.kr_judge.proofs.Lists.{here, there, cases, head_is}
+use Rattle.kr_config.proofs.ListParts.{here, there, cases}
+use Rattle.kr_judge.proofs.Lists.{head_is}
 use Rattle.kr_judge.proofs.Parts.{take_at_more}
 use Rattle.kr_judge.proofs.Entries.{at_itself}
 use Rattle.kr_judge.proofs.Needs.{equal_paths}
-use Rattle.kr_judge.proofs.Pairs.{label_here, label_set, label_last, label_put, replaced, pushed}
+use Rattle.kr_judge.proofs.Pairs.{label_here, label_set, label_last, label_put, replaced}
 use Rattle.kr_judge.proofs.Scans.{found_place, no_place, label_is, is_label, label_before, labels_fit, apart_set, apart_push}
 
 -- names that are one, and others
@@ -88,11 +89,6 @@ left_none old new resource rest put none = record { own = ap all_or_none put.own
 pub left_some : (old new : Groups) (resource rest : List ℕ) → IsPutAt resource (Some rest) old new → AreLeftAt resource rest old new
 left_some old new resource rest put = record { own = ap all_or_none put.own; others = put.others }
 
--- where something is left a group was there
-pub was_there : (group : Option (List ℕ)) (test : ℕ → Bool) (rest : List ℕ) → rest ≡ filter test (all_or_none group) → rest ≢ [] → IsSome group
-was_there None test rest e some = absurd (some e)
-was_there (Some places) test rest e some = refl
-
 -- one place from the one resource to the other
 pub taken_to : (old mid new : Groups) (place : ℕ) (from to rest : List ℕ) → rest ≡ filter (λ n. not (n == place)) (places_at old from) → bytes_eq from to ≡ false
     → IsPutAt to (Some (places_at old to ++ place ∷ [])) old mid → AreLeftAt from rest mid new → MovesTo (bytes_eq from to) place from to old new
@@ -101,9 +97,6 @@ taken_to old mid new place from to rest is apart put left = subst (λ v. MovesTo
   given = ap all_or_none (left.others to (λ e. apart_names from to apart (sym e)) ∙ put.own);
   others = λ other away beside. ap all_or_none (left.others other away ∙ put.others other beside);
 })
-
-pub not_taken : (old : Groups) (place : ℕ) (from to : List ℕ) → bytes_eq from to ≡ true → MovesTo (bytes_eq from to) place from to old old
-not_taken old place from to same = subst (λ v. MovesTo v place from to old old) (sym same) refl
 
 -- pairs and groups
 pub none_grouped : (groups : Groups) (pairs : List Pair) → groups ≡ [] → pairs ≡ [] → AreGrouped groups pairs
@@ -414,20 +407,10 @@ pub given_apart : (old mid new : List Pair) (place : ℕ) (pair : Pair) (resourc
 given_apart old mid new place pair resource who apart labels none h r w put = subst (λ (l : List Pair). AreApart (labels_of l)) (sym put)
     (apart_set mid place pair resource who (subst AreApart (sym labels) apart) (none_still old mid resource who labels none) r w h)
 
-pub added_before : (old mid new : List Pair) (pair : Pair) → labels_of mid ≡ labels_of old → kept_paths mid ≡ kept_paths old → pair.paths ≡ [] → new ≡ mid ++ pair ∷ [] → AreAsBefore old new
-added_before old mid new pair labels paths none put = subst (AreAsBefore old) (sym put) (before_mid old mid (mid ++ pair ∷ []) labels paths (pushed mid pair none))
-
-pub added_label : (mid new : List Pair) (place : ℕ) (pair : Pair) (resource : List ℕ) (who : Who) → place ≡ length mid → pair.resource ≡ resource → pair.who ≡ who → new ≡ mid ++ pair ∷ [] → (place < length new) × (label_at new place ≡ (resource, who))
-added_label mid new place pair resource who at r w put = subst (λ (l : List Pair). (place < length l) × (label_at l place ≡ (resource, who))) (sym put)
-    (omega (arith, at, length-append mid (pair ∷ [])), ap (label_at (mid ++ pair ∷ [])) at ∙ label_last mid pair ∙ ap (λ x. (x, pair.who)) r ∙ ap (λ x. (resource, x)) w)
-
 pub added_apart : (old mid new : List Pair) (pair : Pair) (resource : List ℕ) (who : Who) → AreApart (labels_of old) → labels_of mid ≡ labels_of old → None ≡ position (is_pair resource who) old
     → pair.resource ≡ resource → pair.who ≡ who → new ≡ mid ++ pair ∷ [] → AreApart (labels_of new)
 added_apart old mid new pair resource who apart labels none r w put = subst (λ (l : List Pair). AreApart (labels_of l)) (sym put)
     (apart_push mid pair resource who (subst AreApart (sym labels) apart) (none_still old mid resource who labels none) r w)
-
-pub given_grows : (old mid new : List Pair) (place : ℕ) (pair : Pair) → labels_of mid ≡ labels_of old → new ≡ set mid place pair → GrowsFor old new
-given_grows old mid new place pair labels put = inl (ap length put ∙ length-set mid place pair ∙ same_length old mid labels)
 
 pub added_grows : (old mid new : List Pair) (pair : Pair) → labels_of mid ≡ labels_of old → kept_paths mid ≡ kept_paths old → AreNeeded mid → new ≡ mid ++ pair ∷ [] → GrowsFor old new
 added_grows old mid new pair labels paths needed put = inr (

@@ -19,7 +19,7 @@ use Rattle.kr_config.specs.Kept.{ConfigEntry}
 use Rattle.kr_judge.specs.Verdicts.{dropped_needs, first}
 use Rattle.kr_judge.specs.inner.Earliest.{stored_by, earliest}
 use Rattle.kr_judge.specs.inner.Places.{label_at, paths_at, AreNeeded, GrowsFor}
-use Rattle.kr_judge.proofs.Lists.{here, there, cases}
+use Rattle.kr_config.proofs.ListParts.{here, there, cases}
 use Rattle.kr_judge.proofs.Groups.{same_length}
 use Rattle.kr_judge.proofs.Earliest.{earliest_first}
 use Rattle.kr_judge.proofs.Entries.{Entries, needs_without}

@@ -18,7 +18,7 @@ use Rattle.kr_judge.proofs.Needs.{sorted_drop}
 use Rattle.kr_judge.specs.declared.pair.Pair.{Pair}
 use Rattle.kr_judge.specs.declared.proposal.Proposal.{Proposal}
 use Rattle.kr_judge.specs.inner.Indexes.{AreSorted, need_of, needs_of, paths_of, labels_of, kept_paths, with_proposed, without_proposed, IsIndexed, AreAsBefore, IsChangedAt}
-use Rattle.kr_judge.proofs.Lists.{here, there}
+use Rattle.kr_config.proofs.ListParts.{here, there}
 use Rattle.kr_judge.proofs.Entries.{Entries, has_path, needs_with, needs_without, needs_relabelled, paths_with, paths_beside, paths_without, not_among, is_among, taken_and_put, key_put_and_taken, key_put_twice, at_itself}
 
 abbrev kept_at : List Pair → ℕ → List (List ℕ)
@@ -38,10 +38,6 @@ other_some es path q i own o s =
     let e : Some q ≡ Some i = sym own ∙ s in
     let same : q ≡ i = cc in
     let clash : true ≡ false = sym ((Decides-eqb q i).1 same) ∙ o in cc
-
--- the pairs change while they have no paths
-pub indexed_before : (es : Entries) (old new : List Pair) → IsIndexed es old None → AreAsBefore old new → IsIndexed es new None
-indexed_before es old new ix before = record { sorted = ix.sorted; paths = λ place. before.paths place ∙ ix.paths place; stands = tt }
 
 pub needs_before : (es : Entries) (old new : List Pair) → IsIndexed es old None → AreAsBefore old new → needs_of (labels_of new) es ≡ needs_of (labels_of old) es
 needs_before es old new ix before = needs_relabelled (labels_of old) (labels_of new) es (λ i some. before.labels i (λ e. some (sym (ix.paths i) ∙ e)))

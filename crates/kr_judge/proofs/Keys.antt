@@ -1,7 +1,6 @@
 -- Paths as the keys of a map whose numbers say nothing.
 use Rattle.std.proofs.Common.{◌≡◌, ℕ, suc, Bool, true, false, List, [], ◌∷◌, length, refl, ap}
 use Rattle.std.specs.Prelude.{cond}
-use Rattle.std.specs.Option.{option_map}
 use Rattle.std.specs.Ordering.{match_ordering, is_eq}
 use Rattle.std.specs.declared.cmp.Ordering.{Ordering}
 use Rattle.std.specs.declared.cmp.Ordering.TheVariants.{Less, Equal, Greater}
@@ -10,8 +9,6 @@ use Rattle.std.specs.Set.{remove_key}
 use Rattle.std.specs.BTreeMap.{insert_entry, is_at}
 use Rattle.std.specs.BTreeSet.{insert_key}
 use Rattle.kr_config.specs.Nexts.{name_cmp}
-use Rattle.kr_paths.specs.Paths as paths
-use Rattle.kr_judge.specs.Verdicts.{first}
 
 abbrev Entries : Type 0
 Entries = List (List ℕ × ℕ)
@@ -38,7 +35,3 @@ key_gone (e ∷ es) path = by (is_eq (name_cmp path e.0)) (key_gone es path)
 pub keys_length : (es : Entries) → length (keys_of es) ≡ length es
 keys_length [] = refl
 keys_length (e ∷ es) = ap suc (keys_length es)
-
-pub first_key : (es : Entries) → option_map (λ e. e.0) (paths.first es) ≡ first (keys_of es)
-first_key [] = refl
-first_key (e ∷ es) = refl

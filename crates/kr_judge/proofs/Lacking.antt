@@ -21,8 +21,9 @@ use Rattle.kr_judge.specs.LackLaws.{RefusesExactly, PassesWhereAllFit}
 use Rattle.kr_judge.specs.LiveFits.{AreFit}
 use Rattle.kr_judge.specs.Providers.{has, unread_writer}
 use Rattle.kr_judge.specs.Tables.{table_of}
-use Rattle.kr_judge.specs.Verdicts.{with_numbers, is_other, others, judged_classes, unread_classes, dropped_needs, drops_writer, unread_by, lost_writers, unread_writers, first, verdict_of}
-use Rattle.kr_judge.proofs.Lists.{here, there, cases, head_is}
+use Rattle.kr_judge.specs.Verdicts.{with_numbers, is_other, others, judged_classes, unread_classes, dropped_needs, lost_writers, unread_writers, first, verdict_of}
+use Rattle.kr_config.proofs.ListParts.{here, there, cases}
+use Rattle.kr_judge.proofs.Lists.{head_is}
 use Rattle.kr_judge.proofs.Members.{has_members}
 use Rattle.kr_judge.proofs.Passing.{passes_exactly}
 use Rattle.kr_judge.proofs.Tables.{is_table}
@@ -124,13 +125,9 @@ more_is holders = elim (cases_eq holders 0) [
 by_flags : (cur same none : Bool)
     → ((cur && not same) || not none) ≡ ((cur || not none) && not (same && (cur && none)))
 by_flags true true true = refl
-by_flags true true false = refl
-by_flags true false true = refl
-by_flags true false false = refl
 by_flags false true true = refl
-by_flags false true false = refl
 by_flags false false true = refl
-by_flags false false false = refl
+by_flags other another third = refl
 
 pub left_is : (replica : ℕ) (own : GenerationState) → is_live (left_by replica own) ≡ is_other replica own
 left_is replica own =
@@ -141,7 +138,7 @@ left_is replica own =
     ∙ ap (λ m. (own.current || m) && not (same && (own.current && none)))
     (sym (more_is own.holders))
 
-numbered : (number : ℕ) (generations : List GenerationState) (other : ℕ × GenerationState)
+pub numbered : (number : ℕ) (generations : List GenerationState) (other : ℕ × GenerationState)
     → Contains (with_numbers number generations) other → Contains generations other.1
 numbered number [] other m = absurd (omega (arith, m.1))
 numbered number (g ∷ gs) other m = elim (cases (number, g) other (with_numbers (number + 1) gs) m) [
@@ -244,33 +241,34 @@ module _ (needs : List Need) (generations : List GenerationState) (replica : ℕ
   abbrev Lacks : Type 0
   Lacks = LacksProvider (IsNeeded needs) (IsLiveBeside replica generations) rows
 
+  -- what is lost stands in the table of one of the others
+  lost_at : (table : ℕ × GenerationState → List (Class × Who)) (lost : ℕ × Class × Who)
+      → Contains (flat_map (λ other. map (λ (x : Class × Who). (other.0, x.0, x.1)) (table other))
+      (others replica generations)) lost
+      → (other : ℕ × GenerationState) × IsLiveBeside replica generations other.1.rows
+      × (x : Class × Who) × Contains (table other) x
+  lost_at table lost m =
+      let r = flattened (λ (other : ℕ × GenerationState).
+      map (λ (x : Class × Who). (other.0, x.0, x.1)) (table other)) (others replica generations) lost
+      m in
+      let l = mapped (λ (x : Class × Who). (r.from.0, x.0, x.1)) (table r.from) lost r.of in
+      (r.from, other_lives replica generations r.from r.member, l.from, l.member)
+
   writer_lacks : (lost : ℕ × Class × Who) → Contains (lost_writers replica rows generations) lost
       → Lacks
   unfolding lost_writers
   writer_lacks lost m =
       let classes : List Class = judged_classes rows generations in
-      let r = flattened (drops_writer classes rows) (others replica generations) lost m in
-      let l = mapped (λ (x : Class × Who). (r.from.0, x.0, x.1))
-      (unread_classes classes r.from.1.rows rows) lost r.of in
-      inr (
-        r.from.1.rows,
-        other_lives replica generations r.from r.member,
-        inl (unread_lacks classes r.from.1.rows rows l.from l.member),
-      )
+      let f = lost_at (λ other. unread_classes classes other.1.rows rows) lost m in
+      inr (f.0.1.rows, f.1, inl (unread_lacks classes f.0.1.rows rows f.2 f.3))
 
   reader_lacks : (lost : ℕ × Class × Who) → Contains (unread_writers replica rows generations) lost
       → Lacks
   unfolding unread_writers
   reader_lacks lost m =
       let classes : List Class = judged_classes rows generations in
-      let r = flattened (unread_by classes rows) (others replica generations) lost m in
-      let l = mapped (λ (x : Class × Who). (r.from.0, x.0, x.1))
-      (unread_classes classes rows r.from.1.rows) lost r.of in
-      inr (
-        r.from.1.rows,
-        other_lives replica generations r.from r.member,
-        inr (unread_lacks classes rows r.from.1.rows l.from l.member),
-      )
+      let f = lost_at (λ other. unread_classes classes rows other.1.rows) lost m in
+      inr (f.0.1.rows, f.1, inr (unread_lacks classes rows f.0.1.rows f.2 f.3))
 
   -- a verdict that doesn't pass has a reason
   refused_lacks : verdict_of needs generations replica rows ≢ Pass → Lacks
@@ -372,12 +370,12 @@ pub reads_own : (list : List Who) → ReadsWriter list list
 reads_own [] who e = absurd (none-some who e)
 reads_own (own ∷ list) who e = head_is own who list (same_Some own who e)
 
-module _ (needs : List Need) (generations : List GenerationState) (replica : ℕ)
-    (rows : List ConfigEntry) where
+-- what is live once the replica has the settings: these, and what is live beside them
+module _ (generations : List GenerationState) (replica : ℕ) (rows : List ConfigEntry) where
   abbrev new_one : GenerationState
   new_one = record { replica = replica; rows = rows; current = true; holders = 0 }
 
-  new_lives : IsLiveIn (given_to replica rows generations) rows
+  pub new_lives : IsLiveIn (given_to replica rows generations) rows
   new_lives = (
     new_one,
     Contains-append_right (without_current replica generations) (new_one ∷ []) new_one
@@ -386,7 +384,7 @@ module _ (needs : List Need) (generations : List GenerationState) (replica : ℕ
     refl,
   )
 
-  beside_lives : (other : List ConfigEntry) → IsLiveBeside replica generations other
+  pub beside_lives : (other : List ConfigEntry) → IsLiveBeside replica generations other
       → IsLiveIn (given_to replica rows generations) other
   beside_lives other (own, m, live, is) = (
     own,
@@ -395,7 +393,7 @@ module _ (needs : List Need) (generations : List GenerationState) (replica : ℕ
     is,
   )
 
-  lives_then : (other : List ConfigEntry) → IsLiveIn (given_to replica rows generations) other
+  pub lives_then : (other : List ConfigEntry) → IsLiveIn (given_to replica rows generations) other
       → IsLiveBeside replica generations other ⊎ (rows ≡ other)
   lives_then other (own, m, live, is) =
       elim (Contains-append_cases (without_current replica generations) (new_one ∷ []) own m) [
@@ -406,12 +404,15 @@ module _ (needs : List Need) (generations : List GenerationState) (replica : ℕ
         ])
       ]
 
+module _ (needs : List Need) (generations : List GenerationState) (replica : ℕ)
+    (rows : List ConfigEntry) where
   module _ (before : AreFit (IsLiveBeside replica generations) needs) where
     fit_then : FitsBoard needs generations replica rows
         → AreFit (IsLiveIn (given_to replica rows generations)) needs
     fit_then f = record {
-      stored = λ own need live m. kept own need (lives_then own live) m;
-      writers = λ own other class a b. read own other class (lives_then own a) (lives_then other b);
+      stored = λ own need live m. kept own need (lives_then generations replica rows own live) m;
+      writers = λ own other class a b. read own other class
+          (lives_then generations replica rows own a) (lives_then generations replica rows other b);
     }
       where
         kept : (own : List ConfigEntry) (need : Need)
@@ -441,11 +442,13 @@ module _ (needs : List Need) (generations : List GenerationState) (replica : ℕ
     fits_board : AreFit (IsLiveIn (given_to replica rows generations)) needs
         → FitsBoard needs generations replica rows
     fits_board fit = record {
-      stored = λ need m. fit.stored rows need new_lives m;
-      writers = λ other class m judged. fit.writers rows other.1.rows class new_lives
-          (beside_lives other.1.rows (other_lives replica generations other m));
+      stored = λ need m. fit.stored rows need (new_lives generations replica rows) m;
+      writers = λ other class m judged. fit.writers rows other.1.rows class
+          (new_lives generations replica rows)
+          (beside_lives generations replica rows other.1.rows (other_lives replica generations other m));
       readers = λ other class m judged. fit.writers other.1.rows rows class
-          (beside_lives other.1.rows (other_lives replica generations other m)) new_lives;
+          (beside_lives generations replica rows other.1.rows (other_lives replica generations other m))
+          (new_lives generations replica rows);
     }
 
 pub passes_where_all_fit : PassesWhereAllFit

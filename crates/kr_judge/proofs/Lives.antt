@@ -12,13 +12,10 @@ use Rattle.kr_judge.specs.Boards.{GenerationState, is_live, left_by, without_cur
 use Rattle.kr_judge.specs.Verdicts.{with_numbers, is_other, others}
 use Rattle.kr_judge.specs.inner.Lives.{uncurrent}
 use Rattle.kr_judge.specs.Scans.{live_from, live_numbers}
-use Rattle.kr_judge.proofs.Lists.{cases}
+use Rattle.kr_config.proofs.ListParts.{cases}
 
 abbrev numbers : ℕ → List GenerationState → List ℕ
 numbers k states = map (λ n. n.0) (live_from k states)
-
-head_live : (k : ℕ) (g : GenerationState) (gs : List GenerationState) (v : Bool) → is_live g ≡ v → live_from k (g ∷ gs) ≡ cond v ((k, g) ∷ live_from (k + 1) gs) (live_from (k + 1) gs)
-head_live k g gs v h = ap (λ t. cond t ((k, g) ∷ live_from (k + 1) gs) (live_from (k + 1) gs)) h
 
 -- a live generation stands at its number
 in_live : (k : ℕ) (gs : List GenerationState) (e : ℕ × GenerationState) → Contains (live_from k gs) e → (i : ℕ) × (e.0 ≡ k + i) × (slice_get gs i ≡ Some e.1)

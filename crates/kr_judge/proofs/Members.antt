@@ -15,21 +15,10 @@ both a b s t F h = ap (λ x. F x s) ((bytes_eq-Decides a b).0 (first_so _ _ h)) 
 
 pub is_one : (own who : Who) → same_who own who ≡ true → own ≡ who
 is_one Identity Identity h = refl
-is_one Identity (Aescbc b t) h = cc
-is_one Identity (Aesgcm b t) h = cc
-is_one Identity (Kms b) h = cc
-is_one (Aescbc a s) Identity h = cc
 is_one (Aescbc a s) (Aescbc b t) h = both a b s t Aescbc h
-is_one (Aescbc a s) (Aesgcm b t) h = cc
-is_one (Aescbc a s) (Kms b) h = cc
-is_one (Aesgcm a s) Identity h = cc
-is_one (Aesgcm a s) (Aescbc b t) h = cc
 is_one (Aesgcm a s) (Aesgcm b t) h = both a b s t Aesgcm h
-is_one (Aesgcm a s) (Kms b) h = cc
-is_one (Kms a) Identity h = cc
-is_one (Kms a) (Aescbc b t) h = cc
-is_one (Kms a) (Aesgcm b t) h = cc
 is_one (Kms a) (Kms b) h = ap Kms ((bytes_eq-Decides a b).0 h)
+is_one other another h = cc
 
 pub its_own : (a : List ℕ) → bytes_eq a a ≡ true
 its_own a = (bytes_eq-Decides a a).1 refl

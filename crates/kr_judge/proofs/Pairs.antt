@@ -2,46 +2,25 @@
 use Rattle.std.proofs.Common.{◌≡◌, ℕ, zero, suc, ◌<◌, Bool, true, false, List, [], ◌∷◌, ◌++◌, length, get_or, set, Result, Ok, Err, OnOk, refl, sym, ap, subst, ◌∙◌, arith}
 use Rattle.std.specs.Prelude.{◌==◌, if◌then◌else◌}
 use Rattle.std.proofs.Math.Seq.{map-set_same}
-use Rattle.std.proofs.lemmas.List.{length-set, map-set, length-map, get_or-set_same, get_or-set_other}
+use Rattle.std.proofs.lemmas.List.{map-set, length-map, get_or-set_same, get_or-set_other}
 use Rattle.std.proofs.lemmas.Bool.Decides.{Decides-eqb}
 use Rattle.kr_config.specs.declared.who.Who.{Who}
 use Rattle.kr_judge.specs.declared.pair.Pair.{Pair}
 use Rattle.kr_judge.specs.inner.Places.{label_at, paths_at}
 use Rattle.kr_judge.specs.inner.Indexes.{labels_of, kept_paths, AreAsBefore, IsChangedAt, MovesUnless, IsMoved}
 
-pub as_before : (pairs : List Pair) → AreAsBefore pairs pairs
-as_before pairs = record { paths = λ place. refl; labels = λ place h. refl }
-
 paths_replaced : (pairs : List Pair) (at : ℕ) (new : Pair) → paths_at pairs at ≡ [] → new.paths ≡ [] → (place : ℕ) → paths_at (set pairs at new) place ≡ paths_at pairs place
-paths_replaced [] at new h e place = refl
 paths_replaced (p ∷ ps) zero new h e zero = e ∙ sym h
-paths_replaced (p ∷ ps) zero new h e (suc place) = refl
-paths_replaced (p ∷ ps) (suc at) new h e zero = refl
 paths_replaced (p ∷ ps) (suc at) new h e (suc place) = paths_replaced ps at new h e place
+paths_replaced other at new h e place = refl
 
 labels_replaced : (pairs : List Pair) (at : ℕ) (new : Pair) → paths_at pairs at ≡ [] → (place : ℕ) → (paths_at pairs place ≡ [] → ⊥) → label_at (set pairs at new) place ≡ label_at pairs place
-labels_replaced [] at new h place some = refl
 labels_replaced (p ∷ ps) zero new h zero some = absurd (some h)
-labels_replaced (p ∷ ps) zero new h (suc place) some = refl
-labels_replaced (p ∷ ps) (suc at) new h zero some = refl
 labels_replaced (p ∷ ps) (suc at) new h (suc place) some = labels_replaced ps at new h place some
+labels_replaced other at new h place some = refl
 
 pub replaced : (pairs : List Pair) (at : ℕ) (new : Pair) → paths_at pairs at ≡ [] → new.paths ≡ [] → AreAsBefore pairs (set pairs at new)
 replaced pairs at new h e = record { paths = paths_replaced pairs at new h e; labels = labels_replaced pairs at new h }
-
-paths_pushed : (pairs : List Pair) (new : Pair) → new.paths ≡ [] → (place : ℕ) → paths_at (pairs ++ new ∷ []) place ≡ paths_at pairs place
-paths_pushed [] new e zero = e
-paths_pushed [] new e (suc place) = refl
-paths_pushed (p ∷ ps) new e zero = refl
-paths_pushed (p ∷ ps) new e (suc place) = paths_pushed ps new e place
-
-labels_pushed : (pairs : List Pair) (new : Pair) (place : ℕ) → (paths_at pairs place ≡ [] → ⊥) → label_at (pairs ++ new ∷ []) place ≡ label_at pairs place
-labels_pushed [] new place some = absurd (some refl)
-labels_pushed (p ∷ ps) new zero some = refl
-labels_pushed (p ∷ ps) new (suc place) some = labels_pushed ps new place some
-
-pub pushed : (pairs : List Pair) (new : Pair) → new.paths ≡ [] → AreAsBefore pairs (pairs ++ new ∷ [])
-pushed pairs new e = record { paths = paths_pushed pairs new e; labels = labels_pushed pairs new }
 
 pub label_set : (pairs : List Pair) (at : ℕ) (new : Pair) → at < length pairs → label_at (set pairs at new) at ≡ (new.resource, new.who)
 label_set [] at new h = absurd (omega (arith, h))
@@ -99,6 +78,3 @@ as_it_is change own place pairs h = subst (λ v. MovesUnless v change own pairs 
 
 pub as_other : (change : List (List ℕ) → List (List ℕ)) (own place : ℕ) (old new : List Pair) → (own == place) ≡ false → IsChangedAt change own old new → IsMoved change own place old new
 as_other change own place old new h c = subst (λ v. MovesUnless v change own old new) (sym h) c
-
-pub length_set : (pairs : List Pair) (at : ℕ) (new : Pair) (place : ℕ) → place < length pairs → place < length (set pairs at new)
-length_set pairs at new place h = omega (arith, h, length-set pairs at new)

@@ -24,7 +24,8 @@ use Rattle.kr_judge.specs.Boards.{AreByPath}
 use Rattle.kr_judge.specs.Providers.{same_who}
 use Rattle.kr_judge.specs.Scans.{is_for, paths_for, paths_with}
 use Rattle.kr_judge.specs.inner.Indexes.{AreSorted, AreApart, is_pair, need_of, needs_of, paths_of, labels_of, with_proposed, without_proposed, IsIndexed, NeedsState, proposed_need, needs_view}
-use Rattle.kr_judge.proofs.Lists.{here, there, cases, one_truth}
+use Rattle.kr_config.proofs.ListParts.{here, there, cases}
+use Rattle.kr_judge.proofs.Lists.{one_truth}
 use Rattle.kr_judge.proofs.Members.{is_one, itself, its_own, and_true}
 use Rattle.kr_judge.specs.inner.Places.{label_at, paths_at}
 use Rattle.kr_judge.proofs.Pairs.{label_set, label_last}

@@ -21,18 +21,14 @@ use Rattle.kr_config.specs.Nexts.{comes_after, IsNextClass}
 use Rattle.kr_config.proofs.Orders.{class_total}
 use Rattle.kr_judge.specs.Tables.{in_order, table_of}
 use Rattle.kr_judge.specs.Laws.{TableComputes}
-use Rattle.kr_judge.proofs.Lists.{there, cases, head_is, one_truth}
+use Rattle.kr_config.proofs.ListParts.{there, cases}
+use Rattle.kr_judge.proofs.Lists.{head_is, one_truth}
 
 equal_class : (a b : Class) → class_cmp a b ≡ Equal → a ≡ b
 equal_class (Exact a) (Exact b) h = ap Exact ((bytes_eq-Decides a b).0 (sym (is_eq-slice_cmp a b) ∙ ap is_eq h))
-equal_class (Exact a) (Group b) h = cc
-equal_class (Exact a) Rest h = cc
-equal_class (Group a) (Exact b) h = cc
 equal_class (Group a) (Group b) h = ap Group ((bytes_eq-Decides a b).0 (sym (is_eq-slice_cmp a b) ∙ ap is_eq h))
-equal_class (Group a) Rest h = cc
-equal_class Rest (Exact b) h = cc
-equal_class Rest (Group b) h = cc
 equal_class Rest Rest h = refl
+equal_class other another h = cc
 
 -- members
 put_to : (c : Class) (cs : List Class) (x : Class) → Contains (insert_key class_cmp cs c) x → Contains (c ∷ cs) x

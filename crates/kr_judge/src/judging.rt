@@ -148,8 +148,12 @@ pub fn judge(
         None => {}
     }
     match first_losses(generations, replica, settings) {
-        (Some((number, class, who)), _) => Verdict::drops_writer(alloc, number, class, who),
-        (None, Some((number, class, who))) => Verdict::unread(alloc, number, class, who),
+        (Some((number, class, who)), _) => {
+            Verdict::on_lost_class(alloc, Writer::Other, number, class, who)
+        }
+        (None, Some((number, class, who))) => {
+            Verdict::on_lost_class(alloc, Writer::New, number, class, who)
+        }
         (None, None) => Ok(Verdict::Pass),
     }
 }

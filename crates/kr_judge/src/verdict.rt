@@ -1,8 +1,10 @@
 //! Verdicts.
 ghost use Rattle.std.specs.Prelude.{◌≡◌, ◌≢◌, IfOk, MatchResult};
 ghost use Rattle.kr_config.specs.Nexts.{lent_class};
-ghost use Rattle.kr_judge.specs.declared.verdict.Verdict.TheVariants.{Pass, DropsStored, DropsWriter, Unread};
+ghost use Rattle.kr_judge.specs.declared.verdict.Verdict.TheVariants.{Pass, DropsStored};
+ghost use Rattle.kr_judge.specs.inner.Losses.{verdict_on_loss};
 
+use crate::judging::Writer;
 use kr_base::{NoMemory, Text};
 use kr_config::{BorrowedClass, Class, Who, copy_class};
 use std::alloc::Global;
@@ -42,38 +44,32 @@ impl Verdict {
         })
     }
 
-    /// `DropsWriter` of copies of its parts.
-    pub(crate) fn drops_writer(
+    /// The verdict on a class that one of two settings writes and the other doesn't read, of copies
+    /// of its parts.
+    pub(crate) fn on_lost_class(
         alloc: Global,
+        writer: Writer,
         generation: u32,
         class: BorrowedClass<'_>,
         who: &Who,
     ) -> Result<Verdict, NoMemory>
-        ensures { IfOk result
-            (λ verdict. verdict ≡ DropsWriter generation (lent_class class.entry) who.now) }
+        ensures { IfOk result (λ verdict. verdict
+            ≡ verdict_on_loss writer (generation, lent_class class.entry, who.now)) }
     {
-        Ok(Verdict::DropsWriter {
-            generation,
-            class: copy_class(alloc, class)?,
-            who: who.copy(alloc)?,
-        })
-    }
-
-    /// `Unread` of copies of its parts.
-    pub(crate) fn unread(
-        alloc: Global,
-        generation: u32,
-        class: BorrowedClass<'_>,
-        who: &Who,
-    ) -> Result<Verdict, NoMemory>
-        ensures { IfOk result
-            (λ verdict. verdict ≡ Unread generation (lent_class class.entry) who.now) }
-    {
-        Ok(Verdict::Unread {
-            generation,
-            class: copy_class(alloc, class)?,
-            who: who.copy(alloc)?,
-        })
+        let class = copy_class(alloc, class)?;
+        let who = who.copy(alloc)?;
+        match writer {
+            Writer::Other => Ok(Verdict::DropsWriter {
+                generation,
+                class,
+                who,
+            }),
+            Writer::New => Ok(Verdict::Unread {
+                generation,
+                class,
+                who,
+            }),
+        }
     }
 
     /// A copy of the verdict; `Pass` needs no memory for it.
@@ -87,12 +83,14 @@ impl Verdict {
                 generation,
                 class,
                 who,
-            } => { Verdict::drops_writer(alloc, *generation, class.borrowed(), who) }
+            } => {
+                Verdict::on_lost_class(alloc, Writer::Other, *generation, class.borrowed(), who)
+            }
             Verdict::Unread {
                 generation,
                 class,
                 who,
-            } => { Verdict::unread(alloc, *generation, class.borrowed(), who) }
+            } => { Verdict::on_lost_class(alloc, Writer::New, *generation, class.borrowed(), who) }
         }
     }
 }

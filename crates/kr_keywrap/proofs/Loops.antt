@@ -6,9 +6,10 @@ use Rattle.std.proofs.lemmas.List.{append-nil, append_assoc, flat_map_more, leng
 use Rattle.std.proofs.lemmas.List.Elements.{All-nil, All-push}
 use Rattle.std.proofs.lemmas.Grind.{flat_map-append}
 use Rattle.kr_keywrap.specs.Answer.{Plugin, answer}
-use Rattle.kr_keywrap.specs.Serving.{AreServedLines, HasNoBreak, Serves, answers, last_line, line_limit, lines_limit, served_text}
+use Rattle.kr_keywrap.specs.Serving.{AreServedLines, HasNoBreak, Serves, answers, last_line, line_limit, lines_limit, served_text, ServingEnds}
+use Rattle.kr_keywrap.specs.declared.serving.Served.{Served}
 use Rattle.kr_keywrap.specs.declared.serving.Served.TheVariants.{Done, Failed, NoMemory, TooLong}
-use Rattle.kr_keywrap.specs.inner.Lines.{Fails, Goes, Grows, Passes, ServesLast, ServesLine, Starves}
+use Rattle.kr_keywrap.specs.inner.Lines.{Fails, Goes, Grows, NextPart, Passes, ServesLast, ServesLine, Starves}
 
 pub goes_none : (plugin : Plugin) (left held : Option (List ℕ)) → Goes plugin left left held held [] 0
 goes_none plugin left held = record {
@@ -97,41 +98,39 @@ module _ (plugin : Plugin) (a b c h i j : Option (List ℕ)) (pending all : List
     );
   }
 
-  pub served_failed : (R Q Source Sink : Type 0) → Fails plugin c i j all R Q → (R → Source) → (Q → Sink) → count ≤ lines_limit
-      → Serves plugin a c h j Source Sink Failed
-  served_failed R Q Source Sink fails source sink few = record {
+  serves_part : (Source Sink : Type 0) (why : Served) (part : NextPart all) → count ≤ lines_limit
+      → ServingEnds plugin before.lines part.next part.behind c h j Source Sink why
+      → Serves plugin a c h j Source Sink why
+  serves_part Source Sink why part few ends = record {
     lines = before.lines;
-    next = fails.next;
-    behind = fails.behind;
-    took = took_parts fails.next fails.behind fails.is;
+    next = part.next;
+    behind = part.behind;
+    took = took_parts part.next part.behind part.is;
     are_lines = are_lines few;
-    unbroken = fails.unbroken;
-    ends = (
-      fails.short,
-      elim fails.wrote [
-        | inl nothing ↦ inl (source nothing.0, nothing.1, wrote_nothing nothing.2)
-        | inr some ↦ inr (
-          sink some.0,
-          some.1,
-          (
-            some.2.0,
-            Appends-trans h i j (answers plugin before.lines) (take some.2.0 (answer plugin fails.next)) before.wrote some.2.1,
-          ),
-        )
-      ],
-    );
+    unbroken = part.unbroken;
+    ends = ends;
   }
 
+  pub served_failed : (R Q Source Sink : Type 0) → Fails plugin c i j all R Q → (R → Source) → (Q → Sink) → count ≤ lines_limit
+      → Serves plugin a c h j Source Sink Failed
+  served_failed R Q Source Sink fails source sink few = serves_part Source Sink Failed fails.part few (
+    fails.part.short,
+    elim fails.wrote [
+      | inl nothing ↦ inl (source nothing.0, nothing.1, wrote_nothing nothing.2)
+      | inr some ↦ inr (
+        sink some.0,
+        some.1,
+        (
+          some.2.0,
+          Appends-trans h i j (answers plugin before.lines) (take some.2.0 (answer plugin fails.part.next)) before.wrote some.2.1,
+        ),
+      )
+    ],
+  )
+
   pub served_starved : (R Q : Type 0) → Starves i j all → count ≤ lines_limit → Serves plugin a c h j R Q NoMemory
-  served_starved R Q starves few = record {
-    lines = before.lines;
-    next = starves.next;
-    behind = starves.behind;
-    took = took_parts starves.next starves.behind starves.is;
-    are_lines = are_lines few;
-    unbroken = starves.unbroken;
-    ends = (starves.short, starves.stops, wrote_nothing starves.wrote);
-  }
+  served_starved R Q starves few =
+      serves_part R Q NoMemory starves.part few (starves.part.short, starves.stops, wrote_nothing starves.wrote)
 
   pub served_long : (R Q : Type 0) → Passes i j all → count ≤ lines_limit → Serves plugin a c h j R Q TooLong
   served_long R Q passes few = record {

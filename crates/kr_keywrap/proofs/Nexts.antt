@@ -11,28 +11,34 @@ use Rattle.kr_keywrap.specs.Answer.{Plugin, answer}
 use Rattle.kr_keywrap.specs.Serving.{HasNoBreak, Serves, answers, last_line, line_limit, lines_limit}
 use Rattle.kr_keywrap.specs.declared.serving.Served.{Served}
 use Rattle.kr_keywrap.specs.declared.serving.Served.TheVariants.{Done, Failed, NoMemory, TooLong}
-use Rattle.kr_keywrap.specs.inner.Lines.{Finds, Goes, Grows, IsBreak, ServesLast, ServesLine, ServesNext, ServesOne, WritesAnswer, WritesLast}
+use Rattle.kr_keywrap.specs.inner.Lines.{Finds, Goes, Grows, IsBreak, NextPart, ServesLast, ServesLine, ServesNext, ServesOne, WritesAnswer, WritesLast}
 use Rattle.kr_keywrap.proofs.Lines.{grows_none, no_break, no_break_all}
 use Rattle.kr_keywrap.proofs.Loops.{goes_none, served_end, served_failed, served_long, served_starved}
+
+-- the last bytes, behind which nothing stands
+abbrev last_part : (all last : List ℕ) → last ≡ all → HasNoBreak all → length all ≤ line_limit
+    → NextPart all
+last_part all last same unbroken short = record {
+  next = last;
+  behind = [];
+  is = sym same ∙ sym (append-nil last);
+  unbroken = subst HasNoBreak (sym same) unbroken;
+  short = omega (arith, ap length same, short);
+}
 
 -- there is no line
 pub none_found : (plugin : Plugin) (left held : Option (List ℕ)) (all new : List ℕ) (R Q : Type 0) (why : Served)
     → Finds left all R (Err why) → ServesNext plugin left held held all new R Q (Err why)
-none_found plugin left held all new R Q Done finds = absurd finds
 none_found plugin left held all new R Q Failed finds = record {
-  next = all;
-  behind = [];
-  is = sym (append-nil all);
-  unbroken = no_break_all all finds.1;
-  short = finds.2;
+  part = last_part all all refl (no_break_all all finds.1) finds.2;
   wrote = inl (finds.0, refl, Appends-nil held);
 }
-none_found plugin left held all new R Q NoMemory finds = absurd finds
 none_found plugin left held all new R Q TooLong finds = record {
   unbroken = no_break_all all finds.0;
   long = finds.1;
   wrote = Appends-nil held;
 }
+none_found plugin left held all new R Q other finds = absurd finds
 
 -- ---- the source's end
 
@@ -77,25 +83,16 @@ answer_begun plugin held_old held line bytes slice same is front =
 pub last_failed : (plugin : Plugin) (left held_old held : Option (List ℕ)) (all new last : List ℕ) (R Q : Type 0) (why : Served)
     → Finds left all R (Ok None) → last ≡ all → WritesAnswer plugin last held_old held Q (Err why)
     → ServesNext plugin left held_old held all new R Q (Err why)
-last_failed plugin left held_old held all new last R Q Done finds same writes = absurd writes
 last_failed plugin left held_old held all new last R Q Failed finds same writes = record {
-  next = last;
-  behind = [];
-  is = sym same ∙ sym (append-nil last);
-  unbroken = subst HasNoBreak (sym same) (no_break_all all finds.1);
-  short = omega (arith, ap length same, finds.2);
+  part = last_part all last same (no_break_all all finds.1) finds.2;
   wrote = inr (writes.0, inr (refl, finds.0), writes.1);
 }
 last_failed plugin left held_old held all new last R Q NoMemory finds same writes = record {
-  next = last;
-  behind = [];
-  is = sym same ∙ sym (append-nil last);
-  unbroken = subst HasNoBreak (sym same) (no_break_all all finds.1);
-  short = omega (arith, ap length same, finds.2);
+  part = last_part all last same (no_break_all all finds.1) finds.2;
   stops = inr refl;
   wrote = writes;
 }
-last_failed plugin left held_old held all new last R Q TooLong finds same writes = absurd writes
+last_failed plugin left held_old held all new last R Q other finds same writes = absurd writes
 
 -- ---- a line with its LF
 
@@ -104,28 +101,30 @@ at_break : (all : List ℕ) (place : ℕ) → IsBreak all place → drop place a
 at_break all place is =
     drop_more all place 0 is.within ∙ ap (λ (byte : ℕ). byte ∷ drop (place + 1) all) is.found
 
+-- a line up to its LF
+abbrev line_part : (all line : List ℕ) (place : ℕ) → IsBreak all place → place ≤ line_limit
+    → line ≡ take place all → NextPart all
+line_part all line place is most at = record {
+  next = line;
+  behind = drop place all;
+  is = sym (ap (λ (l : List ℕ). l ++ drop place all) at ∙ take-append-drop place all);
+  unbroken = subst HasNoBreak (sym at) (no_break all place (omega (arith, is.within)) is.unbroken);
+  short = omega (arith, ap length at, length-take-le place all (omega (arith, is.within)), most);
+}
+
 pub line_failed : (plugin : Plugin) (left held_old held : Option (List ℕ)) (all new line : List ℕ) (place : ℕ) (R Q : Type 0) (why : Served)
     → IsBreak all place → place ≤ line_limit → line ≡ take place all → WritesAnswer plugin line held_old held Q (Err why)
     → ServesNext plugin left held_old held all new R Q (Err why)
-line_failed plugin left held_old held all new line place R Q Done is most at writes = absurd writes
 line_failed plugin left held_old held all new line place R Q Failed is most at writes = record {
-  next = line;
-  behind = drop place all;
-  is = sym (ap (λ (l : List ℕ). l ++ drop place all) at ∙ take-append-drop place all);
-  unbroken = subst HasNoBreak (sym at) (no_break all place (omega (arith, is.within)) is.unbroken);
-  short = omega (arith, ap length at, length-take-le place all (omega (arith, is.within)), most);
+  part = line_part all line place is most at;
   wrote = inr (writes.0, inl (drop (place + 1) all, at_break all place is), writes.1);
 }
 line_failed plugin left held_old held all new line place R Q NoMemory is most at writes = record {
-  next = line;
-  behind = drop place all;
-  is = sym (ap (λ (l : List ℕ). l ++ drop place all) at ∙ take-append-drop place all);
-  unbroken = subst HasNoBreak (sym at) (no_break all place (omega (arith, is.within)) is.unbroken);
-  short = omega (arith, ap length at, length-take-le place all (omega (arith, is.within)), most);
+  part = line_part all line place is most at;
   stops = inl (drop (place + 1) all, at_break all place is);
   wrote = writes;
 }
-line_failed plugin left held_old held all new line place R Q TooLong is most at writes = absurd writes
+line_failed plugin left held_old held all new line place R Q other is most at writes = absurd writes
 
 pub line_served : (plugin : Plugin) (held_old held : Option (List ℕ)) (all new line : List ℕ) (place : ℕ)
     → IsBreak all place → place ≤ line_limit → line ≡ take place all → new ≡ drop (place + 1) all → Appends held_old held (answer plugin line)
@@ -182,7 +181,11 @@ ends_behind plugin a b c h i pending all count R Source Sink found before grows 
 pub nothing_starves : (plugin : Plugin) (left held : Option (List ℕ)) (Source Sink : Type 0) → Serves plugin left left held held Source Sink NoMemory
 nothing_starves plugin left held Source Sink =
     served_starved plugin left left left held held held [] [] 0 (goes_none plugin left held) (grows_none left []) Source Sink
-    (record { next = []; behind = []; is = refl; unbroken = All-nil (λ (byte : ℕ). byte ≡ 0x0A → ⊥); short = omega arith; stops = inr refl; wrote = Appends-nil held }) (omega arith)
+    (record {
+      part = last_part [] [] refl (All-nil (λ (byte : ℕ). byte ≡ 0x0A → ⊥)) (omega arith);
+      stops = inr refl;
+      wrote = Appends-nil held;
+    }) (omega arith)
 
 -- ---- whether there are any
 

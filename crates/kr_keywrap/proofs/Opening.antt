@@ -41,9 +41,7 @@ too_long decipher body size at long = not_wrapped decipher body size at (λ w. o
 -- the link's answers agree with what the ring's keys open
 pub key_link_agrees : (keys : Keys) (old : KeyLinkState) (exchange : Exchange) (new : KeyLinkState) → KeyLinkStep keys old exchange new
     → IsOfBytes exchange → AgreesWith (ring_opens keys) exchange
-key_link_agrees keys old (StatusCall name answer) new h are = tt
 key_link_agrees keys old (WrapCall name plain (Ok wrapped)) new h are =
     opens_wrapped keys old plain wrapped (record { size = h.answers.1; bytes = are }) h.answers.2
-key_link_agrees keys old (WrapCall name plain (Err why)) new h are = tt
 key_link_agrees keys old (UnwrapCall key (Ok bytes)) new h are = h.answers.2
-key_link_agrees keys old (UnwrapCall key (Err why)) new h are = tt
+key_link_agrees keys old other new h are = tt

@@ -20,8 +20,8 @@ pub record KeyLinkState : Type 0 where
   pub key_id : List ℕ
   pub calls : Calls
 
--- what sources open to over links of one type of rings: a source opens under the ring's key of its key id, whatever
--- the plugin's name and the annotations are
+-- what sources open to over links of one type of rings: a source opens under the ring's key of its
+-- key id, whatever the plugin's name and the annotations are
 abbrev pub ring_opens : Keys → Opens
 ring_opens keys key = opened_by keys key.key_id key.source
 

@@ -17,7 +17,7 @@ use crate::key_wrap::is_wrappable;
 use crate::keys::{ROOM, unwrap_by_key, wrap_by_key};
 use crate::ring::Ring;
 use kr_base::{Annotations, Bytes, CallLog, List, NoMemory, Text};
-use kr_kms::{Kms, KmsNo, Status, Wrapped};
+use kr_kms::{Kms, KmsNo, Status, Wrapped, WrappedRef};
 use std::alloc::Global;
 use std::marker::Model;
 
@@ -157,24 +157,20 @@ impl<R: Ring> Kms for KeyLink<R> {
         Ok(wrapped)
     }
 
-    fn unwrap_source(
-        &mut self,
-        alloc: Global,
-        key_id: &str,
-        annotations: &Annotations,
-        source: &[u8],
-    ) -> Result<Bytes, KmsNo>
-        ensures answers { AnswersByKeys self.old (IsSome (opened_by R.keys key_id.now source.now))
-            (λ bytes. opened_by R.keys key_id.now source.now ≡ Some bytes) result self.new }
+    fn unwrap_source(&mut self, alloc: Global, wrapped: &WrappedRef<'_>) -> Result<Bytes, KmsNo>
+        ensures answers { AnswersByKeys self.old
+            (IsSome (opened_by R.keys wrapped.now.key_id.now wrapped.now.cipher.now))
+            (λ bytes. opened_by R.keys wrapped.now.key_id.now wrapped.now.cipher.now ≡ Some bytes)
+            result self.new }
 
         // As the trait says.
         ensures unwraps { AsksLink (link_seen self.old) result (link_seen self.new) }
-        ensures asked { KeyLinkStep R.keys self.old (UnwrapCall (asked_key self.old.name key_id.now
-            annotations.now source.now) result) self.new }
+        ensures asked { KeyLinkStep R.keys self.old (UnwrapCall (asked_key self.old.name
+            wrapped.now.key_id.now wrapped.now.annotations.now wrapped.now.cipher.now)
+            result) self.new }
     {
-        let _annotations = annotations;
         let mut room = [0; ROOM];
-        let Some(size) = open(&self.ring, key_id, source, &mut room) else {
+        let Some(size) = open(&self.ring, wrapped.key_id, wrapped.cipher, &mut room) else {
             self.fails(false);
             return Err(KmsNo::Failed);
         };

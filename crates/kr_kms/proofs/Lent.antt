@@ -95,25 +95,64 @@ none_counted p (x ∷ xs) e = sum_by-append (one_if p) (x ∷ []) xs
     by true rest e = absurd (cc)
     by false rest e = zero-add (count_by p xs) ∙ rest e
 
--- whether a test has a place says whether any passes it
-pub none_out : {X : Type 0} (p : X → Bool) (xs : List X) (place : Option ℕ) → place ≡ position p xs
-    → is_some place ≡ false → count_by p xs ≡ 0
-none_out p xs None e f = none_counted p xs (no_place p xs (sym e))
-none_out p xs (Some at) e f = absurd (cc)
-
-pub some_out : {X : Type 0} (p : X → Bool) (xs : List X) (place : Option ℕ) → place ≡ position p xs
-    → is_some place ≡ true → 0 < count_by p xs
-some_out p xs None e t = absurd (cc)
-some_out p xs (Some at) e t = some_counted p xs at (sym e)
-
 -- where a test has a place, what passes it is found
-pub first_there : {X Y : Type 0} (f : X → Y) (p : X → Bool) (xs : List X) (at : ℕ)
+first_there : {X Y : Type 0} (f : X → Y) (p : X → Bool) (xs : List X) (at : ℕ)
     → position p xs ≡ Some at → IsSome (option_map f (find p xs))
 first_there f p [] at e = absurd (cc)
 first_there f p (x ∷ xs) at e =
     let found = position-Some p (x ∷ xs) at x e in
     subst (λ o. IsSome (option_map f o))
     (sym (place_found p (x ∷ xs) at e ∙ slice_get-get_or (x ∷ xs) at x found.0)) refl
+
+-- ---- a place that was looked for in a list that is lent
+
+-- a key that was told is the one that is meant, and what was lent is the list
+pub placed_by : {X Y : Type 0} (p : Y → X → Bool) {said key : Y} {seen xs : List X}
+    {place : Option ℕ} → place ≡ position (p said) seen → said ≡ key → seen ≡ xs
+    → position (p key) xs ≡ place
+placed_by p {said = said} {xs = xs} first same is =
+    sym (first ∙ ap (λ l. position (p said) l) is ∙ ap (λ k. position (p k) xs) same)
+
+pub placed : {X : Type 0} (p : X → Bool) {seen xs : List X} {place : Option ℕ}
+    → place ≡ position p seen → seen ≡ xs → position p xs ≡ place
+placed p first is = sym (first ∙ ap (λ l. position p l) is)
+
+-- none is given where there is no place, and what stands at the place where there is one
+pub none_given : {X Y : Type 0} (f : X → Y) (p : X → Bool) {seen xs : List X}
+    → None ≡ position p seen → seen ≡ xs → option_map f (find p xs) ≡ None
+none_given f p {xs = xs} first is = ap (option_map f) (no_place p xs (placed p first is))
+
+pub one_given : {X Y : Type 0} (f : X → Y) (p : X → Bool) {seen xs : List X} {at : ℕ} {x : X}
+    → Some at ≡ position p seen → seen ≡ xs → x ≡ get_or xs at x
+    → option_map f (find p xs) ≡ Some (f x)
+one_given f p {xs = xs} {at = at} {x = x} first is lent =
+    ap (option_map f) (found_at p xs at x (placed p first is) lent)
+
+pub some_given : {X Y : Type 0} (f : X → Y) (p : X → Bool) {seen xs : List X} {at : ℕ}
+    → Some at ≡ position p seen → seen ≡ xs → IsSome (option_map f (find p xs))
+some_given f p {xs = xs} {at = at} first is = first_there f p xs at (placed p first is)
+
+-- one of which some are out has a place there
+pub not_taken : {X : Type 0} (p : X → Bool) (xs : List X) → position p xs ≡ None
+    → 0 < count_by p xs → ⊥
+not_taken p xs none out = omega (arith, none_counted p xs (no_place p xs none), out)
+
+-- whether a test has a place says whether any passes it
+module _ {X : Type 0} (p : X → Bool) {seen xs : List X} {place : Option ℕ} {there : Bool}
+    (first : place ≡ position p seen) (is : seen ≡ xs) (told : there ≡ is_some place) where
+  pub none_out : there ≡ false → count_by p xs ≡ 0
+  none_out f = by place (placed p first is) (sym told ∙ f)
+    where
+      by : (place : Option ℕ) → position p xs ≡ place → is_some place ≡ false → count_by p xs ≡ 0
+      by None e f = none_counted p xs (no_place p xs e)
+      by (Some at) e f = absurd (cc)
+
+  pub some_out : there ≡ true → 0 < count_by p xs
+  some_out t = by place (placed p first is) (sym told ∙ t)
+    where
+      by : (place : Option ℕ) → position p xs ≡ place → is_some place ≡ true → 0 < count_by p xs
+      by None e t = absurd (cc)
+      by (Some at) e t = some_counted p xs at e
 
 -- ---- the tests of keys
 
@@ -156,11 +195,11 @@ key_stands same decides out at key place =
 
 -- ---- what is lent
 
+abbrev pub of_key : {K T : Type 0} → (K → K → Bool) → (T → K) → K → T → Bool
+of_key same key_of key item = same (key_of item) key
+
 module _ {K T V : Type 0} (same : K → K → Bool) (key_of : T → K) (told : Option T → V)
     (count : T → ℕ) (decides : (a b : K) → Decides (same a b) (a ≡ b)) where
-  abbrev of_key : K → T → Bool
-  of_key key item = same (key_of item) key
-
   differs : (a key other : K) → a ≡ key → other ≢ key → same a other ≡ false
   differs a key other e n = by (same a other) (λ t. n (sym ((decides a other).0 t) ∙ e))
     where
@@ -168,39 +207,45 @@ module _ {K T V : Type 0} (same : K → K → Bool) (key_of : T → K) (told : O
       by true none = absurd (none refl)
       by false none = refl
 
-  -- the first of the key goes out
-  pub lent : (old new : ShelfState K T) (at : ℕ) (key : K) (item : T)
+  -- the first of the key goes out, by a copy of the key
+  pub lent : (old new : ShelfState K T) (at : ℕ) (key : K) {said : K} (item : T) {n : ℕ}
       → place_of same key_of old.items key ≡ Some at → item ≡ get_or old.items at item
-      → new ≡ record { items = remove old.items at; out = old.out ++ key ∷ [] }
+      → new ≡ record { items = remove old.items at; out = old.out ++ said ∷ [] } → said ≡ key
+      → n ≡ count item
       → HandsOut same (objects_by same key_of told count old)
-      (objects_by same key_of told count new) key (count item)
-  lent old new at key item place is gone =
-      let found = position-Some (of_key key) old.items at item place in
+      (objects_by same key_of told count new) key n
+  lent old new at key item {n = n} place is gone copied counted =
+      let found = position-Some (of_key same key_of key) old.items at item place in
       let it_is : key_of (get_or old.items at item) ≡ key =
       (decides (key_of (get_or old.items at item)) key).0 found.1 in
       let stays : (other : K) → other ≢ key
-      → find (of_key other) (remove old.items at) ≡ find (of_key other) old.items =
-      λ other n. find-remove (of_key other) old.items at item found.0
+      → find (of_key same key_of other) (remove old.items at) ≡ find (of_key same key_of other) old.items =
+      λ other n. find-remove (of_key same key_of other) old.items at item found.0
       (differs (key_of (get_or old.items at item)) key other it_is n) in
       subst (λ s. HandsOut same (objects_by same key_of told count old)
-      (objects_by same key_of told count s) key (count item)) (sym gone) (record {
-        count_is = ap (λ f. option_map_or count f 0)
-            (sym (found_at (of_key key) old.items at item place is));
+      (objects_by same key_of told count s) key n)
+      ((λ i. record { items = remove old.items at; out = old.out ++ sym copied i ∷ [] }) ∙ sym gone)
+      (record {
+        count_is = counted ∙ ap (λ f. option_map_or count f 0)
+            (sym (found_at (of_key same key_of key) old.items at item place is));
         out = λ other. count-end (λ o. same o other) old.out key;
         handed = refl;
         told = λ other n. ap told (stays other n);
         faults = λ other n. ap (λ f. option_map_or count f 0) (stays other n);
       })
 
-  -- a new one of the key goes out
-  pub made : (old new : ShelfState K T) (key : K) → place_of same key_of old.items key ≡ None
-      → new ≡ record { items = old.items; out = old.out ++ key ∷ [] }
+  -- a new one of the key goes out, by a copy of the key
+  pub made : (old new : ShelfState K T) (key : K) {said : K} {n : ℕ}
+      → place_of same key_of old.items key ≡ None
+      → new ≡ record { items = old.items; out = old.out ++ said ∷ [] } → said ≡ key → n ≡ 0
       → HandsOut same (objects_by same key_of told count old)
-      (objects_by same key_of told count new) key 0
-  made old new key place gone =
+      (objects_by same key_of told count new) key n
+  made old new key {n = n} place gone copied none =
       subst (λ s. HandsOut same (objects_by same key_of told count old)
-      (objects_by same key_of told count s) key 0) (sym gone) (record {
-        count_is = ap (λ f. option_map_or count f 0) (sym (no_place (of_key key) old.items place));
+      (objects_by same key_of told count s) key n)
+      ((λ i. record { items = old.items; out = old.out ++ sym copied i ∷ [] }) ∙ sym gone) (record {
+        count_is = none ∙ ap (λ f. option_map_or count f 0)
+            (sym (no_place (of_key same key_of key) old.items place));
         out = λ other. count-end (λ o. same o other) old.out key;
         handed = refl;
         told = λ other n. refl;
@@ -209,9 +254,9 @@ module _ {K T V : Type 0} (same : K → K → Bool) (key_of : T → K) (told : O
 
   -- what comes back is the first of its key
   pub returned_first : (items : List T) (key : K) (item : T) → key_of item ≡ key
-      → find (of_key key) (item ∷ items) ≡ Some item
+      → find (of_key same key_of key) (item ∷ items) ≡ Some item
   returned_first items key item e =
-      ap (λ q. cond q (Some item) (find (of_key key) items)) ((decides (key_of item) key).1 e)
+      ap (λ q. cond q (Some item) (find (of_key same key_of key) items)) ((decides (key_of item) key).1 e)
 
   pub returned : (old new : ShelfState K T) (at : ℕ) (key : K) (item : T) → key_of item ≡ key
       → position (λ o. same o key) old.out ≡ Some at
@@ -221,8 +266,8 @@ module _ {K T V : Type 0} (same : K → K → Bool) (key_of : T → K) (told : O
   returned old new at key item e place back =
       let found = position-Some (λ o. same o key) old.out at key place in
       let stays : (other : K) → other ≢ key
-      → find (of_key other) (item ∷ old.items) ≡ find (of_key other) old.items =
-      λ other n. ap (λ q. cond q (Some item) (find (of_key other) old.items))
+      → find (of_key same key_of other) (item ∷ old.items) ≡ find (of_key same key_of other) old.items =
+      λ other n. ap (λ q. cond q (Some item) (find (of_key same key_of other) old.items))
       (differs (key_of item) key other e n) in
       subst (λ s. TakesBack same (objects_by same key_of told count old)
       (objects_by same key_of told count s) key (count item)) (sym back) (record {
@@ -233,6 +278,21 @@ module _ {K T V : Type 0} (same : K → K → Bool) (key_of : T → K) (told : O
         told = λ other n. ap told (stays other n);
         faults = λ other n. ap (λ f. option_map_or count f 0) (stays other n);
       })
+
+-- one that is kept with its key comes back, in the place of the key by which it was out
+pub returned_keyed : {K U V : Type 0} (same : K → K → Bool) (told : Option (K × U) → V)
+    (count : K × U → ℕ) (decides : (a b : K) → Decides (same a b) (a ≡ b))
+    (old new : ShelfState K (K × U)) (at : ℕ) (key : K) {given : U} (item : U) → given ≡ item
+    → position (λ o. same o key) old.out ≡ Some at
+    → new ≡ record { items = (get_or old.out at key, given) ∷ old.items; out = remove old.out at }
+    → TakesBack same (objects_by same (λ entry. entry.0) told count old)
+    (objects_by same (λ entry. entry.0) told count new) key (count (key, item))
+returned_keyed same told count decides old new at key item is place back =
+    returned same (λ entry. entry.0) told count decides old new at key (key, item) refl place
+    (back ∙ (λ i. record {
+      items = (key_stands same decides old.out at key place i, is i) ∷ old.items;
+      out = remove old.out at;
+    }))
 
 -- a link is what the world told of it
 pub link_is : {L : Type 0} (link : L → Link) (shelf : LinkShelf L) (at seat : ℕ) (plugin : List ℕ)

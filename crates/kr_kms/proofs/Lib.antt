@@ -4,6 +4,7 @@ pub mod Fetching
 pub mod KeptSeeds
 pub mod Keys
 pub mod Lent
+pub mod LentOut
 pub mod Linked
 pub mod MadeTapes
 pub mod Making

@@ -35,13 +35,8 @@ module _ (old new : TapeShelf) (name : List ℕ) (make : Bool) (room faults : �
       (objects_by same_name tape_name (λ first. Some (option_map (λ entry. entry.1.bytes) first))
       (λ entry. faults_of entry.1) new) name (faults_of tape))
   made_out (Ok tape) is gone =
-      subst (λ t. HandsOut same_name
-      (objects_by same_name tape_name (λ first. Some (option_map (λ entry. entry.1.bytes) first))
-      (λ entry. faults_of entry.1) old)
-      (objects_by same_name tape_name (λ first. Some (option_map (λ entry. entry.1.bytes) first))
-      (λ entry. faults_of entry.1) new) name (faults_of t)) (sym is)
-      (made same_name tape_name (λ first. Some (option_map (λ entry. entry.1.bytes) first))
-      (λ entry. faults_of entry.1) names_decide old new name place gone)
+      made same_name tape_name (λ first. Some (option_map (λ entry. entry.1.bytes) first))
+      (λ entry. faults_of entry.1) names_decide old new name place gone refl (ap faults_of is)
   made_out (Err why) is gone = tt
 
   pub made_empty : (result : Result TapeState FileNo) → make ≡ true

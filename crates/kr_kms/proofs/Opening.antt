@@ -4,7 +4,7 @@ use Rattle.std.specs.Prelude.{◌-◌}
 use Rattle.lru.proofs.CallerLemmas.{Contains-promoted, Contains-take}
 use Rattle.lru.proofs.Splits.{Contains-cons}
 use Rattle.kr_kms.specs.Cache.{CacheState, AreOpenBy, FetchesBy, kept, no_memory, unwrapped, GivesSeed, KeepsAnswer, key_eq, with_used, with_seed}
-use Rattle.kr_kms.specs.Exchanges.{Exchange, StatusCall, WrapCall, UnwrapCall, AgreesWith, AgreeAll}
+use Rattle.kr_kms.specs.Exchanges.{Exchange, WrapCall, UnwrapCall, AgreesWith, AgreeAll}
 use Rattle.kr_kms.specs.Seeds.{MakesSeedBy, no_status, unhealthy, no_memory as no_seed_memory, dice_failed, not_wrapped, made}
 use Rattle.kr_kms.specs.Table.{Table, TableStep, table_opens}
 use Rattle.kr_kms.specs.Opens.{Opens, key_of}
@@ -68,9 +68,7 @@ module _ (opens : Opens) where
 
 -- a plugin in memory meets what is supposed of plugins
 pub table_agrees : (old : Table) (exchange : Exchange) (new : Table) → TableStep old exchange new → AgreesWith table_opens exchange
-table_agrees old (StatusCall name answer) new h = tt
 table_agrees old (WrapCall name plain (Ok wrapped)) new h =
     ap (λ (w : Wrapped). table_opens (key_in name w)) h.answers.2 ∙ opens_wrapped name old plain
-table_agrees old (WrapCall name plain (Err why)) new h = tt
 table_agrees old (UnwrapCall key (Ok bytes)) new h = ap Some (sym h.answers.2)
-table_agrees old (UnwrapCall key (Err why)) new h = tt
+table_agrees old other new h = tt

@@ -5,7 +5,7 @@ ghost use Rattle.kr_kms.specs.Cache.{Fetches, FetchesBy};
 ghost use Rattle.kr_kms.specs.Calls.{asked_key};
 ghost use Rattle.kr_kms.specs.inner.Keeping.{IsCopyAt, AreAmong, AreAmongWith, IsUsed, IsPut};
 
-use crate::plugin::{Kms, KmsNo};
+use crate::plugin::{Kms, KmsNo, WrappedRef};
 use crate::seeds::SeedKey;
 use kr_base::{Annotations, Bytes, NoMemory};
 use lru::LruCache;
@@ -68,7 +68,12 @@ impl SeedCache {
             drop(key);
             return kept;
         }
-        match link.unwrap_source(alloc, key_id, annotations, source) {
+        let wrapped = WrappedRef {
+            cipher: source,
+            key_id,
+            annotations,
+        };
+        match link.unwrap_source(alloc, &wrapped) {
             Ok(seed) => {
                 self.keep(alloc, key, &seed);
                 Ok(seed)

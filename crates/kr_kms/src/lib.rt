@@ -19,7 +19,7 @@ pub use file_faults::FileFaults;
 pub use health::{Field, SeedNo, healthy_key_id};
 pub use laws::{fetched_seeds_open, keys_are_told_apart, made_seeds_open, tables_agree};
 pub use mem_world::MemWorld;
-pub use plugin::{Kms, KmsNo, Status, Wrapped, is_within_limits};
+pub use plugin::{Kms, KmsNo, Status, Wrapped, WrappedRef, is_within_limits};
 pub use seeds::{SeedKey, SeedRow, make_seed};
 pub use shelf::{Shelf, name_place, plugin_place};
 pub use table_plugin::TablePlugin;

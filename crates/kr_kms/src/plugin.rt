@@ -24,6 +24,15 @@ pub struct Wrapped {
     pub annotations: Annotations,
 }
 
+/// What is to be unwrapped, lent: a wrapped source, and the id of its key with the annotations that
+/// the plugin made with it.
+#[derive(Clone, Copy)]
+pub struct WrappedRef<'a> {
+    pub cipher: &'a [u8],
+    pub key_id: &'a str,
+    pub annotations: &'a Annotations,
+}
+
 /// Whether the key id, the source and the annotations are within the limits. A link answers a wrap
 /// that isn't as a fault.
 pub fn is_within_limits(wrapped: &Wrapped) -> bool
@@ -70,17 +79,12 @@ pub trait Kms {
         ensures wraps { Wraps (link self.old) result (link self.new) }
         ensures asked { step self.old (WrapCall (link self.old).name plain.now result) self.new };
 
-    /// Unwraps what was wrapped under this key id with these annotations.
-    fn unwrap_source(
-        &mut self,
-        alloc: Global,
-        key_id: &str,
-        annotations: &Annotations,
-        source: &[u8],
-    ) -> Result<Bytes, KmsNo>
+    /// Unwraps what was wrapped under its key id with its annotations.
+    fn unwrap_source(&mut self, alloc: Global, wrapped: &WrappedRef<'_>) -> Result<Bytes, KmsNo>
         ensures unwraps { AsksLink (link self.old) result (link self.new) }
-        ensures asked { step self.old (UnwrapCall (asked_key (link self.old).name key_id.now
-            annotations.now source.now) result) self.new };
+        ensures asked { step self.old (UnwrapCall (asked_key (link self.old).name
+            wrapped.now.key_id.now wrapped.now.annotations.now wrapped.now.cipher.now)
+            result) self.new };
 
     /// Any step is one of the link's own plugin, keeps the name and the told status, and counts a
     /// fault once.

@@ -11,7 +11,7 @@ ghost use Rattle.kr_kms.specs.Table.{AnswersByTable, annotated_salt, annotations
 ghost use Rattle.kr_kms.specs.Table.{table_status, link_of, TableStep, table_keeps};
 ghost use Rattle.kr_kms.specs.Table.{table_tells};
 
-use crate::plugin::{Kms, KmsNo, Status, Wrapped};
+use crate::plugin::{Kms, KmsNo, Status, Wrapped, WrappedRef};
 use kr_base::{Annotations, Bytes, CallLog, List, NoMemory, Text, both, is_short};
 use std::alloc::Global;
 use std::marker::Model;
@@ -155,25 +155,22 @@ impl Kms for TablePlugin {
         }
     }
 
-    fn unwrap_source(
-        &mut self,
-        alloc: Global,
-        key_id: &str,
-        annotations: &Annotations,
-        source: &[u8],
-    ) -> Result<Bytes, KmsNo>
+    fn unwrap_source(&mut self, alloc: Global, wrapped: &WrappedRef<'_>) -> Result<Bytes, KmsNo>
         ensures answers { AnswersByTable self.old (Unit {0})
-            (xor_of (annotations_mask key_id.now annotations.now) source.now) result self.new }
+            (xor_of (annotations_mask wrapped.now.key_id.now wrapped.now.annotations.now)
+            wrapped.now.cipher.now) result self.new }
 
         // As the trait says.
         ensures unwraps { AsksLink (link_of self.old) result (link_of self.new) }
-        ensures asked { TableStep self.old (UnwrapCall (asked_key self.old.name key_id.now
-            annotations.now source.now) result) self.new }
+        ensures asked { TableStep self.old (UnwrapCall (asked_key self.old.name
+            wrapped.now.key_id.now wrapped.now.annotations.now wrapped.now.cipher.now)
+            result) self.new }
     {
         if self.fails(true) {
             return Err(KmsNo::Failed);
         }
-        match xor_all(alloc, source, annotations_mask(key_id, annotations)) {
+        let mask = annotations_mask(wrapped.key_id, wrapped.annotations);
+        match xor_all(alloc, wrapped.cipher, mask) {
             Ok(bytes) => Ok(bytes),
             Err(NoMemory) => Err(KmsNo::NoMemory),
         }

@@ -29,16 +29,19 @@ below_middle : (first : List ℕ) (done : Pairs) (pair : Pair) (more : Pairs)
 below_middle first [] pair more h = h.0
 below_middle first (x ∷ done) pair more h = below_middle first done pair more h.1
 
+above_first : (first : List ℕ) (done : Pairs) (pair : Pair) (more : Pairs)
+    → AllByRecursion (λ key. slice_cmp nat_cmp first key ≡ Less) (keys_of (done ++ pair ∷ more))
+    → slice_cmp nat_cmp pair.0 first ≡ Greater
+above_first first done pair more h = nat_list_cmp_total.antisymm pair.0 first
+    ∙ ap ordering_reverse (below_middle first done pair more h)
+
 -- the pair behind some sorted ones goes behind their members
 pub put_behind : (done : Pairs) (pair : Pair) (more : Pairs) → IsSortedByKey (done ++ pair ∷ more)
     → put pair.0 (text_of_bytes pair.1) (pair_members done) ≡ pair_members (done ++ pair ∷ [])
 unfolding IsStrictlySortedBy
 put_behind [] pair more h = refl
 put_behind (first ∷ done) pair more h =
-    let above : slice_cmp nat_cmp pair.0 first.0 ≡ Greater =
-    nat_list_cmp_total.antisymm pair.0 first.0
-    ∙ ap ordering_reverse (below_middle first.0 done pair more h.0) in
-    rw above (ap (member first.0 (text_of_bytes first.1)) (put_behind done pair more h.1))
+    rw (above_first first.0 done pair more h.0) (ap (member first.0 (text_of_bytes first.1)) (put_behind done pair more h.1))
 
 -- one pair more
 pub member_more : (pairs : Pairs) (i : ℕ) (pair : Pair) (key value : List ℕ)
@@ -64,10 +67,7 @@ pub with_behind : (done : Pairs) (pair : Pair) (more : Pairs) → IsSortedByKey 
 unfolding IsStrictlySortedBy
 with_behind [] pair more h = refl
 with_behind (first ∷ done) pair more h =
-    let above : slice_cmp nat_cmp pair.0 first.0 ≡ Greater =
-    nat_list_cmp_total.antisymm pair.0 first.0
-    ∙ ap ordering_reverse (below_middle first.0 done pair more h.0) in
-    rw above (ap (λ l. first ∷ l) (with_behind done pair more h.1))
+    rw (above_first first.0 done pair more h.0) (ap (λ l. first ∷ l) (with_behind done pair more h.1))
 
 pairs_no_float : (pairs : Pairs) → members_have_float (pair_members pairs) ≡ false
 pairs_no_float [] = refl
@@ -90,15 +90,11 @@ request_depth (Decrypt source key_id annotations uid) = rw (pairs_flat annotatio
 
 -- nor does an answer
 pub answer_no_float : (answered : Answered) → has_float (answer_data answered) ≡ false
-answer_no_float (answered.Reply (reply.Status status)) = refl
 answer_no_float (answered.Reply (reply.Encrypt wrapped)) =
     rw (pairs_no_float wrapped.annotations) refl
-answer_no_float (answered.Reply (reply.Decrypt plain)) = refl
-answer_no_float (answered.Error text) = refl
+answer_no_float other = refl
 
 pub answer_depth : (answered : Answered) → depth (answer_data answered) ≤ max_depth
-answer_depth (answered.Reply (reply.Status status)) = omega arith
 answer_depth (answered.Reply (reply.Encrypt wrapped)) =
     rw (pairs_flat wrapped.annotations) (omega arith)
-answer_depth (answered.Reply (reply.Decrypt plain)) = omega arith
-answer_depth (answered.Error text) = omega arith
+answer_depth other = omega arith

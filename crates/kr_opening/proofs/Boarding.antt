@@ -69,8 +69,6 @@ module _ (replicas : List (Option Settings)) (first : List ConfigEntry) (rows : 
     pub board_unfit : (done : BoardState) (why : StartNo) → NotesAll first rows empty noted (Ok tt)
         → TakesAllUp (rows_in replicas) noted done (Err why)
         → Boards rows (rows_in replicas) room (Err why)
-    board_unfit done (Stray path) n t = absurd t
-    board_unfit done (OtherSecret path) n t = absurd t
     board_unfit done (Unfit replica verdict) n t = (
       no_stray n,
       no_other_secret n,
@@ -78,3 +76,4 @@ module _ (replicas : List (Option Settings)) (first : List ConfigEntry) (rows : 
           (needs_noted n) t,
     )
     board_unfit done NoMemory n t = tt
+    board_unfit done other n t = absurd t

@@ -3,17 +3,16 @@ use Rattle.std.proofs.Common.{◌≡◌, ℕ, zero, suc, ◌+◌, ◌<◌, ◌�
 use Rattle.std.specs.Prelude.{◌==◌, ◌||◌, not, nat_lt, slice_set}
 use Rattle.std.specs.List.{slice_get}
 use Rattle.std.proofs.lemmas.Bool.{cases_eq, eqb-false, ne_eqb}
-use Rattle.std.proofs.lemmas.List.Elements.{Contains-append_left, Contains-append_right, Contains-push_cases}
 use Rattle.std.proofs.lemmas.List.{length-set, get_or-set_same, get_or-set_other}
 use Rattle.std.proofs.lemmas.Option.{none-some, same_Some, slice_get-get_or, slice_get_within}
 use Rattle.kr_config.specs.declared.who.Who.{Who}
 use Rattle.kr_config.specs.Kept.{ConfigEntry}
 use Rattle.kr_judge.specs.declared.need.Need.{Need}
-use Rattle.kr_judge.specs.Boards.{GenerationState, is_live, left_by, without_current}
+use Rattle.kr_judge.specs.Boards.{GenerationState, is_live, left_by}
 use Rattle.kr_judge.specs.Lacks.{LacksProvider, IsNeeded, IsLiveIn, IsLiveBeside, given_to}
 use Rattle.kr_judge.specs.LiveFits.{AreFit}
-use Rattle.kr_judge.proofs.Lacking.{mapped, image, refuses_exactly, passes_where_all_fit}
-use Rattle.kr_judge.proofs.Lists.{cases, here, there}
+use Rattle.kr_judge.proofs.Lacking.{beside_lives, image, lives_then, mapped, new_lives, passes_where_all_fit, refuses_exactly}
+use Rattle.kr_config.proofs.ListParts.{cases, here, there}
 use Rattle.kr_opening.specs.ReplicaLaws.{AreOfAnother, JudgesReplicas}
 use Rattle.kr_opening.specs.Starts.{opening_generations}
 
@@ -21,13 +20,6 @@ use Rattle.kr_opening.specs.Starts.{opening_generations}
 
 abbrev opened : ℕ → List ConfigEntry → GenerationState
 opened replica rows = record { replica = replica; rows = rows; current = true; holders = 0 }
-
-got : {X : Type 0} (xs : List X) (x : X) → Contains xs x → (i : ℕ) × (slice_get xs i ≡ Some x)
-got [] x m = absurd (omega (arith, m.1))
-got (y ∷ ys) x m = elim (cases y x ys m) [
-  | inl e ↦ (0, ap Some e)
-  | inr n ↦ (let r = got ys x n in (suc r.0, r.1))
-]
 
 contained : {X : Type 0} (xs : List X) (i : ℕ) (x : X) → slice_get xs i ≡ Some x → Contains xs x
 contained [] i x e = absurd (none-some x e)
@@ -185,34 +177,6 @@ lacks_by : (Stored : List ℕ → Who → Type 0) (Other More : List ConfigEntry
     → LacksProvider Stored More rows
 lacks_by Stored Other More rows to (inl s) = inl s
 lacks_by Stored Other More rows to (inr (other, live, w)) = inr (other, to other live, w)
-
--- what is live once a replica has the settings: these, and what is live beside them
-module _ (generations : List GenerationState) (replica : ℕ) (rows : List ConfigEntry) where
-  new_lives : IsLiveIn (given_to replica rows generations) rows
-  new_lives = (
-    opened replica rows,
-    Contains-append_right (without_current replica generations) (opened replica rows ∷ [])
-        (opened replica rows) (here (opened replica rows) []),
-    refl,
-    refl,
-  )
-
-  beside_lives : (other : List ConfigEntry) → IsLiveBeside replica generations other
-      → IsLiveIn (given_to replica rows generations) other
-  beside_lives other (own, m, live, is) = (
-    own,
-    Contains-append_left (without_current replica generations) (opened replica rows ∷ []) own m,
-    live,
-    is,
-  )
-
-  lives_then : (other : List ConfigEntry) → IsLiveIn (given_to replica rows generations) other
-      → IsLiveBeside replica generations other ⊎ (rows ≡ other)
-  lives_then other (own, m, live, is) = elim (Contains-push_cases
-      (without_current replica generations) (opened replica rows) own m) [
-        | inl old ↦ inl (own, old, live, is)
-        | inr e ↦ inr (ap (λ (x : GenerationState). x.rows) e ∙ is)
-      ]
 
 module _ (needs : List Need) (replicas : List (Option (List ConfigEntry))) (replica : ℕ)
     (rows : List ConfigEntry) (l : replica < length replicas) where

@@ -19,11 +19,6 @@ in_count [] = 0
 in_count (None ∷ rs) = in_count rs
 in_count (Some p ∷ rs) = suc (in_count rs)
 
-in_few : (rs : List (Option Publication)) → in_count rs ≤ length rs
-in_few [] = omega arith
-in_few (None ∷ rs) = omega (arith, in_few rs)
-in_few (Some p ∷ rs) = omega (arith, in_few rs)
-
 in_gap : (rs : List (Option Publication)) → in_count (rs ++ None ∷ []) ≡ in_count rs
 in_gap [] = refl
 in_gap (None ∷ rs) = in_gap rs

@@ -16,7 +16,7 @@ use Rattle.kr_judge.specs.Boards.{GenerationState, BoardState, left_by, without_
 use Rattle.kr_judge.specs.Verdicts.{is_other}
 use Rattle.kr_judge.proofs.Parts.{take_at_more}
 use Rattle.kr_opening.specs.declared.opening_board.StartNo.{StartNo}
-use Rattle.kr_opening.specs.declared.opening_board.StartNo.TheVariants.{Stray, OtherSecret, Unfit, NoMemory}
+use Rattle.kr_opening.specs.declared.opening_board.StartNo.TheVariants.{Unfit, NoMemory}
 use Rattle.kr_opening.specs.Starts.{opening_generations, AllFit, IsUnfit}
 use Rattle.kr_opening.specs.inner.OpeningBoards.{Admits, TakesUp, TakesAllUp}
 use Rattle.kr_judge.proofs.Lacking.{reads_own}
@@ -98,6 +98,12 @@ fit_gap rs needs f = record {
           (none-some rows e)
     ]
 
+reads_as : {x y one other : List ConfigEntry} (class : Class) → x ≡ one → y ≡ other
+    → ReadsWriter (class_list x class) (class_list y class)
+    → ReadsWriter (class_list one class) (class_list other class)
+reads_as class e f reads = subst (λ (r : List ConfigEntry × List ConfigEntry).
+    ReadsWriter (class_list r.0 class) (class_list r.1 class)) (λ i. (e i, f i)) reads
+
 fit_more : (rs : List (Option (List ConfigEntry))) (needs : List Need) (i : ℕ) (rows : List ConfigEntry)
     → length rs ≤ i → AreReadable needs (opening_generations 0 rs) i rows → AllFit rs needs
     → AllFit (rs ++ Some rows ∷ []) needs
@@ -113,21 +119,13 @@ fit_more rs needs i rows l p f = record {
     by a b class (inl ca) (inl cb) = f.writers a b class ca cb
     by a b class (inl ca) (inr eb) =
         let t = taken_there 0 i rs a (omega (arith, l)) ca in
-        subst (λ (r : List ConfigEntry). ReadsWriter (class_list r class) (class_list a class))
-        (same_Some rows b eb)
-        (subst (λ (r : List ConfigEntry). ReadsWriter (class_list rows class) (class_list r class)) t.3
-        (p.is_read t.0 t.1 t.2 class))
+        reads_as class (same_Some rows b eb) t.3 (p.is_read t.0 t.1 t.2 class)
     by a b class (inr ea) (inl cb) =
         let t = taken_there 0 i rs b (omega (arith, l)) cb in
-        subst (λ (r : List ConfigEntry). ReadsWriter (class_list b class) (class_list r class))
-        (same_Some rows a ea)
-        (subst (λ (r : List ConfigEntry). ReadsWriter (class_list r class) (class_list rows class)) t.3
-        (p.reads t.0 t.1 t.2 class))
+        reads_as class t.3 (same_Some rows a ea) (p.reads t.0 t.1 t.2 class)
     by a b class (inr ea) (inr eb) =
-        subst (λ (r : List ConfigEntry). ReadsWriter (class_list b class) (class_list r class))
-        (same_Some rows a ea)
-        (subst (λ (r : List ConfigEntry). ReadsWriter (class_list r class) (class_list rows class))
-        (same_Some rows b eb) (reads_own (class_list rows class)))
+        reads_as class (same_Some rows b eb) (same_Some rows a ea)
+        (reads_own (class_list rows class))
 
     kept : (a : List ConfigEntry) (need : Need) → Contains needs need
         → Contains rs (Some a) ⊎ (Some rows ≡ Some a) → Contains (list_of a need.resource) need.who
@@ -208,8 +206,6 @@ stops_at : (replicas : List (Option Settings)) (old now next : BoardState) (i : 
     (why : StartNo) → AreTaken (rows_in replicas) old now i → i < length replicas
     → Some s ≡ get_or replicas i (Some s) → Admits i (rows_of s.entries.0) now next (Err why)
     → TakesAllUp (rows_in replicas) old next (Err why)
-stops_at replicas old now next i s (Stray path) t l e w = absurd w
-stops_at replicas old now next i s (OtherSecret path) t l e w = absurd w
 stops_at replicas old now next i s NoMemory t l e w = tt
 stops_at replicas old now next i s (Unfit other verdict) t l e w =
     let rows = rows_of s.entries.0 in
@@ -223,6 +219,7 @@ stops_at replicas old now next i s (Unfit other verdict) t l e w =
       verdict_is = v.1;
       refused = v.2;
     })
+stops_at replicas old now next i s other t l e w = absurd w
 
 pub taken_step : (replicas : List (Option Settings)) (old now next : BoardState) (i : ℕ)
     (o : Option Settings) → AreTaken (rows_in replicas) old now i → i < length replicas

@@ -1,5 +1,5 @@
 -- Going through the live rows by paths: what stands on the board, and that the walk ends.
-use Rattle.std.proofs.Common.{◌≡◌, ◌≢◌, ℕ, zero, suc, ◌<◌, ◌≤◌, Bool, true, false, cond, List, [], ◌∷◌, ◌++◌, get_or, count_by, is_some, Option, None, Some, Ok, Err, IsSome, refl, sym, ap, subst, ◌∙◌, arith, ◌⊎◌, inl, inr}
+use Rattle.std.proofs.Common.{◌≡◌, ◌≢◌, ℕ, zero, suc, ◌<◌, ◌≤◌, ◌+◌, Bool, true, false, cond, List, [], ◌∷◌, ◌++◌, get_or, count_by, is_some, Option, None, Some, Ok, Err, IsSome, refl, sym, ap, subst, ◌∙◌, arith, ◌⊎◌, inl, inr}
 use Rattle.std.specs.Prelude.{if◌then◌else◌}
 use Rattle.std.specs.List.{slice_get}
 use Rattle.std.specs.Option.{option_map}
@@ -29,7 +29,7 @@ use Rattle.kr_judge.specs.declared.need.Need.{Need}
 use Rattle.kr_judge.specs.Boards.{AreByPath, BoardState, set_need}
 use Rattle.kr_judge.proofs.Needs.{sorted_nil, sorted_set}
 use Rattle.kr_opening.specs.declared.opening_board.StartNo.{StartNo}
-use Rattle.kr_opening.specs.declared.opening_board.StartNo.TheVariants.{Stray, OtherSecret, Unfit, NoMemory}
+use Rattle.kr_opening.specs.declared.opening_board.StartNo.TheVariants.{Stray, NoMemory}
 use Rattle.kr_opening.specs.Checks.{keeps_check}
 use Rattle.kr_opening.specs.inner.OpeningBoards.{IsStrayOf, Notes, NotesAll, first_other, no_other}
 use Rattle.kr_opening.specs.Needs.{provider_of, need_of, needs_of, HasNoStray, IsOtherSecret}
@@ -256,42 +256,29 @@ module _ {X : Type 0} (p q : X → Bool) (fewer : (x : X) → q x ≡ true → p
       by true e = subst (λ b. 1 ≤ cond b 1 0) (sym (fewer x e)) (omega arith)
       by false e = omega arith
 
+  -- one element more
+  counts_more : (x : X) (xs : List X)
+      → (count_by q (x ∷ xs) ≡ cond (q x) 1 0 + count_by q xs)
+      × (count_by p (x ∷ xs) ≡ cond (p x) 1 0 + count_by p xs)
+  counts_more x xs =
+      (sum_by-cons (λ y. cond (q y) 1 0) x xs, sum_by-cons (λ y. cond (p y) 1 0) x xs)
+
   count_le : (xs : List X) → count_by q xs ≤ count_by p xs
   count_le [] = omega arith
-  count_le (x ∷ xs) = omega (
-    arith,
-    sum_by-cons (λ y. cond (q y) 1 0) x xs,
-    sum_by-cons
-        (λ y. cond (p y) 1 0) x xs,
-    unit_le x,
-    count_le xs,
-  )
+  count_le (x ∷ xs) =
+      let more = counts_more x xs in omega (arith, more.0, more.1, unit_le x, count_le xs)
 
   pub count_less : (xs : List X) (i : ℕ) (x : X) → slice_get xs i ≡ Some x → p x ≡ true
       → q x ≡ false → count_by q xs < count_by p xs
   count_less [] i x e h n = absurd (none-some x e)
   count_less (y ∷ ys) zero x e h n =
       let s : y ≡ x = same_Some y x e in
-      let a = ap {B = ℕ} (λ b. cond b 1 0) (ap p s ∙ h) in let b =
-      ap {B = ℕ} (λ b. cond b 1 0) (ap q s ∙ n) in
-      omega (
-        arith,
-        sum_by-cons (λ z. cond (q z) 1 0) y ys,
-        sum_by-cons
-            (λ z. cond (p z) 1 0) y ys,
-        a,
-        b,
-        count_le ys,
-      )
+      let a = ap {B = ℕ} (λ b. cond b 1 0) (ap p s ∙ h) in
+      let b = ap {B = ℕ} (λ b. cond b 1 0) (ap q s ∙ n) in
+      let more = counts_more y ys in omega (arith, more.0, more.1, a, b, count_le ys)
   count_less (y ∷ ys) (suc i) x e h n =
-      omega (
-        arith,
-        sum_by-cons (λ z. cond (q z) 1 0) y ys,
-        sum_by-cons
-            (λ z. cond (p z) 1 0) y ys,
-        unit_le y,
-        count_less ys i x e h n,
-      )
+      let more = counts_more y ys in
+      omega (arith, more.0, more.1, unit_le y, count_less ys i x e h n)
 
 pub lt_is : (a b : List ℕ) → is_lt (name_cmp a b) ≡ true → name_cmp a b ≡ Less
 lt_is a b e = by (name_cmp a b) e
@@ -349,9 +336,8 @@ pub note_stray : (first : List ConfigEntry) (row : stored_row.Row) (b : BoardSta
     → provider_of first row.resource row.stored ≡ None
     → Notes first row b b (Err why)
 note_stray first row b path (Stray own) s e none = (s ∙ e, none)
-note_stray first row b path (OtherSecret own) s e none = absurd s
-note_stray first row b path (Unfit replica verdict) s e none = absurd s
 note_stray first row b path NoMemory s e none = tt
+note_stray first row b path other s e none = absurd s
 
 -- ---- the first other secret
 
@@ -424,11 +410,8 @@ note_stops first rows start now next after asked row seen (Stray path) noted is 
     subst (λ p. IsLeastStray first rows p) (sym m.0)
     (stray_next first rows after now.needs row noted
     (subst (λ p. IsNext rows p (Some row)) asked_is is) m.1)
-note_stops first rows start now next after asked row seen (OtherSecret path) noted is asked_is
-    seen_is n = absurd n
-note_stops first rows start now next after asked row seen (Unfit replica verdict) noted is asked_is
-    seen_is n = absurd n
 note_stops first rows start now next after asked row seen NoMemory noted is asked_is seen_is n = tt
+note_stops first rows start now next after asked row seen other noted is asked_is seen_is n = absurd n
 
 -- ---- the loop
 

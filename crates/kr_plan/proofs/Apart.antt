@@ -1,5 +1,5 @@
 -- Merged lists have no prefix twice, where there is no clash.
-use Rattle.std.proofs.Common.{◌≡◌, ℕ, Bool, true, false, List, [], ◌∷◌, ◌++◌, Contains, None, Some, Option, refl, sym, ap, subst, ◌∙◌, ◌⊎◌, inl, inr, arith}
+use Rattle.std.proofs.Common.{◌≡◌, ℕ, Bool, true, false, List, [], ◌∷◌, ◌++◌, Contains, None, Some, refl, sym, ap, subst, ◌∙◌, inl, inr, arith}
 use Rattle.std.specs.Prelude.{◌&&◌, not, cond}
 use Rattle.std.specs.List.{filter, find, list_all, list_any}
 use Rattle.std.specs.Str.{bytes_eq}
@@ -14,11 +14,11 @@ use Rattle.kr_config.specs.Kept.{apart}
 use Rattle.kr_config.specs.Providers.{rivals}
 use Rattle.kr_config.proofs.Inversions.{both, left, right}
 use Rattle.kr_judge.specs.Providers.{has, same_who}
-use Rattle.kr_judge.proofs.Lists.{here, there, cases}
+use Rattle.kr_config.proofs.ListParts.{here, there, cases}
 use Rattle.kr_judge.proofs.Members.{is_one, itself}
 use Rattle.kr_plan.specs.Merges.{merge}
 use Rattle.kr_plan.specs.Plans.{clash, first_clash}
-use Rattle.kr_plan.proofs.Merged.{from_passed}
+use Rattle.kr_judge.proofs.Lacking.{filtered}
 
 -- ---- lists of which no two clash
 
@@ -107,21 +107,10 @@ eq_turn a b h = (bytes_eq-Decides b a).1 (sym ((bytes_eq-Decides a b).0 h))
 
 rivals_turn : (a b : Who) → rivals a b ≡ true → rivals b a ≡ true
 rivals_turn Identity Identity h = refl
-rivals_turn Identity (Aescbc b t) h = h
-rivals_turn Identity (Aesgcm b t) h = h
-rivals_turn Identity (Kms b) h = h
-rivals_turn (Aescbc a s) Identity h = h
 rivals_turn (Aescbc a s) (Aescbc b t) h = eq_turn a b h
-rivals_turn (Aescbc a s) (Aesgcm b t) h = h
-rivals_turn (Aescbc a s) (Kms b) h = h
-rivals_turn (Aesgcm a s) Identity h = h
-rivals_turn (Aesgcm a s) (Aescbc b t) h = h
 rivals_turn (Aesgcm a s) (Aesgcm b t) h = eq_turn a b h
-rivals_turn (Aesgcm a s) (Kms b) h = h
-rivals_turn (Kms a) Identity h = h
-rivals_turn (Kms a) (Aescbc b t) h = h
-rivals_turn (Kms a) (Aesgcm b t) h = h
 rivals_turn (Kms a) (Kms b) h = eq_turn a b h
+rivals_turn other another h = h
 
 pub same_turn : (a b : Who) → same_who a b ≡ true → same_who b a ≡ true
 same_turn a b h = subst (λ w. same_who w a ≡ true) (is_one a b h) (itself a)
@@ -158,7 +147,7 @@ merged_apart one other a b none =
     by x y m n true e =
         let new : Who → Bool = λ who. not (has one who) in
         let same : same_who x y ≡ true =
-        then_true (rivals x y) (same_who x y) (none x y m (from_passed new other y n)) e in
+        then_true (rivals x y) (same_who x y) (none x y m (filtered new other y n).0) e in
         let there_too : has one y ≡ true =
         list_any_at (λ own. same_who own y) one m.0 x m.1
         (ap (λ own. same_who own y) m.2 ∙ same) in

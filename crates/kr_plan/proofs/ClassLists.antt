@@ -8,7 +8,7 @@ use Rattle.kr_config.specs.Kept.{ConfigEntry}
 use Rattle.kr_config.specs.Lists.{class_list}
 use Rattle.kr_config.proofs.ClassEntries.{narrow, narrows, made_list}
 use Rattle.kr_judge.specs.Tables.{table_of}
-use Rattle.kr_judge.proofs.Lists.{here, there}
+use Rattle.kr_config.proofs.ListParts.{here, there}
 use Rattle.kr_judge.proofs.Tables.{is_table}
 use Rattle.kr_plan.specs.Laws.{MergesEachClass}
 use Rattle.kr_plan.specs.Merges.{merge, merged_list, merged_rows}

@@ -29,7 +29,8 @@ use Rattle.kr_config.specs.Providers.{is_provider, is_key, is_kms, rivals}
 use Rattle.kr_config.proofs.Inversions.{both, left, right}
 use Rattle.kr_judge.specs.Providers.{has}
 use Rattle.kr_judge.specs.Tables.{in_order, table_of}
-use Rattle.kr_judge.proofs.Lists.{cases, filtered_none, map_empty, mapped_none, option_none}
+use Rattle.kr_config.proofs.ListParts.{cases}
+use Rattle.kr_judge.proofs.Lists.{filtered_none, map_empty, mapped_none, option_none}
 use Rattle.kr_judge.proofs.Tables.{is_table}
 use Rattle.kr_plan.specs.Merges.{merge, merged_list, merged_rows, classes_of, wide_rows, turned_rows}
 use Rattle.kr_plan.specs.declared.refusal.PlanNo.TheVariants.{SecretClash, TooMany}
@@ -236,14 +237,15 @@ counts_turn p (class ∷ classes) one other a b =
 
 -- ---- the settings of both phases
 
+wide_long : (from to : List ConfigEntry) → length (wide_rows from to) ≡ length (classes_of from to)
+wide_long from to = length-map (classes_of from to) (class_row (merged_list from to))
+
 pub wide_keeps : (from to : List ConfigEntry) → keeps from ≡ true → keeps to ≡ true
     → clash_reasons (clashes_at (classes_of from to) from to) ≡ []
     → IsWithin (wide_rows from to) → keeps (wide_rows from to) ≡ true
 wide_keeps from to a b none few =
     let classes : List Class = classes_of from to in
-    let long : length (wide_rows from to) ≡ length classes =
-    length-map classes (class_row (merged_list from to)) in
-    whole classes from to (rest_in (from ∷ to ∷ [])) (omega (arith, long, few.entries))
+    whole classes from to (rest_in (from ∷ to ∷ [])) (omega (arith, wide_long from to, few.entries))
     (rows_keep classes from to a b (formed from to a b) (unclashed classes from to none)) few.keys
     few.plugins
 
@@ -252,11 +254,9 @@ pub turned_keeps : (from to : List ConfigEntry) → keeps from ≡ true → keep
     → IsWithin (wide_rows from to) → keeps (turned_rows from to) ≡ true
 turned_keeps from to a b none few =
     let classes : List Class = classes_of from to in
-    let long : length (wide_rows from to) ≡ length classes =
-    length-map classes (class_row (merged_list from to)) in
     let keys = counts_turn is_key classes from to a b in
     let plugins = counts_turn is_kms classes from to a b in
-    whole classes to from (rest_in (from ∷ to ∷ [])) (omega (arith, long, few.entries))
+    whole classes to from (rest_in (from ∷ to ∷ [])) (omega (arith, wide_long from to, few.entries))
     (rows_keep classes to from b a (formed from to a b)
     (turn_unclashed classes from to (unclashed classes from to none)))
     (omega (arith, keys, few.keys)) (omega (arith, plugins, few.plugins))
@@ -280,8 +280,7 @@ order_long (c ∷ cs) = omega (arith, insert_long c (in_order cs), order_long cs
 
 made_long : (p : Pattern) → length (class_made p) ≤ 1
 made_long (pattern.Exact text) = omega arith
-made_long (pattern.Group group) = omega arith
-made_long pattern.All = omega arith
+made_long other = omega arith
 
 all_long : (ps : List Pattern) → length (classes_made ps) ≤ length ps
 all_long [] = omega arith
@@ -368,13 +367,11 @@ merged_most p (class ∷ classes) one other most none a b =
 
 no_key : (class : Class) → count_by is_key (class_list [] class) ≤ 64
 no_key (Exact text) = omega arith
-no_key (Group group) = omega arith
-no_key Rest = omega arith
+no_key other = omega arith
 
 no_plugin : (class : Class) → count_by is_kms (class_list [] class) ≤ 16
 no_plugin (Exact text) = omega arith
-no_plugin (Group group) = omega arith
-no_plugin Rest = omega arith
+no_plugin other = omega arith
 
 pub record IsSmall (rows : List ConfigEntry) : Type 0 where
   pub entries : length rows < 2 ^ 32
@@ -385,14 +382,12 @@ pub wide_small : (from to : List ConfigEntry) → keeps from ≡ true → keeps 
     → IsSmall (wide_rows from to)
 wide_small from to a b =
     let classes : List Class = classes_of from to in
-    let long : length (wide_rows from to) ≡ length classes =
-    length-map classes (class_row (merged_list from to)) in
     let most = table_long from to a b in
     let keys = merged_most is_key classes from to 64 no_key (few_keys from a) (few_keys to b) in
     let plugins =
     merged_most is_kms classes from to 16 no_plugin (few_plugins from a) (few_plugins to b) in
     record {
-      entries = omega (arith, long, most);
+      entries = omega (arith, wide_long from to, most);
       keys = omega (arith, keys, most);
       plugins = omega (arith, plugins, most);
     }

@@ -1,43 +1,17 @@
 -- The members of merged lists.
-use Rattle.std.proofs.Common.{◌≡◌, Bool, true, false, List, [], ◌∷◌, ◌++◌, Contains, Option, None, Some, refl, sym, ap, subst, ◌∙◌, ◌⊎◌, inl, inr, arith}
-use Rattle.std.specs.Prelude.{not, cond}
+use Rattle.std.proofs.Common.{◌≡◌, Bool, true, false, List, [], ◌∷◌, Contains, Some, refl, ap, ◌⊎◌, inl, inr}
+use Rattle.std.specs.Prelude.{not}
 use Rattle.std.specs.List.{filter}
 use Rattle.std.proofs.lemmas.List.Elements.{Contains-append_left, Contains-append_right, Contains-append_cases}
 use Rattle.std.proofs.lemmas.Option.{none-some, same_Some}
 use Rattle.kr_config.specs.declared.who.Who.{Who}
 use Rattle.kr_judge.specs.Providers.{has}
 use Rattle.kr_judge.specs.Verdicts.{first}
-use Rattle.kr_judge.proofs.Lists.{here, there, cases, head_is}
+use Rattle.kr_judge.proofs.Lacking.{filtered, passing}
+use Rattle.kr_judge.proofs.Lists.{head_is}
 use Rattle.kr_judge.proofs.Members.{has_members}
 use Rattle.kr_plan.specs.Laws.{MergesMembers}
 use Rattle.kr_plan.specs.Merges.{merge}
-
--- a member that passes a test is among those that do
-pub passed : {X : Type 0} (test : X → Bool) (xs : List X) (x : X) → Contains xs x → test x ≡ true
-    → Contains (filter test xs) x
-passed test [] x m t = absurd (omega (arith, m.1))
-passed test (y ∷ ys) x m t = by (test y) refl (λ n. passed test ys x n t) (cases y x ys m)
-  where
-    by : (v : Bool) → test y ≡ v → (Contains ys x → Contains (filter test ys) x)
-        → (y ≡ x) ⊎ Contains ys x → Contains (cond v (y ∷ filter test ys) (filter test ys)) x
-    by true e rest (inl q) = head_is y x (filter test ys) q
-    by true e rest (inr n) = there y x (filter test ys) (rest n)
-    by false e rest (inl q) = absurd (let k : true ≡ false = sym t ∙ ap test (sym q) ∙ e in cc)
-    by false e rest (inr n) = rest n
-
--- and those that do are members
-pub from_passed : {X : Type 0} (test : X → Bool) (xs : List X) (x : X) → Contains (filter test xs) x
-    → Contains xs x
-from_passed test [] x m = m
-from_passed test (y ∷ ys) x m = by (test y) (from_passed test ys x) m
-  where
-    by : (v : Bool) → (Contains (filter test ys) x → Contains ys x)
-        → Contains (cond v (y ∷ filter test ys) (filter test ys)) x → Contains (y ∷ ys) x
-    by true rest k = elim (cases y x (filter test ys) k) [
-      | inl q ↦ head_is y x ys q
-      | inr n ↦ there y x ys (rest n)
-    ]
-    by false rest k = there y x ys (rest k)
 
 pub in_one : (one other : List Who) (who : Who) → Contains one who → Contains (merge one other) who
 in_one one other who m =
@@ -50,14 +24,14 @@ in_other one other who m = by (has one who) refl
     by : (v : Bool) → has one who ≡ v → Contains (merge one other) who
     by true t = in_one one other who ((has_members one who).0 t)
     by false f = Contains-append_right one (filter (λ own. not (has one own)) other) who
-        (passed (λ own. not (has one own)) other who m (ap not f))
+        (passing (λ own. not (has one own)) other who m (ap not f))
 
 pub in_either : (one other : List Who) (who : Who) → Contains (merge one other) who
     → Contains one who ⊎ Contains other who
 in_either one other who m =
     elim (Contains-append_cases one (filter (λ own. not (has one own)) other) who m) [
       | inl k ↦ inl k
-      | inr k ↦ inr (from_passed (λ own. not (has one own)) other who k)
+      | inr k ↦ inr (filtered (λ own. not (has one own)) other who k).0
     ]
 
 turns : (one other : List Who) (who : Who) → Contains (merge one other) who

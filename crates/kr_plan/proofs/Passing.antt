@@ -1,5 +1,5 @@
 -- No reload of a plan is refused.
-use Rattle.std.proofs.Common.{◌≡◌, ℕ, ◌+◌, Bool, true, false, List, [], ◌∷◌, Contains, refl, sym, ap, subst, ◌∙◌, ◌⊎◌, inl, inr, arith}
+use Rattle.std.proofs.Common.{◌≡◌, ℕ, Bool, true, false, List, Contains, Some, refl, sym, ap, subst, ◌∙◌, ◌⊎◌, inl, inr}
 use Rattle.std.specs.Prelude.{◌&&◌, ◌||◌, ◌==◌, not, nat_lt}
 use Rattle.std.specs.List.{filter}
 use Rattle.std.proofs.lemmas.Bool.{ltb-true}
@@ -16,24 +16,16 @@ use Rattle.kr_judge.specs.declared.verdict.Verdict.TheVariants.{Pass}
 use Rattle.kr_judge.specs.Boards.{GenerationState, is_live, is_replica_current}
 use Rattle.kr_judge.specs.Fits.{ReadsWriter}
 use Rattle.kr_judge.specs.Verdicts.{first, verdict_of, with_numbers, is_other, others}
-use Rattle.kr_judge.proofs.Lists.{there, cases, head_is}
+use Rattle.kr_judge.proofs.Lacking.{filtered, numbered}
 use Rattle.kr_judge.proofs.Passing.{passes_exactly}
 use Rattle.kr_plan.specs.Laws.{WidePasses, TurnedPasses, TargetPasses}
 use Rattle.kr_plan.specs.Merges.{merge, wide_rows, turned_rows}
 use Rattle.kr_plan.specs.Rollouts.{IsBetween, GivesEither}
 use Rattle.kr_plan.proofs.ClassLists.{merges_each_class}
 use Rattle.kr_config.proofs.KeptLists.{full_list}
-use Rattle.kr_plan.proofs.Merged.{from_passed, in_one, first_member, first_merged, merges_members}
+use Rattle.kr_plan.proofs.Merged.{in_one, first_member, first_merged, merges_members}
 
 -- ---- live generations
-
-numbered : (number : ℕ) (generations : List GenerationState) (other : ℕ × GenerationState)
-    → Contains (with_numbers number generations) other → Contains generations other.1
-numbered number [] other m = absurd (omega (arith, m.1))
-numbered number (g ∷ gs) other m = elim (cases (number, g) other (with_numbers (number + 1) gs) m) [
-  | inl e ↦ head_is g other.1 gs (ap (λ (p : ℕ × GenerationState). p.1) e)
-  | inr n ↦ there g other.1 gs (numbered (number + 1) gs other n)
-]
 
 other_there : (replica : ℕ) (generations : List GenerationState) (other : ℕ × GenerationState)
     → Contains (others replica generations) other
@@ -42,7 +34,7 @@ unfolding others
 other_there replica generations other m =
     let test : ℕ × GenerationState → Bool = λ n. is_other replica n.1 in
     let those : List (ℕ × GenerationState) = with_numbers 0 generations in (
-      numbered 0 generations other (from_passed test those other m),
+      numbered 0 generations other (filtered test those other m).0,
       left (is_live other.1) (not ((other.1.replica == replica)
           && (other.1.current && (other.1.holders == 0))))
           (All-contains (λ n. test n ≡ true) (filter test those) other (filter_passes test those) m),
@@ -95,6 +87,23 @@ module _ (one other : List ConfigEntry) (needs : List Need) (generations : List 
 
 -- ---- the phases
 
+-- a list of which new settings have each member, and that has their writer, goes with them
+wider_read : (old rows : List ConfigEntry) (list : List Who) (class : Class)
+    → list ≡ class_list old class
+    → ((who : Who) → Contains (class_list old class) who → Contains (class_list rows class) who)
+    → ((who : Who) → first (class_list rows class) ≡ Some who → Contains (class_list old class) who)
+    → ReadsWriter list (class_list rows class) × ReadsWriter (class_list rows class) list
+wider_read old rows list class own wider back = (
+  λ who f. wider who (first_member (class_list old class) who (ap first (sym own) ∙ f)),
+  λ who f. subst (λ l. Contains l who) (sym own) (back who f),
+)
+
+-- as does their own
+same_read : (rows : List ConfigEntry) (list : List Who) (class : Class) → list ≡ class_list rows class
+    → ReadsWriter list (class_list rows class) × ReadsWriter (class_list rows class) list
+same_read rows list class own =
+    wider_read rows rows list class own (λ who m. m) (first_member (class_list rows class))
+
 pub wide_passes : WidePasses
 wide_passes from to needs generations replica kept between =
     let wide : List ConfigEntry = wide_rows from to in
@@ -111,18 +120,10 @@ wide_passes from to needs generations replica kept between =
       | inr k ↦ k
     ])
     (λ list class e. elim e [
-      | inl own ↦ (
-        λ who f. widens class who
-            (first_member (class_list from class) who (ap first (sym own) ∙ f)),
-        λ who f. subst (λ l. Contains l who) (sym own)
-            (first_merged (class_list from class) (class_list to class) who
-            (full_list from class kept) (ap first (sym (at class)) ∙ f)),
-      )
-      | inr own ↦ (
-        λ who f. first_member (class_list wide class) who (ap first (sym own) ∙ f),
-        λ who f. subst (λ l. Contains l who) (sym own)
-            (first_member (class_list wide class) who f),
-      )
+      | inl own ↦ wider_read from wide list class own (widens class)
+          (λ who f. first_merged (class_list from class) (class_list to class) who
+          (full_list from class kept) (ap first (sym (at class)) ∙ f))
+      | inr own ↦ same_read wide list class own
     ])
 
 pub turned_passes : TurnedPasses
@@ -151,17 +152,9 @@ turned_passes from to needs generations replica between =
       | inr k ↦ k
     ])
     (λ list class e. elim e [
-      | inl own ↦ (
-        λ who f. turn class who
-            (first_member (class_list wide class) who (ap first (sym own) ∙ f)),
-        λ who f. subst (λ l. Contains l who) (sym own)
-            (back class who (first_member (class_list turned class) who f)),
-      )
-      | inr own ↦ (
-        λ who f. first_member (class_list turned class) who (ap first (sym own) ∙ f),
-        λ who f. subst (λ l. Contains l who) (sym own)
-            (first_member (class_list turned class) who f),
-      )
+      | inl own ↦ wider_read wide turned list class own (turn class)
+          (λ who f. back class who (first_member (class_list turned class) who f))
+      | inr own ↦ same_read turned list class own
     ])
 
 pub target_passes : TargetPasses

@@ -1,12 +1,11 @@
 -- The board of a state in the midst of a planned rollout.
-use Rattle.std.proofs.Common.{◌≡◌, ℕ, zero, suc, ◌+◌, ◌<◌, Bool, true, false, cond, List, [], ◌∷◌, Contains, Option, None, Some, IsSome, refl, sym, ap, subst, ◌∙◌, inl, inr, arith, count_by}
+use Rattle.std.proofs.Common.{◌≡◌, ℕ, suc, ◌+◌, ◌<◌, Bool, true, false, cond, List, [], ◌∷◌, Contains, Option, None, Some, IsSome, refl, sym, ap, subst, ◌∙◌, inl, inr, arith, count_by}
 use Rattle.std.specs.Prelude.{◌&&◌, ◌||◌, ◌==◌, nat_lt}
 use Rattle.std.specs.List.{list_any, slice_get}
 use Rattle.std.specs.Option.{option_map}
 use Rattle.std.proofs.lemmas.Bool.{eq-eqb, eqb-true, ltb-true}
 use Rattle.std.proofs.lemmas.List.Folds.{Any-from_list_any, list_any_at}
 use Rattle.std.proofs.lemmas.List.Sums.{sum_by-cons}
-use Rattle.std.proofs.lemmas.Option.{none-some, same_Some}
 use Rattle.kr_config.specs.Kept.{ConfigEntry}
 use Rattle.kr_provider.specs.Publication.{Publication}
 use Rattle.kr_judge.specs.Boards.{GenerationState, is_live, is_replica_current}
@@ -20,55 +19,11 @@ use Rattle.kr_rollout.specs.declared.opening.Opening.{Opening}
 use Rattle.kr_rollout.specs.Entries.{published_at}
 use Rattle.kr_rollout.specs.Fits.{IsFit}
 use Rattle.kr_rollout.specs.Histories.{state_of}
-use Rattle.kr_rollout.specs.States.{State, current_of, held_by, is_number, judged_generation, judged_generations, board_generations, IsLive, IsLiveNumber}
+use Rattle.kr_rollout.specs.States.{State, current_of, held_by, is_number, judged_generation, board_generations, IsLive, IsLiveNumber}
 use Rattle.kr_history.proofs.Fitting.{legal_sound}
-use Rattle.kr_history.proofs.Sound.{IsSound, at_there, contains_at}
+use Rattle.kr_history.proofs.Sound.{IsSound, at_there, contains_at, judged_at, judged_there}
 use Rattle.kr_plan_laws.specs.PlannedLaws.{WideIsNotRefused, TurnedIsNotRefused, TargetIsNotRefused}
 use Rattle.kr_plan_laws.specs.PlannedStates.{IsMidway}
-
--- ---- the generations that are judged
-
-record IsJudgedAt (current held : List (Option ℕ)) (k : ℕ) (gs : List Generation)
-    (own : GenerationState) : Type 0 where
-  number : ℕ
-  generation : Generation
-  there : slice_get gs number ≡ Some generation
-  is : judged_generation current held (k + number) generation ≡ own
-
-judged_at : (current held : List (Option ℕ)) (k : ℕ) (gs : List Generation) (own : GenerationState)
-    → Contains (judged_generations current held k gs) own → IsJudgedAt current held k gs own
-judged_at current held k [] own c = absurd (omega (arith, c.1))
-judged_at current held k (g ∷ gs) own (zero, l, e) = record {
-  number = 0;
-  generation = g;
-  there = refl;
-  is = ap (λ n. judged_generation current held n g) (omega arith) ∙ e;
-}
-judged_at current held k (g ∷ gs) own (suc i, l, e) =
-    let r = judged_at current held (k + 1) gs own (i, omega arith, e) in
-    record {
-      number = suc r.number;
-      generation = r.generation;
-      there = r.there;
-      is = ap (λ n. judged_generation current held n r.generation) (omega arith) ∙ r.is;
-    }
-
-judged_there : (current held : List (Option ℕ)) (k i : ℕ) (gs : List Generation) (g : Generation)
-    → slice_get gs i ≡ Some g
-    → Contains (judged_generations current held k gs) (judged_generation current held (k + i) g)
-judged_there current held k i [] g e = absurd (none-some g e)
-judged_there current held k zero (x ∷ gs) g e = (
-  0,
-  omega arith,
-  ap (judged_generation current held k) (same_Some x g e)
-      ∙ ap (λ n. judged_generation current held n g) (omega arith),
-)
-judged_there current held k (suc i) (x ∷ gs) g e =
-    let r = judged_there current held (k + 1) i gs g e in
-    let n : k + 1 + i ≡ k + suc i = omega arith in
-    subst (λ m. Contains (judged_generations current held k (x ∷ gs))
-    (judged_generation current held m g)) n
-    (suc r.0, omega (arith, r.1), r.2)
 
 -- ---- numbers
 

@@ -19,7 +19,7 @@ use Rattle.kr_judge.specs.Lacks.{IsLiveIn, IsLiveBeside, given_to}
 use Rattle.kr_judge.specs.LiveFits.{AreFit}
 use Rattle.kr_judge.specs.Verdicts.{first, verdict_of}
 use Rattle.kr_judge.proofs.Lacking.{mapped, image, passes_where_all_fit}
-use Rattle.kr_judge.proofs.Lists.{here, cases}
+use Rattle.kr_config.proofs.ListParts.{here, cases}
 use Rattle.kr_plan.specs.Merges.{merge, wide_rows, turned_rows}
 use Rattle.kr_plan.specs.Rollouts.{IsBetween, GivesEither}
 use Rattle.kr_plan.proofs.ClassLists.{merges_each_class}

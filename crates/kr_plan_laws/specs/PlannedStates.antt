@@ -1,5 +1,5 @@
 -- States in the midst of a planned rollout.
-use Rattle.std.specs.Prelude.{◌≡◌, ℕ, List, Contains, Option, Some, IsSome}
+use Rattle.std.specs.Prelude.{◌≡◌, ℕ, List, Contains, Some, IsSome}
 use Rattle.std.specs.List.{slice_get}
 use Rattle.std.specs.Option.{option_map}
 use Rattle.kr_config.specs.declared.class.Class.{Class}

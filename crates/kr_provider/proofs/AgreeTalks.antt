@@ -3,7 +3,7 @@ use Rattle.std.proofs.Common.{◌≡◌, ℕ, Bool, true, false, List, Option, S
 use Rattle.std.specs.Str.{bytes_eq}
 use Rattle.std.proofs.lemmas.List.Elements.{All-nil, All-cons}
 use Rattle.kr_config.specs.declared.who.Who.{Who}
-use Rattle.kr_config.specs.declared.who.Who.TheVariants.{Identity, Aescbc, Aesgcm, Kms}
+use Rattle.kr_config.specs.declared.who.Who.TheVariants.{Kms}
 use Rattle.kr_envelope.specs.declared.object.EncryptedObject.{EncryptedObject}
 use Rattle.kr_envelope.specs.declared.object.ObjectNo.{ObjectNo}
 use Rattle.kr_kms.specs.Cache.{AreOpenBy, CacheState, key_eq}
@@ -87,12 +87,9 @@ module _ (opens : Opens) where
 
     unasked_envelope : OpenAll opens seeds → (reader : Option Who) (envelope : Envelope) → HasObject reader bytes envelope.object
         → TakesSeed seeds reader envelope → HasNoSource envelope → (MayAskPlugin seeds reader envelope.object → ⊥) → HasEnvelope opens reader bytes envelope
-    unasked_envelope all None envelope has takes none n = tt
-    unasked_envelope all (Some Identity) envelope has takes none n = tt
-    unasked_envelope all (Some (Aescbc name secret)) envelope has takes none n = tt
-    unasked_envelope all (Some (Aesgcm name secret)) envelope has takes none n = tt
     unasked_envelope all (Some (Kms name)) envelope has takes none n =
         (has, source_is all name envelope envelope.object refl takes none n)
+    unasked_envelope all other envelope has takes none n = tt
 
     lacking : (name : List ℕ) (why : KmsNo) (result : Result Opened UnsealNo) → LacksSource name why result → IsAnswerBy opens seeds list path bytes result
     lacking name kms.Failed result e = subst (IsAnswerBy opens seeds list path bytes) (sym e) tt

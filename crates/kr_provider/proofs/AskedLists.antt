@@ -54,22 +54,20 @@ module _ {L : Type 0} (link : L → Link) (names : List (List ℕ)) where
       → AskedOnly link names xs zs
   asked_then [] [] [] a b = tt
   asked_then [] [] (z ∷ zs) a b = b
-  asked_then [] (y ∷ ys) zs a b = absurd a
-  asked_then (x ∷ xs) [] zs a b = absurd a
   asked_then (x ∷ xs) (y ∷ ys) [] a b = absurd b
   asked_then (x ∷ xs) (y ∷ ys) (z ∷ zs) a b = (
     same_then (link x) (link y) (link z) a.0 b.0,
     λ n. b.1 (λ c. n (subst (Contains names) a.0.name c)) ∙ a.1 n,
     asked_then xs ys zs a.2 b.2,
   )
+  asked_then other another zs a b = absurd a
 
   pub names_stay : (xs ys : List L) → AskedOnly link names xs ys
       → names_of link ys ≡ names_of link xs
   names_stay [] [] a = refl
-  names_stay [] (y ∷ ys) a = absurd a
-  names_stay (x ∷ xs) [] a = absurd a
   names_stay (x ∷ xs) (y ∷ ys) a = ap (λ n. n ∷ names_of link ys) a.0.name
       ∙ ap (λ l. (link x).name ∷ l) (names_stay xs ys a.2)
+  names_stay other another a = absurd a
 
   pub distinct_stay : (xs ys : List L) → AskedOnly link names xs ys → AreDistinct link xs
       → AreDistinct link ys
@@ -84,8 +82,6 @@ module _ {L : Type 0} (link : L → Link) (names : List (List ℕ)) where
   pub twin : (xs ys : List L) (y : L) → AskedOnly link names xs ys → Contains ys y
       → (x : L) × Contains xs x × IsSameLink (link x) (link y)
   twin [] [] y a c = absurd (omega (arith, c.1))
-  twin [] (z ∷ zs) y a c = absurd a
-  twin (x ∷ xs) [] y a c = absurd a
   twin (x ∷ xs) (z ∷ zs) y a (zero, lt, e) = (
     x,
     (0, omega arith, refl),
@@ -95,6 +91,7 @@ module _ {L : Type 0} (link : L → Link) (names : List (List ℕ)) where
   twin (x ∷ xs) (z ∷ zs) y a (suc k, lt, e) =
       let t = twin xs zs y a.2 (k, omega (arith, lt), e) in
       (t.0, (suc t.1.0, omega (arith, t.1.1), t.1.2), t.2)
+  twin other another y a c = absurd a
 
   -- what a link has that was asked, it had before, where that goes by what stays
   pub had : (name : List ℕ) (Has : Link → Type 0) (xs ys : List L)

@@ -1,5 +1,5 @@
 -- The links of a bench, which serve its configuration after each call.
-use Rattle.std.proofs.Common.{ℕ, List, Option, Some, None, Result, Ok, Err, inl, refl, sym, subst}
+use Rattle.std.proofs.Common.{ℕ, List, Option, Some, None, Result, Err, inl, refl, sym, subst}
 use Rattle.std.specs.Prelude.{IfSome}
 use Rattle.kr_config.specs.declared.who.Who.{Who}
 use Rattle.kr_kms.specs.Calls.{Link}
@@ -11,7 +11,7 @@ use Rattle.kr_provider.specs.Readers.{reader_in}
 use Rattle.kr_provider.specs.Unsealing.{UnsealsBy, plugin_reading}
 use Rattle.kr_provider.specs.declared.refusal.Opened.{Opened}
 use Rattle.kr_provider.specs.declared.refusal.UnsealNo.{UnsealNo}
-use Rattle.kr_provider.specs.declared.refusal.UnsealNo.TheVariants.{Refused, PluginFailed, NoMemory}
+use Rattle.kr_provider.specs.declared.refusal.UnsealNo.TheVariants.{PluginFailed, NoMemory}
 use Rattle.kr_provider.proofs.AskedLists.{asked_none, names_stay}
 
 module _ {L : Type 0} (link : L → Link) where
@@ -25,11 +25,9 @@ module _ {L : Type 0} (link : L → Link) where
       (olds news : List L) (result : Result Opened UnsealNo)
       → UnsealsBy link seeds list path bytes olds result news
       → AskedOnly link (plugin_reading (reader_in list bytes)) olds news
-  unsealed_asks seeds list path bytes olds news (Ok opened) u = u.asked
-  unsealed_asks seeds list path bytes olds news (Err (Refused why)) u = u.asked
   unsealed_asks seeds list path bytes olds news (Err (PluginFailed name)) u =
       subst (λ o. AskedOnly link (plugin_reading o) olds news) (sym u.reader) u.others
-  unsealed_asks seeds list path bytes olds news (Err NoMemory) u = u.asked
+  unsealed_asks seeds list path bytes olds news other u = u.asked
 
   pub unsealed_stay : (resource path bytes : List ℕ) (olds news : List L)
       (o : Option Publication) (result : Result Opened UnsealNo)

@@ -45,9 +45,8 @@ fetched_kept link name found olds news cache after result a source is = (
 pub source_lacks : (found : EncryptedObject) (path source : List ℕ) (why : UnsealNo)
     → GivesSource source (Err why)
     → Gives (source_reading found.kind source path found.encrypted) (Err why)
-source_lacks found path source (Refused why) g = absurd g
-source_lacks found path source (PluginFailed name) g = absurd g
 source_lacks found path source NoMemory g = tt
+source_lacks found path source other g = absurd g
 
 pub source_serves : (found : EncryptedObject) (path source opened : List ℕ)
     (result : Result (List ℕ) UnsealNo) → opened ≡ source

@@ -8,7 +8,7 @@ use Rattle.kr_base.specs.Walks.{Walk}
 use Rattle.kr_config.specs.Kept.{count_entry_keys}
 use Rattle.kr_pages.specs.Pool.{zero_page}
 use Rattle.kr_pages.proofs.Pools.{IsPool-new}
-use Rattle.kr_provider.specs.BenchKeys.{AdoptCall, LetGoCall, SealCall, UnsealCall, KeyIdCall, PublishCall, AdoptsIt, BenchCall, Does, HoldsExactly, PagesFollowCalls, adoption_of, adopted_after_call, after_calls}
+use Rattle.kr_provider.specs.BenchKeys.{AdoptCall, LetGoCall, AdoptsIt, BenchCall, Does, HoldsExactly, PagesFollowCalls, adoption_of, adopted_after_call, after_calls}
 use Rattle.kr_provider.specs.BenchState.{Adoption, BenchState}
 use Rattle.kr_provider.specs.KeyPages.{HoldKeys, KeyPages, free_pages, size_of}
 use Rattle.kr_provider.specs.Publication.{Publication}
@@ -60,14 +60,7 @@ module _ {L D : Type 0} where
     keys = cleared.keys;
     as_many = cleared.size ∙ h.as_many;
   }
-  after size held old SealCall new h d = holds_still size held (adoption_of old) (adoption_of new)
-      (ap (λ (b : BenchState L D). adoption_of b) d) h
-  after size held old UnsealCall new h d = holds_still size held (adoption_of old)
-      (adoption_of new) (ap (λ (b : BenchState L D). adoption_of b) d) h
-  after size held old KeyIdCall new h d = holds_still size held (adoption_of old)
-      (adoption_of new) (ap (λ (b : BenchState L D). adoption_of b) d) h
-  after size held old PublishCall new h d = holds_still size held (adoption_of old)
-      (adoption_of new) (ap (λ (b : BenchState L D). adoption_of b) d) h
+  after size held old other new h d = holds_still size held (adoption_of old) (adoption_of new) (ap (λ (b : BenchState L D). adoption_of b) d) h
 
   goes_on : (size : ℕ) (held : Option Publication) (old : BenchState L D)
       (calls : List BenchCall) (now : BenchState L D)

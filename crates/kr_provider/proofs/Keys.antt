@@ -1,31 +1,28 @@
 -- The secrets of a configuration's keys, in the order of the file.
-use Rattle.std.proofs.Common.{◌≡◌, ℕ, zero, suc, ◌+◌, ◌<◌, ◌≤◌, List, [], ◌∷◌, ◌++◌, Bool, true, false, length, get_or, drop, map, drop-cons, add-one, Option, Some, None, refl, sym, ◌∙◌, ap, subst, arith, append_assoc}
+use Rattle.std.proofs.Common.{◌≡◌, ℕ, zero, suc, ◌+◌, ◌<◌, ◌≤◌, List, [], ◌∷◌, ◌++◌, Bool, true, false, length, get_or, drop, map, drop-cons, add-one, Option, Some, None, refl, sym, ◌∙◌, ap, subst, arith}
 use Rattle.std.specs.Prelude.{◌||◌, if◌then◌else◌, cond, count_by, IfSome}
 use Rattle.std.specs.List.{list_all, list_any}
 use Rattle.std.specs.Option.{is_some}
 use Rattle.std.specs.Str.{bytes_eq}
-use Rattle.std.proofs.lemmas.Bool.Decides.{nat_tests}
-use Rattle.std.proofs.lemmas.List.{drop_all, length-append, length-map, map-append, get_or-map}
+use Rattle.std.proofs.lemmas.List.{drop_all, length-append, length-map, get_or-map}
 use Rattle.std.proofs.lemmas.List.Folds.{list_any-append}
 use Rattle.std.proofs.lemmas.List.Recursion.{is_count_by, is_sum_by}
 use Rattle.std.proofs.lemmas.Slice.Eq.{bytes_eq-Decides}
-use Rattle.kr_aes.specs.KeyExpansion.{IsKeyLength, padded_schedule}
-use Rattle.kr_config.specs.declared.pattern.Pattern.{Pattern}
+use Rattle.kr_aes.specs.KeyExpansion.{padded_schedule}
 use Rattle.kr_config.specs.declared.settings.Entry.{Entry}
 use Rattle.kr_config.specs.declared.who.Who.{Who}
 use Rattle.kr_config.specs.declared.who.Who.TheVariants.{Identity, Aescbc, Aesgcm, Kms}
 use Rattle.kr_config.specs.Kept.{ConfigEntry, keeps_row, count_entry_keys, entry_lists, rows_of}
-use Rattle.kr_config.specs.Lists.{first_list, list_of}
+use Rattle.kr_config.specs.Lists.{list_of}
 use Rattle.kr_config.specs.Patterns.{matches}
-use Rattle.kr_config.specs.Providers.{is_key, is_provider, is_secret}
+use Rattle.kr_config.specs.Providers.{is_key, is_provider}
 use Rattle.kr_config.proofs.Inversions.{left as and_left, right as and_right}
 use Rattle.kr_pages.specs.Pool.{page_words}
 use Rattle.kr_provider.specs.KeyPages.{HoldKeys, KeyPages, words_out, key_secret, secrets_among, secrets_in}
 use Rattle.kr_provider.specs.Publication.{Publication}
 use Rattle.kr_provider.specs.Readers.{writer_of}
 use Rattle.kr_provider.specs.inner.Scan.{AreAmong, HasWords, IsAmong, place_from}
-use Rattle.kr_provider.proofs.Booleans.{or_left}
-use Rattle.kr_provider.proofs.Lists.{of_row}
+use Rattle.kr_provider.proofs.Lists.{of_row, first_has}
 
 -- ---- what is left of a list behind an item
 
@@ -70,18 +67,6 @@ secrets_counted rows = is_sum_by (λ l. length (secrets_in l))
 
 -- ---- keys of their rules
 
-secret_length : (secret : List ℕ) → is_secret secret ≡ true → IsKeyLength (length secret)
-secret_length secret e = grind (arith, nat_tests)
-
-pub key_length : (who : Who) (secret : List ℕ) → is_provider who ≡ true
-    → key_secret who ≡ secret ∷ [] → IsKeyLength (length secret)
-key_length Identity secret e s = absurd (cc)
-key_length (Aescbc name own) secret e s = let same : own ≡ secret = cc in
-    subst (λ t. IsKeyLength (length t)) same (secret_length own (and_right _ _ e))
-key_length (Aesgcm name own) secret e s = let same : own ≡ secret = cc in
-    subst (λ t. IsKeyLength (length t)) same (secret_length own (and_right _ _ e))
-key_length (Kms name) secret e s = absurd (cc)
-
 pub row_at : (entries : List Entry) (i : ℕ) (e : Entry)
     → list_all keeps_row (rows_of entries) ≡ true → i < length entries → e ≡ get_or entries i e
     → list_all is_provider e.providers.0 ≡ true
@@ -92,14 +77,6 @@ row_at (x ∷ xs) zero e rules h is = let each =
     (of_row (entry_lists x) each).providers
 row_at (x ∷ xs) (suc i) e rules h is = row_at xs i e
     (and_right (keeps_row (entry_lists x)) (list_all keeps_row (rows_of xs)) rules) (omega (arith, h)) is
-
-pub who_at : (providers : List Who) (i : ℕ) (who : Who) → list_all is_provider providers ≡ true
-    → i < length providers → who ≡ get_or providers i who → is_provider who ≡ true
-who_at [] i who rules h is = absurd (omega (arith, h))
-who_at (x ∷ xs) zero who rules h is = ap is_provider is
-    ∙ and_left (is_provider x) (list_all is_provider xs) rules
-who_at (x ∷ xs) (suc i) who rules h is = who_at xs i who
-    (and_right (is_provider x) (list_all is_provider xs) rules) (omega (arith, h)) is
 
 -- ---- pages that are filled one after another
 
@@ -124,20 +101,6 @@ room_whole pages secrets n h =
     let d = length-map secrets padded_schedule in
     omega (arith, b, c, d, h)
 
--- what was to come first is held
-pub filled_more : (now next : List (List ℕ)) (first rest whole : List (List ℕ))
-    → next ≡ now ++ map padded_schedule first → now ++ map padded_schedule (first ++ rest) ≡ whole
-    → next ++ map padded_schedule rest ≡ whole
-filled_more now next first rest whole e w =
-    ap (λ l. l ++ map padded_schedule rest) e
-    ∙ append_assoc now (map padded_schedule first) (map padded_schedule rest)
-    ∙ ap (λ l. now ++ l) (sym (map-append padded_schedule first rest))
-    ∙ w
-
-only : (b : Bool) → (b || false) ≡ true → b ≡ true
-only true e = refl
-only false e = absurd (cc)
-
 -- ---- the place of a secret
 
 pub place_first : (n : ℕ) (first : List ℕ) (rest : List (List ℕ)) (secret : List ℕ)
@@ -151,23 +114,6 @@ pub place_later : (n : ℕ) (first : List ℕ) (rest : List (List ℕ)) (secret 
 place_later n first rest secret e = ap (λ (b : Bool).
     if b then Some n else place_from (suc n) rest secret) e
     ∙ ap (λ k. place_from k rest secret) (sym (add-one n))
-
-pub step_hit : (who : Who) (n : ℕ) (rest : List (List ℕ)) (secret : List ℕ)
-    → list_any (λ s. bytes_eq s secret) (key_secret who) ≡ true
-    → place_from n (key_secret who ++ rest) secret ≡ Some n
-step_hit Identity n rest secret e = absurd (cc)
-step_hit (Aescbc name own) n rest secret e = place_first n own rest secret (only _ e)
-step_hit (Aesgcm name own) n rest secret e = place_first n own rest secret (only _ e)
-step_hit (Kms name) n rest secret e = absurd (cc)
-
-pub step_miss : (who : Who) (n : ℕ) (rest : List (List ℕ)) (secret : List ℕ)
-    → list_any (λ s. bytes_eq s secret) (key_secret who) ≡ false
-    → place_from n (key_secret who ++ rest) secret
-    ≡ place_from (n + length (key_secret who)) rest secret
-step_miss Identity n rest secret e = ap (λ k. place_from k rest secret) (omega arith)
-step_miss (Aescbc name own) n rest secret e = place_later n own rest secret (or_left _ _ e)
-step_miss (Aesgcm name own) n rest secret e = place_later n own rest secret (or_left _ _ e)
-step_miss (Kms name) n rest secret e = ap (λ k. place_from k rest secret) (omega arith)
 
 pub place_in_first : (n p : ℕ) (xs ys : List (List ℕ)) (secret : List ℕ)
     → place_from n xs secret ≡ Some p → place_from n (xs ++ ys) secret ≡ Some p
@@ -322,12 +268,6 @@ place_some secrets secret a e = let f = found_in 0 secrets secret a in let is = 
 
 -- ---- the provider of a key
 
-pub no_words : (who : Who) (words : List ℕ) → key_secret who ≡ [] → HasWords who words
-no_words Identity words e = tt
-no_words (Aescbc name secret) words e = absurd (cc)
-no_words (Aesgcm name secret) words e = absurd (cc)
-no_words (Kms name) words e = tt
-
 pub its_words : (who : Who) (secret words : List ℕ) → key_secret who ≡ secret ∷ []
     → words ≡ padded_schedule secret → HasWords who words
 its_words Identity secret words e w = tt
@@ -340,12 +280,11 @@ its_words (Kms name) secret words e w = tt
 pub its_secret : (who : Who) (secrets : List (List ℕ)) (secret : List ℕ)
     → key_secret who ≡ secret ∷ [] → IsAmong secrets who
     → list_any (λ s. bytes_eq s secret) secrets ≡ true
-its_secret Identity secrets secret e a = absurd (cc)
 its_secret (Aescbc name own) secrets secret e a = let same : own ≡ secret = cc in
     subst (λ t. list_any (λ s. bytes_eq s t) secrets ≡ true) same a
 its_secret (Aesgcm name own) secrets secret e a = let same : own ≡ secret = cc in
     subst (λ t. list_any (λ s. bytes_eq s t) secrets ≡ true) same a
-its_secret (Kms name) secrets secret e a = absurd (cc)
+its_secret other secrets secret e a = absurd (cc)
 
 -- ---- the keys of a list are among those of the settings
 
@@ -357,35 +296,35 @@ or_first : (a b : Bool) → a ≡ true → (a || b) ≡ true
 or_first true b e = refl
 or_first false b e = absurd (cc)
 
-more_behind : (before secrets : List (List ℕ)) (who : Who) → IsAmong secrets who
-    → IsAmong (before ++ secrets) who
-more_behind before secrets Identity a = tt
-more_behind before secrets (Aescbc name secret) a =
+-- secrets that are among others
+among_by : (secrets others : List (List ℕ))
+    → ((secret : List ℕ) → list_any (λ s. bytes_eq s secret) secrets ≡ true
+    → list_any (λ s. bytes_eq s secret) others ≡ true) → (who : Who)
+    → IsAmong secrets who → IsAmong others who
+among_by secrets others more Identity a = tt
+among_by secrets others more (Aescbc name secret) a = more secret a
+among_by secrets others more (Aesgcm name secret) a = more secret a
+among_by secrets others more (Kms name) a = tt
+
+all_among_by : (secrets others : List (List ℕ))
+    → ((secret : List ℕ) → list_any (λ s. bytes_eq s secret) secrets ≡ true
+    → list_any (λ s. bytes_eq s secret) others ≡ true) → (list : List Who)
+    → AreAmong secrets list → AreAmong others list
+all_among_by secrets others more [] a = tt
+all_among_by secrets others more (who ∷ list) a =
+    (among_by secrets others more who a.0, all_among_by secrets others more list a.1)
+
+any_behind : (before secrets : List (List ℕ)) (secret : List ℕ)
+    → list_any (λ s. bytes_eq s secret) secrets ≡ true
+    → list_any (λ s. bytes_eq s secret) (before ++ secrets) ≡ true
+any_behind before secrets secret a =
     list_any-append (λ s. bytes_eq s secret) before secrets ∙ or_true _ _ a
-more_behind before secrets (Aesgcm name secret) a =
-    list_any-append (λ s. bytes_eq s secret) before secrets ∙ or_true _ _ a
-more_behind before secrets (Kms name) a = tt
 
-all_behind : (before secrets : List (List ℕ)) (list : List Who) → AreAmong secrets list
-    → AreAmong (before ++ secrets) list
-all_behind before secrets [] a = tt
-all_behind before secrets (who ∷ list) a =
-    (more_behind before secrets who a.0, all_behind before secrets list a.1)
-
-more_ahead : (secrets behind : List (List ℕ)) (who : Who) → IsAmong secrets who
-    → IsAmong (secrets ++ behind) who
-more_ahead secrets behind Identity a = tt
-more_ahead secrets behind (Aescbc name secret) a =
+any_ahead : (secrets behind : List (List ℕ)) (secret : List ℕ)
+    → list_any (λ s. bytes_eq s secret) secrets ≡ true
+    → list_any (λ s. bytes_eq s secret) (secrets ++ behind) ≡ true
+any_ahead secrets behind secret a =
     list_any-append (λ s. bytes_eq s secret) secrets behind ∙ or_first _ _ a
-more_ahead secrets behind (Aesgcm name secret) a =
-    list_any-append (λ s. bytes_eq s secret) secrets behind ∙ or_first _ _ a
-more_ahead secrets behind (Kms name) a = tt
-
-all_ahead : (secrets behind : List (List ℕ)) (list : List Who) → AreAmong secrets list
-    → AreAmong (secrets ++ behind) list
-all_ahead secrets behind [] a = tt
-all_ahead secrets behind (who ∷ list) a =
-    (more_ahead secrets behind who a.0, all_ahead secrets behind list a.1)
 
 same_bytes : (secret : List ℕ) → bytes_eq secret secret ≡ true
 same_bytes secret = (bytes_eq-Decides secret secret).1 refl
@@ -399,28 +338,22 @@ own_secret (Kms name) = tt
 own_secrets : (list : List Who) → AreAmong (secrets_among list) list
 own_secrets [] = tt
 own_secrets (who ∷ list) = (
-  more_ahead (key_secret who) (secrets_among list) who
-      (own_secret who),
-  all_behind (key_secret who) (secrets_among list) list (own_secrets list),
+  among_by (key_secret who) (key_secret who ++ secrets_among list)
+      (any_ahead (key_secret who) (secrets_among list)) who (own_secret who),
+  all_among_by (secrets_among list) (key_secret who ++ secrets_among list)
+      (any_behind (key_secret who) (secrets_among list)) list (own_secrets list),
 )
-
-first_among : (test : Pattern → Bool) (rows : List ConfigEntry)
-    → AreAmong (secrets_in rows) (first_list test rows)
-first_among test [] = (tt, tt)
-first_among test (row ∷ rows) = chosen (list_any test row.patterns)
-    (all_ahead (secrets_among row.providers) (secrets_in rows) row.providers
-    (own_secrets row.providers)) (all_behind (secrets_among row.providers) (secrets_in rows)
-    (first_list test rows) (first_among test rows))
-  where
-    chosen : (q : Bool) → AreAmong (secrets_in (row ∷ rows)) row.providers
-        → AreAmong (secrets_in (row ∷ rows)) (first_list test rows)
-        → AreAmong (secrets_in (row ∷ rows)) (if q then row.providers else first_list test rows)
-    chosen true a b = a
-    chosen false a b = b
 
 pub list_among : (rows : List ConfigEntry) (resource : List ℕ)
     → AreAmong (secrets_in rows) (list_of rows resource)
-list_among rows resource = first_among (λ pattern. matches pattern resource) rows
+list_among rows resource =
+    first_has (λ rows list. AreAmong (secrets_in rows) list) (tt, tt)
+    (λ row rows. all_among_by (secrets_among row.providers) (secrets_in (row ∷ rows))
+    (any_ahead (secrets_among row.providers) (secrets_in rows)) row.providers
+    (own_secrets row.providers))
+    (λ row rows. all_among_by (secrets_in rows) (secrets_in (row ∷ rows))
+    (any_behind (secrets_among row.providers) (secrets_in rows)))
+    (λ pattern. matches pattern resource) rows
 
 pub among_at : (secrets : List (List ℕ)) (list : List Who) (i : ℕ) (who : Who)
     → AreAmong secrets list → i < length list → who ≡ get_or list i who → IsAmong secrets who

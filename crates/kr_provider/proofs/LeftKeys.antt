@@ -21,9 +21,3 @@ leaves_then false true old mid new a c =
     laid_down old mid new (ap (λ (k : Adoption). size_of k.pages) a) c
 leaves_then true false old mid new c b = subst (ClearsKeys old) (sym b) c
 leaves_then true true old mid new a c = laid_down old mid new a.size c
-
--- so there are as many pages as before
-pub leaves_as_many : (adopted : Bool) (old new : Adoption) → LeavesKeys adopted old new
-    → size_of new.pages ≡ size_of old.pages
-leaves_as_many false old new e = ap (λ (k : Adoption). size_of k.pages) e
-leaves_as_many true old new c = c.size

@@ -28,6 +28,7 @@ mod Cached
 mod SeedValues
 pub mod BenchLinks
 mod LinkTalks
+mod LinkPlaces
 mod SeedTalks
 mod ReadTalks
 pub mod AgreeTalks

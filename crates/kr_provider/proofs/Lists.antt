@@ -5,7 +5,7 @@ use Rattle.std.specs.List.{list_all, list_any}
 use Rattle.std.proofs.lemmas.Bool.Decides.{nat_tests}
 use Rattle.kr_config.specs.declared.pattern.Pattern.{Pattern}
 use Rattle.kr_config.specs.declared.who.Who.{Who}
-use Rattle.kr_config.specs.declared.who.Who.TheVariants.{Identity, Aescbc, Aesgcm, Kms}
+use Rattle.kr_config.specs.declared.who.Who.TheVariants.{Identity, Kms}
 use Rattle.kr_config.specs.Kept.{ConfigEntry, apart, keeps, keeps_row, keeps_patterns, keeps_providers, patterns_in, count_entry_keys, kms_in, plugins_in}
 use Rattle.kr_config.specs.Lists.{first_list, list_of}
 use Rattle.kr_config.specs.Patterns.{matches}
@@ -13,8 +13,22 @@ use Rattle.kr_config.specs.Providers.{is_kms, is_provider, plugins_among, rivals
 use Rattle.kr_config.proofs.Inversions.{left as and_left, right as and_right}
 use Rattle.kr_provider.specs.Names.{HasLinks}
 use Rattle.kr_provider.specs.Publication.{IsProviderList, names_plugin}
-use Rattle.kr_provider.specs.Readers.{writer_of}
 use Rattle.kr_provider.proofs.Booleans.{or_left, or_right}
+
+-- what holds of a row's own list, and stays where a row comes before, holds of the list that is found
+pub first_has : (Has : List ConfigEntry → List Who → Type 0) → Has [] (Identity ∷ [])
+    → ((row : ConfigEntry) (rows : List ConfigEntry) → Has (row ∷ rows) row.providers)
+    → ((row : ConfigEntry) (rows : List ConfigEntry) (list : List Who) → Has rows list
+    → Has (row ∷ rows) list)
+    → (test : Pattern → Bool) (rows : List ConfigEntry) → Has rows (first_list test rows)
+first_has Has none own more test [] = none
+first_has Has none own more test (row ∷ rows) = chosen (list_any test row.patterns)
+    (own row rows) (more row rows (first_list test rows) (first_has Has none own more test rows))
+  where
+    chosen : (q : Bool) → Has (row ∷ rows) row.providers → Has (row ∷ rows) (first_list test rows)
+        → Has (row ∷ rows) (if q then row.providers else first_list test rows)
+    chosen true a b = a
+    chosen false a b = b
 
 some_of : (n : ℕ) → nat_le 1 n ≡ true → 1 ≤ n
 some_of n e = grind (arith, nat_tests)
@@ -84,18 +98,12 @@ pub list_rules : (rows : List ConfigEntry) (resource : List ℕ) → IsTrue (kee
 list_rules rows resource k =
     let rules = listed rows resource k in record { some = rules.some; providers = rules.providers }
 
-pub writer_rules : (list : List Who) → IsProviderList list → is_provider (writer_of list) ≡ true
-writer_rules [] l = absurd (omega (arith, l.some))
-writer_rules (who ∷ rest) l = and_left (is_provider who) (list_all is_provider rest) l.providers
-
 -- ---- settings without plugins
 
 no_name : (list : List Who) → list_any is_kms list ≡ false → plugins_among list ≡ []
 no_name [] e = refl
-no_name (Identity ∷ list) e = no_name list e
-no_name (Aescbc name secret ∷ list) e = no_name list e
-no_name (Aesgcm name secret ∷ list) e = no_name list e
 no_name (Kms name ∷ list) e = absurd (cc)
+no_name (other ∷ list) e = no_name list e
 
 pub no_names : (rows : List ConfigEntry) → names_plugin rows ≡ false → plugins_in rows ≡ []
 no_names [] e = refl

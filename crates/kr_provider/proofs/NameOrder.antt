@@ -17,8 +17,7 @@ comes_earlier a b = is_lt (name_cmp a b)
 
 less : (o : Ordering) → is_lt o ≡ true → o ≡ Less
 less Less e = refl
-less Equal e = absurd (cc)
-less Greater e = absurd (cc)
+less other e = absurd (cc)
 
 pub is_less : (a b : List ℕ) → comes_earlier a b ≡ true → name_cmp a b ≡ Less
 is_less a b e = less (name_cmp a b) e

@@ -3,7 +3,7 @@ use Rattle.std.proofs.Common.{◌≡◌, ℕ, ◌+◌, ◌≤◌, Bool, false, L
 use Rattle.std.specs.List.{filter_map}
 use Rattle.kr_envelope.specs.declared.object.EncryptedObject.{EncryptedObject}
 use Rattle.kr_envelope.specs.Limits.{ReadsMessage}
-use Rattle.kr_envelope.specs.Messages.{WireItem, IsItem, encrypted, key_id, source, annotation, kind, other, encrypted_in, last_or, of_bytes}
+use Rattle.kr_envelope.specs.Messages.{WireItem, IsItem, encrypted, key_id, source, kind, encrypted_in, last_or, of_bytes}
 use Rattle.kr_envelope.specs.Wire.{IsField, Spells}
 use Rattle.kr_kms.specs.Cache.{CacheState, Fetches, key_eq}
 use Rattle.kr_kms.specs.Calls.{Link, asked_key}
@@ -45,46 +45,9 @@ last_fits (encrypted content ∷ items) text x n (front, rest, is, more, parts) 
           ap (λ (t : List ℕ). length t) f.content_is.2,
           length-append f.content_is.0 content,
         )
-last_fits (key_id content ∷ items) text x n (front, rest, is, more, parts) l k =
-    last_fits items rest x n more (omega (
-      arith,
-      ap
-          (λ (t : List ℕ). length t) parts,
-      length-append front rest,
-      l,
-    )) k
-last_fits (source content ∷ items) text x n (front, rest, is, more, parts) l k =
-    last_fits items rest x n more (omega (
-      arith,
-      ap
-          (λ (t : List ℕ). length t) parts,
-      length-append front rest,
-      l,
-    )) k
-last_fits (annotation name content ∷ items) text x n (front, rest, is, more, parts) l k =
-    last_fits items rest x n more (omega (
-      arith,
-      ap
-          (λ (t : List ℕ). length t) parts,
-      length-append front rest,
-      l,
-    )) k
-last_fits (kind number ∷ items) text x n (front, rest, is, more, parts) l k =
-    last_fits items rest x n more (omega (
-      arith,
-      ap
-          (λ (t : List ℕ). length t) parts,
-      length-append front rest,
-      l,
-    )) k
-last_fits (other ∷ items) text x n (front, rest, is, more, parts) l k =
-    last_fits items rest x n more (omega (
-      arith,
-      ap
-          (λ (t : List ℕ). length t) parts,
-      length-append front rest,
-      l,
-    )) k
+last_fits (item ∷ items) text x n (front, rest, is, more, parts) l k =
+    last_fits items rest x n more
+    (omega (arith, ap (λ (t : List ℕ). length t) parts, length-append front rest, l)) k
 
 pub data_within : (text : List ℕ) (found : EncryptedObject) → ReadsMessage text (Ok found)
     → length found.encrypted ≤ length text

@@ -8,7 +8,7 @@ use Rattle.kr_envelope.specs.declared.object.ObjectNo.TheVariants.{NoMemory}
 use Rattle.kr_envelope.specs.Limits.{AreOne}
 use Rattle.kr_envelope.proofs.OneReading as objects
 use Rattle.kr_config.specs.declared.who.Who.{Who}
-use Rattle.kr_config.specs.declared.who.Who.TheVariants.{Identity, Aescbc, Aesgcm, Kms}
+use Rattle.kr_config.specs.declared.who.Who.TheVariants.{Kms}
 use Rattle.kr_config.specs.Providers.{is_kms}
 use Rattle.kr_kms.specs.Opens.{Opens}
 use Rattle.kr_provider.specs.Envelopes.{Envelope, HasEnvelope, HasObject, source_by, unknown}
@@ -27,15 +27,12 @@ both_answered a b n m one = elim one [
 same_reading : (opens : Opens) (reader : Option Who) (path bytes : List ℕ) (e f : Envelope)
     → HasEnvelope opens reader bytes e → HasEnvelope opens reader bytes f
     → reader_reading e reader path bytes ≡ reader_reading f reader path bytes
-same_reading opens None path bytes e f h g = refl
-same_reading opens (Some Identity) path bytes e f h g = refl
-same_reading opens (Some (Aescbc name secret)) path bytes e f h g = refl
-same_reading opens (Some (Aesgcm name secret)) path bytes e f h g = refl
 same_reading opens (Some (Kms name)) path bytes e f h g =
     let one : e.object ≡ f.object = both_answered e.object f.object h.0.1 g.0.1
     (objects.one_reading (body_by (Kms name) bytes) e.object f.object h.0.0 g.0.0) in
     ap (λ o. object_reading o e.source path) one
     ∙ ap (λ s. object_reading f.object s path) (h.1 ∙ ap (source_by opens name) one ∙ sym g.1)
+same_reading opens other path bytes e f h g = refl
 
 pub one_reading : HasOneReading
 one_reading opens list path bytes a b r s = sym r.2
@@ -45,11 +42,8 @@ one_reading opens list path bytes a b r s = sym r.2
 
 object_there : (opens : Opens) (reader : Option Who) (bytes : List ℕ) (e : Envelope)
     → HasEnvelope opens reader bytes e → HasObject reader bytes e.object
-object_there opens None bytes e h = tt
-object_there opens (Some Identity) bytes e h = tt
-object_there opens (Some (Aescbc name secret)) bytes e h = tt
-object_there opens (Some (Aesgcm name secret)) bytes e h = tt
 object_there opens (Some (Kms name)) bytes e h = h.0
+object_there opens other bytes e h = tt
 
 pub somehow : ReadsSomehow
 somehow opens list path bytes reading r = (
@@ -79,19 +73,13 @@ no_plugin (who ∷ rest) bytes e =
 
 pub any_envelope : (reader : Option Who) (path bytes : List ℕ) (e f : Envelope) → IsNoPlugin reader
     → reader_reading e reader path bytes ≡ reader_reading f reader path bytes
-any_envelope None path bytes e f n = refl
-any_envelope (Some Identity) path bytes e f n = refl
-any_envelope (Some (Aescbc name secret)) path bytes e f n = refl
-any_envelope (Some (Aesgcm name secret)) path bytes e f n = refl
 any_envelope (Some (Kms name)) path bytes e f n = absurd (cc)
+any_envelope other path bytes e f n = refl
 
 pub has_unknown : (opens : Opens) (reader : Option Who) (bytes : List ℕ) → IsNoPlugin reader
     → HasEnvelope opens reader bytes unknown
-has_unknown opens None bytes n = tt
-has_unknown opens (Some Identity) bytes n = tt
-has_unknown opens (Some (Aescbc name secret)) bytes n = tt
-has_unknown opens (Some (Aesgcm name secret)) bytes n = tt
 has_unknown opens (Some (Kms name)) bytes n = absurd (cc)
+has_unknown opens other bytes n = tt
 
 pub without_plugin : ReadsWithoutPlugin
 without_plugin opens list path bytes reading e =

@@ -6,7 +6,7 @@ use Rattle.std.proofs.lemmas.Bool.{cases_lt}
 use Rattle.std.proofs.lemmas.List.{drop_all, length-drop}
 use Rattle.std.proofs.lemmas.List.Quantifiers.{position-Some}
 use Rattle.kr_config.specs.declared.who.Who.{Who}
-use Rattle.kr_config.specs.declared.who.Who.TheVariants.{Identity, Aescbc, Aesgcm, Kms}
+use Rattle.kr_config.specs.declared.who.Who.TheVariants.{Identity, Kms}
 use Rattle.kr_config.specs.Providers.{is_kms}
 use Rattle.kr_kms.specs.declared.seeds.SeedRow.{SeedRow}
 use Rattle.kr_kms.proofs.Lent.{found_at, no_place}
@@ -72,17 +72,13 @@ read_by_plugin list bytes body place who name asked some e is b k s =
     (read_by list bytes body place who some e is b)
 
 pub no_plugin : (who : Who) → ((name : List ℕ) → who ≡ Kms name → ⊥) → is_kms who ≡ false
-no_plugin Identity n = refl
-no_plugin (Aescbc name secret) n = refl
-no_plugin (Aesgcm name secret) n = refl
 no_plugin (Kms name) n = absurd (n name refl)
+no_plugin other n = refl
 
 pub not_rotated : (envelope : Envelope) (seeds : List SeedRow) (who : Who) → is_kms who ≡ false
     → is_rotated envelope seeds who ≡ false
-not_rotated envelope seeds Identity e = refl
-not_rotated envelope seeds (Aescbc name secret) e = refl
-not_rotated envelope seeds (Aesgcm name secret) e = refl
 not_rotated envelope seeds (Kms name) e = absurd (cc)
+not_rotated envelope seeds other e = refl
 
 -- a value that no plugin reads is stale where another reads it than the first
 pub stale_by_first : (envelope : Envelope) (seeds : List SeedRow) (list : List Who)

@@ -1,17 +1,16 @@
 -- The names of the plugins in settings that keep their rules, and the seeds that were made for
 -- them.
 use Rattle.std.proofs.Common.{◌≡◌, ℕ, zero, suc, ◌<◌, Bool, true, false, List, [], ◌∷◌, ◌++◌, length, map, refl, sym, subst, arith, Contains, inl, inr, IsTrue}
-use Rattle.std.specs.Prelude.{cond, get_or, if◌then◌else◌, IsSome, Option, None, Some}
-use Rattle.std.specs.List.{list_all, list_any}
+use Rattle.std.specs.Prelude.{cond, get_or, IsSome, Option, None, Some}
+use Rattle.std.specs.List.{list_all}
 use Rattle.std.specs.Str.{bytes_eq}
 use Rattle.std.proofs.lemmas.Slice.Eq.{bytes_eq-Decides}
 use Rattle.std.proofs.lemmas.List.Elements.{Contains-append_cases, Contains-append_left, Contains-append_right}
 use Rattle.kr_base.specs.Rules.{IsName}
-use Rattle.kr_config.specs.declared.pattern.Pattern.{Pattern}
 use Rattle.kr_config.specs.declared.who.Who.{Who}
-use Rattle.kr_config.specs.declared.who.Who.TheVariants.{Identity, Aescbc, Aesgcm, Kms}
+use Rattle.kr_config.specs.declared.who.Who.TheVariants.{Kms}
 use Rattle.kr_config.specs.Kept.{ConfigEntry, keeps, keeps_row, plugins_in}
-use Rattle.kr_config.specs.Lists.{first_list, list_of}
+use Rattle.kr_config.specs.Lists.{list_of}
 use Rattle.kr_config.specs.Patterns.{matches}
 use Rattle.kr_config.specs.Providers.{is_provider, plugin_of, plugins_among}
 use Rattle.kr_config.proofs.Inversions.{left as and_left, right as and_right}
@@ -21,7 +20,7 @@ use Rattle.kr_provider.specs.Publication.{IsPublished, Publication, seed_of}
 use Rattle.kr_provider.specs.Publishing.{AreSeedsOf}
 use Rattle.kr_provider.specs.Readers.{writer_of}
 use Rattle.kr_provider.specs.inner.Scan.{AreNamedIn, HasSeed, HaveSeeds, IsNamedIn}
-use Rattle.kr_provider.proofs.Lists.{of_row, rows_keep}
+use Rattle.kr_provider.proofs.Lists.{first_has, of_row, rows_keep}
 use Rattle.kr_provider.proofs.NameOrder.{comes_earlier}
 use Rattle.kr_provider.proofs.Rivals.{name_of}
 
@@ -31,12 +30,10 @@ some_name (byte ∷ bytes) n = refl
 
 named_who : (who : Who) (name : List ℕ) → is_provider who ≡ true → Contains (plugin_of who) name
     → comes_earlier [] name ≡ true
-named_who Identity name p c = absurd (omega (arith, c.1))
-named_who (Aescbc n s) name p c = absurd (omega (arith, c.1))
-named_who (Aesgcm n s) name p c = absurd (omega (arith, c.1))
 named_who (Kms n) name p (zero, lt, e) = subst (λ m. comes_earlier [] m ≡ true) e
     (some_name n (name_of n p))
 named_who (Kms n) name p (suc k, lt, e) = absurd (omega (arith, lt))
+named_who other name p c = absurd (omega (arith, c.1))
 
 named_among : (list : List Who) (name : List ℕ) → list_all is_provider list ≡ true
     → Contains (plugins_among list) name → comes_earlier [] name ≡ true
@@ -66,18 +63,14 @@ names_some rows k name c = named_in rows name (rows_keep rows k) c
 
 named_ahead : (names behind : List (List ℕ)) (who : Who) → IsNamedIn names who
     → IsNamedIn (names ++ behind) who
-named_ahead names behind Identity n = tt
-named_ahead names behind (Aescbc name secret) n = tt
-named_ahead names behind (Aesgcm name secret) n = tt
 named_ahead names behind (Kms name) n = Contains-append_left names behind name n
+named_ahead names behind other n = tt
 
 named_by : (names others : List (List ℕ))
     → ((name : List ℕ) → Contains names name → Contains others name) → (who : Who)
     → IsNamedIn names who → IsNamedIn others who
-named_by names others more Identity n = tt
-named_by names others more (Aescbc name secret) n = tt
-named_by names others more (Aesgcm name secret) n = tt
 named_by names others more (Kms name) n = more name n
+named_by names others more other n = tt
 
 -- names that are among others
 pub all_named_by : (names others : List (List ℕ))
@@ -88,10 +81,8 @@ all_named_by names others more (who ∷ list) n =
     (named_by names others more who n.0, all_named_by names others more list n.1)
 
 own_name : (who : Who) → IsNamedIn (plugin_of who) who
-own_name Identity = tt
-own_name (Aescbc name secret) = tt
-own_name (Aesgcm name secret) = tt
 own_name (Kms name) = (0, omega arith, refl)
+own_name other = tt
 
 own_names : (list : List Who) → AreNamedIn (plugins_among list) list
 own_names [] = tt
@@ -102,26 +93,16 @@ own_names (who ∷ list) = (
       (own_names list),
 )
 
-first_named : (test : Pattern → Bool) (rows : List ConfigEntry)
-    → AreNamedIn (plugins_in rows) (first_list test rows)
-first_named test [] = (tt, tt)
-first_named test (row ∷ rows) = chosen (list_any test row.patterns)
-    (all_named_by (plugins_among row.providers) (plugins_in (row ∷ rows))
-    (λ name c. Contains-append_left (plugins_among row.providers) (plugins_in rows) name c)
-    row.providers (own_names row.providers))
-    (all_named_by (plugins_in rows) (plugins_in (row ∷ rows))
-    (λ name c. Contains-append_right (plugins_among row.providers) (plugins_in rows) name c)
-    (first_list test rows) (first_named test rows))
-  where
-    chosen : (q : Bool) → AreNamedIn (plugins_in (row ∷ rows)) row.providers
-        → AreNamedIn (plugins_in (row ∷ rows)) (first_list test rows)
-        → AreNamedIn (plugins_in (row ∷ rows)) (if q then row.providers else first_list test rows)
-    chosen true a b = a
-    chosen false a b = b
-
 pub list_named : (rows : List ConfigEntry) (resource : List ℕ)
     → AreNamedIn (plugins_in rows) (list_of rows resource)
-list_named rows resource = first_named (λ pattern. matches pattern resource) rows
+list_named rows resource =
+    first_has (λ rows list. AreNamedIn (plugins_in rows) list) (tt, tt)
+    (λ row rows. all_named_by (plugins_among row.providers) (plugins_in (row ∷ rows))
+    (Contains-append_left (plugins_among row.providers) (plugins_in rows)) row.providers
+    (own_names row.providers))
+    (λ row rows. all_named_by (plugins_in rows) (plugins_in (row ∷ rows))
+    (Contains-append_right (plugins_among row.providers) (plugins_in rows)))
+    (λ pattern. matches pattern resource) rows
 
 pub named_at : (names : List (List ℕ)) (list : List Who) (i : ℕ) (who : Who)
     → AreNamedIn names list → i < length list → who ≡ get_or list i who → IsNamedIn names who
@@ -147,10 +128,8 @@ seed_there (row ∷ rows) name c = at (bytes_eq row.name name) refl (seed_there 
 
 seeded_who : (p : Publication) → IsPublished p → (who : Who) → IsNamedIn (plugins_in p.rows) who
     → HasSeed p.seeds who
-seeded_who p is Identity n = tt
-seeded_who p is (Aescbc name secret) n = tt
-seeded_who p is (Aesgcm name secret) n = tt
 seeded_who p is (Kms name) n = seed_there p.seeds name ((is.names name).1 n)
+seeded_who p is other n = tt
 
 seeded : (p : Publication) → IsPublished p → (list : List Who)
     → AreNamedIn (plugins_in p.rows) list → HaveSeeds p.seeds list

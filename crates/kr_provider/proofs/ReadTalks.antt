@@ -4,7 +4,7 @@ use Rattle.std.specs.Prelude.{◌&&◌, not, IfSome}
 use Rattle.kr_base.specs.Walks.{Talk}
 use Rattle.kr_base.proofs.Walks.{talk_none}
 use Rattle.kr_config.specs.declared.who.Who.{Who}
-use Rattle.kr_config.specs.declared.who.Who.TheVariants.{Identity, Aescbc, Aesgcm, Kms}
+use Rattle.kr_config.specs.declared.who.Who.TheVariants.{Kms}
 use Rattle.kr_envelope.specs.declared.object.EncryptedObject.{EncryptedObject}
 use Rattle.kr_envelope.specs.declared.object.ObjectNo.{ObjectNo}
 use Rattle.kr_envelope.specs.declared.object.ObjectNo.TheVariants as object
@@ -58,11 +58,8 @@ opened_as stale (Ok plain) = Ok (record { plain = plain; stale = stale })
 opened_as stale (Err why) = Err why
 
 no_asking : (seeds : List SeedRow) (reader : Option Who) (found : Result EncryptedObject ObjectNo) → IsNoPlugin reader → MayAskPlugin seeds reader found → ⊥
-no_asking seeds None found n m = m
-no_asking seeds (Some Identity) found n m = m
-no_asking seeds (Some (Aescbc name secret)) found n m = m
-no_asking seeds (Some (Aesgcm name secret)) found n m = m
 no_asking seeds (Some (Kms name)) found n m = absurd (cc)
+no_asking seeds other found n m = m
 
 module _ (seeds : List SeedRow) (list : List Who) (path bytes : List ℕ) (cache : CacheState) where
   -- no plugin reads it

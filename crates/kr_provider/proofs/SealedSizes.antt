@@ -1,5 +1,5 @@
 -- How long sealed values are, and that the object of a plugin's value may be written.
-use Rattle.std.proofs.Common.{◌≡◌, ℕ, suc, ◌+◌, ◌<◌, ◌≤◌, Bool, true, false, List, [], ◌∷◌, ◌++◌, length, take, drop, Some, None, Ok, Err, Option, Result, refl, sym, ◌∙◌, ap, subst, arith, rules, length-drop}
+use Rattle.std.proofs.Common.{◌≡◌, ℕ, suc, ◌+◌, ◌≤◌, Bool, true, false, List, [], ◌∷◌, ◌++◌, length, take, drop, Some, None, Ok, Err, Option, Result, refl, sym, ◌∙◌, ap, subst, arith, rules, length-drop}
 use Rattle.std.specs.Prelude.{All, Contains, IfOk, cond, find, if◌then◌else◌, nat_lt}
 use Rattle.std.specs.List.{list_all}
 use Rattle.std.specs.Option.{option_map, option_map_or}
@@ -28,9 +28,9 @@ use Rattle.kr_kms.specs.declared.seeds.SeedRow.{SeedRow}
 use Rattle.kr_provider.specs.Ciphers.{cipher_under, rounds_under}
 use Rattle.kr_provider.specs.Envelopes.{gcm_body, sealed_object, seed_body, value_key}
 use Rattle.kr_provider.specs.Laws.{SealingIsSized}
-use Rattle.kr_provider.specs.Publication.{Publication, list_at, seed_of, writer_at}
+use Rattle.kr_provider.specs.Publication.{list_at, seed_of, writer_at}
 use Rattle.kr_provider.specs.Readers.{writer_of}
-use Rattle.kr_provider.specs.Sealing.{IsBytes, IsSealing, Seals, draw_size, sealed_by, value_by, value_size}
+use Rattle.kr_provider.specs.Sealing.{IsBytes, Seals, draw_size, sealed_by, value_by, value_size}
 use Rattle.kr_provider.specs.declared.refusal.SealNo.{SealNo}
 use Rattle.kr_provider.proofs.Lists.{listed}
 use Rattle.kr_provider.proofs.Rivals.{key_name, name_of}
@@ -152,8 +152,7 @@ size_by seeds (Kms name) path plain drawn value b e = by_row (seed_of name seeds
 -- a prefix has few bytes
 head_length : (k : Kind) → length (head k) ≤ 18
 head_length kind.Aescbc = first_of (omega arith, search rules)
-head_length kind.Aesgcm = first_of (omega arith, search rules)
-head_length kind.Kms = first_of (omega arith, search rules)
+head_length other = first_of (omega arith, search rules)
 
 prefix_length : (k : Kind) (name : List ℕ) → IsName name → length (prefix k name) ≤ 272
 unfolding prefix
@@ -241,11 +240,3 @@ module _ {D : Type 0} (left : D → Option (List ℕ)) (count : D → ℕ) where
       few_by seeds who path plain s.0 value a p s.1
       (data_fits seeds who path plain s.0 value s.2) (value_is seeds who path plain s.0 value s.2)
   few_of seeds who path plain old new (Err why) a p s = tt
-
-  pub sealing_of : (p : Publication) (resource path plain : List ℕ) (old new : D)
-      (result : Result (List ℕ) SealNo) → All (λ byte. byte < 256) plain
-      → Seals left count p.seeds (writer_at p resource) path plain old new result
-      → IfOk result (λ value. IsSealing p resource path plain value)
-  sealing_of p resource path plain old new (Ok value) a s =
-      record { plain_is = a; drawn = s.0; fits = s.1; is = s.2 }
-  sealing_of p resource path plain old new (Err why) a s = tt

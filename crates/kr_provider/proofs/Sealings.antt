@@ -12,7 +12,7 @@ use Rattle.kr_envelope.specs.Canonical.{canonical}
 use Rattle.kr_envelope.specs.Limits.{ReadsMessage}
 use Rattle.kr_envelope.specs.Prefixes.{prefix}
 use Rattle.kr_config.specs.declared.who.Who.{Who}
-use Rattle.kr_config.specs.declared.who.Who.TheVariants.{Identity, Aescbc, Aesgcm, Kms}
+use Rattle.kr_config.specs.declared.who.Who.TheVariants.{Kms}
 use Rattle.kr_kms.specs.Seeds.{IsSeedRow}
 use Rattle.kr_kms.specs.declared.seeds.SeedRow.{SeedRow}
 use Rattle.kr_kms.specs.Opens.{Opens, key_of}
@@ -101,9 +101,6 @@ envelope_of : (opens : Opens) (seeds : List SeedRow) (who : Who) (path plain dra
     → IsBytes (draw_size who) drawn → value_by seeds who path plain drawn ≡ Some value
     → HasEnvelope opens (Some who) value envelope
     → IsSealedEnvelope seeds who path plain drawn envelope
-envelope_of opens seeds Identity path plain drawn value envelope o a fits b e h = tt
-envelope_of opens seeds (Aescbc name secret) path plain drawn value envelope o a fits b e h = tt
-envelope_of opens seeds (Aesgcm name secret) path plain drawn value envelope o a fits b e h = tt
 envelope_of opens seeds (Kms name) path plain drawn value envelope o a fits b e h =
     by_row (seed_of name seeds) refl e
   where
@@ -113,15 +110,13 @@ envelope_of opens seeds (Kms name) path plain drawn value envelope o a fits b e 
     by_row None f e = absurd (cc)
     by_row (Some row) f e = row_envelope opens seeds name path plain drawn value envelope row o a
         fits b f e h
+envelope_of opens seeds other path plain drawn value envelope o a fits b e h = tt
 
 held_of : (opens : Opens) (seeds : List SeedRow) (who : Who) (path plain drawn value : List ℕ)
     → SeedOpens opens seeds who → All IsSeedRow seeds → length plain ≤ 2097152
     → IsBytes (draw_size who) drawn → value_by seeds who path plain drawn ≡ Some value
     → Held opens seeds who path plain drawn value
 unfolding Held
-held_of opens seeds Identity path plain drawn value o a fits b e = (unknown, tt, tt)
-held_of opens seeds (Aescbc name secret) path plain drawn value o a fits b e = (unknown, tt, tt)
-held_of opens seeds (Aesgcm name secret) path plain drawn value o a fits b e = (unknown, tt, tt)
 held_of opens seeds (Kms name) path plain drawn value o a fits b e =
     by_row (seed_of name seeds) refl e
   where
@@ -130,6 +125,7 @@ held_of opens seeds (Kms name) path plain drawn value o a fits b e =
         found ≡ Some value → Held opens seeds (Kms name) path plain drawn value
     by_row None f e = absurd (cc)
     by_row (Some row) f e = row_held opens seeds name path plain drawn value row o a fits b f e
+held_of opens seeds other path plain drawn value o a fits b e = (unknown, tt, tt)
 
 pub sealing_reads : SealingReads
 unfolding Held

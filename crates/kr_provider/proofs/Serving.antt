@@ -5,7 +5,7 @@ use Rattle.std.specs.List.{list_all}
 use Rattle.std.proofs.lemmas.List.Elements.{Contains-append_cases, Contains-append_left, Contains-append_right}
 use Rattle.kr_config.specs.declared.settings.Entry.{Entry}
 use Rattle.kr_config.specs.declared.who.Who.{Who}
-use Rattle.kr_config.specs.declared.who.Who.TheVariants.{Identity, Aescbc, Aesgcm, Kms}
+use Rattle.kr_config.specs.declared.who.Who.TheVariants.{Kms}
 use Rattle.kr_config.specs.Kept.{plugins_in, rows_of}
 use Rattle.kr_config.specs.Providers.{plugin_of, plugins_among}
 use Rattle.kr_config.proofs.Inversions.{both as and_both, left as and_left, right as and_right}
@@ -25,12 +25,10 @@ module _ {L : Type 0} (link : L → Link) (links : List L) where
 
   who_named : (who : Who) (name : List ℕ) → is_served link links who ≡ true
       → Contains (plugin_of who) name → Contains (names_of link links) name
-  who_named Identity name t c = absurd (omega (arith, c.1))
-  who_named (Aescbc n s) name t c = absurd (omega (arith, c.1))
-  who_named (Aesgcm n s) name t c = absurd (omega (arith, c.1))
   who_named (Kms n) name t (zero, lt, e) =
       subst (Contains (names_of link links)) e ((named link links n).0 t)
   who_named (Kms n) name t (suc k, lt, e) = absurd (omega (arith, lt))
+  who_named other name t c = absurd (omega (arith, c.1))
 
   list_named : (list : List Who) (name : List ℕ) → serves_list list ≡ true
       → Contains (plugins_among list) name → Contains (names_of link links) name
@@ -58,10 +56,8 @@ module _ {L : Type 0} (link : L → Link) (links : List L) where
   who_served : (who : Who)
       → ((name : List ℕ) → Contains (plugin_of who) name → Contains (names_of link links) name)
       → is_served link links who ≡ true
-  who_served Identity h = refl
-  who_served (Aescbc n s) h = refl
-  who_served (Aesgcm n s) h = refl
   who_served (Kms n) h = (named link links n).1 (h n (0, omega arith, refl))
+  who_served other h = refl
 
   list_served : (list : List Who)
       → ((name : List ℕ) → Contains (plugins_among list) name → Contains (names_of link links) name)

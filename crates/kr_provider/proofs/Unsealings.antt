@@ -2,7 +2,7 @@
 use Rattle.std.proofs.Common.{◌≡◌, ◌≢◌, ℕ, Bool, false, List, [], ◌∷◌, Option, Some, None, Result, Ok, Err, refl, sym, ◌∙◌, ap, subst, inl, inr}
 use Rattle.std.specs.Prelude.{◌&&◌, not}
 use Rattle.kr_config.specs.declared.who.Who.{Who}
-use Rattle.kr_config.specs.declared.who.Who.TheVariants.{Identity, Aescbc, Aesgcm, Kms}
+use Rattle.kr_config.specs.declared.who.Who.TheVariants.{Kms}
 use Rattle.kr_config.specs.Providers.{is_kms}
 use Rattle.kr_envelope.specs.declared.object.EncryptedObject.{EncryptedObject}
 use Rattle.kr_envelope.specs.declared.object.ObjectNo.{ObjectNo}
@@ -31,19 +31,13 @@ is_ok_of found = Ok found
 
 no_object : (reader : Option Who) (bytes : List ℕ) → IsNoPlugin reader
     → HasObject reader bytes unknown.object
-no_object None bytes n = tt
-no_object (Some Identity) bytes n = tt
-no_object (Some (Aescbc name secret)) bytes n = tt
-no_object (Some (Aesgcm name secret)) bytes n = tt
 no_object (Some (Kms name)) bytes n = absurd (cc)
+no_object other bytes n = tt
 
 no_seed : (seeds : List SeedRow) (reader : Option Who) → IsNoPlugin reader
     → TakesSeed seeds reader unknown
-no_seed seeds None n = tt
-no_seed seeds (Some Identity) n = tt
-no_seed seeds (Some (Aescbc name secret)) n = tt
-no_seed seeds (Some (Aesgcm name secret)) n = tt
 no_seed seeds (Some (Kms name)) n = absurd (cc)
+no_seed seeds other n = tt
 
 module _ {L : Type 0} (link : L → Link) (seeds : List SeedRow) (list : List Who)
     (path bytes : List ℕ) where

@@ -1,9 +1,9 @@
 -- Where settings name no plugin, no link is asked, and a value is read by any envelope.
-use Rattle.std.proofs.Common.{◌≡◌, ℕ, false, List, [], ◌∷◌, Option, Some, None, Result, Ok, Err, refl, sym, ◌∙◌, ap, subst, arith}
+use Rattle.std.proofs.Common.{◌≡◌, ℕ, false, List, [], ◌∷◌, Option, Some, Result, Ok, Err, refl, sym, ◌∙◌, ap, subst, arith}
 use Rattle.std.specs.Prelude.{◌||◌, not}
 use Rattle.std.specs.List.{list_any}
 use Rattle.kr_config.specs.declared.who.Who.{Who}
-use Rattle.kr_config.specs.declared.who.Who.TheVariants.{Identity, Aescbc, Aesgcm, Kms}
+use Rattle.kr_config.specs.declared.who.Who.TheVariants.{Kms}
 use Rattle.kr_config.specs.Kept.{ConfigEntry}
 use Rattle.kr_config.specs.Lists.{list_of}
 use Rattle.kr_config.specs.Providers.{is_kms}
@@ -30,10 +30,8 @@ use Rattle.kr_provider.proofs.PluginNames.{list_named}
 
 none_named : (list : List Who) → AreNamedIn [] list → list_any is_kms list ≡ false
 none_named [] n = refl
-none_named (Identity ∷ list) n = none_named list n.1
-none_named (Aescbc name secret ∷ list) n = none_named list n.1
-none_named (Aesgcm name secret ∷ list) n = none_named list n.1
 none_named (Kms name ∷ list) n = absurd (omega (arith, n.0.1))
+none_named (other ∷ list) n = none_named list n.1
 
 pub none_listed : (rows : List ConfigEntry) (resource : List ℕ) → names_plugin rows ≡ false
     → list_any is_kms (list_of rows resource) ≡ false
@@ -52,19 +50,15 @@ writer_no_plugin (who ∷ rest) e = or_left (is_kms who) (list_any is_kms rest) 
 pub none_asked : {L : Type 0} (link : L → Link) (olds news : List L) → AskedOnly link [] olds news
     → news ≡ olds
 none_asked link [] [] a = refl
-none_asked link [] (new ∷ news) a = absurd a
-none_asked link (old ∷ olds) [] a = absurd a
 none_asked link (old ∷ olds) (new ∷ news) a =
     let first = a.1 (λ c. absurd (omega (arith, c.1))) in
     let rest = none_asked link olds news a.2 in
     (λ i. first i ∷ rest i)
+none_asked link other another a = absurd a
 
 no_name : (reader : Option Who) → IsNoPlugin reader → plugin_reading reader ≡ []
-no_name None n = refl
-no_name (Some Identity) n = refl
-no_name (Some (Aescbc name secret)) n = refl
-no_name (Some (Aesgcm name secret)) n = refl
 no_name (Some (Kms name)) n = absurd (cc)
+no_name other n = refl
 
 -- ---- readings
 

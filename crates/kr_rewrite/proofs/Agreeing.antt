@@ -19,7 +19,6 @@ use Rattle.kr_rollout.specs.declared.event.Event.{Event}
 use Rattle.kr_rollout.specs.declared.event.Event.TheVariants as event
 use Rattle.kr_rollout.specs.Callers.{found_in, holding}
 use Rattle.kr_history.specs.declared.call.CallNo.{CallNo}
-use Rattle.kr_history.specs.declared.call.CallNo.TheVariants as refusal
 use Rattle.kr_history.specs.Acting.{AddsEntry, Caller, IsCaller}
 use Rattle.kr_history.specs.Calls.{AdoptsNothing, EndsEarly, KeepsHonestBy, LetsGo}
 use Rattle.kr_history.specs.CallLaws.{AsksNoHonesty}
@@ -27,6 +26,7 @@ use Rattle.kr_history.proofs.Following.{adopted_law, next_law}
 use Rattle.kr_history.proofs.KeptByEvents.{holds_still, keeps_quiet, keeps_same}
 use Rattle.kr_history.proofs.KeptSeeds.{kept_open}
 use Rattle.kr_history.proofs.Nexts.{caller_next}
+use Rattle.kr_history.proofs.NothingAdopted.{nothing_adopted}
 use Rattle.kr_rewrite.specs.DriveExchanges.{Ahead, IsDriveBy, ReadsRow, before, behind}
 use Rattle.kr_rewrite.specs.DriveLaws.{DrivesAgree, StepsAgree}
 use Rattle.kr_rewrite.specs.Drives.{EndsByOver, WalksOver, last_of, path_of}
@@ -34,6 +34,7 @@ use Rattle.kr_rewrite.specs.Rewrites.{FindsNone, IsStepOver, ResealsBy, Rewrites
 use Rattle.kr_rewrite.specs.declared.outcome.Report.{Report}
 use Rattle.kr_rewrite.specs.declared.outcome.Step.{Step}
 use Rattle.kr_rewrite.specs.declared.outcome.Step.TheVariants as step
+use Rattle.kr_rewrite.proofs.OneEntry.{found_none}
 use Rattle.kr_rewrite.proofs.Replacing.{ReadsWhereOpen, keeps_replace}
 
 module _ (opens : Opens) where
@@ -142,37 +143,15 @@ module _ (opens : Opens) where
 
   none_stays : (above : List ℕ) (old new : Caller) (result : Result Step CallNo) → IsCaller old
       → FindsNone above old result new → Stays old new
-  none_stays above old new (Ok step.End) k a =
-      stays_quiet old new (event.After above) answer.Absent tt k a
-  none_stays above old new (Ok (step.Rewritten path)) k a = absurd a
-  none_stays above old new (Ok (step.Fresh path)) k a = absurd a
-  none_stays above old new (Ok (step.Changed path)) k a = absurd a
-  none_stays above old new (Ok (step.Left path)) k a = absurd a
-  none_stays above old new (Err refusal.NoMemory) k a =
-      stays_quiet old new (event.After above) answer.NoMemory tt k a
-  none_stays above old new (Err refusal.Spent) k a = stays_same old new k a.same
-  none_stays above old new (Err (refusal.Refused why)) k a = absurd a
-  none_stays above old new (Err (refusal.PluginFailed name)) k a = absurd a
-  none_stays above old new (Err refusal.DiceFailed) k a = absurd a
-  none_stays above old new (Err refusal.StoreFailed) k a = absurd a
-  none_stays above old new (Err (refusal.StoreFull needed)) k a = absurd a
-  none_stays above old new (Err (refusal.Unhealthy name field text)) k a = absurd a
-  none_stays above old new (Err refusal.Gone) k a = absurd a
+  none_stays above old new result k a = found_none old new (Stays old new)
+      (stays_same old new k) above
+      (λ given stays e. stays_quiet old new (event.After above) given tt k e) result a
 
   early_stays : (replica : ℕ) (old new : Caller) (why : CallNo) → IsCaller old
       → AdoptsNothing replica old why new → Stays old new
-  early_stays replica old new refusal.Gone k a =
-      stays_quiet old new (event.Adopt replica) (answer.Gone replica) tt k a
-  early_stays replica old new refusal.Spent k a = stays_same old new k a.same
-  early_stays replica old new refusal.NoMemory k (inl same) = stays_same old new k same
-  early_stays replica old new refusal.NoMemory k (inr a) =
-      stays_quiet old new (event.Adopt replica) answer.NoMemory tt k a
-  early_stays replica old new (refusal.Refused why) k a = absurd a
-  early_stays replica old new (refusal.PluginFailed name) k a = absurd a
-  early_stays replica old new refusal.DiceFailed k a = absurd a
-  early_stays replica old new refusal.StoreFailed k a = absurd a
-  early_stays replica old new (refusal.StoreFull needed) k a = absurd a
-  early_stays replica old new (refusal.Unhealthy name field text) k a = absurd a
+  early_stays replica old new why k a = nothing_adopted replica old new (Stays old new)
+      (stays_same old new k)
+      (λ given stays e. stays_quiet old new (event.Adopt replica) given tt k e) why a
 
   lets_go_stays : (old new : Caller) (done result : Result Step CallNo) → IsCaller old
       → LetsGo old done result new → Stays old new

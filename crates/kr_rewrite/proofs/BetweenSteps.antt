@@ -166,10 +166,7 @@ module _ {S D : Type 0} (Reads : ReadsFoundRow S) (left : D → Option (List ℕ
 path_at : (above : List ℕ) (taken : Step) → FindsRow taken → IsStepTo taken
     → IsPath (path_of above taken)
 path_at above step.End f is = absurd f
-path_at above (step.Rewritten path) f is = is
-path_at above (step.Fresh path) f is = is
-path_at above (step.Changed path) f is = is
-path_at above (step.Left path) f is = is
+path_at above other f is = is
 
 pub path_next : (taken : Step) (found : Bool) (old new : Report) → CountsStep old taken found new
     → found ≡ true → IsStepTo taken → (new.last ≡ []) ⊎ IsPath new.last

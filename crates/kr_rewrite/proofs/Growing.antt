@@ -27,10 +27,12 @@ use Rattle.kr_history.specs.ContentLaws.{IsRowFor}
 use Rattle.kr_rollout.specs.Histories.{state_of}
 use Rattle.kr_history.proofs.FoundRows.{found_is_live}
 use Rattle.kr_history.proofs.Nexts.{legal_now, opening_is, seat_is, seen_is}
+use Rattle.kr_history.proofs.NothingAdopted.{nothing_adopted}
 use Rattle.kr_rewrite.specs.Drives.{FindsRow, path_of}
 use Rattle.kr_rewrite.specs.Rewrites.{FindsNone, IsStepOver, ReplacesBy, ResealsBy, RewritesBy, RewritesData, RewritesOver, ReadsFoundRow, StepsOver, unread_step, unsealed_step}
 use Rattle.kr_rewrite.specs.declared.outcome.Step.{Step}
 use Rattle.kr_rewrite.specs.declared.outcome.Step.TheVariants as step
+use Rattle.kr_rewrite.proofs.OneEntry.{found_none, rewritten}
 
 -- ---- more is seen, and fewer lines are left
 
@@ -69,36 +71,15 @@ grows_then old middle new a b = record {
   left_less = omega (arith, a.left_less, b.left_less);
 }
 
-resealed_grows : (p : Publication) (row : Row) (plain : List ℕ)
-    (sealed : Result (List ℕ) SealNo) (old new : Caller) (result : Result Step CallNo)
-    → ResealsBy p row plain sealed old result new → Grows old new
-resealed_grows p row plain (Ok stored) old new result (inl r) =
-    grows_entry old new (event.Replace row.path row.revision stored) r.given r.replaces
-resealed_grows p row plain (Ok stored) old new result (inr n) = grows_same old new n.0.same
-resealed_grows p row plain (Err why) old new result r = grows_same old new r.1
-
-module _ {D : Type 0} (left : D → Option (List ℕ)) (count : D → ℕ) (p : Publication) (row : Row)
-    (old new : Caller) (dice after : D) where
-  data_grows : (plain : List ℕ) (stale : Bool) (result : Result Step CallNo)
-      → RewritesData left count p row plain stale old dice result new after → Grows old new
-  data_grows plain false result r = grows_same old new r.1
-  data_grows plain true result (inl r) =
-      resealed_grows p row plain r.sealed old new result r.reseals
-  data_grows plain true result (inr r) = grows_same old new r.1
-
-  opened_grows : (opened : Result Opened UnsealNo) (result : Result Step CallNo)
-      → RewritesBy left count p row opened old dice result new after → Grows old new
-  opened_grows (Ok opened) result r = data_grows opened.plain opened.stale result r
-  opened_grows (Err why) result r = grows_same old new r.1
-
 pub rewrites_grow : {S D : Type 0} (Reads : ReadsFoundRow S) (left : D → Option (List ℕ))
     (count : D → ℕ) (p : Publication) (row : Row) (old new : Caller) (from to : S)
     (dice after : D) (result : Result Step CallNo)
     → RewritesOver Reads left count p row old from dice result new to after → Grows old new
-rewrites_grow Reads left count p row old new from to dice after result (inl o) =
-    opened_grows left count p row old new dice after o.opened result o.rewrites
-rewrites_grow Reads left count p row old new from to dice after result (inr n) =
-    grows_same old new n.0.1
+rewrites_grow Reads left count p row old new from to dice after result r =
+    rewritten old new (Grows old new) (grows_same old new) row
+    (λ stored given stays e.
+    grows_entry old new (event.Replace row.path row.revision stored) given e)
+    left count p dice after Reads from to result r
 
 pub lets_go_grows : (old new : Caller) (done result : Result Step CallNo)
     → LetsGo old done result new → Grows old new
@@ -139,10 +120,6 @@ at_left path = record { finds = tt; path_is = λ above. refl }
 
 replaced_at : (path : List ℕ) (given : Answer) (taken : Step) → ReplacesBy path given (Ok taken)
     → IsAt path taken
-replaced_at path (answer.Adopted n q) taken d = absurd d
-replaced_at path (answer.Gone other) taken d = absurd d
-replaced_at path (answer.Found r) taken d = absurd d
-replaced_at path answer.Absent taken d = absurd d
 replaced_at path (answer.Written revision) taken d =
     is_at path taken (step.Rewritten path) (at_rewritten path) d
 replaced_at path (answer.Changed last) taken d =
@@ -150,14 +127,8 @@ replaced_at path (answer.Changed last) taken d =
 replaced_at path answer.StoreFailed taken d = not_ok path taken refusal.StoreFailed d
 replaced_at path (answer.StoreFull needed) taken d =
     not_ok path taken (refusal.StoreFull needed) d
-replaced_at path answer.Released taken d = absurd d
-replaced_at path (answer.Reloaded n) taken d = absurd d
-replaced_at path (answer.Joined n) taken d = absurd d
-replaced_at path (answer.Refused verdict) taken d = absurd d
-replaced_at path (answer.Moved n) taken d = absurd d
-replaced_at path (answer.Present n) taken d = absurd d
-replaced_at path (answer.Departed n) taken d = absurd d
 replaced_at path answer.NoMemory taken d = not_ok path taken refusal.NoMemory d
+replaced_at path other taken d = absurd d
 
 unsealed_at : (path : List ℕ) (why : SealNo) (taken : Step)
     → ◌≡◌ {A = Result Step CallNo} (Ok taken) (unsealed_step path why) → IsAt path taken
@@ -305,10 +276,7 @@ module _ (above : List ℕ) (replica number : ℕ) (p : Publication) (old adopte
   took_none step.End b = took step.End answer.Absent acted None b (grows_itself acted)
       (at_end refl (looks_from old adopted acted new replica number p above answer.Absent None a b
       g (after_finds_none adopted acted above b)))
-  took_none (step.Rewritten path) b = absurd b
-  took_none (step.Fresh path) b = absurd b
-  took_none (step.Changed path) b = absurd b
-  took_none (step.Left path) b = absurd b
+  took_none other b = absurd b
 
   took_row : (taken : Step) (row : Row) (middle : Caller)
       → AddsEntry adopted (event.After above) (answer.Found row) middle → Grows middle acted
@@ -352,37 +320,13 @@ module _ {S D : Type 0} (Reads : ReadsFoundRow S) (left : D → Option (List ℕ
 
 none_grows : (above : List ℕ) (old new : Caller) (result : Result Step CallNo)
     → FindsNone above old result new → Grows old new
-none_grows above old new (Ok step.End) a =
-    grows_entry old new (event.After above) answer.Absent a
-none_grows above old new (Ok (step.Rewritten path)) a = absurd a
-none_grows above old new (Ok (step.Fresh path)) a = absurd a
-none_grows above old new (Ok (step.Changed path)) a = absurd a
-none_grows above old new (Ok (step.Left path)) a = absurd a
-none_grows above old new (Err refusal.NoMemory) a =
-    grows_entry old new (event.After above) answer.NoMemory a
-none_grows above old new (Err refusal.Spent) a = grows_same old new a.same
-none_grows above old new (Err (refusal.Refused why)) a = absurd a
-none_grows above old new (Err (refusal.PluginFailed name)) a = absurd a
-none_grows above old new (Err refusal.DiceFailed) a = absurd a
-none_grows above old new (Err refusal.StoreFailed) a = absurd a
-none_grows above old new (Err (refusal.StoreFull needed)) a = absurd a
-none_grows above old new (Err (refusal.Unhealthy name field text)) a = absurd a
-none_grows above old new (Err refusal.Gone) a = absurd a
+none_grows above old new result a = found_none old new (Grows old new) (grows_same old new) above
+    (λ given stays e. grows_entry old new (event.After above) given e) result a
 
 early_grows : (replica : ℕ) (old new : Caller) (why : CallNo) → AdoptsNothing replica old why new
     → Grows old new
-early_grows replica old new refusal.Gone a =
-    grows_entry old new (event.Adopt replica) (answer.Gone replica) a
-early_grows replica old new refusal.Spent a = grows_same old new a.same
-early_grows replica old new refusal.NoMemory (inl same) = grows_same old new same
-early_grows replica old new refusal.NoMemory (inr a) =
-    grows_entry old new (event.Adopt replica) answer.NoMemory a
-early_grows replica old new (refusal.Refused why) a = absurd a
-early_grows replica old new (refusal.PluginFailed name) a = absurd a
-early_grows replica old new refusal.DiceFailed a = absurd a
-early_grows replica old new refusal.StoreFailed a = absurd a
-early_grows replica old new (refusal.StoreFull needed) a = absurd a
-early_grows replica old new (refusal.Unhealthy name field text) a = absurd a
+early_grows replica old new why a = nothing_adopted replica old new (Grows old new)
+    (grows_same old new) (λ given stays e. grows_entry old new (event.Adopt replica) given e) why a
 
 module _ {S D : Type 0} (Reads : ReadsFoundRow S) (left : D → Option (List ℕ))
     (count : D → ℕ) (replica : ℕ) (above : List ℕ) (old new : Caller) (from to : S)

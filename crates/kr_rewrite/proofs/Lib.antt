@@ -5,6 +5,7 @@ pub mod Covering
 pub mod DriveTalks
 pub mod Growing
 pub mod Looking
+mod OneEntry
 pub mod Options
 mod Quiet
 pub mod Replacing

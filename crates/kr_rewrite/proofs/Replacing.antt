@@ -1,6 +1,6 @@
 -- A row that is replaced: what its seat may ask, what becomes of the row, and that its data stay.
 use Rattle.std.specs.Prelude.{IfOk}
-use Rattle.std.proofs.Common.{◌≡◌, inl, inr, ℕ, ◌<◌, List, ◌++◌, length, Option, Some, Result, Ok, Err, refl, sym, ap, subst, ◌∙◌}
+use Rattle.std.proofs.Common.{◌≡◌, inl, inr, ℕ, List, ◌++◌, Option, Some, Result, Ok, Err, refl, sym, ap, subst, ◌∙◌}
 use Rattle.std.specs.Option.{option_map}
 use Rattle.std.proofs.lemmas.Option.{same_Some}
 use Rattle.kr_base.specs.Rules.{IsPath}
@@ -15,45 +15,44 @@ use Rattle.kr_rollout.specs.declared.answer.Answer.{Answer}
 use Rattle.kr_rollout.specs.declared.answer.Answer.TheVariants as answer
 use Rattle.kr_history.specs.declared.call.CallNo.{CallNo}
 use Rattle.kr_history.specs.declared.call.CallNo.TheVariants as refusal
+use Rattle.kr_history.specs.declared.outcome.Replacing.{Replacing}
+use Rattle.kr_history.specs.declared.outcome.Replacing.TheVariants as replacing
 use Rattle.kr_rollout.specs.declared.event.Event.TheVariants as event
 use Rattle.kr_rollout.specs.declared.line.Did.TheVariants as did
 use Rattle.kr_rollout.specs.declared.opening.Entry.{Entry}
 use Rattle.kr_rollout.specs.declared.opening.Opening.{Opening}
 use Rattle.kr_history.specs.Acting.{Caller, AddsEntry, IsCaller}
-use Rattle.kr_rollout.specs.Callers.{MayAsk, found_in, gave_of, holding}
-use Rattle.kr_history.specs.Calls.{AddsNothing, KeepsHonestBy}
+use Rattle.kr_rollout.specs.Callers.{Allows, found_in, gave_of, holding}
+use Rattle.kr_history.specs.Asking.{AsksReplace}
+use Rattle.kr_history.specs.Calls.{KeepsHonestBy}
 use Rattle.kr_history.specs.Honesty.{HonestBy, IsHonest, KeepsData}
 use Rattle.kr_history.proofs.FoundRows.{replaced_is_live}
 use Rattle.kr_history.proofs.HeldFacts.{found_is_named, held_is_named, held_opens}
 use Rattle.kr_history.proofs.KeptHonest.{honesty_follows}
 use Rattle.kr_history.proofs.Nexts.{front_own, legal_now}
 use Rattle.kr_rewrite.specs.declared.outcome.Step.{Step}
-use Rattle.kr_rewrite.specs.Rewrites.{IsStepTo, ReplacesBy, unsealed_step}
-use Rattle.kr_rewrite.specs.inner.Stages.{ResealsRow}
+use Rattle.kr_rewrite.specs.Rewrites.{IsStepTo, ResealsBy, unsealed_step}
+use Rattle.kr_rewrite.specs.inner.Stages.{ResealsRow, replaced_step}
 
 -- ---- what may be asked
 
 pub may_replace : (o : Opening) (seat : ℕ) (own : List Entry) (number : ℕ) (p : Publication)
-    (row : Row) (plain copy stored : List ℕ) → seat < length o.reloads → IsPath row.path
+    (row : Row) (plain copy stored : List ℕ) → IsPath row.path
     → holding own ≡ Some (number, p) → found_in own ≡ Some row → copy ≡ row.path
     → HasSomeReading (list_at p row.resource) row.path row.stored (data_of plain)
     → IsSealing p row.resource row.path plain stored
-    → MayAsk o seat own (event.Replace copy row.revision stored)
-may_replace o seat own number p row plain copy stored seat_in path held found is reads sealing =
-    subst (λ (q : List ℕ). MayAsk o seat own (event.Replace q row.revision stored)) (sym is)
-    (record {
-      seat_in = seat_in;
-      allowed = (
-        path,
-        (number, p),
-        held,
-        row,
-        found,
-        refl,
-        refl,
-        record { plain = plain; reads = reads; sealing = sealing },
-      );
-    })
+    → Allows o seat own (event.Replace copy row.revision stored)
+may_replace o seat own number p row plain copy stored path held found is reads sealing =
+    subst (λ (q : List ℕ). Allows o seat own (event.Replace q row.revision stored)) (sym is) (
+      path,
+      (number, p),
+      held,
+      row,
+      found,
+      refl,
+      refl,
+      record { plain = plain; reads = reads; sealing = sealing },
+    )
 
 -- ---- that the data stay
 
@@ -101,22 +100,8 @@ module _ (opens : Opens) (old new : Caller) (number : ℕ) (p : Publication) (ro
       → (a : AddsEntry old (event.Replace row.path row.revision stored) given new)
       → IsHonest opens old.opening (old.seen ++ a.others)
       → HonestBy (gave_of given) (did.Replace row.path row.revision) opens a.entry
-  honest_entry (answer.Adopted n q) a front = tt
-  honest_entry (answer.Gone other) a front = tt
-  honest_entry (answer.Found r) a front = tt
-  honest_entry answer.Absent a front = tt
   honest_entry (answer.Written revision) a front = data_kept revision a front
-  honest_entry (answer.Changed last) a front = tt
-  honest_entry answer.StoreFailed a front = tt
-  honest_entry (answer.StoreFull needed) a front = tt
-  honest_entry answer.Released a front = tt
-  honest_entry (answer.Reloaded n) a front = tt
-  honest_entry (answer.Joined n) a front = tt
-  honest_entry (answer.Refused verdict) a front = tt
-  honest_entry (answer.Moved n) a front = tt
-  honest_entry (answer.Present n) a front = tt
-  honest_entry (answer.Departed n) a front = tt
-  honest_entry answer.NoMemory a front = tt
+  honest_entry other a front = tt
 
 pub keeps_replace : (opens : Opens) (old new : Caller) (number : ℕ) (p : Publication) (row : Row)
     (plain copy stored : List ℕ) (given : Answer) → IsCaller old
@@ -131,30 +116,16 @@ keeps_replace opens old new number p row plain copy stored given k held found re
 
 -- ---- what becomes of the row
 
-replaced_to : (path : List ℕ) (given : Answer) (result : Result Step CallNo) → IsPath path
-    → ReplacesBy path given result → IfOk result IsStepTo
-replaced_to path (answer.Adopted n q) result is d = absurd d
-replaced_to path (answer.Gone other) result is d = absurd d
-replaced_to path (answer.Found r) result is d = absurd d
-replaced_to path answer.Absent result is d = absurd d
-replaced_to path (answer.Written revision) result is d =
-    subst (λ r. IfOk r IsStepTo) (sym d) is
-replaced_to path (answer.Changed last) result is d = subst (λ r. IfOk r IsStepTo) (sym d) is
-replaced_to path answer.StoreFailed result is d = subst (λ r. IfOk r IsStepTo) (sym d) tt
-replaced_to path (answer.StoreFull needed) result is d = subst (λ r. IfOk r IsStepTo) (sym d) tt
-replaced_to path answer.Released result is d = absurd d
-replaced_to path (answer.Reloaded n) result is d = absurd d
-replaced_to path (answer.Joined n) result is d = absurd d
-replaced_to path (answer.Refused verdict) result is d = absurd d
-replaced_to path (answer.Moved n) result is d = absurd d
-replaced_to path (answer.Present n) result is d = absurd d
-replaced_to path (answer.Departed n) result is d = absurd d
-replaced_to path answer.NoMemory result is d = subst (λ r. IfOk r IsStepTo) (sym d) tt
+replaced_to : (path : List ℕ) (done : Result Replacing CallNo) → IsPath path
+    → IfOk (replaced_step path done) IsStepTo
+replaced_to path (Ok (replacing.Written revision)) is = is
+replaced_to path (Ok (replacing.Changed last)) is = is
+replaced_to path (Err why) is = tt
 
-pub replaces_to : (path own : List ℕ) (given : Answer) (result : Result Step CallNo)
-    → path ≡ own → IsPath own → ReplacesBy path given result → IfOk result IsStepTo
-replaces_to path own given result same is d =
-    replaced_to path given result (subst IsPath (sym same) is) d
+pub replaces_to : (path own : List ℕ) (done : Result Replacing CallNo) (result : Result Step CallNo)
+    → path ≡ own → IsPath own → result ≡ replaced_step path done → IfOk result IsStepTo
+replaces_to path own done result same is d =
+    subst (λ r. IfOk r IsStepTo) (sym d) (replaced_to path done (subst IsPath (sym same) is))
 
 unsealed_at : (path : List ℕ) (why : SealNo) → IsPath path
     → IfOk (unsealed_step path why) IsStepTo
@@ -168,6 +139,24 @@ pub unsealed_to : (path own : List ℕ) (why : SealNo) (result : Result Step Cal
 unsealed_to path own why result same is d =
     subst (λ r. IfOk r IsStepTo) (sym d) (unsealed_at path why (subst IsPath (sym same) is))
 
+-- the sealing was offered in the row's place, or no line may be added
+offered : (p : Publication) (row : Row) (plain stored : List ℕ) (old new : Caller)
+    (done : Result Replacing CallNo) → IsSealing p row.resource row.path plain stored
+    → AsksReplace row.path row.revision stored old done new
+    → ResealsBy p row plain (Ok stored) old (replaced_step row.path done) new
+offered p row plain stored old new (Ok (replacing.Written revision)) t a =
+    inl (record { given = answer.Written revision; sealing = t; replaces = a; answers = refl })
+offered p row plain stored old new (Ok (replacing.Changed last)) t a =
+    inl (record { given = answer.Changed last; sealing = t; replaces = a; answers = refl })
+offered p row plain stored old new (Err refusal.StoreFailed) t a =
+    inl (record { given = answer.StoreFailed; sealing = t; replaces = a; answers = refl })
+offered p row plain stored old new (Err (refusal.StoreFull needed)) t a =
+    inl (record { given = answer.StoreFull needed; sealing = t; replaces = a; answers = refl })
+offered p row plain stored old new (Err refusal.NoMemory) t a =
+    inl (record { given = answer.NoMemory; sealing = t; replaces = a; answers = refl })
+offered p row plain stored old new (Err refusal.Spent) t a = inr (a, refl)
+offered p row plain stored old new (Err other) t a = absurd a
+
 -- ---- by the configuration that the bench adopted
 
 module _ {D : Type 0} (left : D → Option (List ℕ)) (count : D → ℕ) (row : Row)
@@ -176,30 +165,19 @@ module _ {D : Type 0} (left : D → Option (List ℕ)) (count : D → ℕ) (row 
   abbrev IsResealed : Result Step CallNo → Publication → Type 0
   IsResealed result q = ResealsRow left count q row plain old dice result new after
 
-  pub reseals_done : (copy stored : List ℕ) (given : Answer) (result : Result Step CallNo)
+  pub reseals_done : (copy stored : List ℕ) (done : Result Replacing CallNo)
+      (result : Result Step CallNo)
       → Seals left count p.seeds (writer_at p row.resource) row.path plain dice after (Ok stored)
       → IsSealing p row.resource row.path plain stored → copy ≡ row.path
-      → AddsEntry old (event.Replace copy row.revision stored) given new
-      → ReplacesBy path given result
+      → AsksReplace copy row.revision stored old done new → result ≡ replaced_step path done
       → IsResealed result p
-  reseals_done copy stored given result s t is a d = inl (record {
+  reseals_done copy stored done result s t is a d = inl (record {
     sealed = Ok stored;
     seals = s;
-    reseals = inl (record {
-      given = given;
-      sealing = t;
-      replaces = subst (λ q. AddsEntry old (event.Replace q row.revision stored) given new) is a;
-      answers = subst (λ q. ReplacesBy q given result) path_is d;
-    });
-  })
-
-  pub reseals_in_vain : (stored : List ℕ)
-      → Seals left count p.seeds (writer_at p row.resource) row.path plain dice after (Ok stored)
-      → AddsNothing old new → IsResealed (Err refusal.Spent) p
-  reseals_in_vain stored s n = inl (record {
-    sealed = Ok stored;
-    seals = s;
-    reseals = inr (n, refl);
+    reseals = subst (λ r. ResealsBy p row plain (Ok stored) old r new)
+        (sym (d ∙ ap (λ q. replaced_step q done) path_is))
+        (offered p row plain stored old new done t
+        (subst (λ q. AsksReplace q row.revision stored old done new) is a));
   })
 
   pub reseals_nothing : (why : SealNo) (result : Result Step CallNo)

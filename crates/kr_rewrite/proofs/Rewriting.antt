@@ -14,11 +14,12 @@ use Rattle.kr_history.specs.declared.call.CallNo.{CallNo}
 use Rattle.kr_history.specs.declared.call.CallNo.TheVariants as refusal
 use Rattle.kr_rollout.specs.declared.event.Event.TheVariants as event
 use Rattle.kr_history.specs.Acting.{Caller, AddsEntry}
+use Rattle.kr_history.specs.Asking.{AsksAfter}
 use Rattle.kr_history.specs.Calls.{LetsGo}
 use Rattle.kr_rewrite.specs.declared.outcome.Step.{Step}
 use Rattle.kr_rewrite.specs.declared.outcome.Step.TheVariants as step
 use Rattle.kr_rewrite.specs.Rewrites.{IsStepOver, IsStepTo, RewritesData, RewritesOver, ReadsFoundRow, StepsOver, UnsealsRow, unread_step}
-use Rattle.kr_rewrite.specs.inner.Stages.{LooksAbove, ResealsRow}
+use Rattle.kr_rewrite.specs.inner.Stages.{ResealsRow}
 
 -- ---- the value that was found
 
@@ -76,34 +77,28 @@ module _ {S D : Type 0} (Reads : ReadsFoundRow S) (left : D → Option (List ℕ
 
 module _ {S D : Type 0} (Reads : ReadsFoundRow S) (left : D → Option (List ℕ)) (count : D → ℕ)
     (p : Publication) (above : List ℕ) (old : Caller) (from : S) (dice : D) where
-  pub looked_in_vain : (why : CallNo) (new : Caller) → LooksAbove above old (Err why) new
+  pub looked_in_vain : (why : CallNo) (new : Caller) → AsksAfter above old (Err why) new
       → StepsOver Reads left count p above old from dice (Err why) new from dice
-  looked_in_vain (refusal.Refused x) new a = absurd a
-  looked_in_vain (refusal.PluginFailed name) new a = absurd a
-  looked_in_vain refusal.DiceFailed new a = absurd a
-  looked_in_vain refusal.StoreFailed new a = absurd a
-  looked_in_vain (refusal.StoreFull needed) new a = absurd a
-  looked_in_vain (refusal.Unhealthy name field text) new a = absurd a
-  looked_in_vain refusal.Gone new a = absurd a
   looked_in_vain refusal.Spent new a = inl (a, refl, refl)
   looked_in_vain refusal.NoMemory new a = inl (a, refl, refl)
+  looked_in_vain other new a = absurd a
 
   pub looked_at_end : (found : Option Row) (new : Caller) → found ≡ None
-      → LooksAbove above old (Ok found) new
+      → AsksAfter above old (Ok found) new
       → StepsOver Reads left count p above old from dice (Ok step.End) new from dice
   looked_at_end found new is a =
-      inl (subst (λ f. LooksAbove above old (Ok f) new) is a, refl, refl)
+      inl (subst (λ f. AsksAfter above old (Ok f) new) is a, refl, refl)
 
   -- the row as it was lent
   pub looked_at_row : (found : Option Row) (row lent : Row) (middle new : Caller) (to : S)
       (after : D) (result : Result Step CallNo) → found ≡ Some row → lent ≡ row
-      → LooksAbove above old (Ok found) middle
+      → AsksAfter above old (Ok found) middle
       → RewritesOver Reads left count p lent middle from dice result new to after
       → StepsOver Reads left count p above old from dice result new to after
   looked_at_row found row lent middle new to after result is same a r = inr (record {
     row = row;
     found = middle;
-    finds = subst (λ f. LooksAbove above old (Ok f) middle) is a;
+    finds = subst (λ f. AsksAfter above old (Ok f) middle) is a;
     rewrites = subst (λ x. RewritesOver Reads left count p x middle from dice result new to after)
         same r;
   })

@@ -71,35 +71,22 @@ entry_before n old middle new asked given result a s = record {
 
 replaced_other : (path : List ℕ) (given : Answer) (result : Result Step CallNo)
     → ReplacesBy path given result → IsSpent result → ⊥
-replaced_other path (answer.Adopted n q) result d e = absurd d
-replaced_other path (answer.Gone other) result d e = absurd d
-replaced_other path (answer.Found r) result d e = absurd d
-replaced_other path answer.Absent result d e = absurd d
 replaced_other path (answer.Written revision) result d e = cc (d, e)
 replaced_other path (answer.Changed last) result d e = cc (d, e)
 replaced_other path answer.StoreFailed result d e = cc (d, e)
 replaced_other path (answer.StoreFull needed) result d e = cc (d, e)
-replaced_other path answer.Released result d e = absurd d
-replaced_other path (answer.Reloaded n) result d e = absurd d
-replaced_other path (answer.Joined n) result d e = absurd d
-replaced_other path (answer.Refused verdict) result d e = absurd d
-replaced_other path (answer.Moved n) result d e = absurd d
-replaced_other path (answer.Present n) result d e = absurd d
-replaced_other path (answer.Departed n) result d e = absurd d
 replaced_other path answer.NoMemory result d e = cc (d, e)
+replaced_other path other result d e = absurd d
 
 unsealed_other : (path : List ℕ) (why : SealNo) (result : Result Step CallNo)
     → result ≡ unsealed_step path why → IsSpent result → ⊥
 unsealed_other path sealing.LooksEncrypted result d e = cc (d, e)
-unsealed_other path (sealing.TooLarge size) result d e = cc (d, e)
-unsealed_other path sealing.DiceFailed result d e = cc (d, e)
-unsealed_other path sealing.NoMemory result d e = cc (d, e)
+unsealed_other path other result d e = cc (d, e)
 
 unread_other : (path : List ℕ) (why : UnsealNo) (result : Result Step CallNo)
     → result ≡ unread_step path why → IsSpent result → ⊥
 unread_other path (unsealing.Refused why) result d e = cc (d, e)
-unread_other path (unsealing.PluginFailed name) result d e = cc (d, e)
-unread_other path unsealing.NoMemory result d e = cc (d, e)
+unread_other path other result d e = cc (d, e)
 
 fresh_other : (path : List ℕ) (result : Result Step CallNo) → result ≡ Ok (step.Fresh path)
     → IsSpent result → ⊥
@@ -153,20 +140,10 @@ none_spends : (above : List ℕ) (old new : Caller) (result : Result Step CallNo
     → FindsNone above old result new → Spends 1 old new result
 none_spends above old new (Ok step.End) a =
     spends_entry old new (event.After above) answer.Absent (Ok step.End) a (λ e. cc e)
-none_spends above old new (Ok (step.Rewritten path)) a = absurd a
-none_spends above old new (Ok (step.Fresh path)) a = absurd a
-none_spends above old new (Ok (step.Changed path)) a = absurd a
-none_spends above old new (Ok (step.Left path)) a = absurd a
 none_spends above old new (Err refusal.NoMemory) a = spends_entry old new (event.After above)
     answer.NoMemory (Err refusal.NoMemory) a (λ e. cc e)
 none_spends above old new (Err refusal.Spent) a = spends_none old new (Err refusal.Spent) a
-none_spends above old new (Err (refusal.Refused why)) a = absurd a
-none_spends above old new (Err (refusal.PluginFailed name)) a = absurd a
-none_spends above old new (Err refusal.DiceFailed) a = absurd a
-none_spends above old new (Err refusal.StoreFailed) a = absurd a
-none_spends above old new (Err (refusal.StoreFull needed)) a = absurd a
-none_spends above old new (Err (refusal.Unhealthy name field text)) a = absurd a
-none_spends above old new (Err refusal.Gone) a = absurd a
+none_spends above old new other a = absurd a
 
 early_spends : (replica : ℕ) (old new : Caller) (why : CallNo)
     → AdoptsNothing replica old why new → Spends 1 old new (Err why)
@@ -177,12 +154,7 @@ early_spends replica old new refusal.NoMemory (inl same) =
     spends_same old new (Err refusal.NoMemory) same (λ e. cc e)
 early_spends replica old new refusal.NoMemory (inr a) = spends_entry old new
     (event.Adopt replica) answer.NoMemory (Err refusal.NoMemory) a (λ e. cc e)
-early_spends replica old new (refusal.Refused why) a = absurd a
-early_spends replica old new (refusal.PluginFailed name) a = absurd a
-early_spends replica old new refusal.DiceFailed a = absurd a
-early_spends replica old new refusal.StoreFailed a = absurd a
-early_spends replica old new (refusal.StoreFull needed) a = absurd a
-early_spends replica old new (refusal.Unhealthy name field text) a = absurd a
+early_spends replica old new other a = absurd a
 
 -- ---- a whole step
 

@@ -125,27 +125,18 @@ pub record IsEnd (taken : Step) (old new : Report) : Type 0 where
 pub ends_there : (taken : Step) (found : Bool) (old new : Report) → CountsStep old taken found new
     → found ≡ false → IsEnd taken old new
 ends_there step.End found old new s is = record { end = refl; same = s.1 }
-ends_there (step.Rewritten path) found old new s is = cc (s.0, is)
-ends_there (step.Fresh path) found old new s is = cc (s.0, is)
-ends_there (step.Changed path) found old new s is = cc (s.0, is)
-ends_there (step.Left path) found old new s is = cc (s.0, is)
+ends_there other found old new s is = cc (s.0, is)
 
 pub finds_row : (taken : Step) (found : Bool) (old new : Report) → CountsStep old taken found new
     → found ≡ true → FindsRow taken
 finds_row step.End found old new s is = cc (s.0, is)
-finds_row (step.Rewritten path) found old new s is = tt
-finds_row (step.Fresh path) found old new s is = tt
-finds_row (step.Changed path) found old new s is = tt
-finds_row (step.Left path) found old new s is = tt
+finds_row other found old new s is = tt
 
 -- the report's last path is the step's
 pub last_is : (taken : Step) (found : Bool) (old new : Report) → CountsStep old taken found new
     → found ≡ true → new.last ≡ path_of old.last taken
 last_is step.End found old new s is = cc (s.0, is)
-last_is (step.Rewritten path) found old new s is = ap (λ (r : Report). r.last) s.1
-last_is (step.Fresh path) found old new s is = ap (λ (r : Report). r.last) s.1
-last_is (step.Changed path) found old new s is = ap (λ (r : Report). r.last) s.1
-last_is (step.Left path) found old new s is = ap (λ (r : Report). r.last) s.1
+last_is other found old new s is = ap (λ (r : Report). r.last) s.1
 
 -- ---- steps
 

@@ -7,16 +7,16 @@ ghost use Rattle.kr_provider.specs.Publication.{list_at};
 ghost use Rattle.kr_provider.specs.Reading.{HasSomeReading, data_of};
 ghost use Rattle.kr_store.specs.Rows.{IsRow};
 ghost use Rattle.kr_rollout.specs.Callers.{found_in, holding};
+ghost use Rattle.kr_history.specs.Calls.{HoldsAdopted};
 ghost use Rattle.kr_history.specs.Parts.{AddsWithin};
-ghost use Rattle.kr_rewrite.specs.Rewrites.{IsStepTo, ReplacesBy, Rewrites, unread_step, unsealed_step};
-ghost use Rattle.kr_rewrite.specs.inner.Stages.{AnswersReplace, HoldsAdopted, ResealsRow, RewritesRowBy};
+ghost use Rattle.kr_rewrite.specs.Rewrites.{IsStepTo, Rewrites, unread_step, unsealed_step};
+ghost use Rattle.kr_rewrite.specs.inner.Stages.{ResealsRow, RewritesRowBy, replaced_step};
 
 use crate::outcome::Step;
-use kr_base::{Bytes, Dice, Spent, Text};
-use kr_history::{Acts, CallNo, seal_in_place, unseal};
+use kr_base::{Bytes, Dice, Text};
+use kr_history::{Acts, CallNo, Replacing, replace, seal_in_place, unseal};
 use kr_kms::Kms;
 use kr_provider::{Bench, Opened, SealNo, UnsealNo};
-use kr_rollout::{Answer, Event};
 use kr_store::Row;
 use std::alloc::Global;
 
@@ -97,28 +97,17 @@ fn reseal<A: Acts, L: Kms, D: Dice>(
         Err(why) => return unsealed_step(path, why),
     };
     acts.known();
-    match acts.act(Event::Replace {
-        path: copy,
-        revision: row.revision,
-        stored,
-    }) {
-        Ok(answer) => replaced_step(path, answer),
-        Err(Spent) => Err(CallNo::Spent),
-    }
+    replaced_step(path, replace(acts, copy, row.revision, stored))
 }
 
 /// What became of the row.
-fn replaced_step(path: Text, answer: Answer) -> Result<Step, CallNo>
-    requires { AnswersReplace answer }
-    ensures { ReplacesBy path answer result }
+fn replaced_step(path: Text, done: Result<Replacing, CallNo>) -> Result<Step, CallNo>
+    ensures { result ≡ replaced_step path done }
 {
-    match answer {
-        Answer::Written { revision: _ } => Ok(Step::Rewritten(path)),
-        Answer::Changed { revision: _ } => Ok(Step::Changed(path)),
-        Answer::StoreFailed => Err(CallNo::StoreFailed),
-        Answer::StoreFull { needed } => Err(CallNo::StoreFull { needed }),
-        Answer::NoMemory => Err(CallNo::NoMemory),
-        _ => unreachable!(),
+    match done {
+        Ok(Replacing::Written(_revision)) => Ok(Step::Rewritten(path)),
+        Ok(Replacing::Changed(_last)) => Ok(Step::Changed(path)),
+        Err(why) => Err(why),
     }
 }
 

@@ -1,28 +1,25 @@
 //! One step: the next live row above a path.
-ghost use Rattle.std.specs.Prelude.{◌≡◌, ◌⊎◌, ◌<◌, ◌≤◌, length, None, Some, IfOk, IfSome, IsSome, []};
+ghost use Rattle.std.specs.Prelude.{◌≡◌, ◌⊎◌, ◌<◌, ◌≤◌, length, None, IfOk, IfSome, []};
 ghost use Rattle.kr_base.specs.Rules.{IsPath};
 ghost use Rattle.kr_base.specs.Walks.{Talk, Walk};
 ghost use Rattle.kr_provider.specs.AskedLinks.{Among, AskedOnly};
 ghost use Rattle.kr_provider.specs.BenchKeys.{LeavesKeys, adoption_of};
 ghost use Rattle.kr_provider.specs.KeyPages.{size_of};
 ghost use Rattle.kr_provider.specs.Names.{names_of};
-ghost use Rattle.kr_store.specs.Rows.{IsRow};
-ghost use Rattle.kr_rollout.specs.Callers.{found_in, holding};
-ghost use Rattle.kr_history.specs.Calls.{AreServed, IsIdle, KeepsHonesty};
+ghost use Rattle.kr_rollout.specs.Callers.{holding};
+ghost use Rattle.kr_history.specs.Calls.{AreServed, HoldsAdopted, IsIdle};
 ghost use Rattle.kr_history.specs.KeyMoments.{Happens, call_moments, has_adopted};
 ghost use Rattle.kr_history.specs.Parts.{AddsWithin};
 ghost use Rattle.kr_rewrite.specs.DriveExchanges.{IsStepBy};
 ghost use Rattle.kr_rewrite.specs.Rewrites.{IsStep, IsStepTo, Steps};
-ghost use Rattle.kr_rewrite.specs.inner.Stages.{AnswersAfter, FindsBy, HoldsAdopted, LooksAbove, StepsBy};
+ghost use Rattle.kr_rewrite.specs.inner.Stages.{StepsBy};
 
 use crate::outcome::Step;
 use crate::row::rewrite;
-use kr_base::{Dice, Shared, Spent, Text};
-use kr_history::{Acts, CallNo, adopt, adopt_configuration, hand_back};
+use kr_base::{Dice, Text};
+use kr_history::{Acts, CallNo, adopt, adopt_configuration, hand_back, look_above};
 use kr_kms::Kms;
 use kr_provider::Bench;
-use kr_rollout::{Answer, Event};
-use kr_store::Row;
 use std::alloc::Global;
 
 /// Rewrites the live row with the least path above this one, which may be empty, where that row is
@@ -108,37 +105,4 @@ fn step<A: Acts, L: Kms, D: Dice>(
         return Ok(Step::End);
     };
     rewrite(alloc, acts, bench, row.get())
-}
-
-/// The next row above.
-fn look_above<A: Acts>(acts: &mut A, above: Text) -> Result<Option<Shared<Row>>, CallNo>
-    requires path { (above ≡ []) ⊎ IsPath above }
-    requires held { IsSome (holding (A.caller acts.old).mine) }
-    ensures looks { LooksAbove above (A.caller acts.old) result (A.caller acts.new) }
-    ensures adds { AddsWithin 1 0 [] (A.caller acts.old) (A.caller acts.new) }
-    ensures honest { KeepsHonesty (A.caller acts.old) (A.caller acts.new) }
-    ensures holds { holding (A.caller acts.new).mine ≡ holding (A.caller acts.old).mine }
-    ensures row { IfOk result (λ found. IfSome found
-        (λ row. (found_in (A.caller acts.new).mine ≡ Some row)
-        × IsRow (A.caller acts.new).opening.format row)) }
-    ensures place { A.place acts.new ≡ A.place acts.old }
-{
-    acts.known();
-    match acts.act(Event::After { path: above }) {
-        Ok(answer) => found(answer),
-        Err(Spent) => Err(CallNo::Spent),
-    }
-}
-
-/// The row that was found.
-fn found(answer: Answer) -> Result<Option<Shared<Row>>, CallNo>
-    requires { AnswersAfter answer }
-    ensures { FindsBy answer result }
-{
-    match answer {
-        Answer::Found(row) => Ok(Some(row)),
-        Answer::Absent => Ok(None),
-        Answer::NoMemory => Err(CallNo::NoMemory),
-        _ => unreachable!(),
-    }
 }

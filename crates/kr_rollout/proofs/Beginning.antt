@@ -24,7 +24,7 @@ use Rattle.kr_judge.specs.LiveFits.{AreFit}
 use Rattle.kr_rollout.specs.Histories.{IsLegal}
 use Rattle.kr_opening.specs.Starts.{opening_generations, MayStart, Boards}
 use Rattle.kr_rollout.specs.Laws.{BoardAtStart}
-use Rattle.kr_rollout.specs.inner.Rollouts.{RolloutState, opening_of, state_with, IsRollout, IsCore}
+use Rattle.kr_rollout.specs.inner.Rollouts.{RolloutState, opening_of, state_with, IsRollout}
 
 -- ---- numbers
 
@@ -122,12 +122,11 @@ current_long m (Some p ∷ rs) = ap suc (current_long (m + 1) rs)
 
 current_numbers : (k m : ℕ) (rs : List (Option Publication)) (place n : ℕ)
     → number_at (current_from m rs) place ≡ Some n → n < m + length (generations_from k rs)
-current_numbers k m [] place n e = absurd (none-some n e)
-current_numbers k m (None ∷ rs) zero n e = absurd (none-some n e)
 current_numbers k m (None ∷ rs) (suc place) n e = current_numbers (k + 1) m rs place n e
 current_numbers k m (Some p ∷ rs) zero n e = omega (arith, same_Some m n e)
 current_numbers k m (Some p ∷ rs) (suc place) n e =
     omega (arith, current_numbers (k + 1) (m + 1) rs place n e)
+current_numbers k m other place n e = absurd (none-some n e)
 
 -- the replica at a place took up the generation of its number
 record IsOwner (k m : ℕ) (rs : List (Option Publication)) (place n : ℕ) : Type 0 where
@@ -144,8 +143,6 @@ at_first k = let e : k ≡ k + 0 = omega arith in ap Some e
 
 current_owner : (k m : ℕ) (rs : List (Option Publication)) (place n : ℕ)
     → number_at (current_from m rs) place ≡ Some n → IsOwner k m rs place n
-current_owner k m [] place n e = absurd (none-some n e)
-current_owner k m (None ∷ rs) zero n e = absurd (none-some n e)
 current_owner k m (None ∷ rs) (suc place) n e =
     let r = current_owner (k + 1) m rs place n e in
     record { at = r.at; number = r.number; replica = r.replica ∙ further_on k place }
@@ -158,6 +155,7 @@ current_owner k m (Some p ∷ rs) (suc place) n e =
       number = omega (arith, r.number);
       replica = r.replica ∙ further_on k place;
     }
+current_owner k m other place n e = absurd (none-some n e)
 
 at_start : (place : ℕ) → ◌≡◌ {A = Option ℕ} (Some (0 + place)) (Some place)
 at_start place = let e : 0 + place ≡ place = omega arith in ap Some e
@@ -237,13 +235,32 @@ start_legal o rows first each m = record {
 -- ---- the rollout that is made
 
 module _ (store : Kept) (rs : List (Option Publication)) (names : List (List ℕ)) (reloads : List ℕ)
-    (b : BoardState) (generations : List Generation) (current held : List (Option ℕ))
-    (kept : List ℕ) (first count : ℕ) (torn : Bool) (room : ℕ)
-    (first_is : first ≡ length store.rows)
-    (count_is : count ≡ store.count) (torn_is : torn ≡ store.torn) (generations_is : generations ≡ generations_from 0 rs)
-    (current_is : current ≡ current_from 0 rs) (held_is : held ≡ replicate (length reloads) None)
-    (kept_is : kept ≡ reloads) (room_is : room ≡ length rs + sum reloads)
-    (boards : Boards store.rows (settings_of rs) room (Ok b)) where
+    (b : BoardState) {slice : List (Option Publication)} {seats : ℕ} {generations : List Generation}
+    {current held : List (Option ℕ)} {kept : List ℕ} {first count : ℕ} {torn : Bool} {room : ℕ}
+    {settings : List (Option (List ConfigEntry))}
+    (slice_is : slice ≡ rs) (seats_is : length reloads ≡ seats)
+    (first_is : first ≡ length store.rows) (count_is : count ≡ store.count)
+    (torn_is : torn ≡ store.torn) (generations_are : generations ≡ generations_from 0 slice)
+    (current_are : current ≡ current_from 0 slice) (held_are : held ≡ replicate seats None)
+    (kept_is : kept ≡ reloads) (room_fits : room ≡ length slice + sum reloads)
+    (settings_are : settings ≡ settings_of slice)
+    (judged : Boards store.rows settings room (Ok b)) where
+  generations_is : generations ≡ generations_from 0 rs
+  generations_is = generations_are ∙ ap (generations_from 0) slice_is
+
+  current_is : current ≡ current_from 0 rs
+  current_is = current_are ∙ ap (current_from 0) slice_is
+
+  held_is : held ≡ replicate (length reloads) None
+  held_is = held_are ∙ ap (λ n. replicate n None) (sym seats_is)
+
+  room_is : room ≡ length rs + sum reloads
+  room_is = room_fits ∙ ap (λ (l : List (Option Publication)). length l + sum reloads) slice_is
+
+  boards : Boards store.rows (settings_of rs) room (Ok b)
+  boards = subst (λ s. Boards store.rows s room (Ok b)) (settings_are ∙ ap settings_of slice_is)
+      judged
+
   board_is : b ≡ board (opening_by store rs names reloads)
       (start_of (opening_by store rs names reloads))
   board_is = boards.1 ∙ ap (λ n. record {
@@ -255,7 +272,7 @@ module _ (store : Kept) (rs : List (Option Publication)) (names : List (List ℕ
       room_is
       ∙ sym (start_board (opening_by store rs names reloads))
 
-  pub opened : ◌≡◌ {A = RolloutState} (record {
+  opened : ◌≡◌ {A = RolloutState} (record {
     opening = opening_of store first rs names kept count torn;
     state = state_with store b generations current held;
   })
@@ -299,24 +316,20 @@ module _ (store : Kept) (rs : List (Option Publication)) (names : List (List ℕ
       (start_of (opening_by store rs names reloads)) x) (sym board_is)
       (start_rollout (opening_by store rs names reloads) few))
 
-  pub opened_legal : AreRows store.format store.rows → IsFirstIn rs → AreAmong names rs
-      → All (λ replica. IfSome replica IsPublished) rs
-      → IsLegal (opening_by store rs names reloads) []
-  opened_legal rows in_first among published =
-      start_legal (opening_by store rs names reloads) rows in_first
-      (admitted names rs among published) boards.0
-
-none_within : (n : ℕ) → 0 ≤ n
-none_within n = omega arith
-
--- a core with no line
-pub core_begin : (o : Opening) (c : RolloutState) (spare room : ℕ)
-    → c ≡ record { opening = o; state = start_of o } → IsLegal o [] → room ≤ spare
-    → IsCore c.opening c.state [] spare room
-core_begin o c spare room e l r = subst (λ (x : RolloutState). IsCore x.opening x.state [] spare room)
-    (sym e) (record {
-      legal = l;
-      leads = refl;
-      budgets = λ seat. none_within _;
-      room_in = omega arith;
-    })
+  pub starts : AreRows store.format store.rows → IsFirstIn rs → AreAmong names rs
+      → All (λ replica. IfSome replica IsPublished) slice
+      → IsLegal (opening_by store rs names reloads) [] × MayStart store.rows (settings_of rs)
+      × ◌≡◌ {A = RolloutState} (record {
+        opening = opening_of store first rs names kept count torn;
+        state = state_with store b generations current held;
+      }) (record {
+        opening = opening_by store rs names reloads;
+        state = start_of (opening_by store rs names reloads);
+      })
+  starts rows in_first among published = (
+    start_legal (opening_by store rs names reloads) rows in_first
+        (admitted names rs among
+        (subst (All (λ replica. IfSome replica IsPublished)) slice_is published)) boards.0,
+    boards.0,
+    opened,
+  )

@@ -9,9 +9,9 @@ use Rattle.kr_provider.specs.Publication.{Publication}
 use Rattle.kr_rollout.specs.declared.event.Event.{Event}
 use Rattle.kr_rollout.specs.declared.event.Event.TheVariants as event
 use Rattle.kr_rollout.specs.declared.line.Did.{Did}
-use Rattle.kr_rollout.specs.declared.line.Did.TheVariants.{Adopt, Fetch, After, Put, Delete, Replace, LetGo, Reload, Join, Leave}
+use Rattle.kr_rollout.specs.declared.line.Did.TheVariants.{Adopt, Reload, Join}
 use Rattle.kr_rollout.specs.declared.line.Gave.{Gave}
-use Rattle.kr_rollout.specs.declared.line.Gave.TheVariants.{Adopted, Found, Absent, Written, Changed, Released, Reloaded, Joined, Refused, Moved, Present, Departed, Gone, StoreFailed, StoreFull, Nothing}
+use Rattle.kr_rollout.specs.declared.line.Gave.TheVariants.{Reloaded, Joined}
 use Rattle.kr_rollout.specs.declared.opening.Entry.{Entry}
 use Rattle.kr_rollout.specs.declared.opening.Opening.{Opening}
 use Rattle.kr_rollout.specs.Entries.{seat_of}
@@ -158,37 +158,16 @@ module _ (history : List Entry) where
 
 given : (did : Did) → length (new_generation did) ≤ cond (brings_settings did) 1 0
 given (Adopt replica) = omega arith
-given (Fetch path) = omega arith
-given (After path) = omega arith
-given (Put path resource plain) = omega arith
-given (Delete path) = omega arith
-given (Replace path revision) = omega arith
-given LetGo = omega arith
-given (Reload replica p expect) = omega arith
-given (Join replica p) = omega arith
-given (Leave replica) = omega arith
+given other = omega arith
 
 none_new : (n : ℕ) → 0 ≤ n
 none_new n = omega arith
 
 grown : (gave : Gave) (did : Did)
     → length (new_generations gave did) ≤ cond (brings_settings did) 1 0
-grown (Adopted number) did = none_new _
-grown (Found revision) did = none_new _
-grown Absent did = none_new _
-grown (Written revision) did = none_new _
-grown (Changed last) did = none_new _
-grown Released did = none_new _
 grown (Reloaded number) did = given did
 grown (Joined number) did = given did
-grown (Refused verdict) did = none_new _
-grown (Moved number) did = none_new _
-grown (Present number) did = none_new _
-grown (Departed number) did = none_new _
-grown (Gone replica) did = none_new _
-grown StoreFailed did = none_new _
-grown (StoreFull needed) did = none_new _
-grown Nothing did = none_new _
+grown other did = none_new _
 
 generations_within : (st : State) (history : List Entry)
     → length (state_from st history).generations ≤ length st.generations + reloads_in history
@@ -227,16 +206,9 @@ room_for o history seat legal budgets l m = omega (
 pub may_bring : (o : Opening) (seat : ℕ) (own : List Entry) (asked : Event)
     → reloads_in own ≤ get_or o.reloads seat 0 → Allows o seat own asked
     → reloads_in own + cond (brings_settings (did_of asked)) 1 0 ≤ get_or o.reloads seat 0
-may_bring o seat own (event.Adopt replica) b a = omega (arith, b)
-may_bring o seat own (event.Fetch path) b a = omega (arith, b)
-may_bring o seat own (event.After path) b a = omega (arith, b)
-may_bring o seat own (event.Put path resource plain stored) b a = omega (arith, b)
-may_bring o seat own (event.Delete path) b a = omega (arith, b)
-may_bring o seat own (event.Replace path revision stored) b a = omega (arith, b)
-may_bring o seat own event.LetGo b a = omega (arith, b)
 may_bring o seat own (event.Reload replica p expect) b a = omega (arith, a.2)
 may_bring o seat own (event.Join replica p) b a = omega (arith, a.2)
-may_bring o seat own (event.Leave replica) b a = omega (arith, b)
+may_bring o seat own other b a = omega (arith, b)
 
 pub budgets_more : (o : Opening) (history : List Entry) (e : Entry) (seat : ℕ) (asked : Event)
     → KeepsBudgets o history → MayAsk o seat (of_seat seat_of seat history) asked

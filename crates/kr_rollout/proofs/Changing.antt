@@ -4,7 +4,7 @@ use Rattle.std.specs.Prelude.{IsTrue, ◌||◌, ◌&&◌, slice_set}
 use Rattle.std.specs.List.{list_any, slice_get}
 use Rattle.std.specs.Option.{option_map}
 use Rattle.std.proofs.lemmas.Bool.{cases_eq, eq-eqb, ne_eqb, both_ways}
-use Rattle.std.proofs.lemmas.List.{length-set, get_or-set_same, get_or-set_other}
+use Rattle.std.proofs.lemmas.List.{length-set, get_or-set_same}
 use Rattle.std.proofs.lemmas.List.Folds.{list_any_at}
 use Rattle.std.proofs.lemmas.List.Sums.{sum_by-cons}
 use Rattle.std.proofs.lemmas.Option.{none-some, same_Some, slice_get_within}
@@ -18,7 +18,7 @@ use Rattle.kr_rollout.specs.Openings.{board, room_of}
 use Rattle.kr_rollout.specs.inner.Rollouts.{RolloutState, IsRollout, AreNumbers, AreOwn, state_with}
 use Rattle.kr_rollout.specs.inner.Membership.{with_generation}
 use Rattle.kr_rollout.proofs.Revisions.{get_front}
-use Rattle.kr_rollout.proofs.Keeping.{numbers_set}
+use Rattle.kr_rollout.proofs.Keeping.{numbers_set, set_cases}
 
 -- ---- whether a number is current
 
@@ -221,25 +221,13 @@ own_set : (current : List (Option ℕ)) (gs later : List Generation) (replica : 
     → IfSome now (λ n. option_map (λ (g : Generation). g.replica) (slice_get later n)
     ≡ Some replica)
     → replica < length current → AreOwn (slice_set current replica now) later
-own_set current gs later replica now own k front w l place n e = by (cases_eq place replica) now w e
-  where
-    by : (place ≡ replica) ⊎ (place ≡ replica → ⊥) → (now : Option ℕ)
-        → IfSome now (λ n. option_map (λ (g : Generation). g.replica) (slice_get later n)
-        ≡ Some replica)
-        → number_at (slice_set current replica now) place ≡ Some n
-        → option_map (λ (g : Generation). g.replica) (slice_get later n) ≡ Some place
-    by (inl same) None w e = absurd (none-some n
-        (sym (ap (number_at (slice_set current replica None)) same
-        ∙ get_or-set_same current replica None None l) ∙ e))
-    by (inl same) (Some m) w e =
-        let is : Some m ≡ Some n = sym (ap (number_at (slice_set current replica (Some m))) same
-        ∙ get_or-set_same current replica (Some m) None l) ∙ e in
-        subst (λ j. option_map (λ (g : Generation). g.replica) (slice_get later j) ≡ Some place)
-        (same_Some m n is)
-        (w ∙ ap Some (sym same))
-    by (inr other) now w e =
-        let old = sym (get_or-set_other current replica place now None other) ∙ e in
-        ap (option_map (λ (g : Generation). g.replica)) (front n (k place n old)) ∙ own place n old
+own_set current gs later replica now own k front w l place n e =
+    elim (set_cases current replica place n now l e) [
+      | inl set ↦ subst (λ o. IfSome o (λ m. option_map (λ (g : Generation). g.replica)
+          (slice_get later m) ≡ Some replica)) set.1 w ∙ ap Some (sym set.0)
+      | inr there ↦ ap (option_map (λ (g : Generation). g.replica)) (front n (k place n there))
+          ∙ own place n there
+    ]
 
 -- ---- what the board requires of a replica that leaves
 

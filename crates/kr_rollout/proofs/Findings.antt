@@ -8,9 +8,9 @@ use Rattle.kr_store.specs.declared.rows.Row.{Row}
 use Rattle.kr_store.specs.Rows.{live_row, with_revision, put_at}
 use Rattle.kr_store.proofs.Places.{row_stays}
 use Rattle.kr_rollout.specs.declared.line.Did.{Did}
-use Rattle.kr_rollout.specs.declared.line.Did.TheVariants.{Adopt, Fetch, After, Put, Delete, Replace, LetGo, Reload, Join, Leave}
+use Rattle.kr_rollout.specs.declared.line.Did.TheVariants.{Adopt, Fetch, After}
 use Rattle.kr_rollout.specs.declared.line.Gave.{Gave}
-use Rattle.kr_rollout.specs.declared.line.Gave.TheVariants.{Adopted, Found, Absent, Written, Changed, Released, Reloaded, Joined, Refused, Moved, Present, Departed, Gone, StoreFailed, StoreFull, Nothing}
+use Rattle.kr_rollout.specs.declared.line.Gave.TheVariants.{Found}
 use Rattle.kr_rollout.specs.declared.opening.Entry.{Entry}
 use Rattle.kr_rollout.specs.declared.opening.Opening.{Opening}
 use Rattle.kr_base.specs.Lines.{of_seat}
@@ -55,26 +55,12 @@ row_in rows (suc k) row e = by (slice_get rows k) refl e
 
 found_in_rows : (rows : List LogRow) (gave : Gave) (row : Option Row)
     → row ≡ put_at rows (revision_in gave) → IfSome (found_by gave row) (IsIn rows)
-found_in_rows rows (Adopted n) row e = tt
 found_in_rows rows (Found revision) row e = by row e
   where
     by : (row : Option Row) → row ≡ put_at rows revision → IfSome row (IsIn rows)
     by None e = tt
     by (Some r) e = row_in rows revision r (sym e)
-found_in_rows rows Absent row e = tt
-found_in_rows rows (Written revision) row e = tt
-found_in_rows rows (Changed last) row e = tt
-found_in_rows rows Released row e = tt
-found_in_rows rows (Reloaded number) row e = tt
-found_in_rows rows (Joined number) row e = tt
-found_in_rows rows (Refused verdict) row e = tt
-found_in_rows rows (Moved number) row e = tt
-found_in_rows rows (Present number) row e = tt
-found_in_rows rows (Departed number) row e = tt
-found_in_rows rows (Gone replica) row e = tt
-found_in_rows rows StoreFailed row e = tt
-found_in_rows rows (StoreFull needed) row e = tt
-found_in_rows rows Nothing row e = tt
+found_in_rows rows other row e = tt
 
 then_in : (rows more : List LogRow) (did : Did) (gave : Gave) (row now : Option Row)
     → row ≡ put_at (rows ++ more) (revision_in gave) → IfSome now (IsIn rows)
@@ -82,13 +68,7 @@ then_in : (rows more : List LogRow) (did : Did) (gave : Gave) (row now : Option 
 then_in rows more (Adopt replica) gave row now e i = tt
 then_in rows more (Fetch path) gave row now e i = found_in_rows (rows ++ more) gave row e
 then_in rows more (After path) gave row now e i = found_in_rows (rows ++ more) gave row e
-then_in rows more (Put path resource plain) gave row now e i = all_stay rows more now i
-then_in rows more (Delete path) gave row now e i = all_stay rows more now i
-then_in rows more (Replace path revision) gave row now e i = all_stay rows more now i
-then_in rows more LetGo gave row now e i = all_stay rows more now i
-then_in rows more (Reload replica p expect) gave row now e i = all_stay rows more now i
-then_in rows more (Join replica p) gave row now e i = all_stay rows more now i
-then_in rows more (Leave replica) gave row now e i = all_stay rows more now i
+then_in rows more other gave row now e i = all_stay rows more now i
 
 run_finds : (o : Opening) (st : State) (history : List Entry) (seat : ℕ) (now : Option Row)
     → IsRun o st history → IfSome now (IsIn st.rows)

@@ -1,19 +1,21 @@
 -- What holds of a rollout holds after a write to the store.
-use Rattle.std.proofs.Common.{◌≡◌, ℕ, ◌≤◌, ◌++◌, Bool, List, [], ◌∷◌, length, Option, None, Some, Result, Ok, Err, inr, sym, ap, subst, ◌∙◌, arith, append-nil, length-append}
+use Rattle.std.proofs.Common.{◌≡◌, ℕ, ◌≤◌, ◌+◌, ◌++◌, Bool, List, [], ◌∷◌, length, Option, None, Some, Result, Ok, Err, inr, sym, ap, subst, ◌∙◌, arith, append-nil, length-append}
+use Rattle.std.specs.Prelude.{sum}
 use Rattle.std.proofs.lemmas.Bool.{both_ways}
 use Rattle.kr_base.proofs.Counting.{Rose-later}
 use Rattle.kr_store.specs.declared.answers.PutNo.{PutNo}
 use Rattle.kr_store.specs.declared.answers.PutNo.TheVariants as no
 use Rattle.kr_store.specs.declared.rows.LogRow.{LogRow}
-use Rattle.kr_store.specs.Rows.{delete_of}
+use Rattle.kr_store.specs.Rows.{put_of, delete_of}
 use Rattle.kr_store.specs.Stores.{Kept, Wrote, Fails, Puts, Deletes}
 use Rattle.kr_provider.specs.Publication.{Publication, list_at}
 use Rattle.kr_provider.specs.Readers.{writer_of}
 use Rattle.kr_judge.specs.declared.need.Need.{Need}
 use Rattle.kr_judge.specs.Boards.{BoardState, set_need}
 use Rattle.kr_opening.specs.declared.generation.Generation.{Generation}
+use Rattle.kr_opening.specs.Checks.{written_check}
 use Rattle.kr_rollout.specs.inner.Rollouts.{opening_of, state_with, IsRollout, KeepsFaults}
-use Rattle.kr_rollout.specs.inner.Writing.{needs_without, sealed_over, StaysBy, ReplacesBy}
+use Rattle.kr_rollout.specs.inner.Writing.{needs_without, sealed_over, StaysBy, PutsBy, ReplacesBy}
 use Rattle.kr_rollout.proofs.Storing.{same_rollout}
 
 -- ---- faults
@@ -36,7 +38,7 @@ same_faults : (torn : Bool) (count : ℕ) (store next : Kept) → next ≡ store
     → KeepsFaults torn count store → KeepsFaults torn count next
 same_faults torn count store next e k = subst (KeepsFaults torn count) (sym e) k
 
-pub faults_put : (torn : Bool) (count : ℕ) (store next : Kept) (row : LogRow)
+faults_put : (torn : Bool) (count : ℕ) (store next : Kept) (row : LogRow)
     (result : Result ℕ PutNo) → Puts store next row result → KeepsFaults torn count store
     → KeepsFaults torn count next
 faults_put torn count store next row (Ok revision) w k =
@@ -48,7 +50,7 @@ faults_put torn count store next row (Err (no.Full needed)) r k =
 faults_put torn count store next row (Err (no.Changed last)) r k = absurd r
 faults_put torn count store next row (Err no.NoMemory) r k = same_faults torn count store next r k
 
-pub faults_delete : (torn : Bool) (count : ℕ) (store next : Kept) (path : List ℕ)
+faults_delete : (torn : Bool) (count : ℕ) (store next : Kept) (path : List ℕ)
     (result : Result (Option ℕ) PutNo) → Deletes store next path result
     → KeepsFaults torn count store → KeepsFaults torn count next
 faults_delete torn count store next path (Ok None) d k = same_faults torn count store next d.1 k
@@ -74,7 +76,7 @@ stays_faults p torn count store next path revision stored (no.Full needed) r k =
 stays_faults p torn count store next path revision stored (no.Changed to) r k =
     same_faults torn count store next r.1 k
 
-pub faults_replace : (p : Publication) (torn : Bool) (count : ℕ) (store next : Kept)
+faults_replace : (p : Publication) (torn : Bool) (count : ℕ) (store next : Kept)
     (path : List ℕ) (revision : ℕ) (stored : List ℕ) (kept later : BoardState)
     (result : Result ℕ PutNo)
     → ReplacesBy p store next path revision stored kept later result
@@ -105,6 +107,14 @@ same_grows store next e = (
   ap (λ (s : Kept). s.limit) e,
   ap (λ (s : Kept). s.format) e,
 )
+
+puts_grow : (store next : Kept) (row : LogRow) (result : Result ℕ PutNo)
+    → Puts store next row result → Grows store next
+puts_grow store next row (Ok revision) w = wrote_grows store next row revision w
+puts_grow store next row (Err no.Failed) f = failed_grows store next row f
+puts_grow store next row (Err (no.Full needed)) r = same_grows store next r.0
+puts_grow store next row (Err (no.Changed last)) r = absurd r
+puts_grow store next row (Err no.NoMemory) r = same_grows store next r
 
 deletes_grow : (store next : Kept) (path : List ℕ) (result : Result (Option ℕ) PutNo)
     → Deletes store next path result → Grows store next
@@ -149,36 +159,56 @@ replaced_needs p store next path revision stored kept later (Err why) r = (kept.
 
 -- ---- the rollout
 
-module _ (store next : Kept) (kept later : BoardState) (generations : List Generation)
-    (current held : List (Option ℕ))
-    (first : ℕ) (rs : List (Option Publication)) (names : List (List ℕ)) (reloads : List ℕ)
-    (count : ℕ) (torn : Bool) (l : first ≤ length store.rows)
-    (k : IsRollout (opening_of store first rs names reloads count torn)
-    (state_with store kept generations current held) kept) where
+-- what holds of a rollout, over its fields
+abbrev HoldsOver : Kept → BoardState → List Generation → (current held : List (Option ℕ))
+    → (first : ℕ) → List (Option Publication) → List (List ℕ) → (reloads : List ℕ) → (count : ℕ)
+    → (torn : Bool) → (spare : ℕ) → Type 0
+HoldsOver store kept generations current held first rs names reloads count torn spare =
+    IsRollout (opening_of store first rs names reloads count torn)
+    (state_with store kept generations current held) kept × (first ≤ length store.rows)
+    × (length rs + sum reloads ≤ length generations + spare) × KeepsFaults torn count store
+
+module _ (store next : Kept) (kept later : BoardState) {generations : List Generation}
+    {current held : List (Option ℕ)} (first : ℕ) {rs : List (Option Publication)}
+    {names : List (List ℕ)} {reloads : List ℕ} {count : ℕ} {torn : Bool} (spare : ℕ)
+    (k : HoldsOver store kept generations current held first rs names reloads count torn spare) where
   grown_by : (needs : List Need) → Grows store next → later ≡ record kept { needs = needs }
-      → IsRollout (opening_of next first rs names reloads count torn)
-      (state_with next later generations current held) later × (first ≤ length next.rows)
-  grown_by needs g later_is = (
+      → KeepsFaults torn count next
+      → HoldsOver next later generations current held first rs names reloads count torn spare
+  grown_by needs g later_is faults = (
     same_rollout store next kept later generations current held first rs names reloads count torn
-        g.0 needs l g.1 g.2 g.3 later_is k,
-    omega
-        (arith, ap (λ (rows : List LogRow). length rows) g.1, length-append store.rows g.0),
+        g.0 needs k.1 g.1 g.2 g.3 later_is k.0,
+    omega (
+      arith,
+      k.1,
+      ap (λ (rows : List LogRow). length rows) g.1,
+      length-append store.rows g.0,
+    ),
+    k.2,
+    faults,
   )
+
+  pub grown_put : (p : Publication) (path resource stored : List ℕ) (result : Result ℕ PutNo)
+      → PutsBy p store next path resource stored kept later result
+      → HoldsOver next later generations current held first rs names reloads count torn spare
+  grown_put p path resource stored result w =
+      let row = put_of path resource stored (written_check store.format p resource) in
+      grown_by _ (puts_grow store next row result w.0) w.1
+      (faults_put torn count store next row result w.0 k.3)
 
   pub grown_delete : (path : List ℕ) (result : Result (Option ℕ) PutNo)
       → Deletes store next path result
       → later ≡ record kept { needs = needs_without result path kept.needs }
-      → IsRollout (opening_of next first rs names reloads count torn)
-      (state_with next later generations current held) later × (first ≤ length next.rows)
+      → HoldsOver next later generations current held first rs names reloads count torn spare
   grown_delete path result d later_is =
       grown_by (needs_without result path kept.needs) (deletes_grow store next path result d)
-      later_is
+      later_is (faults_delete torn count store next path result d k.3)
 
   pub grown_replace : (p : Publication) (path : List ℕ) (revision : ℕ) (stored : List ℕ)
       (result : Result ℕ PutNo)
       → ReplacesBy p store next path revision stored kept later result
-      → IsRollout (opening_of next first rs names reloads count torn)
-      (state_with next later generations current held) later × (first ≤ length next.rows)
+      → HoldsOver next later generations current held first rs names reloads count torn spare
   grown_replace p path revision stored result r =
       let n = replaced_needs p store next path revision stored kept later result r in
       grown_by n.0 (replaces_grow p store next path revision stored kept later result r) n.1
+      (faults_replace p torn count store next path revision stored kept later result r k.3)

@@ -1,5 +1,5 @@
 -- A seat takes or gives up a generation: what that changes on the board.
-use Rattle.std.proofs.Common.{◌≡◌, ◌≢◌, ℕ, zero, suc, ◌<◌, ◌≤◌, ◌+◌, ◌^◌, ◌-◌, ◌==◌, Bool, true, false, cond, List, [], ◌∷◌, length, count_by, Option, None, Some, refl, sym, ap, subst, ◌∙◌, arith}
+use Rattle.std.proofs.Common.{◌≡◌, ◌≢◌, ℕ, zero, suc, ◌<◌, ◌≤◌, ◌+◌, ◌^◌, ◌-◌, ◌==◌, true, false, cond, List, [], ◌∷◌, length, count_by, Option, None, Some, refl, sym, ap, subst, ◌∙◌, arith}
 use Rattle.std.specs.Prelude.{IsTrue, ◌||◌, nat_lt, slice_set}
 use Rattle.std.specs.List.{list_any, slice_get}
 use Rattle.std.specs.Option.{option_map, IsSomeAnd}
@@ -57,8 +57,25 @@ moved current held now number change k (suc i) (g ∷ gs) m e l =
 
 -- ---- counting
 
-unit : Bool → ℕ
-unit b = cond b 1 0
+-- a judged generation with its count of holders
+with_holders : (current : List (Option ℕ)) (number : ℕ) (g : Generation) {a b : ℕ} → a ≡ b
+    → ◌≡◌ {A = GenerationState} (record {
+      replica = g.replica;
+      rows = g.published.rows;
+      current = list_any (is_number number) current;
+      holders = a;
+    }) (record {
+      replica = g.replica;
+      rows = g.published.rows;
+      current = list_any (is_number number) current;
+      holders = b;
+    })
+with_holders current number g e = ap (λ h. record {
+  replica = g.replica;
+  rows = g.published.rows;
+  current = list_any (is_number number) current;
+  holders = h;
+}) e
 
 counted : (n : ℕ) (held : List (Option ℕ)) (seat : ℕ) (before now : Option ℕ) → seat < length held
     → number_at held seat ≡ before
@@ -86,13 +103,7 @@ takes current held seat number l e = record {
       ap {B = ℕ} (λ b. cond b 1 0) (itself number) in
       let h : count_by (is_number number) held + 1
       ≡ count_by (is_number number) (slice_set held seat (Some number)) = omega (arith, c, f) in
-      ap (λ h. record {
-        replica = g.replica;
-        rows = g.published.rows;
-        current =
-            list_any (is_number number) current;
-        holders = h;
-      }) h);
+      with_holders current number g h);
 }
 
 -- ---- giving up
@@ -107,13 +118,7 @@ gives current held seat number l e = record {
       ap {B = ℕ} (λ b. cond b 1 0) (itself number) in
       let h : count_by (is_number number) held - 1
       ≡ count_by (is_number number) (slice_set held seat None) = omega (arith, c, f) in
-      ap (λ h. record {
-        replica = g.replica;
-        rows = g.published.rows;
-        current =
-            list_any (is_number number) current;
-        holders = h;
-      }) h);
+      with_holders current number g h);
 }
 
 -- ---- what the board requires

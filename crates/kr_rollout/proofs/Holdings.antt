@@ -12,7 +12,7 @@ use Rattle.kr_opening.specs.declared.generation.Generation.{Generation}
 use Rattle.kr_rollout.specs.declared.line.Did.{Did}
 use Rattle.kr_rollout.specs.declared.line.Did.TheVariants.{Adopt, Fetch, After, Put, Delete, Replace, LetGo, Reload, Join, Leave}
 use Rattle.kr_rollout.specs.declared.line.Gave.{Gave}
-use Rattle.kr_rollout.specs.declared.line.Gave.TheVariants.{Adopted, Found, Absent, Written, Changed, Released, Reloaded, Joined, Refused, Moved, Present, Departed, Gone, StoreFailed, StoreFull, Nothing}
+use Rattle.kr_rollout.specs.declared.line.Gave.TheVariants.{Adopted, Released}
 use Rattle.kr_rollout.specs.declared.opening.Entry.{Entry}
 use Rattle.kr_rollout.specs.declared.opening.Opening.{Opening}
 use Rattle.kr_base.specs.Lines.{of_seat}
@@ -63,22 +63,9 @@ module _ (generations more : List Generation) (held : List (Option ℕ)) (seat :
       ≡ number_with (generations ++ more) (number_at (held_after gave seat held) seat)
   own_then (Adopted n) p a = ap (with_published n) (a n refl)
       ∙ sym (ap (number_with (generations ++ more)) (get_or-set_same held seat (Some n) None l))
-  own_then (Found revision) p a = stays_there seat
-  own_then Absent p a = stays_there seat
-  own_then (Written revision) p a = stays_there seat
-  own_then (Changed last) p a = stays_there seat
   own_then Released p a = sym (ap (number_with (generations ++ more))
       (get_or-set_same held seat None None l))
-  own_then (Reloaded number) p a = stays_there seat
-  own_then (Joined number) p a = stays_there seat
-  own_then (Refused verdict) p a = stays_there seat
-  own_then (Moved number) p a = stays_there seat
-  own_then (Present number) p a = stays_there seat
-  own_then (Departed number) p a = stays_there seat
-  own_then (Gone replica) p a = stays_there seat
-  own_then StoreFailed p a = stays_there seat
-  own_then (StoreFull needed) p a = stays_there seat
-  own_then Nothing p a = stays_there seat
+  own_then other p a = stays_there seat
 
   -- at another seat
   other_then : (gave : Gave) (place : ℕ) → (place ≡ seat → ⊥)
@@ -87,22 +74,9 @@ module _ (generations more : List Generation) (held : List (Option ℕ)) (seat :
   other_then (Adopted n) place d = stays_there place
       ∙ sym (ap (number_with (generations ++ more))
       (get_or-set_other held seat place (Some n) None d))
-  other_then (Found revision) place d = stays_there place
-  other_then Absent place d = stays_there place
-  other_then (Written revision) place d = stays_there place
-  other_then (Changed last) place d = stays_there place
   other_then Released place d = stays_there place
       ∙ sym (ap (number_with (generations ++ more)) (get_or-set_other held seat place None None d))
-  other_then (Reloaded number) place d = stays_there place
-  other_then (Joined number) place d = stays_there place
-  other_then (Refused verdict) place d = stays_there place
-  other_then (Moved number) place d = stays_there place
-  other_then (Present number) place d = stays_there place
-  other_then (Departed number) place d = stays_there place
-  other_then (Gone replica) place d = stays_there place
-  other_then StoreFailed place d = stays_there place
-  other_then (StoreFull needed) place d = stays_there place
-  other_then Nothing place d = stays_there place
+  other_then other place d = stays_there place
 
   grown_numbers : AreNumbers held (generations ++ more)
   grown_numbers place n e = omega (arith, k place n e, length-append generations more)
@@ -111,40 +85,14 @@ module _ (generations more : List Generation) (held : List (Option ℕ)) (seat :
       → AreNumbers (held_after gave seat held) (generations ++ more)
   numbers_then (Adopted n) a = numbers_set held (generations ++ more) seat (Some n) grown_numbers l
       (a n refl)
-  numbers_then (Found revision) a = grown_numbers
-  numbers_then Absent a = grown_numbers
-  numbers_then (Written revision) a = grown_numbers
-  numbers_then (Changed last) a = grown_numbers
   numbers_then Released a = numbers_set held (generations ++ more) seat None grown_numbers l tt
-  numbers_then (Reloaded number) a = grown_numbers
-  numbers_then (Joined number) a = grown_numbers
-  numbers_then (Refused verdict) a = grown_numbers
-  numbers_then (Moved number) a = grown_numbers
-  numbers_then (Present number) a = grown_numbers
-  numbers_then (Departed number) a = grown_numbers
-  numbers_then (Gone replica) a = grown_numbers
-  numbers_then StoreFailed a = grown_numbers
-  numbers_then (StoreFull needed) a = grown_numbers
-  numbers_then Nothing a = grown_numbers
+  numbers_then other a = grown_numbers
 
 length_then : (gave : Gave) (seat : ℕ) (held : List (Option ℕ))
     → length (held_after gave seat held) ≡ length held
 length_then (Adopted n) seat held = length-set held seat (Some n)
-length_then (Found revision) seat held = refl
-length_then Absent seat held = refl
-length_then (Written revision) seat held = refl
-length_then (Changed last) seat held = refl
 length_then Released seat held = length-set held seat None
-length_then (Reloaded number) seat held = refl
-length_then (Joined number) seat held = refl
-length_then (Refused verdict) seat held = refl
-length_then (Moved number) seat held = refl
-length_then (Present number) seat held = refl
-length_then (Departed number) seat held = refl
-length_then (Gone replica) seat held = refl
-length_then StoreFailed seat held = refl
-length_then (StoreFull needed) seat held = refl
-length_then Nothing seat held = refl
+length_then other seat held = refl
 
 -- ---- one step
 
@@ -152,15 +100,7 @@ length_then Nothing seat held = refl
 adopts_from_none : (did : Did) (n : ℕ) (st : State) (held : Option ℕ)
     → IsAnswer did (Adopted n) st held → held ≡ None
 adopts_from_none (Adopt replica) n st held a = a.0
-adopts_from_none (Fetch path) n st held a = absurd a
-adopts_from_none (After path) n st held a = absurd a
-adopts_from_none (Put path resource plain) n st held a = absurd a
-adopts_from_none (Delete path) n st held a = absurd a
-adopts_from_none (Replace path revision) n st held a = absurd a
-adopts_from_none LetGo n st held a = absurd a
-adopts_from_none (Reload replica p expect) n st held a = absurd a
-adopts_from_none (Join replica p) n st held a = absurd a
-adopts_from_none (Leave replica) n st held a = absurd a
+adopts_from_none other n st held a = absurd a
 
 names_adopted : (o : Opening) (st : State) (e : Entry) (n : ℕ) → IsStep o st e
     → e.line.gave ≡ Adopted n → generation_named_by e.line.held e.line.gave ≡ Some n

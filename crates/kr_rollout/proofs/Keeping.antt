@@ -3,35 +3,39 @@ use Rattle.std.proofs.Common.{◌≡◌, ℕ, zero, suc, ◌∷◌, [], ◌<◌,
 use Rattle.std.specs.Prelude.{slice_set}
 use Rattle.std.proofs.lemmas.Bool.{cases_eq}
 use Rattle.std.proofs.lemmas.List.{length-set, get_or-set_same, get_or-set_other}
-use Rattle.std.proofs.lemmas.Option.{same_Some, none-some}
 use Rattle.kr_store.specs.Stores.{Kept}
 use Rattle.kr_judge.specs.Boards.{BoardState, GenerationState, changed_at, held_more, held_less, MayHold, IsHeld}
 use Rattle.kr_opening.specs.declared.generation.Generation.{Generation}
+use Rattle.kr_rollout.specs.declared.event.Event.{Event}
+use Rattle.kr_rollout.specs.declared.event.Event.TheVariants as event
 use Rattle.kr_rollout.specs.declared.opening.Opening.{Opening}
 use Rattle.kr_rollout.specs.Entries.{published_at}
 use Rattle.kr_rollout.specs.States.{State, number_at, current_of, held_by}
 use Rattle.kr_rollout.specs.Openings.{board}
-use Rattle.kr_rollout.specs.inner.Rollouts.{IsRollout, AreNumbers, state_with}
+use Rattle.kr_rollout.specs.inner.Rollouts.{RolloutState, IsRollout, AreNumbers, HoldsOne, MayServe, state_with}
 use Rattle.kr_rollout.proofs.Holders.{takes, gives, moved, may_hold, may_release}
 
 -- another number at a place
+pub set_cases : (numbers : List (Option ℕ)) (at place number : ℕ) (now : Option ℕ)
+    → at < length numbers → number_at (slice_set numbers at now) place ≡ Some number
+    → ((place ≡ at) × (now ≡ Some number)) ⊎ (number_at numbers place ≡ Some number)
+set_cases numbers at place number now l e = elim (cases_eq place at) [
+  | inl same ↦ inl (
+    same,
+    sym (ap (number_at (slice_set numbers at now)) same
+        ∙ get_or-set_same numbers at now None l) ∙ e,
+  )
+  | inr other ↦ inr (sym (get_or-set_other numbers at place now None other) ∙ e)
+]
+
 pub numbers_set : (numbers : List (Option ℕ)) (generations : List Generation) (at : ℕ)
     (now : Option ℕ) → AreNumbers numbers generations → at < length numbers
     → IfSome now (λ n. n < length generations) → AreNumbers (slice_set numbers at now) generations
-numbers_set numbers generations at now k l w place number e = by (cases_eq place at) now w e
-  where
-    by : (place ≡ at) ⊎ (place ≡ at → ⊥) → (now : Option ℕ)
-        → IfSome now (λ n. n < length generations)
-        → number_at (slice_set numbers at now) place ≡ Some number → number < length generations
-    by (inl same) None w e = absurd (none-some number
-        (sym (ap (number_at (slice_set numbers at None)) same
-        ∙ get_or-set_same numbers at None None l) ∙ e))
-    by (inl same) (Some n) w e =
-        let is : Some n ≡ Some number = sym (ap (number_at (slice_set numbers at (Some n))) same
-        ∙ get_or-set_same numbers at (Some n) None l) ∙ e in
-        subst (λ m. m < length generations) (same_Some n number is) w
-    by (inr other) now w e = k place number (sym (get_or-set_other numbers at place now None other)
-        ∙ e)
+numbers_set numbers generations at now k l w place number e =
+    elim (set_cases numbers at place number now l e) [
+      | inl set ↦ subst (λ o. IfSome o (λ n. n < length generations)) set.1 w
+      | inr there ↦ k place number there
+    ]
 
 abbrev pub with_seat : State → ℕ → Option ℕ → State
 with_seat st seat now = record st { held = slice_set st.held seat now }
@@ -104,12 +108,50 @@ board_releases o st kept seat number k l is =
 
 -- ---- over the fields
 
+-- what holds where the caller sees it holds of the fields
+pub may_before : {here old : RolloutState} → here ≡ old → (seat : ℕ) (asked : Event)
+    → MayServe old seat asked → MayServe here seat asked
+may_before e seat asked may = subst (λ (c : RolloutState). MayServe c seat asked) (sym e) may
+
+pub seat_before : {here old : RolloutState} → here ≡ old → (seat : ℕ)
+    → seat < length old.opening.reloads → seat < length here.opening.reloads
+seat_before e seat l = subst (λ (c : RolloutState). seat < length c.opening.reloads) (sym e) l
+
 -- what is read at a place
 pub read_number : (numbers : List (Option ℕ)) (place : ℕ) (x : Option ℕ) → place < length numbers
     → x ≡ get_or numbers place x → number_at numbers place ≡ x
 read_number [] place x l e = absurd (omega arith)
 read_number (y ∷ ys) zero x l e = sym e
 read_number (y ∷ ys) (suc place) x l e = read_number ys place x (omega arith) e
+
+pub read_current : {o : Opening} {st : State} {kept : BoardState} → IsRollout o st kept
+    → (replica : ℕ) (x : Option ℕ) → replica < length o.replicas
+    → x ≡ get_or st.current replica x → current_of st replica ≡ x
+read_current {st = st} k replica x l e =
+    read_number st.current replica x (omega (arith, l, k.replicas)) e
+
+pub read_held : {o : Opening} {st : State} {kept : BoardState} → IsRollout o st kept
+    → (seat : ℕ) (x : Option ℕ) → seat < length o.reloads
+    → x ≡ get_or st.held seat x → held_by st seat ≡ x
+read_held {st = st} k seat x l e = read_number st.held seat x (omega (arith, l, k.seats)) e
+
+-- a replica's current generation that is read may be adopted
+pub read_adopted : {here old : RolloutState} {kept : BoardState} → here ≡ old
+    → IsRollout here.opening here.state kept → (seat replica : ℕ) (x : Option ℕ)
+    → MayServe old seat (event.Adopt replica) → x ≡ get_or here.state.current replica x
+    → MayServe here seat (event.Adopt replica) × (current_of here.state replica ≡ x)
+read_adopted view k seat replica x may e =
+    let m = may_before view seat (event.Adopt replica) may in (m, read_current k replica x m.0 e)
+
+-- the generation that a seat holds is there
+pub holds_one : {o : Opening} {st : State} {kept : BoardState} → IsRollout o st kept
+    → (seat number : ℕ) (generations : List Generation) (held : List (Option ℕ))
+    → generations ≡ st.generations → held ≡ st.held → seat < length o.reloads
+    → held_by st seat ≡ Some number → HoldsOne held generations seat
+holds_one {st = st} k seat number generations held gs hs l is =
+    subst (λ xs. HoldsOne xs generations seat) (sym hs)
+    (subst (λ xs. HoldsOne st.held xs seat) (sym gs)
+    (omega (arith, l, k.seats), number, is, k.held seat number is))
 
 pub read_published : (generations : List Generation) (number : ℕ) (g : Generation)
     → number < length generations → g ≡ get_or generations number g

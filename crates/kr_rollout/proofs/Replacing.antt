@@ -8,26 +8,46 @@ use Rattle.kr_store.specs.declared.rows.LogRow.{LogRow}
 use Rattle.kr_store.specs.declared.rows.Row.{Row}
 use Rattle.kr_base.specs.Rules.{IsPath}
 use Rattle.kr_store.specs.declared.format.Format.{Format}
-use Rattle.kr_store.specs.Rows.{IsRow, live}
+use Rattle.kr_store.specs.Rows.{IsRow, live, put_of, check_in}
 use Rattle.kr_store.proofs.Places.{live_at_revision}
-use Rattle.kr_store.specs.Stores.{Kept, IsLatestPut, Wrote, Fails, Refusal, Replaces, put_over}
+use Rattle.kr_store.specs.Stores.{Kept, IsLatestPut, Wrote, Fails, Refusal, Puts, Replaces, put_over}
 use Rattle.kr_config.specs.declared.who.Who.{Who}
 use Rattle.kr_provider.specs.Publication.{Publication, list_at}
 use Rattle.kr_provider.specs.Readers.{writer_of}
 use Rattle.kr_judge.specs.Boards.{BoardState, set_need}
 use Rattle.kr_rollout.specs.Answers.{IsStill}
-use Rattle.kr_opening.specs.Checks.{store_check}
-use Rattle.kr_rollout.specs.inner.Writing.{needs_with, sealed_over, StaysBy, ReplacesBy}
+use Rattle.kr_opening.specs.Checks.{store_check, written_check}
+use Rattle.kr_rollout.specs.inner.Writing.{needs_with, sealed_over, StaysBy, PutsBy, ReplacesBy}
 
 -- what isn't the path's last put isn't replaced, whatever its check
 pub stays_by : (p : Publication) (old new : Kept) (path : List ℕ) (revision : ℕ)
     (stored : List ℕ) (check : Check) (why : PutNo) → (IsStill old.rows path revision → ⊥)
     → Replaces old new path revision stored check (Err why)
     → StaysBy p old new path revision stored why
-stays_by p old new path revision stored check no.Failed n r = absurd (n (r.0, r.1))
-stays_by p old new path revision stored check (no.Full needed) n r = absurd (n (r.0, r.1))
 stays_by p old new path revision stored check (no.Changed to) n r = r
 stays_by p old new path revision stored check no.NoMemory n r = r
+stays_by p old new path revision stored check other n r = absurd (n (r.0, r.1))
+
+-- a put by the writer of its resource, at the path that was copied
+pub put_by : (p : Publication) (old new : Kept) (path own resource stored : List ℕ) (who : Who)
+    (before after : BoardState) (result : Result ℕ PutNo) → own ≡ path
+    → who ≡ writer_of (list_at p resource)
+    → Puts old new (put_of own resource stored (check_in old.format (store_check who))) result
+    → after ≡ record before {
+      needs = needs_with result
+          (record { path = own; resource = resource; who = who }) before.needs;
+    }
+    → PutsBy p old new path resource stored before after result
+put_by p old new path own resource stored who before after result own_is who_is w b = (
+  subst (λ q. Puts old new (put_of q resource stored (written_check old.format p resource)) result)
+      own_is
+      (subst (λ w. Puts old new (put_of own resource stored (check_in old.format (store_check w)))
+      result) who_is w),
+  b ∙ (λ i. record before {
+    needs = needs_with result
+        (record { path = own_is i; resource = resource; who = who_is i }) before.needs;
+  }),
+)
 
 module _ (p : Publication) (old new : Kept) (path : List ℕ) (revision : ℕ) (stored : List ℕ)
     (own : Row) (who : Who) (there : live old.rows path ≡ Some own)

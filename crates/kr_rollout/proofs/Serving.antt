@@ -1,6 +1,8 @@
 -- Serving an event: that its line's entry is a step.
-use Rattle.std.proofs.Common.{◌≡◌, ℕ, ◌<◌, ◌++◌, List, [], length, Option, None, Some, IsSome, IfSome, refl, sym, ap, subst, ◌∙◌, arith, append-nil}
+use Rattle.std.proofs.Common.{◌≡◌, ℕ, ◌<◌, ◌≤◌, ◌++◌, List, [], length, Option, None, Some, IsSome, IfSome, Result, Ok, Err, IfOk, refl, sym, ap, subst, ◌∙◌, arith, append-nil}
 use Rattle.std.specs.Prelude.{⊤, slice_set}
+use Rattle.kr_base.specs.declared.errors.NoMemory.{NoMemory}
+use Rattle.kr_store.specs.declared.rows.LogRow.{LogRow}
 use Rattle.kr_store.specs.declared.rows.Row.{Row}
 use Rattle.kr_store.specs.Rows.{live}
 use Rattle.kr_store.specs.Stores.{Kept, IsNext}
@@ -12,40 +14,33 @@ use Rattle.kr_rollout.specs.declared.event.Event.{Event}
 use Rattle.kr_rollout.specs.declared.event.Event.TheVariants as event
 use Rattle.kr_opening.specs.declared.generation.Generation.{Generation}
 use Rattle.kr_rollout.specs.declared.line.Did.{Did}
-use Rattle.kr_rollout.specs.declared.line.Did.TheVariants.{Adopt, Fetch, After, LetGo}
+use Rattle.kr_rollout.specs.declared.line.Did.TheVariants.{Adopt, Fetch, After}
 use Rattle.kr_rollout.specs.declared.line.Gave.{Gave}
-use Rattle.kr_rollout.specs.declared.line.Gave.TheVariants.{Adopted, Found, Absent, Written, Changed, Released, Reloaded, Joined, Refused, Moved, Present, Departed, Gone, StoreFailed, StoreFull, Nothing}
+use Rattle.kr_rollout.specs.declared.line.Gave.TheVariants.{Adopted, Found, Absent, Refused, Moved, Present, Gone, StoreFailed, Nothing}
 use Rattle.kr_rollout.specs.declared.line.Line.{Line}
 use Rattle.kr_rollout.specs.declared.opening.Entry.{Entry}
 use Rattle.kr_rollout.specs.declared.opening.Opening.{Opening}
-use Rattle.kr_rollout.specs.Entries.{entry_of, published_at, generation_named_by, HasWhatItNames}
+use Rattle.kr_rollout.specs.Entries.{entry_of, published_at, generation_named_by, revision_in, revision_replaced_in, HasWhatItNames}
 use Rattle.kr_rollout.specs.States.{State, number_at, current_of, held_by}
-use Rattle.kr_rollout.specs.Answers.{IsAnswer}
+use Rattle.kr_rollout.specs.Answers.{IsAnswer, IsFetchAnswer, FindsNext}
 use Rattle.kr_rollout.specs.Writes.{Writes}
 use Rattle.kr_rollout.specs.Steps.{after, HidesNoFault, IsStep, KeepsRules}
-use Rattle.kr_rollout.specs.Callers.{did_of, gave_of, ShowsEntry, StoresIt}
+use Rattle.kr_rollout.specs.Callers.{did_of, gave_of, Records, ShowsEntry, StoresIt}
 use Rattle.kr_rollout.specs.inner.Rollouts.{RolloutState, IsRollout, AreNumbers, line_now, state_with, MayServe, Serves}
+use Rattle.kr_rollout.specs.inner.Telling.{found_as}
 use Rattle.kr_rollout.proofs.Revisions.{live_at}
 use Rattle.kr_rollout.proofs.Keeping.{with_board}
 
 -- an answer that changes nothing
 abbrev pub IsStill : Gave → Type 0
-IsStill (Adopted number) = ⊥
 IsStill (Found revision) = ⊤
 IsStill Absent = ⊤
-IsStill (Written revision) = ⊥
-IsStill (Changed last) = ⊥
-IsStill Released = ⊥
-IsStill (Reloaded number) = ⊥
-IsStill (Joined number) = ⊥
 IsStill (Refused verdict) = ⊤
 IsStill (Moved number) = ⊤
 IsStill (Present number) = ⊤
-IsStill (Departed number) = ⊥
 IsStill (Gone replica) = ⊤
-IsStill StoreFailed = ⊥
-IsStill (StoreFull needed) = ⊥
 IsStill Nothing = ⊤
+IsStill other = ⊥
 
 abbrev with_held : State → List (Option ℕ) → State
 with_held st held = record {
@@ -76,80 +71,42 @@ entry_now st seat did gave = entry_of st.rows st.generations (line_now st seat d
 
 still : (st : State) (seat : ℕ) (did : Did) (gave : Gave) → IsStill gave
     → after st (entry_now st seat did gave) ≡ st
-still st seat did (Adopted number) s = absurd s
 still st seat did (Found revision) s = held_only st st.held
 still st seat did Absent s = held_only st st.held
-still st seat did (Written revision) s = absurd s
-still st seat did (Changed last) s = absurd s
-still st seat did Released s = absurd s
-still st seat did (Reloaded number) s = absurd s
-still st seat did (Joined number) s = absurd s
 still st seat did (Refused verdict) s = held_only st st.held
 still st seat did (Moved number) s = held_only st st.held
 still st seat did (Present number) s = held_only st st.held
-still st seat did (Departed number) s = absurd s
 still st seat did (Gone replica) s = held_only st st.held
-still st seat did StoreFailed s = absurd s
-still st seat did (StoreFull needed) s = absurd s
 still st seat did Nothing s = held_only st st.held
+still st seat did other s = absurd s
 
 writes_still : (o : Opening) (st : State) (gave : Gave) (e : Entry) → IsStill gave
     → Writes gave o st e
-writes_still o st (Adopted number) e s = absurd s
 writes_still o st (Found revision) e s = tt
 writes_still o st Absent e s = tt
-writes_still o st (Written revision) e s = absurd s
-writes_still o st (Changed last) e s = absurd s
-writes_still o st Released e s = absurd s
-writes_still o st (Reloaded number) e s = absurd s
-writes_still o st (Joined number) e s = absurd s
 writes_still o st (Refused verdict) e s = tt
 writes_still o st (Moved number) e s = tt
 writes_still o st (Present number) e s = tt
-writes_still o st (Departed number) e s = absurd s
 writes_still o st (Gone replica) e s = tt
-writes_still o st StoreFailed e s = absurd s
-writes_still o st (StoreFull needed) e s = absurd s
 writes_still o st Nothing e s = tt
+writes_still o st other e s = absurd s
 
 -- an answer that changes nothing wrote nothing
 stores_still : (asked : Event) (given : Answer) (e : Entry) → IsStill (gave_of given)
     → StoresIt asked given e
-stores_still asked (answer.Adopted number p) e s = absurd s
 stores_still asked (answer.Gone replica) e s = tt
 stores_still asked (answer.Found row) e s = tt
 stores_still asked answer.Absent e s = tt
-stores_still asked (answer.Written revision) e s = absurd s
-stores_still asked (answer.Changed last) e s = absurd s
-stores_still asked answer.StoreFailed e s = absurd s
-stores_still asked (answer.StoreFull needed) e s = absurd s
-stores_still asked answer.Released e s = absurd s
-stores_still asked (answer.Reloaded number) e s = absurd s
-stores_still asked (answer.Joined number) e s = absurd s
 stores_still asked (answer.Refused verdict) e s = tt
 stores_still asked (answer.Moved number) e s = tt
 stores_still asked (answer.Present number) e s = tt
-stores_still asked (answer.Departed number) e s = absurd s
 stores_still asked answer.NoMemory e s = tt
+stores_still asked other e s = absurd s
 
 -- an answer that changes nothing hides no fault
 none_hidden : (gave : Gave) (count : ℕ) → IsStill gave → HidesNoFault gave count count
-none_hidden (Adopted number) count s = refl
-none_hidden (Found revision) count s = refl
-none_hidden Absent count s = refl
-none_hidden (Written revision) count s = refl
-none_hidden (Changed last) count s = refl
-none_hidden Released count s = refl
-none_hidden (Reloaded number) count s = refl
-none_hidden (Joined number) count s = refl
-none_hidden (Refused verdict) count s = refl
-none_hidden (Moved number) count s = refl
-none_hidden (Present number) count s = refl
-none_hidden (Departed number) count s = refl
-none_hidden (Gone replica) count s = refl
 none_hidden StoreFailed count s = absurd s
-none_hidden (StoreFull needed) count s = refl
-none_hidden Nothing count s = refl
+none_hidden other count s = refl
 
 -- a step to a state with the same rows and generations
 step_to : (o : Opening) (st next : State) (seat : ℕ) (did : Did) (gave : Gave)
@@ -179,6 +136,17 @@ step_to o st next seat did gave l rules answer writes is rows generations reach 
           (subst (λ rs. HasWhatItNames rs st.generations (line_now st seat did gave)) (sym r) reach);
     }
 
+-- the entry of an answer's line records it
+pub recorded : (rows : List LogRow) (generations : List Generation) (st : State) (seat : ℕ)
+    (asked : Event) (given : Answer)
+    → ShowsEntry given (entry_of rows generations (line_now st seat (did_of asked) (gave_of given)))
+    → StoresIt asked given
+    (entry_of rows generations (line_now st seat (did_of asked) (gave_of given)))
+    → Records seat asked given
+    (entry_of rows generations (line_now st seat (did_of asked) (gave_of given)))
+recorded rows generations st seat asked given shows stores =
+    record { seat_is = refl; did_is = refl; gave_is = refl; shows = shows; stores = stores }
+
 -- nothing but the journal changes
 pub told : (c : RolloutState) (seat : ℕ) (event : Event) (answer : Answer) → IsStill (gave_of answer)
     → seat < length c.opening.reloads
@@ -196,14 +164,8 @@ told c seat event answer s l rules is reach shows =
       step = step_to c.opening c.state c.state seat (did_of event) (gave_of answer) l rules is
           (writes_still c.opening c.state (gave_of answer) _ s) a refl refl reach
           (none_hidden (gave_of answer) c.state.count s);
-      records = record {
-        seat_is = refl;
-        did_is = refl;
-        gave_is = refl;
-        shows = shows;
-        stores =
-            stores_still event answer _ s;
-      };
+      records = recorded c.state.rows c.state.generations c.state seat event answer shows
+          (stores_still event answer _ s);
     }
 
 -- a held generation is one of those that are there
@@ -226,95 +188,38 @@ names_held generations (Some n) gave s l = l
 
 -- ---- the events
 
-pub found : (c : RolloutState) (kept : BoardState) (seat : ℕ) (path : List ℕ) (row : Row)
-    → IsRollout c.opening c.state kept → seat < length c.opening.reloads
-    → MayServe c seat (event.Fetch path) → live c.state.rows path ≡ Some row
-    → Serves c seat (event.Fetch path) (answer.Found row)
-    (line_now c.state seat (Fetch path) (Found row.revision)) c
-found c kept seat path row k l may is =
-    let at = live_at c.state.rows path row is in
-    told c seat (event.Fetch path) (answer.Found row) tt l may.0 (may.1, row, is, refl)
-    (record {
-      row = at.within;
-      replaced = omega arith;
-      generation =
-          names_held (length c.state.generations) (held_by c.state seat) (Found row.revision) may.1
-          (held_in c.state seat k.held);
-    })
-    at.row_is
+module _ (c : RolloutState) (kept : BoardState) (seat : ℕ) (asked : Event)
+    (k : IsRollout c.opening c.state kept) (l : seat < length c.opening.reloads)
+    (rules : KeepsRules (did_of asked) c.opening) (held : IsSome (held_by c.state seat))
+    (none : revision_replaced_in (did_of asked) ≡ 0) where
+  -- a seat that holds something reads
+  told_holder : (given : Answer) → IsStill (gave_of given)
+      → IsAnswer (did_of asked) (gave_of given) c.state (held_by c.state seat)
+      → revision_in (gave_of given) ≤ length c.state.rows
+      → ShowsEntry given (entry_now c.state seat (did_of asked) (gave_of given))
+      → Serves c seat asked given (line_now c.state seat (did_of asked) (gave_of given)) c
+  told_holder given s is within shows =
+      told c seat asked given s l rules is
+      (record {
+        row = within;
+        replaced = omega (arith, none);
+        generation =
+            names_held (length c.state.generations) (held_by c.state seat) (gave_of given) held
+            (held_in c.state seat k.held);
+      })
+      shows
 
-pub not_found : (c : RolloutState) (kept : BoardState) (seat : ℕ) (path : List ℕ)
-    → IsRollout c.opening c.state kept → seat < length c.opening.reloads
-    → MayServe c seat (event.Fetch path) → live c.state.rows path ≡ None
-    → Serves c seat (event.Fetch path) answer.Absent (line_now c.state seat (Fetch path) Absent) c
-not_found c kept seat path k l may is =
-    told c seat (event.Fetch path) answer.Absent tt l may.0 (may.1, is)
-    (record {
-      row = omega arith;
-      replaced = omega arith;
-      generation =
-          names_held (length c.state.generations) (held_by c.state seat) Absent may.1
-          (held_in c.state seat k.held);
-    }) tt
-
-pub no_memory_fetch : (c : RolloutState) (kept : BoardState) (seat : ℕ) (path : List ℕ)
-    → IsRollout c.opening c.state kept → seat < length c.opening.reloads
-    → MayServe c seat (event.Fetch path) → Serves c seat (event.Fetch path) answer.NoMemory
-    (line_now c.state seat (Fetch path) Nothing) c
-no_memory_fetch c kept seat path k l may =
-    told c seat (event.Fetch path) answer.NoMemory tt l may.0 may.1
-    (record {
-      row = omega arith;
-      replaced = omega arith;
-      generation =
-          names_held (length c.state.generations) (held_by c.state seat) Nothing may.1
-          (held_in c.state seat k.held);
-    }) tt
-
-pub found_next : (c : RolloutState) (kept : BoardState) (seat : ℕ) (path : List ℕ) (row : Row)
-    → IsRollout c.opening c.state kept → seat < length c.opening.reloads
-    → MayServe c seat (event.After path) → IsNext c.state.rows path (Some row)
-    → Serves c seat (event.After path) (answer.Found row)
-    (line_now c.state seat (After path) (Found row.revision)) c
-found_next c kept seat path row k l may is =
-    let at = live_at c.state.rows row.path row is.1 in
-    told c seat (event.After path) (answer.Found row) tt l may.0 (may.1, row, is, refl)
-    (record {
-      row = at.within;
-      replaced = omega arith;
-      generation =
-          names_held (length c.state.generations) (held_by c.state seat) (Found row.revision) may.1
-          (held_in c.state seat k.held);
-    })
-    at.row_is
-
-pub none_next : (c : RolloutState) (kept : BoardState) (seat : ℕ) (path : List ℕ)
-    → IsRollout c.opening c.state kept → seat < length c.opening.reloads
-    → MayServe c seat (event.After path) → IsNext c.state.rows path None
-    → Serves c seat (event.After path) answer.Absent (line_now c.state seat (After path) Absent) c
-none_next c kept seat path k l may is =
-    told c seat (event.After path) answer.Absent tt l may.0 (may.1, is)
-    (record {
-      row = omega arith;
-      replaced = omega arith;
-      generation =
-          names_held (length c.state.generations) (held_by c.state seat) Absent may.1
-          (held_in c.state seat k.held);
-    }) tt
-
-pub no_memory_after : (c : RolloutState) (kept : BoardState) (seat : ℕ) (path : List ℕ)
-    → IsRollout c.opening c.state kept → seat < length c.opening.reloads
-    → MayServe c seat (event.After path) → Serves c seat (event.After path) answer.NoMemory
-    (line_now c.state seat (After path) Nothing) c
-no_memory_after c kept seat path k l may =
-    told c seat (event.After path) answer.NoMemory tt l may.0 may.1
-    (record {
-      row = omega arith;
-      replaced = omega arith;
-      generation =
-          names_held (length c.state.generations) (held_by c.state seat) Nothing may.1
-          (held_in c.state seat k.held);
-    }) tt
+  -- it finds a live row or none
+  told_found : (found : Result (Option Row) NoMemory)
+      → IsAnswer (did_of asked) (gave_of (found_as found)) c.state (held_by c.state seat)
+      → IfOk found (λ o. IfSome o (λ row. live c.state.rows row.path ≡ Some row))
+      → Serves c seat asked (found_as found)
+      (line_now c.state seat (did_of asked) (gave_of (found_as found))) c
+  told_found (Ok (Some row)) is there =
+      let at = live_at c.state.rows row.path row there in
+      told_holder (answer.Found row) tt is at.within at.row_is
+  told_found (Ok None) is there = told_holder answer.Absent tt is (omega arith) tt
+  told_found (Err why) is there = told_holder answer.NoMemory tt is (omega arith) tt
 
 -- a seat that holds nothing names nothing
 names_none : (generations : ℕ) (held : Option ℕ) (gave : Gave) → held ≡ None
@@ -322,36 +227,6 @@ names_none : (generations : ℕ) (held : Option ℕ) (gave : Gave) → held ≡ 
     → IfSome (generation_named_by held gave) (λ n. n < generations)
 names_none generations held gave e l = subst (λ h. IfSome (generation_named_by h gave) (λ n. n < generations))
     (sym e) l
-
-pub gone : (c : RolloutState) (seat replica : ℕ) → seat < length c.opening.reloads
-    → MayServe c seat (event.Adopt replica) → current_of c.state replica ≡ None
-    → Serves c seat (event.Adopt replica) (answer.Gone replica)
-    (line_now c.state seat (Adopt replica) (Gone replica)) c
-gone c seat replica l may is =
-    told c seat (event.Adopt replica) (answer.Gone replica) tt l may.0 (may.1, refl, is)
-    (record {
-      row = omega arith;
-      replaced = omega arith;
-      generation =
-          names_none (length c.state.generations) (held_by c.state seat) (Gone replica) may.1 tt;
-    }) tt
-
-some_is : (o : Option ℕ) (n : ℕ) → o ≡ Some n → IsSome o
-some_is o n e = subst (λ x. IsSome x) (sym e) refl
-
-pub no_memory_adopt : (c : RolloutState) (seat replica number : ℕ) → seat < length c.opening.reloads
-    → MayServe c seat (event.Adopt replica) → current_of c.state replica ≡ Some number
-    → Serves c seat (event.Adopt replica) answer.NoMemory
-    (line_now c.state seat (Adopt replica) Nothing) c
-no_memory_adopt c seat replica number l may is =
-    told c seat (event.Adopt replica) answer.NoMemory tt l may.0
-    (may.1, some_is (current_of c.state replica) number is)
-    (record {
-      row = omega arith;
-      replaced = omega arith;
-      generation =
-          names_none (length c.state.generations) (held_by c.state seat) Nothing may.1 tt;
-    }) tt
 
 -- the seat holds something else
 abbrev pub holds_now : RolloutState → ℕ → Option ℕ → RolloutState
@@ -390,55 +265,50 @@ adopted c kept seat replica number p k l may is there =
       };
     }
 
-pub let_go : (c : RolloutState) (kept : BoardState) (seat : ℕ) → IsRollout c.opening c.state kept
-    → seat < length c.opening.reloads → MayServe c seat event.LetGo
-    → Serves c seat event.LetGo answer.Released (line_now c.state seat LetGo Released)
-    (holds_now c seat None)
-let_go c kept seat k l may =
-    let a = held_only c.state (slice_set c.state.held seat None) in
-    record {
-      opening = refl;
-      state = sym a;
-      step = step_to c.opening c.state (holds_now c seat None).state seat LetGo Released l tt may tt
-          a refl refl
-          (record {
-            row = omega arith;
-            replaced = omega arith;
-            generation = names_held (length c.state.generations) (held_by c.state seat) Released may
-                (held_in c.state seat k.held);
-          }) refl;
-      records = record { seat_is = refl; did_is = refl; gave_is = refl; shows = tt; stores = tt };
-    }
-
--- the same for the course that the caller sees
-module _ (here old : RolloutState) (kept : BoardState) (seat revision : ℕ) (path asked : List ℕ)
-    (row : Row) (line : Line) (k : IsRollout here.opening here.state kept) (view : here ≡ old)
-    (l : seat < length old.opening.reloads) (same : asked ≡ path)
-    (rev : revision ≡ row.revision) where
+-- what a search came to, as the caller sees it
+module _ {here old : RolloutState} {kept : BoardState} (seat : ℕ) {path asked : List ℕ}
+    (k : IsRollout here.opening here.state kept) (view : here ≡ old)
+    (l : seat < length old.opening.reloads) (same : asked ≡ path) where
   seen_rollout : IsRollout old.opening old.state kept
   seen_rollout = subst (λ (c : RolloutState). IsRollout c.opening c.state kept) view k
 
-  pub found_at : MayServe old seat (event.Fetch path) → live here.state.rows asked ≡ Some row
-      → line ≡ line_now old.state seat (Fetch path) (Found revision)
-      → Serves old seat (event.Fetch path) (answer.Found row) line old
-  found_at may is line_is =
-      let there : live old.state.rows path ≡ Some row =
-      ap (λ (c : RolloutState). live c.state.rows path) (sym view)
-      ∙ ap (live here.state.rows) (sym same) ∙ is in
-      subst (λ x. Serves old seat (event.Fetch path) (answer.Found row) x old)
-      (sym (line_is ∙ ap (λ r. line_now old.state seat (Fetch path) (Found r)) rev))
-      (found old kept seat path row seen_rollout l may there)
+  fetched : (found : Result (Option Row) NoMemory) → IsSome (held_by old.state seat)
+      → IfOk found (λ o. o ≡ live old.state.rows path)
+      → IsFetchAnswer path (gave_of (found_as found)) old.state (held_by old.state seat)
+      × IfOk found (λ o. IfSome o (λ row. live old.state.rows row.path ≡ Some row))
+  fetched (Ok (Some row)) held is =
+      let at = live_at old.state.rows path row (sym is) in
+      ((held, row, sym is, refl), ap (live old.state.rows) at.path_is ∙ sym is)
+  fetched (Ok None) held is = ((held, sym is), tt)
+  fetched (Err why) held is = (held, tt)
 
-  pub next_at : MayServe old seat (event.After path) → IsNext here.state.rows asked (Some row)
-      → line ≡ line_now old.state seat (After path) (Found revision)
-      → Serves old seat (event.After path) (answer.Found row) line old
-  next_at may is line_is =
-      let there : IsNext old.state.rows path (Some row) =
-      subst (λ (c : RolloutState). IsNext c.state.rows path (Some row)) view
-      (subst (λ p. IsNext here.state.rows p (Some row)) same is) in
-      subst (λ x. Serves old seat (event.After path) (answer.Found row) x old)
-      (sym (line_is ∙ ap (λ r. line_now old.state seat (After path) (Found r)) rev))
-      (found_next old kept seat path row seen_rollout l may there)
+  pub fetch_serves : (found : Result (Option Row) NoMemory) → MayServe old seat (event.Fetch path)
+      → IfOk found (λ o. o ≡ live here.state.rows asked)
+      → Serves old seat (event.Fetch path) (found_as found)
+      (line_now old.state seat (Fetch path) (gave_of (found_as found))) old
+  fetch_serves found may is =
+      let there = subst (λ (c : RolloutState). IfOk found (λ o. o ≡ live c.state.rows path)) view
+      (subst (λ p. IfOk found (λ o. o ≡ live here.state.rows p)) same is) in
+      let f = fetched found may.1 there in
+      told_found old kept seat (event.Fetch path) seen_rollout l may.0 may.1 refl found f.0 f.1
+
+  next_found : (found : Result (Option Row) NoMemory) → IsSome (held_by old.state seat)
+      → IfOk found (IsNext old.state.rows path)
+      → FindsNext path (gave_of (found_as found)) old.state (held_by old.state seat)
+      × IfOk found (λ o. IfSome o (λ row. live old.state.rows row.path ≡ Some row))
+  next_found (Ok (Some row)) held is = ((held, row, is, refl), is.1)
+  next_found (Ok None) held is = ((held, is), tt)
+  next_found (Err why) held is = (held, tt)
+
+  pub next_serves : (found : Result (Option Row) NoMemory) → MayServe old seat (event.After path)
+      → IfOk found (IsNext here.state.rows asked)
+      → Serves old seat (event.After path) (found_as found)
+      (line_now old.state seat (After path) (gave_of (found_as found))) old
+  next_serves found may is =
+      let there = subst (λ (c : RolloutState). IfOk found (IsNext c.state.rows path)) view
+      (subst (λ p. IfOk found (IsNext here.state.rows p)) same is) in
+      let f = next_found found may.1 there in
+      told_found old kept seat (event.After path) seen_rollout l may.0 may.1 refl found f.0 f.1
 
 -- the same over the fields, for the course that the caller sees
 pub adopted_at : (o : Opening) (store : Kept) (kept next : BoardState)

@@ -3,3 +3,4 @@ pub mod Rollouts
 pub mod Writing
 pub mod Membership
 pub mod RolloutStarts
+pub mod Telling

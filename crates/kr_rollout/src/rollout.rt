@@ -2,8 +2,10 @@
 ghost use Rattle.std.specs.Prelude.{◌≡◌, ◌<◌, ◌⊎◌, true, length};
 ghost use Rattle.kr_base.specs.Faults.{Rose};
 ghost use Rattle.kr_rollout.specs.declared.event.Event.TheVariants as event;
+ghost use Rattle.kr_rollout.specs.Callers.{gave_of};
 ghost use Rattle.kr_rollout.specs.Openings.{board};
 ghost use Rattle.kr_rollout.specs.inner.Rollouts.{line_now, MayServe, Serves};
+ghost use Rattle.kr_rollout.specs.inner.Telling.{found_as};
 
 use crate::answer::Answer;
 use crate::event::Event;
@@ -13,7 +15,7 @@ use kr_base::{List, NoMemory, Shared, Tape, Text};
 use kr_judge::Board;
 use kr_opening::Generation;
 use kr_provider::Published;
-use kr_store::Store;
+use kr_store::{Row, Store};
 use std::alloc::Global;
 use std::marker::Model;
 
@@ -168,22 +170,7 @@ impl<T: Tape> Rollout<T> {
         ensures { Serves self.old seat (event.Fetch path) result.0 result.1 self.new }
     {
         let found = self.store.get(path.as_str());
-        let did = Did::Fetch { path };
-        match found {
-            Ok(Some(row)) => {
-                let revision = row.get().revision;
-                let line = self.line(seat, did, Gave::Found { revision });
-                return (Answer::Found(row), line);
-            }
-            Ok(None) => {
-                let line = self.line(seat, did, Gave::Absent);
-                return (Answer::Absent, line);
-            }
-            Err(NoMemory) => {
-                let line = self.line(seat, did, Gave::Nothing);
-                return (Answer::NoMemory, line);
-            }
-        }
+        self.tell_found(seat, Did::Fetch { path }, found)
     }
 
     /// Finds the live row with the least path above this one.
@@ -193,20 +180,33 @@ impl<T: Tape> Rollout<T> {
         ensures { Serves self.old seat (event.After path) result.0 result.1 self.new }
     {
         let found = self.store.successor(path.as_str());
-        let did = Did::After { path };
+        self.tell_found(seat, Did::After { path }, found)
+    }
+
+    /// Tells what a search for a row came to.
+    fn tell_found(
+        &self,
+        seat: u32,
+        did: Did,
+        found: Result<Option<Shared<Row>>, NoMemory>,
+    ) -> (Answer, Line)
+        requires { seat < length self.now.opening.reloads }
+        ensures answer { result.0 ≡ found_as found }
+        ensures line { result.1 ≡ line_now self.now.state seat did (gave_of (found_as found)) }
+    {
         match found {
             Ok(Some(row)) => {
                 let revision = row.get().revision;
                 let line = self.line(seat, did, Gave::Found { revision });
-                return (Answer::Found(row), line);
+                (Answer::Found(row), line)
             }
             Ok(None) => {
                 let line = self.line(seat, did, Gave::Absent);
-                return (Answer::Absent, line);
+                (Answer::Absent, line)
             }
             Err(NoMemory) => {
                 let line = self.line(seat, did, Gave::Nothing);
-                return (Answer::NoMemory, line);
+                (Answer::NoMemory, line)
             }
         }
     }

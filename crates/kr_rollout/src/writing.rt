@@ -4,18 +4,18 @@ ghost use Rattle.kr_judge.specs.declared.need.Need.{Need};
 ghost use Rattle.kr_provider.specs.Publication.{IsPublished, list_at};
 ghost use Rattle.kr_provider.specs.Readers.{writer_of};
 ghost use Rattle.kr_base.specs.Rules.{IsPath, IsResource};
-ghost use Rattle.kr_store.specs.Rows.{longest_value, put_of, check_in};
-ghost use Rattle.kr_store.specs.Stores.{Puts, Deletes, Replaces};
+ghost use Rattle.kr_store.specs.Rows.{longest_value};
+ghost use Rattle.kr_store.specs.Stores.{Deletes};
 ghost use Rattle.kr_rollout.specs.Answers.{IsStill};
 ghost use Rattle.kr_opening.specs.Checks.{store_check};
 ghost use Rattle.kr_rollout.specs.Callers.{gave_of};
 ghost use Rattle.kr_rollout.specs.declared.event.Event.TheVariants as event;
-ghost use Rattle.kr_rollout.specs.inner.Rollouts.{MayServe, Serves};
-ghost use Rattle.kr_rollout.specs.inner.Writing.{refused_as, written_as, deleted_as, needs_with, needs_without, StaysBy, ReplacesBy};
+ghost use Rattle.kr_rollout.specs.inner.Rollouts.{line_now, MayServe, Serves};
+ghost use Rattle.kr_rollout.specs.inner.Writing.{refused_as, written_as, deleted_as, needs_with, needs_without, StaysBy, PutsBy, ReplacesBy, WritesRow};
 
 use crate::answer::Answer;
 use crate::line::{Did, Gave, Line};
-use crate::published::published_generation;
+use crate::published::held_published;
 use crate::rollout::Rollout;
 use kr_base::{Bytes, NoMemory, Tape, Text};
 use kr_config::Who;
@@ -39,13 +39,35 @@ fn settle(board: &mut Board, wrote: &Result<u64, PutNo>)
     }
 }
 
-/// Puts a value that needs the provider. The need is proposed before the row is written, so that it
-/// is settled without memory.
-fn put_value<T: Tape>(
+/// Writes a row behind the others: a put, or one in the place of the row with this revision, where
+/// that is still the path's last one.
+fn write_row<T: Tape>(
+    store: &mut Store<T>,
+    path: &Path,
+    resource: &str,
+    over: Option<u64>,
+    stored: Bytes,
+    check: Check,
+) -> Result<u64, PutNo>
+    requires path { IsPath path.now }
+    requires resource { IsResource resource.now }
+    requires stored { length stored ≤ longest_value }
+    ensures { WritesRow over store.old store.new path.now resource.now stored check result }
+{
+    match over {
+        Some(revision) => store.replace_if(path.as_str(), revision, stored, check),
+        None => store.put_shared(path, resource, stored, check),
+    }
+}
+
+/// Writes a value that needs the provider. The need is proposed before the row is written, so that
+/// it is settled without memory.
+fn write_value<T: Tape>(
     store: &mut Store<T>,
     board: &mut Board,
     path: &Path,
     resource: &str,
+    over: Option<u64>,
     who: &Who,
     stored: Bytes,
 ) -> Result<u64, PutNo>
@@ -53,9 +75,8 @@ fn put_value<T: Tape>(
     requires path { IsPath path.now }
     requires resource { IsResource resource.now }
     requires stored { length stored ≤ longest_value }
-    ensures store { Puts store.old store.new
-        (put_of path.now resource.now stored (check_in store.old.format (store_check who.now)))
-        result }
+    ensures store { WritesRow over store.old store.new path.now resource.now stored
+        (store_check who.now) result }
     ensures board { board.new ≡ record board.old {
       needs = needs_with result
           (record { path = path.now; resource = resource.now; who = who.now }) board.old.needs;
@@ -68,71 +89,7 @@ fn put_value<T: Tape>(
             return Err(PutNo::NoMemory);
         }
     }
-    let wrote = store.put_shared(path, resource, stored, store_check(who));
-    settle(board, &wrote);
-    wrote
-}
-
-/// The same at a path of which one copy is made, for all that keeps it.
-fn put_copied_path<T: Tape>(
-    store: &mut Store<T>,
-    board: &mut Board,
-    alloc: Global,
-    path: &str,
-    resource: &str,
-    who: &Who,
-    stored: Bytes,
-) -> Result<u64, PutNo>
-    requires idle { board.old.proposal ≡ None }
-    requires path { IsPath path.now }
-    requires resource { IsResource resource.now }
-    requires stored { length stored ≤ longest_value }
-    ensures store { Puts store.old store.new
-        (put_of path.now resource.now stored (check_in store.old.format (store_check who.now)))
-        result }
-    ensures board { board.new ≡ record board.old {
-      needs = needs_with result
-          (record { path = path.now; resource = resource.now; who = who.now }) board.old.needs;
-    } }
-{
-    match Path::copy(alloc, path) {
-        Ok(own) => put_value(store, board, &own, resource, who, stored),
-        Err(NoMemory) => {
-            drop(stored);
-            Err(PutNo::NoMemory)
-        }
-    }
-}
-
-/// Puts a value that needs the provider in the place of the row with this revision, where that is
-/// still the path's last one.
-fn replace_value<T: Tape>(
-    store: &mut Store<T>,
-    board: &mut Board,
-    path: &Path,
-    resource: &str,
-    revision: u64,
-    who: &Who,
-    stored: Bytes,
-) -> Result<u64, PutNo>
-    requires idle { board.old.proposal ≡ None }
-    requires path { IsPath path.now }
-    requires stored { length stored ≤ longest_value }
-    ensures store { Replaces store.old store.new path.now revision stored (store_check who.now)
-        result }
-    ensures board { board.new ≡ record board.old {
-      needs = needs_with result
-          (record { path = path.now; resource = resource.now; who = who.now }) board.old.needs;
-    } }
-{
-    match board.propose(path, resource, who) {
-        Ok(()) => {}
-        Err(NoMemory) => {
-            drop(stored);
-            return Err(PutNo::NoMemory);
-        }
-    }
-    let wrote = store.replace_if(path.as_str(), revision, stored, store_check(who));
+    let wrote = write_row(store, path, resource, over, stored, store_check(who));
     settle(board, &wrote);
     wrote
 }
@@ -262,13 +219,6 @@ fn configured_writer<'a>(published: &'a Published, resource: &str) -> &'a Who
     &list[0]
 }
 
-/// Tells what each published configuration keeps.
-pub(crate) fn known(published: &Published)
-    ensures { IsPublished published.now }
-{
-    let _ = &published.settings;
-}
-
 impl<T: Tape> Rollout<T> {
     /// Puts a value that was sealed by the held generation.
     pub fn put(
@@ -285,30 +235,22 @@ impl<T: Tape> Rollout<T> {
             result.0 result.1 self.new }
     {
         size_of_sealing();
-        let Some(number) = self.held[seat as usize] else {
-            unreachable!()
-        };
-        let published = published_generation(self.generations.as_slice(), number).get();
-        known(published);
-        let who = configured_writer(published, resource.as_str());
-        let result = put_copied_path(
+        let published = held_published(self.generations.as_slice(), self.held.as_slice(), seat);
+        let result = put_value(
             &mut self.store,
             &mut self.board,
             self.alloc,
+            published,
             path.as_str(),
             resource.as_str(),
-            who,
             stored,
         );
-        let gave = put_line(&result);
-        let answer = put_answer(result);
         let did = Did::Put {
             path,
             resource,
             plain,
         };
-        let line = self.line(seat, did, gave);
-        (answer, line)
+        self.tell_written(seat, did, result)
     }
 
     /// Deletes the path's live row.
@@ -332,11 +274,7 @@ impl<T: Tape> Rollout<T> {
             result.0 result.1 self.new }
     {
         size_of_sealing();
-        let Some(number) = self.held[seat as usize] else {
-            unreachable!()
-        };
-        let published = published_generation(self.generations.as_slice(), number).get();
-        known(published);
+        let published = held_published(self.generations.as_slice(), self.held.as_slice(), seat);
         let result = replace_live(
             &mut self.store,
             &mut self.board,
@@ -345,11 +283,49 @@ impl<T: Tape> Rollout<T> {
             revision,
             stored,
         );
-        let gave = put_line(&result);
-        let answer = put_answer(result);
-        let line = self.line(seat, Did::Replace { path, revision }, gave);
-        (answer, line)
+        self.tell_written(seat, Did::Replace { path, revision }, result)
     }
+
+    /// Tells what a put or a replacement came to.
+    fn tell_written(&self, seat: u32, did: Did, wrote: Result<u64, PutNo>) -> (Answer, Line)
+        requires { seat < length self.now.opening.reloads }
+        ensures answer { result.0 ≡ written_as wrote }
+        ensures line { result.1 ≡ line_now self.now.state seat did (gave_of (written_as wrote)) }
+    {
+        let gave = put_line(&wrote);
+        let line = self.line(seat, did, gave);
+        (put_answer(wrote), line)
+    }
+}
+
+/// Puts a value that needs the provider by which the configuration writes, at a path of which one
+/// copy is made, for all that keeps it.
+#[tactic(auto, using(crate::proofs::Replacing::put_by))]
+fn put_value<T: Tape>(
+    store: &mut Store<T>,
+    board: &mut Board,
+    alloc: Global,
+    published: &Published,
+    path: &str,
+    resource: &str,
+    stored: Bytes,
+) -> Result<u64, PutNo>
+    requires idle { board.old.proposal ≡ None }
+    requires path { IsPath path.now }
+    requires resource { IsResource resource.now }
+    requires stored { length stored ≤ longest_value }
+    ensures { PutsBy published.now store.old store.new path.now resource.now stored
+        board.old board.new result }
+{
+    let own = match Path::copy(alloc, path) {
+        Ok(own) => own,
+        Err(NoMemory) => {
+            drop(stored);
+            return Err(PutNo::NoMemory);
+        }
+    };
+    let who = configured_writer(published, resource);
+    write_value(store, board, &own, resource, None, who, stored)
 }
 
 /// Puts a value in the place of the row with this revision, for the same resource, where that is
@@ -382,12 +358,12 @@ fn replace_live<T: Tape>(
         return Err(refuse_replacing(published, store, path, revision, stored));
     }
     let who = configured_writer(published, resource);
-    replace_value(
+    write_value(
         store,
         board,
         &row.get().path,
         resource,
-        revision,
+        Some(revision),
         who,
         stored,
     )

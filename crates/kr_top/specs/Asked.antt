@@ -50,8 +50,8 @@ RanWatchHearing T link step lent took left count words old new output errors sta
     (exchanges : List Exchange) × RanWatch T link step lent took left count words
     (listening old) (with_exchanges exchanges (listening new)) output errors status
 
--- a fleet's headline, where that is told: where workers were started, these exchanges are those of its
--- steps (`no_more`)
+-- a fleet's headline, where that is told: where workers were started, these exchanges are those of
+-- its steps (`no_more`)
 abbrev pub HeadlineHearing : (T : Type 0) → {L D : Type 0} → (link : L → Link)
     → (step : L → Exchange → L → Type 0) → (lent took : ℕ → L → Type 0)
     → (left : D → Option (List ℕ)) → (count : D → ℕ) → (words : FleetWords) → (old new : Around)

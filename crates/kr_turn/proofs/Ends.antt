@@ -7,8 +7,7 @@ use lib.ListN.{get_elem?}
 use Rattle.atomic_table.specs.Table.{State, Joins, Final, Seen}
 use Rattle.atomic_table.proofs.Lists.{set_else}
 use Rattle.kr_turn.specs.declared.view.Stage.{Stage}
-use Rattle.kr_turn.specs.declared.view.Stage.TheVariants.{Blank, Filling, Idle, Waiting, Holding}
-use Rattle.kr_turn.specs.declared.view.Stage.TheVariants.{Gone}
+use Rattle.kr_turn.specs.declared.view.Stage.TheVariants.{Filling, Idle, Holding}
 use Rattle.kr_turn.specs.declared.view.Terms.{Terms}
 use Rattle.kr_turn.specs.declared.view.ViewPart.{ViewPart}
 use Rattle.kr_turn.specs.declared.view.View.{View}
@@ -143,18 +142,15 @@ module _ {S L G : Type 0} (lines : S → List L) (basis : S → G) (room : S →
   nobody_out : (s : St) (r : Rule s) (id : ℕ) (v : View L G) → get_elem? s.views id ≡ some v
       → v.stage ≡ Idle → Covers terms v → (k : ℕ) (u : View L G) → get_elem? s.views k ≡ some u
       → (stage : Stage L) → u.stage ≡ stage → IsOut stage → k ≡ id
-  nobody_out s r id v at rests all k u at_u Blank is out = absurd out
   nobody_out s r id v at rests all k u at_u Filling is out = let none_made =
       (known lines basis room seat_of terms s r k u at_u Filling is).none_made in
       let some_made = (known lines basis room seat_of terms s r id v at Idle rests).itself.known in
       absurd (omega arith)
-  nobody_out s r id v at rests all k u at_u Idle is out = absurd out
-  nobody_out s r id v at rests all k u at_u (Waiting ticket) is out = absurd out
   nobody_out s r id v at rests all k u at_u (Holding served) is out = let own =
       (known lines basis room seat_of terms s r k u at_u (Holding served) is).0.itself in
       sym own.owned ∙ one_owner s r id v
       (known lines basis room seat_of terms s r id v at Idle rests) all u.number own.known
-  nobody_out s r id v at rests all k u at_u Gone is out = absurd out
+  nobody_out s r id v at rests all k u at_u other is out = absurd out
 
   ends_at : (xs : List (Option S)) (s : St) (r : Rule s) (id : ℕ) (v : View L G)
       → get_elem? s.views id ≡ some v → v.stage ≡ Idle → Covers terms v

@@ -13,8 +13,7 @@ use Rattle.atomic_table.specs.Table.{State, Act, step, keeps, takes, gives, step
 use Rattle.atomic_table.specs.Table.{Valid, Allows, rest, put_back}
 use Rattle.atomic_table.proofs.Lists.{set_here, set_again}
 use Rattle.kr_turn.specs.declared.view.Stage.{Stage}
-use Rattle.kr_turn.specs.declared.view.Stage.TheVariants.{Blank, Filling, Idle, Waiting, Holding}
-use Rattle.kr_turn.specs.declared.view.Stage.TheVariants.{Gone}
+use Rattle.kr_turn.specs.declared.view.Stage.TheVariants.{Filling, Idle, Waiting, Holding}
 use Rattle.kr_turn.specs.declared.view.Terms.{Terms}
 use Rattle.kr_turn.specs.declared.view.ViewPart.{ViewPart}
 use Rattle.kr_turn.specs.declared.view.View.{View}
@@ -24,7 +23,7 @@ use Rattle.kr_turn.specs.inner.Steps.{SeatState, waiting_view, holding_view, ser
 use Rattle.kr_turn.specs.inner.Steps.{carried_lines, Draws, Looks, Passes, IsTurned}
 use Rattle.kr_turn.proofs.Orders.{prefix_more, prefix_whole, drop_own, of_seat_own, of_seat_other}
 use Rattle.kr_turn.proofs.Orders.{lefts_set, in_range, put, put_here, put_else}
-use Rattle.kr_turn.proofs.Stays.{Leaves, stays, each_set, same_view, slot_set}
+use Rattle.kr_turn.proofs.Stays.{stays, each_set, same_view, slot_set}
 
 module _ {S L G : Type 0} (lines : S → List L) (basis : S → G) (room : S → ℕ) (seat_of : L → ℕ)
     (terms : Terms G) where
@@ -44,26 +43,10 @@ module _ {S L G : Type 0} (lines : S → List L) (basis : S → G) (room : S →
   -- where there is a seat, a view that has the slot in hand holds the ticket that is served
   pub out_alone : (s : St) (r : Rule s) (k : ℕ) (u : View L G) → get_elem? s.views k ≡ some u
       → 0 < r.made → (stage : Stage L) → u.stage ≡ stage → IsOut stage → r.holder (length r.log) ≡ k
-  out_alone s r k u at begun Blank is out = absurd out
   out_alone s r k u at begun Filling is out = let none_made =
       (known s r k u at Filling is).none_made in absurd (omega arith)
-  out_alone s r k u at begun Idle is out = absurd out
-  out_alone s r k u at begun (Waiting ticket) is out = absurd out
   out_alone s r k u at begun (Holding served) is out = (known s r k u at (Holding served) is).2
-  out_alone s r k u at begun Gone is out = absurd out
-
-  -- nothing changes for others
-  same_leaves : (s : St) (r : Rule s) (j : ℕ) → 0 < r.made
-      → Leaves seat_of terms r.log r.log r.made r.made r.owner r.owner r.tickets r.tickets r.holder
-      r.holder j
-  same_leaves s r j begun = record {
-    begun = begun;
-    answers = λ number seen mine x. x;
-    makes = λ _. refl;
-    waits =
-        λ ticket h a b. (h, a, b);
-    holds = λ h b. (h, b, refl);
-  }
+  out_alone s r k u at begun other is out = absurd out
 
   pub draws : (slots id : ℕ) (m : SeatState S L G) → m.0.stage ≡ Idle → m.0.ended ≡ []
       → 0 < m.0.left → Allows Rule slots id m 0 (λ n. (n + 1) % 2 ^ 64)

@@ -73,15 +73,12 @@ module _ {S L G : Type 0} (lines : S → List L) (basis : S → G) (room : S →
   -- where there is no seat yet, the slot is in hand at the first view alone
   out_first : (s : St) (r : Rule s) (k : ℕ) (u : View L G) → get_elem? s.views k ≡ some u
       → r.made ≡ 0 → (stage : Stage L) → u.stage ≡ stage → IsOut stage → k ≡ 0
-  out_first s r k u at none_made Blank is out = absurd out
   out_first s r k u at none_made Filling is out =
       (known lines basis room seat_of terms s r k u at Filling is).first
-  out_first s r k u at none_made Idle is out = absurd out
-  out_first s r k u at none_made (Waiting ticket) is out = absurd out
   out_first s r k u at none_made (Holding served) is out = let some_made =
       (known lines basis room seat_of terms s r k u at (Holding served) is).0.itself.known in
       absurd (omega arith)
-  out_first s r k u at none_made Gone is out = absurd out
+  out_first s r k u at none_made other is out = absurd out
 
   empties_at : (slots : ℕ) (s : St) (r : Rule s) (id : ℕ) (m : SeatState S L G)
       → get_elem? s.views id ≡ some m.0 → m.0.stage ≡ Blank → m.1 ≡ []
@@ -144,10 +141,6 @@ module _ {S L G : Type 0} (lines : S → List L) (basis : S → G) (room : S →
       (j : ℕ) (v : View L G) → made ≡ 0 → j ≢ 0 → (stage : Stage L)
       → Knows seat_of terms log made owner tickets holder j v stage
       → Knows seat_of terms log made' owner' tickets holder j v stage
-  none_else log made made' owner owner' tickets holder j v none_made other Blank k =
-      absurd (other k.first)
-  none_else log made made' owner owner' tickets holder j v none_made other Filling k =
-      absurd (other k.first)
   none_else log made made' owner owner' tickets holder j v none_made other Idle k = let some_made =
       k.itself.known in absurd (omega arith)
   none_else log made made' owner owner' tickets holder j v none_made other (Waiting ticket) k =
@@ -155,6 +148,7 @@ module _ {S L G : Type 0} (lines : S → List L) (basis : S → G) (room : S →
   none_else log made made' owner owner' tickets holder j v none_made other (Holding served) k =
       let some_made = k.0.itself.known in absurd (omega arith)
   none_else log made made' owner owner' tickets holder j v none_made other Gone k = tt
+  none_else log made made' owner owner' tickets holder j v none_made other another k = absurd (other k.first)
 
   pub fills : (slots id : ℕ) (m : SeatState S L G) (y : S) → m.0 ≡ filling_view (blank_view terms)
       → m.1 ≡ (0, Some y) ∷ [] → lines y ≡ [] → basis y ≡ terms.basis → room y ≡ terms.room

@@ -1,26 +1,23 @@
 -- Rows of seats: what callers of `close` need of them.
 use Rattle.std.proofs.Common.{◌≡◌, ℕ, zero, suc, ◌+◌, ◌-◌, ◌<◌, List, [], ◌∷◌, ◌++◌, length, map}
-use Rattle.std.proofs.Common.{reverse, get_or, slice_index, slice_index_or, All, Contains, sym}
+use Rattle.std.proofs.Common.{get_or, slice_index, slice_index_or, All, Contains, sym}
 use Rattle.std.proofs.Common.{refl, ap, ◌∙◌, subst, inl, inr, ⊎_elim, arith, add-one, Option, Some}
 use mathlib.Core.Option.{some, some-injective, some-ne-none}
 use mathlib.Core.List.{map-append, reverse-cons}
 use lib.ListN.{get_elem?}
 use Rattle.std.specs.List.{range_with_len}
 use Rattle.std.proofs.lemmas.List.FromFn.{length-range_with_len, get_or-range_with_len}
-use Rattle.std.proofs.lemmas.List.{length-reverse, get_or-reverse}
 use Rattle.std.proofs.lemmas.List.Elements.{All-append}
 use Rattle.atomic_table.specs.declared.shared.Seat.{Seat}
 use Rattle.atomic_table.proofs.Lists.{at_longer, at_last, at_snoc, at_map}
 use Rattle.kr_turn.specs.declared.view.View.{View}
 use Rattle.kr_turn.specs.declared.seat.Place.{Place}
 use Rattle.kr_turn.specs.declared.view.ViewPart.{ViewPart}
-use Rattle.kr_turn.specs.declared.view.Terms.{Terms}
-use Rattle.kr_turn.specs.Keys.{seat_budget}
 use Rattle.atomic_table.specs.Table.{Me}
 use Rattle.kr_turn.specs.inner.Endings.{Covers, IsEnd, IsGathered, part_in}
 use Rattle.kr_turn.specs.Keys.{Home}
 use Rattle.kr_base.specs.Lines.{Stands}
-use Rattle.kr_turn.specs.Seats.{number_of, lines_seen, mine, left_of, IsSeatOf, IsFresh, AreFresh, AreAll}
+use Rattle.kr_turn.specs.Seats.{number_of, lines_seen, mine, IsSeatOf, IsFresh, AreFresh, AreAll}
 
 module _ {A : Type 0} where
   pub All-one : (P : A → Type 0) (x : A) → P x → All P (x ∷ [])
@@ -88,24 +85,6 @@ range_has count number low = (
   (let e = get_or-range_with_len 0 count number number low in omega (arith, e)),
 )
 
-map_reversed : {A B : Type 0} (f : A → B) (l : List A) → map f (reverse l) ≡ reverse (map f l)
-map_reversed f [] = refl
-map_reversed f (x ∷ xs) = ap (map f) (reverse-cons x xs)
-    ∙ (map-append f (reverse xs) (x ∷ [])
-    ∙ (ap (λ l. l ++ f x ∷ []) (map_reversed f xs) ∙ sym (reverse-cons (f x) (map f xs))))
-
-Contains_reversed : (xs : List ℕ) (x : ℕ) → Contains xs x → Contains (reverse xs) x
-Contains_reversed xs x h =
-    let k : ℕ = h.0 in
-    let low : k < length xs = h.1 in
-    let at : ℕ = (length xs - 1) - k in
-    let back : (length xs - 1) - at ≡ k = omega arith in (
-      at,
-      omega (arith, length-reverse xs),
-      get_or-reverse xs at x (omega arith)
-          ∙ (ap (λ (i : ℕ). get_or xs i x) back ∙ h.2),
-    )
-
 module _ {S L G : Type 0} (home : Home G) where
   -- a seat is fresh where its token is
   pub fresh_by : (seat : Place S L G) (token : Seat (Option S) (View L G)) (number left : ℕ)
@@ -122,12 +101,6 @@ module _ {S L G : Type 0} (home : Home G) where
     none_seen = ap (λ (t : Seat (Option S) (View L G)). t.me.0.seen) is.0 ∙ none_seen;
     none_mine = ap (λ (t : Seat (Option S) (View L G)). t.me.0.mine) is.0 ∙ none_mine;
   }
-
-  -- a seat of the turn has made as many turns of its budget as aren't left
-  pub counted_of : (seat : Place S L G) → IsSeatOf home seat
-      → length (mine seat) + left_of seat ≡ slice_index home.terms.budgets (number_of seat)
-  counted_of seat its = seat.counted
-      ∙ ap (λ (terms : Option (Terms G)). seat_budget terms seat.number) its.terms
 
   pub none_fresh : (seats : List (Place S L G)) → seats ≡ [] → AreFresh home 0 seats
   none_fresh seats e = record {
@@ -150,16 +123,6 @@ module _ {S L G : Type 0} (home : Home G) where
     each = subst (λ (l : List (Place S L G)). All (IsFresh home) l) (sym e)
         (All-push (IsFresh home) seats seat fresh.each h);
   }
-
-  -- a row of new seats has one for each budget
-  pub length_fresh : (count : ℕ) (seats : List (Place S L G)) → AreFresh home count seats
-      → length seats ≡ count
-  length_fresh count seats fresh =
-      sym (length_map number_of seats) ∙ (ap length fresh.numbers ∙ length-range_with_len 0 count)
-    where
-      length_map : (f : Place S L G → ℕ) (l : List (Place S L G)) → length (map f l) ≡ length l
-      length_map f [] = refl
-      length_map f (x ∷ xs) = ap suc (length_map f xs)
 
   -- each number below the number of budgets is one of theirs
   pub occurs_fresh : (count : ℕ) (seats : List (Place S L G)) → AreFresh home count seats
@@ -192,22 +155,10 @@ module _ {S L G : Type 0} (home : Home G) where
       → number_of (slice_index_or again k d) ≡ number_of (slice_index_or seats k d))
       → map number_of again ≡ map number_of seats
   same_numbers [] [] long each = refl
-  same_numbers [] (y ∷ ys) long each = absurd (omega arith)
-  same_numbers (x ∷ xs) [] long each = absurd (omega arith)
   same_numbers (x ∷ xs) (y ∷ ys) long each =
       λ i. each zero x (omega arith) i
       ∷ same_numbers xs ys (omega arith) (λ k d lt. each (suc k) d (omega arith)) i
-
-  -- all seats of the turn, the other way round
-  pub all_reversed : (seats : List (Place S L G)) → AreAll home seats → AreAll home (reverse seats)
-  all_reversed seats are = record {
-    its = λ k d lt. let inside : k < length seats = omega (arith, length-reverse seats) in
-        subst (λ (seat : Place S L G). IsSeatOf home seat) (sym (get_or-reverse seats k d inside))
-        (are.its ((length seats - 1) - k) d (omega arith));
-    all = λ number low. subst (λ (l : List ℕ). Contains l number)
-        (sym (map_reversed number_of seats))
-        (Contains_reversed (map number_of seats) number (are.all number low));
-  }
+  same_numbers other another long each = absurd (omega arith)
 
 module _ {S L G : Type 0} (home : Home G) (first : Place S L G) (rest all : List (Place S L G))
     (m : Me (Option S) (View L G)) (split : all ≡ rest ++ first ∷ [])

@@ -10,9 +10,9 @@ use Rattle.kr_rollout.specs.Openings.{start_of}
 use Rattle.kr_rollout.specs.States.{State}
 use Rattle.kr_rollout.specs.Steps.{IsStep, after, new_rows, put_row}
 use Rattle.kr_rollout.specs.declared.line.Did.{Did}
-use Rattle.kr_rollout.specs.declared.line.Did.TheVariants.{Adopt, Fetch, After, Put, Delete, Replace, LetGo, Reload, Join, Leave}
+use Rattle.kr_rollout.specs.declared.line.Did.TheVariants.{Put, Delete, Replace}
 use Rattle.kr_rollout.specs.declared.line.Gave.{Gave}
-use Rattle.kr_rollout.specs.declared.line.Gave.TheVariants.{Adopted, Found, Absent, Written, Changed, Released, Reloaded, Joined, Refused, Moved, Present, Departed, Gone, StoreFailed, StoreFull, Nothing}
+use Rattle.kr_rollout.specs.declared.line.Gave.TheVariants.{Written}
 use Rattle.kr_rollout.specs.declared.opening.Entry.{Entry}
 use Rattle.kr_rollout.specs.declared.opening.Opening.{Opening}
 use Rattle.kr_rollout.proofs.Appending.{front_law}
@@ -52,28 +52,8 @@ module _ (o : Opening) (st : State) (seat : ℕ) (held : Option ℕ) (faults : �
       let row_is = w.3
       ∙ ap (λ (r : LogRow). row_of revision r.path r.change) w.1.5.sealed.row_is in
       (s.answer.2, one_more (put_row row) (ap (λ r. length (put_row r)) row_is))
-  counts (Adopt replica) (Written revision) s = absurd s.answer
-  counts (Fetch path) (Written revision) s = absurd s.answer
-  counts (After path) (Written revision) s = absurd s.answer
-  counts LetGo (Written revision) s = absurd s.answer
-  counts (Reload replica p expect) (Written revision) s = absurd s.answer
-  counts (Join replica p) (Written revision) s = absurd s.answer
-  counts (Leave replica) (Written revision) s = absurd s.answer
-  counts did (Adopted number) s = same
-  counts did (Found revision) s = same
-  counts did Absent s = same
-  counts did (Changed revision) s = same
-  counts did Released s = same
-  counts did (Reloaded number) s = same
-  counts did (Joined number) s = same
-  counts did (Refused verdict) s = same
-  counts did (Moved number) s = same
-  counts did (Present number) s = same
-  counts did (Departed number) s = same
-  counts did (Gone replica) s = same
-  counts did StoreFailed s = same
-  counts did (StoreFull needed) s = same
-  counts did Nothing s = same
+  counts other (Written revision) s = absurd s.answer
+  counts did other s = same
 
 step_counts : (o : Opening) (st : State) (e : Entry) → IsStep o st e
     → CountsRows e.line.gave (length st.rows) (length (after st e).rows)
@@ -87,42 +67,14 @@ follow_step : (gave : Gave) (did : Did) (before now : ℕ) (more : List ObjectCh
     → FollowOn before (cons_option (told_change gave did) more)
 follow_step (Written revision) did before now more c f =
     (c.0, subst (λ n. FollowOn n more) (let e : now ≡ revision = omega (arith, c.0, c.1) in e) f)
-follow_step (Adopted number) did before now more c f = subst (λ n. FollowOn n more) c f
-follow_step (Found revision) did before now more c f = subst (λ n. FollowOn n more) c f
-follow_step Absent did before now more c f = subst (λ n. FollowOn n more) c f
-follow_step (Changed revision) did before now more c f = subst (λ n. FollowOn n more) c f
-follow_step Released did before now more c f = subst (λ n. FollowOn n more) c f
-follow_step (Reloaded number) did before now more c f = subst (λ n. FollowOn n more) c f
-follow_step (Joined number) did before now more c f = subst (λ n. FollowOn n more) c f
-follow_step (Refused verdict) did before now more c f = subst (λ n. FollowOn n more) c f
-follow_step (Moved number) did before now more c f = subst (λ n. FollowOn n more) c f
-follow_step (Present number) did before now more c f = subst (λ n. FollowOn n more) c f
-follow_step (Departed number) did before now more c f = subst (λ n. FollowOn n more) c f
-follow_step (Gone replica) did before now more c f = subst (λ n. FollowOn n more) c f
-follow_step StoreFailed did before now more c f = subst (λ n. FollowOn n more) c f
-follow_step (StoreFull needed) did before now more c f = subst (λ n. FollowOn n more) c f
-follow_step Nothing did before now more c f = subst (λ n. FollowOn n more) c f
+follow_step other did before now more c f = subst (λ n. FollowOn n more) c f
 
 newest_step : (gave : Gave) (did : Did) (before now : ℕ) (more : List ObjectChange)
     → CountsRows gave before now
     → revision_after before (cons_option (told_change gave did) more) ≡ revision_after now more
 newest_step (Written revision) did before now more c =
     ap (λ n. revision_after n more) (let e : revision ≡ now = omega (arith, c.0, c.1) in e)
-newest_step (Adopted number) did before now more c = sym (ap (λ n. revision_after n more) c)
-newest_step (Found revision) did before now more c = sym (ap (λ n. revision_after n more) c)
-newest_step Absent did before now more c = sym (ap (λ n. revision_after n more) c)
-newest_step (Changed revision) did before now more c = sym (ap (λ n. revision_after n more) c)
-newest_step Released did before now more c = sym (ap (λ n. revision_after n more) c)
-newest_step (Reloaded number) did before now more c = sym (ap (λ n. revision_after n more) c)
-newest_step (Joined number) did before now more c = sym (ap (λ n. revision_after n more) c)
-newest_step (Refused verdict) did before now more c = sym (ap (λ n. revision_after n more) c)
-newest_step (Moved number) did before now more c = sym (ap (λ n. revision_after n more) c)
-newest_step (Present number) did before now more c = sym (ap (λ n. revision_after n more) c)
-newest_step (Departed number) did before now more c = sym (ap (λ n. revision_after n more) c)
-newest_step (Gone replica) did before now more c = sym (ap (λ n. revision_after n more) c)
-newest_step StoreFailed did before now more c = sym (ap (λ n. revision_after n more) c)
-newest_step (StoreFull needed) did before now more c = sym (ap (λ n. revision_after n more) c)
-newest_step Nothing did before now more c = sym (ap (λ n. revision_after n more) c)
+newest_step other did before now more c = sym (ap (λ n. revision_after n more) c)
 
 run_follows : (o : Opening) (st : State) (history : List Entry) → IsRun o st history
     → FollowOn (length st.rows) (changes_in history)

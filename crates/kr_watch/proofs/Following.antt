@@ -14,7 +14,7 @@ use Rattle.kr_rollout.specs.Openings.{start_of}
 use Rattle.kr_rollout.specs.States.{State}
 use Rattle.kr_rollout.specs.Steps.{IsStep, after, put_row}
 use Rattle.kr_rollout.specs.declared.line.Did.{Did}
-use Rattle.kr_rollout.specs.declared.line.Did.TheVariants.{Adopt, Fetch, After, Put, Delete, Replace, LetGo, Reload, Join, Leave}
+use Rattle.kr_rollout.specs.declared.line.Did.TheVariants.{Put, Delete, Replace}
 use Rattle.kr_rollout.specs.declared.line.Gave.{Gave}
 use Rattle.kr_rollout.specs.declared.line.Gave.TheVariants.{Adopted, Found, Absent, Written, Changed, Released, Reloaded, Joined, Refused, Moved, Present, Departed, Gone, StoreFailed, StoreFull, Nothing}
 use Rattle.kr_rollout.specs.declared.line.Line.{Line}
@@ -258,13 +258,6 @@ module _ (first : List Item) (o : Opening) (history : List Entry) (st : State) (
       put_shows path resource plain revision s n
   shows (Delete path) (Written revision) s n = delete_shows path revision n
   shows (Replace path from) (Written revision) s n = replace_shows path from revision s n
-  shows (Adopt replica) (Written revision) s n = absurd s.answer
-  shows (Fetch path) (Written revision) s n = absurd s.answer
-  shows (After path) (Written revision) s n = absurd s.answer
-  shows LetGo (Written revision) s n = absurd s.answer
-  shows (Reload replica p expect) (Written revision) s n = absurd s.answer
-  shows (Join replica p) (Written revision) s n = absurd s.answer
-  shows (Leave replica) (Written revision) s n = absurd s.answer
   shows did (Adopted number) s n = quiet did (Adopted number) refl (λ path. refl) n
   shows did (Found revision) s n = quiet did (Found revision) refl (λ path. refl) n
   shows did Absent s n = quiet did Absent refl (λ path. refl) n
@@ -280,6 +273,7 @@ module _ (first : List Item) (o : Opening) (history : List Entry) (st : State) (
   shows did StoreFailed s n = quiet did StoreFailed refl (λ path. refl) n
   shows did (StoreFull needed) s n = quiet did (StoreFull needed) refl (λ path. refl) n
   shows did Nothing s n = quiet did Nothing refl (λ path. refl) n
+  shows other (Written revision) s n = absurd s.answer
 
 -- ---- changes
 

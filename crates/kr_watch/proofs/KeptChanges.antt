@@ -70,20 +70,25 @@ module _ {A : Type 0} (keep : ℕ) where
   pub kept_length : (all : List A) → length (last_ones keep all) ≤ keep
   kept_length all = omega (arith, length-drop (length all - keep) all)
 
+  -- where as many are kept as may be, one more puts the first of them out
+  full_places : (front xs : List A) (x : A) → length xs ≡ keep
+      → (length (xs ++ x ∷ []) - keep ≡ 1)
+      × (length (front ++ (xs ++ x ∷ [])) - keep ≡ length front + 1)
+  full_places front xs x full =
+      let behind = length-append xs (x ∷ []) in
+      let all = length-append front (xs ++ x ∷ []) in
+      (omega (arith, behind, full), omega (arith, all, behind, full))
+
   -- the last ones of what is kept with one more are those of all with it
   last_more : (front xs : List A) (x : A) → IsFull front xs
       → last_ones keep (front ++ (xs ++ x ∷ [])) ≡ last_ones keep (xs ++ x ∷ [])
   last_more front xs x (inl none) =
       ap (λ (f : List A). last_ones keep (f ++ (xs ++ x ∷ []))) none
   last_more front xs x (inr full) =
-      let behind = length-append xs (x ∷ []) in
-      let all = length-append front (xs ++ x ∷ []) in
-      let own : length (xs ++ x ∷ []) - keep ≡ 1 = omega (arith, behind, full) in
-      let place : length (front ++ (xs ++ x ∷ [])) - keep ≡ length front + 1 =
-      omega (arith, all, behind, full) in
-      ap (λ n. drop n (front ++ (xs ++ x ∷ []))) place
+      let p = full_places front xs x full in
+      ap (λ n. drop n (front ++ (xs ++ x ∷ []))) p.1
       ∙ drop_past front (xs ++ x ∷ []) 1
-      ∙ sym (ap (λ n. drop n (xs ++ x ∷ [])) own)
+      ∙ sym (ap (λ n. drop n (xs ++ x ∷ [])) p.0)
 
   -- and those before them are those before all that was kept, and what is dropped now
   earlier_more : (front xs : List A) (x : A) → IsFull front xs
@@ -93,14 +98,10 @@ module _ {A : Type 0} (keep : ℕ) where
       ap (λ (f : List A). earlier_ones keep (f ++ (xs ++ x ∷ []))) none
       ∙ sym (ap (λ (f : List A). f ++ earlier_ones keep (xs ++ x ∷ [])) none)
   earlier_more front xs x (inr full) =
-      let behind = length-append xs (x ∷ []) in
-      let all = length-append front (xs ++ x ∷ []) in
-      let own : length (xs ++ x ∷ []) - keep ≡ 1 = omega (arith, behind, full) in
-      let place : length (front ++ (xs ++ x ∷ [])) - keep ≡ length front + 1 =
-      omega (arith, all, behind, full) in
-      ap (λ n. take n (front ++ (xs ++ x ∷ []))) place
+      let p = full_places front xs x full in
+      ap (λ n. take n (front ++ (xs ++ x ∷ []))) p.1
       ∙ take_past front (xs ++ x ∷ []) 1
-      ∙ sym (ap (λ n. front ++ take n (xs ++ x ∷ [])) own)
+      ∙ sym (ap (λ n. front ++ take n (xs ++ x ∷ [])) p.0)
 
   is_full : (all : List A) → IsFull (earlier_ones keep all) (last_ones keep all)
   is_full all = by (length all - keep) refl

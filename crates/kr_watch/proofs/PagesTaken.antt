@@ -283,8 +283,6 @@ none_front path front x back h =
 never : (resource path : List ℕ) (next : Option (List ℕ)) (pages : List Taken)
     → IsPassed path next → AreTaken resource next pages → times path (items_taken pages) ≡ 0
 never resource path None [] p t = refl
-never resource path None (taken ∷ more) p t = absurd t
-never resource path (Some after) [] p t = absurd t
 never resource path (Some after) (taken ∷ more) p t =
     let xs = items_above taken.items resource after in
     by (page_case taken.limit xs taken.page t.1 t.2)
@@ -314,6 +312,7 @@ never resource path (Some after) (taken ∷ more) p t =
         let rest = again (subst (IsPassed path) (sym next)
         (passed_on path after x.path p (above_less after x own))) in
         omega (arith, times_append path taken.page.items.0 (items_taken more), here, rest)
+never resource path other another p t = absurd t
 
 -- ---- an item that stands there at each page
 

@@ -17,9 +17,9 @@ use Rattle.kr_rollout.specs.Steps.{IsStep, after, new_rows, put_row}
 use Rattle.kr_rollout.specs.declared.opening.Entry.{Entry}
 use Rattle.kr_rollout.specs.declared.opening.Opening.{Opening}
 use Rattle.kr_rollout.specs.declared.line.Did.{Did}
-use Rattle.kr_rollout.specs.declared.line.Did.TheVariants.{Adopt, Fetch, After, Put, Delete, Replace, LetGo, Reload, Join, Leave}
+use Rattle.kr_rollout.specs.declared.line.Did.TheVariants.{Put, Delete, Replace}
 use Rattle.kr_rollout.specs.declared.line.Gave.{Gave}
-use Rattle.kr_rollout.specs.declared.line.Gave.TheVariants.{Adopted, Found, Absent, Written, Changed, Released, Reloaded, Joined, Refused, Moved, Present, Departed, Gone, StoreFailed, StoreFull, Nothing}
+use Rattle.kr_rollout.specs.declared.line.Gave.TheVariants.{Written}
 use Rattle.kr_history.proofs.Effects.{entry_with}
 use Rattle.kr_watch.specs.Laws.{ShownAreAbove}
 use Rattle.kr_watch.specs.Pages.{is_above, has_resource}
@@ -61,28 +61,8 @@ module _ (o : Opening) (st : State) (seat : ℕ) (held : Option ℕ) (faults : �
       let row_is = w.3
       ∙ ap (λ (r : LogRow). row_of revision r.path r.change) w.1.5.sealed.row_is in
       subst (λ r. HavePaths (put_row r)) (sym row_is) (s.rules.0, tt)
-  have_new (Adopt replica) (Written revision) s = absurd s.answer
-  have_new (Fetch path) (Written revision) s = absurd s.answer
-  have_new (After path) (Written revision) s = absurd s.answer
-  have_new LetGo (Written revision) s = absurd s.answer
-  have_new (Reload replica p expect) (Written revision) s = absurd s.answer
-  have_new (Join replica p) (Written revision) s = absurd s.answer
-  have_new (Leave replica) (Written revision) s = absurd s.answer
-  have_new did (Adopted number) s = tt
-  have_new did (Found revision) s = tt
-  have_new did Absent s = tt
-  have_new did (Changed revision) s = tt
-  have_new did Released s = tt
-  have_new did (Reloaded number) s = tt
-  have_new did (Joined number) s = tt
-  have_new did (Refused verdict) s = tt
-  have_new did (Moved number) s = tt
-  have_new did (Present number) s = tt
-  have_new did (Departed number) s = tt
-  have_new did (Gone replica) s = tt
-  have_new did StoreFailed s = tt
-  have_new did (StoreFull needed) s = tt
-  have_new did Nothing s = tt
+  have_new other (Written revision) s = absurd s.answer
+  have_new did other s = tt
 
 run_has : (o : Opening) (st : State) (history : List Entry) → HavePaths st.rows
     → IsRun o st history → HavePaths (state_from st history).rows

@@ -9,8 +9,8 @@ use Rattle.kr_words.specs.Names.{option_text, required_options}
 use Rattle.kr_words.specs.Numerals.{IsDecimal}
 use Rattle.kr_words.specs.Options.{value_of}
 use Rattle.kr_words.specs.Rules.{IsReload, IsCommand, after_equals}
-use Rattle.kr_words.specs.Arguments.{IsNumberAt, IsReloadOf, IsWithin}
-use Rattle.kr_words.specs.Grammar.{replicas_of}
+use Rattle.kr_words.specs.Arguments.{ReadsNumberAt, IsReloadOf, IsWithin}
+use Rattle.kr_words.specs.Grammar.{replicas_of, HasFewReplicas}
 use Rattle.kr_words.proofs.Values.{value_rule, value_some}
 
 both : (P : List ℕ → Type 0) (o : Option (List ℕ)) → IsSome o → IfSome o P → IsSomeAnd o P
@@ -26,36 +26,53 @@ given P options verb wanted name command e has rule =
     (value_some {verb = verb} {options = options} name command
     (subst (λ v. Contains (required_options v) name) (sym e) has)) rule
 
-some_number : (o : Option (List ℕ)) (r : Option ℕ) (most : ℕ) → most < 2 ^ 64
-    → MatchOption r ((n : ℕ) → IsSomeAnd o (λ t. IsDecimal t n) → 2 ^ 64 ≤ n)
+abbrev ReadsNumber : Option (List ℕ) → Option ℕ → Type 0
+ReadsNumber o r = MatchOption r ((n : ℕ) → IsSomeAnd o (λ t. IsDecimal t n) → 2 ^ 64 ≤ n)
     (λ n. IsSomeAnd o (λ t. IsDecimal t n))
-    → IsSomeAnd o (λ t. (n : ℕ) × IsDecimal t n × (n ≤ most)) → IsSome r
+
+some_number : (o : Option (List ℕ)) (r : Option ℕ) (most : ℕ) → most < 2 ^ 64
+    → ReadsNumber o r → IsSomeAnd o (λ t. (n : ℕ) × IsDecimal t n × (n ≤ most)) → IsSome r
 some_number None r most small m h = absurd h
 some_number (Some t) (Some n) most small m h = refl
 some_number (Some t) None most small m h = absurd (omega (arith, m h.0 h.1, h.2))
 
-pub seed_given : (verb : Verb) (options : List (List ℕ × List ℕ)) (r : Option ℕ)
-    → IsCommand verb options → verb ≡ Gen
-    → MatchOption r ((n : ℕ) → IsNumberAt options (option_text Seed) n → 2 ^ 64 ≤ n)
-    (λ n. IsNumberAt options (option_text Seed) n) → IsSome r
-seed_given verb options r command e m =
+-- a number up to the limit at a required option is read
+within_given : (wanted : Verb) (name : OptionName) → Contains (required_options wanted) name
+    → {verb : Verb} {options : List (List ℕ × List ℕ)} (r : Option ℕ)
+    → ReadsNumberAt options (option_text name) r → IsCommand verb options → verb ≡ wanted
+    → IsWithin options (option_text name) 10000 → IsSome r
+within_given wanted name has {verb} {options} r m command e within =
+    some_number (value_of options (option_text name)) r 10000 (omega arith) m
+    (given (λ t. (n : ℕ) × IsDecimal t n × (n ≤ 10000)) options verb wanted name command e has within)
+
+pub size_given : {verb : Verb} {options : List (List ℕ × List ℕ)} (r : Option ℕ)
+    → ReadsNumberAt options (option_text Size) r → IsCommand verb options → verb ≡ Gen
+    → IsWithin options (option_text Size) 10000 → IsSome r
+size_given = within_given Gen Size (1, omega arith, refl)
+
+pub limit_given : {verb : Verb} {options : List (List ℕ × List ℕ)} (r : Option ℕ)
+    → ReadsNumberAt options (option_text Limit) r → IsCommand verb options → verb ≡ Watch
+    → IsWithin options (option_text Limit) 10000 → IsSome r
+limit_given = within_given Watch Limit (3, omega arith, refl)
+
+pub seed_given : {verb : Verb} {options : List (List ℕ × List ℕ)} (r : Option ℕ)
+    → ReadsNumberAt options (option_text Seed) r → IsCommand verb options → verb ≡ Gen → IsSome r
+seed_given {verb} {options} r m command e =
     some_number (value_of options (option_text Seed)) r 18446744073709551615 (omega arith) m
     (given (λ t. (n : ℕ) × IsDecimal t n × (n ≤ 18446744073709551615)) options verb Gen Seed command
     e (0, omega arith, refl) (value_rule {verb = verb} {options = options} Seed command))
 
-pub size_given : (verb : Verb) (options : List (List ℕ × List ℕ)) (r : Option ℕ)
-    → IsCommand verb options → verb ≡ Gen → IsWithin options (option_text Size) 10000
-    → MatchOption r ((n : ℕ) → IsNumberAt options (option_text Size) n → 2 ^ 64 ≤ n)
-    (λ n. IsNumberAt options (option_text Size) n) → IsSome r
-size_given verb options r command e within m =
-    some_number (value_of options (option_text Size)) r 10000 (omega arith) m
-    (given (λ t. (n : ℕ) × IsDecimal t n × (n ≤ 10000)) options verb Gen Size command e
-    (1, omega arith, refl) within)
+pub since_given : {verb : Verb} {options : List (List ℕ × List ℕ)} (r : Option ℕ)
+    → ReadsNumberAt options (option_text Since) r → IsCommand verb options
+    → IsSome (value_of options (option_text Since)) → IsSome r
+since_given {verb} {options} r m command some =
+    some_number (value_of options (option_text Since)) r 18446744073709551615 (omega arith) m
+    (both (λ t. (n : ℕ) × IsDecimal t n × (n ≤ 18446744073709551615))
+    (value_of options (option_text Since)) some
+    (value_rule {verb = verb} {options = options} Since command))
 
 some_between : (o : Option (List ℕ)) (r : Option ℕ)
-    → MatchOption r ((n : ℕ) → IsSomeAnd o (λ t. IsDecimal t n) → 2 ^ 64 ≤ n)
-    (λ n. IsSomeAnd o (λ t. IsDecimal t n))
-    → IsSomeAnd o (λ t. (n : ℕ) × IsDecimal t n × (1 ≤ n))
+    → ReadsNumber o r → IsSomeAnd o (λ t. (n : ℕ) × IsDecimal t n × (1 ≤ n))
     → IfSome o (λ t. (n : ℕ) × IsDecimal t n × (n ≤ 16))
     → IsSomeAnd r (λ n. (1 ≤ n) × (n ≤ 16))
 some_between None r m h w = absurd h
@@ -63,34 +80,13 @@ some_between (Some t) (Some n) m h w =
     (omega (arith, m.1, h.1.1, h.2), omega (arith, m.1, w.1.1, w.2))
 some_between (Some t) None m h w = absurd (omega (arith, m w.0 w.1, w.2))
 
-pub planned_given : (verb : Verb) (options : List (List ℕ × List ℕ)) (r : Option ℕ)
-    → IsCommand verb options → verb ≡ Plan → IsWithin options (option_text Replicas) 16
-    → MatchOption r ((n : ℕ) → IsNumberAt options (option_text Replicas) n → 2 ^ 64 ≤ n)
-    (λ n. IsNumberAt options (option_text Replicas) n)
-    → IsSomeAnd r (λ n. (1 ≤ n) × (n ≤ 16))
-planned_given verb options r command e within m =
+pub planned_given : {verb : Verb} {options : List (List ℕ × List ℕ)} (r : Option ℕ)
+    → ReadsNumberAt options (option_text Replicas) r → IsCommand verb options → verb ≡ Plan
+    → HasFewReplicas options → IsSomeAnd r (λ n. (1 ≤ n) × (n ≤ 16))
+planned_given {verb} {options} r m command e few =
     some_between (value_of options (option_text Replicas)) r m
     (given (λ t. (n : ℕ) × IsDecimal t n × (1 ≤ n)) options verb Plan Replicas command e
-    (2, omega arith, refl) (value_rule {verb = verb} {options = options} Replicas command)) within
-
-pub limit_given : (verb : Verb) (options : List (List ℕ × List ℕ)) (r : Option ℕ)
-    → IsCommand verb options → verb ≡ Watch → IsWithin options (option_text Limit) 10000
-    → MatchOption r ((n : ℕ) → IsNumberAt options (option_text Limit) n → 2 ^ 64 ≤ n)
-    (λ n. IsNumberAt options (option_text Limit) n) → IsSome r
-limit_given verb options r command e within m =
-    some_number (value_of options (option_text Limit)) r 10000 (omega arith) m
-    (given (λ t. (n : ℕ) × IsDecimal t n × (n ≤ 10000)) options verb Watch Limit command e
-    (3, omega arith, refl) within)
-
-pub since_given : (verb : Verb) (options : List (List ℕ × List ℕ)) (r : Option ℕ)
-    → IsCommand verb options → IsSome (value_of options (option_text Since))
-    → MatchOption r ((n : ℕ) → IsNumberAt options (option_text Since) n → 2 ^ 64 ≤ n)
-    (λ n. IsNumberAt options (option_text Since) n) → IsSome r
-since_given verb options r command some m =
-    some_number (value_of options (option_text Since)) r 18446744073709551615 (omega arith) m
-    (both (λ t. (n : ℕ) × IsDecimal t n × (n ≤ 18446744073709551615))
-    (value_of options (option_text Since)) some
-    (value_rule {verb = verb} {options = options} Since command))
+    (2, omega arith, refl) (value_rule {verb = verb} {options = options} Replicas command)) few.1
 
 small_reload : {R : Type 0} (number : R → ℕ) (file : R → List ℕ) (o : Option (List ℕ))
     (r : Option R) (replicas : ℕ) → replicas ≤ 16

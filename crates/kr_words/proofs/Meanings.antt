@@ -42,20 +42,7 @@ verb_at word =
 verb_at-word : (verb : Verb) → verb_at (word_of verb) ≡ verb
 unfolding verb_at
 verb_at-word Encrypt = refl
-verb_at-word Decrypt = refl
-verb_at-word Check = refl
-verb_at-word Inspect = refl
-verb_at-word Put = refl
-verb_at-word Get = refl
-verb_at-word Verify = refl
-verb_at-word Rows = refl
-verb_at-word Judge = refl
-verb_at-word Rewrite = refl
-verb_at-word Fleet = refl
-verb_at-word Gen = refl
-verb_at-word Migrate = refl
-verb_at-word Plan = refl
-verb_at-word Watch = refl
+verb_at-word other = refl
 
 -- two commands have two words
 word_once : (verb verb' : Verb) → word_of verb ≡ word_of verb' → verb ≡ verb'
@@ -63,21 +50,7 @@ word_once verb verb' e = sym (verb_at-word verb) ∙ ap verb_at e ∙ verb_at-wo
 
 plain_text : (name : OptionName) → IsPlain (option_text name)
 plain_text Config = grind arith
-plain_text Resource = grind arith
-plain_text Path = grind arith
-plain_text Plugin = grind arith
-plain_text Store = grind arith
-plain_text Replica = grind arith
-plain_text Reload = grind arith
-plain_text File = grind arith
-plain_text Seed = grind arith
-plain_text Size = grind arith
-plain_text To = grind arith
-plain_text From = grind arith
-plain_text Replicas = grind arith
-plain_text Show = grind arith
-plain_text Limit = grind arith
-plain_text Since = grind arith
+plain_text other = grind arith
 
 -- the options of a command have plain names
 plain_options : {verb : Verb} {options : List (List ℕ × List ℕ)} → IsCommand verb options
@@ -122,6 +95,22 @@ misruled words verb rest options e plain spelled none verb' options' m =
     let same = agree words verb verb' rest options options' e plain spelled m in
     none (subst (λ v. IsCommand v options) (sym same.0)
     (subst (IsCommand verb') (sym same.1) m.command))
+
+-- Words that were taken apart mean the command with the options, and what is known besides of these
+-- holds of them. `seen` are the options as they were lent.
+pub means_with : (P : List (List ℕ × List ℕ) → Type 0) {words rest : List (List ℕ)}
+    {first word : List ℕ} {verb : Verb} {options seen : List (List ℕ × List ℕ)}
+    → words ≡ first ∷ rest → word ≡ first → word ≡ word_of verb → SpellsOptions rest options
+    → seen ≡ options → IsCommand verb seen → (IsCommand verb options → P options)
+    → (v : Verb) × (o : List (List ℕ × List ℕ)) × Means words v o × P o
+means_with P {words} {rest} {first} {word} {verb} {options} e is said spelled same command besides =
+    let front : words ≡ word_of verb ∷ rest = cc in
+    let made : IsCommand verb options = subst (IsCommand verb) same command in (
+      verb,
+      options,
+      record { rest = rest; word = front; spelled = spelled; command = made },
+      besides made,
+    )
 
 larger : (limit : ℕ) (size : Option (List ℕ))
     → IfSome size (λ text. (n : ℕ) × IsDecimal text n × (1 ≤ n))

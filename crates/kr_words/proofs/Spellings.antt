@@ -136,11 +136,11 @@ none_left [] e = refl
 none_left (x ∷ xs) e = absurd (omega (arith, e))
 
 -- the texts of words of which the first begins with two dashes
-pub dashed : (words rest : List (String Global)) (word : String Global) (bytes option : List ℕ)
-    (n : ℕ) → words ≡ word ∷ rest → bytes ≡ string_bytes word → bytes ≡ 45 ∷ 45 ∷ drop n bytes
-    → option ≡ drop n bytes
+pub dashed : {words rest : List (String Global)} {word : String Global} {bytes option : List ℕ}
+    (n : ℕ) → words ≡ word ∷ rest → bytes ≡ string_bytes word
+    → bytes ≡ 45 ∷ 45 ∷ drop n bytes → option ≡ drop n bytes
     → texts words ≡ (codes "--" ++ option) ∷ texts rest
-dashed words rest word bytes option n e is front o = let f = ap texts e in cc
+dashed n e is front o = let f = ap texts e in cc
 
 pub joined : (words rest : List (List ℕ)) (option name value : List ℕ)
     → words ≡ (codes "--" ++ option) ∷ rest → option ≡ name ++ (61 ∷ value)

@@ -39,21 +39,7 @@ name_at text =
 name_at-text : (name : OptionName) → name_at (option_text name) ≡ name
 unfolding name_at
 name_at-text Config = refl
-name_at-text Resource = refl
-name_at-text Path = refl
-name_at-text Plugin = refl
-name_at-text Store = refl
-name_at-text Replica = refl
-name_at-text Reload = refl
-name_at-text File = refl
-name_at-text Seed = refl
-name_at-text Size = refl
-name_at-text To = refl
-name_at-text From = refl
-name_at-text Replicas = refl
-name_at-text Show = refl
-name_at-text Limit = refl
-name_at-text Since = refl
+name_at-text other = refl
 
 -- two names have two texts
 pub name_once : (a b : OptionName) → option_text a ≡ option_text b → a ≡ b

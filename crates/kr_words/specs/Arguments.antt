@@ -1,7 +1,7 @@
 -- What the options of a command give beyond first values: programs of plugins, numbers, a reload,
 -- and limits.
-use Rattle.std.specs.Prelude.{◌≡◌, ℕ, ◌≤◌, ◌<◌, ◌&&◌, List, Bool, Option, codes, Contains, IfSome}
-use Rattle.std.specs.Prelude.{IsSomeAnd}
+use Rattle.std.specs.Prelude.{◌≡◌, ℕ, ◌^◌, ◌≤◌, ◌<◌, ◌&&◌, List, Bool, Option, codes, Contains}
+use Rattle.std.specs.Prelude.{IfSome, IsSomeAnd, MatchOption}
 use Rattle.std.specs.List.{find}
 use Rattle.std.specs.Option.{option_map}
 use Rattle.std.specs.Str.{bytes_eq}
@@ -22,6 +22,11 @@ plugin_program options plugin = option_map (λ option. after_equals option.1)
 -- the number stands at the name
 abbrev pub IsNumberAt : List (List ℕ × List ℕ) → List ℕ → ℕ → Type 0
 IsNumberAt options name number = IsSomeAnd (value_of options name) (λ text. IsDecimal text number)
+
+-- what is read is the number at the name, and nothing only where none below 2^64 stands there
+abbrev pub ReadsNumberAt : List (List ℕ × List ℕ) → List ℕ → Option ℕ → Type 0
+ReadsNumberAt options name read =
+    MatchOption read ((n : ℕ) → IsNumberAt options name n → 2 ^ 64 ≤ n) (IsNumberAt options name)
 
 -- there is nothing at the name, or a number up to the limit
 abbrev pub IsWithin : List (List ℕ × List ℕ) → List ℕ → ℕ → Type 0

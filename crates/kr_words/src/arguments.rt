@@ -3,14 +3,15 @@ ghost use Rattle.std.specs.Prelude.{◌≡◌, ◌^◌, ◌<◌, ◌≤◌, ℕ,
 ghost use Rattle.std.specs.Prelude.{Contains, codes, slice_get};
 ghost use Rattle.std.specs.Option.{option_copied};
 ghost use Rattle.kr_words.specs.Options.{value_of, values_of, count_options};
-ghost use Rattle.kr_words.specs.Arguments.{is_plugin, plugin_program, IsNumberAt, IsReloadOf};
+ghost use Rattle.kr_words.specs.Arguments.{is_plugin, plugin_program, ReadsNumberAt, IsReloadOf};
 ghost use Rattle.kr_words.specs.Arguments.{IsReloadAt};
+ghost use Rattle.kr_words.specs.Names.{option_text};
 ghost use Rattle.kr_words.specs.Rules.{before_equals, after_equals, IsCommand};
 ghost use Rattle.kr_words.specs.Grammar.{replica_limit, replicas_of, HasFewReplicas, IsWithinPage};
 ghost use Rattle.kr_words.specs.Grammar.{IsWithinSize};
 ghost use Rattle.kr_words.specs.declared.command.Verb.{Verb};
 
-use crate::command::{CommandWords, count_options, first_value};
+use crate::command::{CommandWords, count_named, first_value};
 use crate::name::OptionName;
 use crate::numeral::parse_numeral;
 use crate::rules::name_before_equals;
@@ -37,7 +38,7 @@ impl CommandWords {
     pub fn replicas(&self) -> usize
         ensures { result ≡ count_options self.now.options.0 (codes "replica") }
     {
-        count_options(self.options.as_slice(), OptionName::Replica.text())
+        count_named(self.options.as_slice(), OptionName::Replica)
     }
 
     /// The file of the replica with this number, counted from 0 in the order of the words.
@@ -63,70 +64,58 @@ impl CommandWords {
 
     /// The seed. `gen` has one.
     pub fn seed(&self) -> Option<u64>
-        ensures number { MatchOption result
-            ((n : ℕ) → IsNumberAt self.now.options.0 (codes "seed") n → 2 ^ 64 ≤ n)
-            (λ n. IsNumberAt self.now.options.0 (codes "seed") n) }
+        ensures number { ReadsNumberAt self.now.options.0 (codes "seed") result }
         ensures given { IsCommand self.now.verb self.now.options.0 → self.now.verb ≡ Verb.Gen
             → IsSome result }
     {
-        option_number(self.options.as_slice(), OptionName::Seed.text())
+        self.number(OptionName::Seed)
     }
 
     /// The size. `gen` has one.
     pub fn size(&self) -> Option<u64>
-        ensures number { MatchOption result
-            ((n : ℕ) → IsNumberAt self.now.options.0 (codes "size") n → 2 ^ 64 ≤ n)
-            (λ n. IsNumberAt self.now.options.0 (codes "size") n) }
+        ensures number { ReadsNumberAt self.now.options.0 (codes "size") result }
         ensures given { IsCommand self.now.verb self.now.options.0 → self.now.verb ≡ Verb.Gen
             → IsWithinSize self.now.options.0 → IsSome result }
     {
-        option_number(self.options.as_slice(), OptionName::Size.text())
+        self.number(OptionName::Size)
     }
 
     /// How many replicas a plan is for. `plan` has it.
     pub fn planned(&self) -> Option<u64>
-        ensures number { MatchOption result
-            ((n : ℕ) → IsNumberAt self.now.options.0 (codes "replicas") n → 2 ^ 64 ≤ n)
-            (λ n. IsNumberAt self.now.options.0 (codes "replicas") n) }
+        ensures number { ReadsNumberAt self.now.options.0 (codes "replicas") result }
         ensures given { IsCommand self.now.verb self.now.options.0 → self.now.verb ≡ Verb.Plan
             → HasFewReplicas self.now.options.0
             → IsSomeAnd result (λ n. (1 ≤ n) × (n ≤ replica_limit)) }
     {
-        option_number(self.options.as_slice(), OptionName::Replicas.text())
+        self.number(OptionName::Replicas)
     }
 
     /// How many items a page has. `watch` says it.
     pub fn limit(&self) -> Option<u64>
-        ensures number { MatchOption result
-            ((n : ℕ) → IsNumberAt self.now.options.0 (codes "limit") n → 2 ^ 64 ≤ n)
-            (λ n. IsNumberAt self.now.options.0 (codes "limit") n) }
+        ensures number { ReadsNumberAt self.now.options.0 (codes "limit") result }
         ensures given { IsCommand self.now.verb self.now.options.0 → self.now.verb ≡ Verb.Watch
             → IsWithinPage self.now.options.0 → IsSome result }
     {
-        option_number(self.options.as_slice(), OptionName::Limit.text())
+        self.number(OptionName::Limit)
     }
 
     /// The revision since which changes are to be shown. `watch` may have one.
     pub fn since_revision(&self) -> Option<u64>
-        ensures number { MatchOption result
-            ((n : ℕ) → IsNumberAt self.now.options.0 (codes "since") n → 2 ^ 64 ≤ n)
-            (λ n. IsNumberAt self.now.options.0 (codes "since") n) }
+        ensures number { ReadsNumberAt self.now.options.0 (codes "since") result }
         ensures given { IsCommand self.now.verb self.now.options.0
             → IsSome (value_of self.now.options.0 (codes "since")) → IsSome result }
     {
-        option_number(self.options.as_slice(), OptionName::Since.text())
+        self.number(OptionName::Since)
     }
-}
 
-/// The number at that name, if it is below 2^64.
-fn option_number(options: &[(Text, Text)], name: &str) -> Option<u64>
-    ensures { MatchOption result
-        ((n : ℕ) → IsNumberAt options.now name.now n → 2 ^ 64 ≤ n)
-        (λ n. IsNumberAt options.now name.now n) }
-{
-    match first_value(options, name) {
-        Some(text) => parse_numeral(text),
-        None => None,
+    /// The number at that name, if it is below 2^64.
+    fn number(&self, name: OptionName) -> Option<u64>
+        ensures { ReadsNumberAt self.now.options.0 (option_text name) result }
+    {
+        match self.value(name.text()) {
+            Some(text) => parse_numeral(text),
+            None => None,
+        }
     }
 }
 

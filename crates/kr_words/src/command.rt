@@ -1,8 +1,10 @@
 //! The commands, a command with its options, and first values.
 ghost use Rattle.std.specs.Prelude.{◌≡◌};
 ghost use Rattle.std.specs.Option.{option_copied};
+ghost use Rattle.kr_words.specs.Names.{option_text};
 ghost use Rattle.kr_words.specs.Options.{value_of, count_options};
 
+use crate::name::OptionName;
 use kr_base::{List, Text};
 
 /// A command of the program.
@@ -92,4 +94,11 @@ pub fn count_options(options: &[(Text, Text)], name: &str) -> usize
         .iter()
         .filter(|option| option.0.as_str() == name)
         .count()
+}
+
+/// How many options have the name.
+pub(crate) fn count_named(options: &[(Text, Text)], name: OptionName) -> usize
+    ensures { result ≡ count_options options.now (option_text name) }
+{
+    count_options(options, name.text())
 }

@@ -6,7 +6,7 @@ ghost use Rattle.kr_words.specs.inner.Spelling.{HasNoSmall, HasNoFewReplicas};
 ghost use Rattle.kr_words.specs.Numerals.{IsDecimal};
 ghost use Rattle.std.specs.Prelude.{ℕ, ◌≤◌, ◌<◌, MatchBool};
 
-use crate::command::{CommandWords, WordsNo, count_options, first_value};
+use crate::command::{CommandWords, WordsNo, count_named, first_value};
 use crate::name::{OptionName, parse_verb};
 use crate::numeral::parse_numeral;
 use crate::rules::is_command;
@@ -59,7 +59,7 @@ pub fn read_words(alloc: Global, words: &[String]) -> Result<CommandWords, Words
 fn has_few_replicas(options: &[(Text, Text)]) -> bool
     ensures { MatchBool result (HasFewReplicas options.now) (HasNoFewReplicas options.now) }
 {
-    if count_options(options, OptionName::Replica.text()) > REPLICA_LIMIT {
+    if count_named(options, OptionName::Replica) > REPLICA_LIMIT {
         return false;
     }
     fits_limit(options, OptionName::Replicas, REPLICA_LIMIT as u64)

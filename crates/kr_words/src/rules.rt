@@ -8,7 +8,7 @@ ghost use Rattle.kr_words.specs.Rules.{IsValue, IsOption, HaveTwoNames, IsComman
 ghost use Rattle.kr_words.specs.Numerals.{IsDecimal};
 ghost use Rattle.kr_words.specs.declared.name.OptionName.{OptionName};
 
-use crate::command::{Verb, count_options};
+use crate::command::{Verb, count_named, count_options};
 use crate::name::OptionName;
 use crate::numeral::{is_numeral, parse_numeral};
 use kr_base::{Text, name_ok, path_ok, resource_ok};
@@ -29,7 +29,7 @@ fn have_values(verb: Verb, options: &[(Text, Text)]) -> bool
         ↔ All (IsOption verb (count_options options.now (option_text OptionName.Replica)))
         options.now }
 {
-    let replicas = count_options(options, OptionName::Replica.text());
+    let replicas = count_named(options, OptionName::Replica);
     for option in options {
         if !is_option(verb, replicas, option) {
             return false;

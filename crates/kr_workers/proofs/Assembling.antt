@@ -161,12 +161,11 @@ module _ {T L D : Type 0} where
       (d : Worker T L D) → length seats ≡ length workers → k < length workers
       → get_or (with_seats seats workers) k d
       ≡ record (get_or workers k d) { seat = Some (get_or seats k s) }
-  seated_at [] [] k s d e l = absurd (omega (arith, l))
   seated_at [] (worker ∷ workers) k s d e l = absurd (omega (arith, e))
-  seated_at (seat ∷ seats) [] k s d e l = absurd (omega (arith, l))
   seated_at (seat ∷ seats) (worker ∷ workers) zero s d e l = refl
   seated_at (seat ∷ seats) (worker ∷ workers) (suc k) s d e l =
       seated_at seats workers k s d (omega (arith, e)) (omega (arith, l))
+  seated_at other [] k s d e l = absurd (omega (arith, l))
 
 -- ---- before the workers begin
 

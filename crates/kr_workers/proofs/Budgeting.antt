@@ -33,15 +33,8 @@ spent_reply = Err (record {})
 
 refused_spent : (seat : ℕ) (why : CallNo) → spent_reply ≡ told_of_refusal seat why
     → why ≡ refusal.Spent
-refused_spent seat (refusal.Refused x) e = cc
-refused_spent seat (refusal.PluginFailed name) e = cc
-refused_spent seat refusal.DiceFailed e = cc
-refused_spent seat refusal.StoreFailed e = cc
-refused_spent seat (refusal.StoreFull needed) e = cc
-refused_spent seat (refusal.Unhealthy name field text) e = cc
-refused_spent seat refusal.Gone e = cc
 refused_spent seat refusal.Spent e = refl
-refused_spent seat refusal.NoMemory e = cc
+refused_spent seat other e = cc
 
 drive_spent : (seat : ℕ) (result : Result Report (Report × CallNo))
     → spent_reply ≡ told_of_drive seat result
@@ -91,36 +84,24 @@ module _ {L D : Type 0} (link : L → Link) (step : L → Exchange → L → Typ
         → Adds old.caller part new.caller
         → IsPartWithin (line_entries (length part) asked) (brought_count asked) (puts_of asked) part
         → LiveAmong paths new.caller → length part ≤ line_entries (length paths) asked
-    bounded (line.Put resource path plain) old new reply part does adds within among = within.few
-    bounded (line.Get path) old new reply part does adds within among = within.few
-    bounded (line.Delete path) old new reply part does adds within among = within.few
     bounded line.Rewrite old new reply part does adds within among =
         let needs = drives_need_few link left count replica [] old.caller old.links old.dice
         does.0 new.caller new.links new.dice paths does.2 among in
         let all = needs.few.1.left_is in
         let few = needs.few.2.few in
         let part_is = adds.left_is in omega (arith, all, few, part_is)
-    bounded (line.Reload named file) old new reply part does adds within among = within.few
-    bounded line.Refresh old new reply part does adds within among = within.few
-    bounded (line.Join named file) old new reply part does adds within among = within.few
-    bounded (line.Leave named) old new reply part does adds within among = within.few
+    bounded other old new reply part does adds within among = within.few
 
     -- one that was cut short had fewer entries left
     short : (asked : ScriptLine) (old new : Workplace L D)
         → Does link left count files replica asked old (Err (record {})) new
         → IsShortFor asked old.caller → LiveAmong paths new.caller
         → old.caller.left < line_entries (length paths) asked
-    short (line.Put resource path plain) old new does few among = few
-    short (line.Get path) old new does few among = few
-    short (line.Delete path) old new does few among = few
     short line.Rewrite old new does few among =
         let cut = drive_spent old.caller.seat does.0 does.1 in
         (drives_need_few link left count replica [] old.caller old.links old.dice does.0
         new.caller new.links new.dice paths does.2 among).spent cut.0 cut.1
-    short (line.Reload named file) old new does few among = few
-    short line.Refresh old new does few among = few
-    short (line.Join named file) old new does few among = few
-    short (line.Leave named) old new does few among = few
+    short other old new does few among = few
 
     budgets_add : (front rest : List ScriptLine)
         → budget_of (length paths) (front ++ rest)

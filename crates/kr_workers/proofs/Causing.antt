@@ -214,9 +214,6 @@ module _ {L D : Type 0} (link : L → Link) (count : D → ℕ) (asked : ScriptL
   pub caused_within : (a b c d : Caller) (p q : List Entry) → Adds a p b → Adds c q d
       → (olds news : List L) (dice after : D) (why : CallNo) → Causes b olds dice why c news after
       → Causes a olds dice why d news after
-  caused_within a b c d p q x y olds news dice after (refusal.Refused why) h = h
-  caused_within a b c d p q x y olds news dice after (refusal.PluginFailed name) h = h
-  caused_within a b c d p q x y olds news dice after refusal.DiceFailed h = h
   caused_within a b c d p q x y olds news dice after refusal.StoreFailed h = (
     h.0,
     store_within a b p c.seen y.more d.seen x h.1 (ap (λ (e : Caller). e.seen) y.new_is),
@@ -226,36 +223,29 @@ module _ {L D : Type 0} (link : L → Link) (count : D → ℕ) (asked : ScriptL
     gave_within a b p c.seen y.more d.seen (TellsAnswer told.Full) x h.1
         (ap (λ (e : Caller). e.seen) y.new_is),
   )
-  caused_within a b c d p q x y olds news dice after (refusal.Unhealthy name field text) h = h
   caused_within a b c d p q x y olds news dice after refusal.Gone h = (
     h.0,
     gave_within a b p c.seen y.more d.seen (TellsAnswer told.Gone) x h.1
         (ap (λ (e : Caller). e.seen) y.new_is),
   )
-  caused_within a b c d p q x y olds news dice after refusal.Spent h = h
-  caused_within a b c d p q x y olds news dice after refusal.NoMemory h = h
+  caused_within a b c d p q x y olds news dice after other h = h
 
   -- nor does what links and random source did before
   pub caused_later : (old new : Caller) (names : List (List ℕ)) (olds mids news : List L)
       (dice between after : D) → AskedOnly link names olds mids → count dice ≤ count between
       → (why : CallNo) → Causes old mids between why new news after
       → Causes old olds dice why new news after
-  caused_later old new names olds mids news dice between after a l (refusal.Refused why) h = h
   caused_later old new names olds mids news dice between after a l (refusal.PluginFailed name) h =
       (h.0, rose_later link names name olds mids news a h.1)
   caused_later old new names olds mids news dice between after a l refusal.DiceFailed h =
       (h.0, Rose-later (count dice) (count between) (count after) l h.1)
-  caused_later old new names olds mids news dice between after a l refusal.StoreFailed h = h
-  caused_later old new names olds mids news dice between after a l (refusal.StoreFull needed) h = h
   caused_later old new names olds mids news dice between after a l
       (refusal.Unhealthy name field text) h = (
         h.0,
         had link names name (λ it. HasBreach it (Some (field, text))) olds mids
             (breach_back (Some (field, text))) a h.1,
       )
-  caused_later old new names olds mids news dice between after a l refusal.Gone h = h
-  caused_later old new names olds mids news dice between after a l refusal.Spent h = h
-  caused_later old new names olds mids news dice between after a l refusal.NoMemory h = h
+  caused_later old new names olds mids news dice between after a l other h = h
 
   -- ---- where nothing was adopted, and where something was meanwhile
 
@@ -263,15 +253,6 @@ module _ {L D : Type 0} (link : L → Link) (count : D → ℕ) (asked : ScriptL
       → (replica : ℕ) (old new : Caller) (olds news : List L)
       (dice after : D) (why : CallNo) → AdoptsNothing replica old why new
       → Causes old olds dice why new news after
-  early_caused gone memory replica old new olds news dice after (refusal.Refused why) e = absurd e
-  early_caused gone memory replica old new olds news dice after (refusal.PluginFailed name) e =
-      absurd e
-  early_caused gone memory replica old new olds news dice after refusal.DiceFailed e = absurd e
-  early_caused gone memory replica old new olds news dice after refusal.StoreFailed e = absurd e
-  early_caused gone memory replica old new olds news dice after (refusal.StoreFull needed) e =
-      absurd e
-  early_caused gone memory replica old new olds news dice after
-      (refusal.Unhealthy name field text) e = absurd e
   early_caused gone memory replica old new olds news dice after refusal.Gone e = (
     gone,
     own_gave old new (event.Adopt replica) (answer.Gone replica) (TellsAnswer told.Gone) e
@@ -279,6 +260,7 @@ module _ {L D : Type 0} (link : L → Link) (count : D → ℕ) (asked : ScriptL
   )
   early_caused gone memory replica old new olds news dice after refusal.Spent e = tt
   early_caused gone memory replica old new olds news dice after refusal.NoMemory e = memory
+  early_caused gone memory replica old new olds news dice after other e = absurd e
 
   pub spent_caused : {T : Type 0} → (old new : Caller) (olds news : List L) (dice after : D)
       (why other : CallNo) → ◌≡◌ {A = Result T CallNo} (Err why) (Err other)
@@ -314,38 +296,10 @@ module _ {L D : Type 0} (link : L → Link) (left : D → Option (List ℕ))
       (olds news : List L) (dice after : D) (why : CallNo)
       → Puts left count resource path plain p old dice (Err why) new after
       → Causes link count (line.Put resource path plain) old olds dice why new news after
-  puts_caused resource path plain p old new olds news dice after (refusal.Refused value.Short) d =
-      absurd d
-  puts_caused resource path plain p old new olds news dice after (refusal.Refused value.BadBlock)
-      d = absurd d
-  puts_caused resource path plain p old new olds news dice after
-      (refusal.Refused value.BadPadding) d = absurd d
-  puts_caused resource path plain p old new olds news dice after (refusal.Refused value.BadTag) d =
-      absurd d
-  puts_caused resource path plain p old new olds news dice after (refusal.Refused value.Wire) d =
-      absurd d
-  puts_caused resource path plain p old new olds news dice after (refusal.Refused value.KeyId) d =
-      absurd d
-  puts_caused resource path plain p old new olds news dice after (refusal.Refused value.Source) d =
-      absurd d
-  puts_caused resource path plain p old new olds news dice after
-      (refusal.Refused value.Annotations) d = absurd d
-  puts_caused resource path plain p old new olds news dice after
-      (refusal.Refused value.SourceType) d = absurd d
-  puts_caused resource path plain p old new olds news dice after (refusal.Refused value.NoData) d =
-      absurd d
-  puts_caused resource path plain p old new olds news dice after (refusal.Refused value.NotUtf8) d =
-      absurd d
-  puts_caused resource path plain p old new olds news dice after
-      (refusal.Refused value.SeedLength) d = absurd d
-  puts_caused resource path plain p old new olds news dice after
-      (refusal.Refused value.NoProvider) d = absurd d
   puts_caused resource path plain p old new olds news dice after
       (refusal.Refused value.LooksEncrypted) d = d.0.2
   puts_caused resource path plain p old new olds news dice after (refusal.Refused value.TooLarge)
       d = d.0.1
-  puts_caused resource path plain p old new olds news dice after (refusal.PluginFailed name) d =
-      absurd d
   puts_caused resource path plain p old new olds news dice after refusal.DiceFailed d = (tt, d.0.2)
   puts_caused resource path plain p old new olds news dice after refusal.StoreFailed d =
       (tt, store_failed old new (event.Put path resource plain d.stored) d.put)
@@ -354,11 +308,9 @@ module _ {L D : Type 0} (link : L → Link) (left : D → Option (List ℕ))
     own_gave old new (event.Put path resource plain d.stored) (answer.StoreFull needed)
         (TellsAnswer told.Full) d.put (needed, refl),
   )
-  puts_caused resource path plain p old new olds news dice after
-      (refusal.Unhealthy name field text) d = absurd d
-  puts_caused resource path plain p old new olds news dice after refusal.Gone d = absurd d
   puts_caused resource path plain p old new olds news dice after refusal.Spent d = tt
   puts_caused resource path plain p old new olds news dice after refusal.NoMemory d = tt
+  puts_caused resource path plain p old new olds news dice after other d = absurd d
 
   write_caused : (resource path plain : List ℕ) (replica : ℕ) (old new : Caller)
       (olds news : List L) (dice after : D) (why : CallNo)
@@ -409,13 +361,9 @@ module _ {L D : Type 0} (link : L → Link) (left : D → Option (List ℕ))
   finds_caused path p old new olds news dice after (refusal.Refused why) d = d.1.content.0
   finds_caused path p old new olds news dice after (refusal.PluginFailed name) d =
       (tt, d.1.unseals.rose)
-  finds_caused path p old new olds news dice after refusal.DiceFailed d = absurd d
-  finds_caused path p old new olds news dice after refusal.StoreFailed d = absurd d
-  finds_caused path p old new olds news dice after (refusal.StoreFull needed) d = absurd d
-  finds_caused path p old new olds news dice after (refusal.Unhealthy name field text) d = absurd d
-  finds_caused path p old new olds news dice after refusal.Gone d = absurd d
   finds_caused path p old new olds news dice after refusal.Spent d = tt
   finds_caused path p old new olds news dice after refusal.NoMemory d = tt
+  finds_caused path p old new olds news dice after other d = absurd d
 
   read_caused : (path : List ℕ) (replica : ℕ) (old new : Caller) (olds news : List L)
       (dice after : D) (why : CallNo)
@@ -470,9 +418,6 @@ module _ {L D : Type 0} (link : L → Link) (left : D → Option (List ℕ))
   delete_caused : (path : List ℕ) (old new : Caller) (olds news : List L) (dice after : D)
       (why : CallNo) → IsDelete path old (Err why) new
       → Causes link count (line.Delete path) old olds dice why new news after
-  delete_caused path old new olds news dice after (refusal.Refused why) d = absurd d
-  delete_caused path old new olds news dice after (refusal.PluginFailed name) d = absurd d
-  delete_caused path old new olds news dice after refusal.DiceFailed d = absurd d
   delete_caused path old new olds news dice after refusal.StoreFailed d =
       (tt, store_failed old new (event.Delete path) d)
   delete_caused path old new olds news dice after (refusal.StoreFull needed) d = (
@@ -480,10 +425,9 @@ module _ {L D : Type 0} (link : L → Link) (left : D → Option (List ℕ))
     own_gave old new (event.Delete path) (answer.StoreFull needed) (TellsAnswer told.Full) d
         (needed, refl),
   )
-  delete_caused path old new olds news dice after (refusal.Unhealthy name field text) d = absurd d
-  delete_caused path old new olds news dice after refusal.Gone d = absurd d
   delete_caused path old new olds news dice after refusal.Spent d = tt
   delete_caused path old new olds news dice after refusal.NoMemory d = tt
+  delete_caused path old new olds news dice after other d = absurd d
 
   pub deleted_caused : (path : List ℕ) (old new : Workplace L D) (reply : Told)
       (result : Result (Option ℕ) CallNo) → Ok reply ≡ told_of_delete old.caller.seat result
@@ -508,15 +452,8 @@ module _ {L D : Type 0} (link : L → Link) (left : D → Option (List ℕ))
   leave_caused : (named : ℕ) (old new : Caller) (olds news : List L) (dice after : D)
       (why : CallNo) → IsLeave named old (Err why) new
       → Causes link count (line.Leave named) old olds dice why new news after
-  leave_caused named old new olds news dice after (refusal.Refused why) d = absurd d
-  leave_caused named old new olds news dice after (refusal.PluginFailed name) d = absurd d
-  leave_caused named old new olds news dice after refusal.DiceFailed d = absurd d
-  leave_caused named old new olds news dice after refusal.StoreFailed d = absurd d
-  leave_caused named old new olds news dice after (refusal.StoreFull needed) d = absurd d
-  leave_caused named old new olds news dice after (refusal.Unhealthy name field text) d = absurd d
-  leave_caused named old new olds news dice after refusal.Gone d = absurd d
   leave_caused named old new olds news dice after refusal.Spent d = tt
-  leave_caused named old new olds news dice after refusal.NoMemory d = absurd d
+  leave_caused named old new olds news dice after other d = absurd d
 
   pub left_caused : (named : ℕ) (old new : Workplace L D) (reply : Told)
       (result : Result (Option ℕ) CallNo) → Ok reply ≡ told_of_leave old.caller.seat result

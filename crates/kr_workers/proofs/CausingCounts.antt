@@ -103,76 +103,19 @@ module _ {L D : Type 0} (link : L → Link) (count : D → ℕ) (asked : ScriptL
     (old new : Workplace L D) where
   dice_rose : (reply : Told) → HasCauseAt link count asked old reply new
       → names_dice reply ≡ true → Rose (count old.dice) (count new.dice)
-  dice_rose (told.Put revision) h e = absurd (false≢true e)
-  dice_rose (told.Got revision plain) h e = absurd (false≢true e)
-  dice_rose (told.Deleted revision) h e = absurd (false≢true e)
-  dice_rose told.Absent h e = absurd (false≢true e)
-  dice_rose (told.Rewritten rewritten fresh changed left) h e = absurd (false≢true e)
-  dice_rose (told.Reloaded generation) h e = absurd (false≢true e)
-  dice_rose (told.Joined generation) h e = absurd (false≢true e)
-  dice_rose (told.Present generation) h e = absurd (false≢true e)
-  dice_rose (told.Left generation) h e = absurd (false≢true e)
-  dice_rose told.Gone h e = absurd (false≢true e)
-  dice_rose (told.Refused verdict) h e = absurd (false≢true e)
-  dice_rose (told.Refreshed generation) h e = absurd (false≢true e)
-  dice_rose told.Unchanged h e = absurd (false≢true e)
-  dice_rose (told.Moved generation) h e = absurd (false≢true e)
-  dice_rose (told.Value why) h e = absurd (false≢true e)
-  dice_rose (told.Unhealthy name field text) h e = absurd (false≢true e)
-  dice_rose (told.FaultPlugin name) h e = absurd (false≢true e)
   dice_rose (told.FaultDice seat) h e = h.2
-  dice_rose told.FaultStore h e = absurd (false≢true e)
-  dice_rose told.Full h e = absurd (false≢true e)
-  dice_rose told.Memory h e = absurd (false≢true e)
+  dice_rose other h e = absurd (false≢true e)
 
   plugin_rose : (name : List ℕ) (reply : Told) → HasCauseAt link count asked old reply new
       → tells_plugin name reply ≡ true → FaultRose link name old.links new.links
-  plugin_rose name (told.Put revision) h e = absurd (false≢true e)
-  plugin_rose name (told.Got revision plain) h e = absurd (false≢true e)
-  plugin_rose name (told.Deleted revision) h e = absurd (false≢true e)
-  plugin_rose name told.Absent h e = absurd (false≢true e)
-  plugin_rose name (told.Rewritten rewritten fresh changed left) h e = absurd (false≢true e)
-  plugin_rose name (told.Reloaded generation) h e = absurd (false≢true e)
-  plugin_rose name (told.Joined generation) h e = absurd (false≢true e)
-  plugin_rose name (told.Present generation) h e = absurd (false≢true e)
-  plugin_rose name (told.Left generation) h e = absurd (false≢true e)
-  plugin_rose name told.Gone h e = absurd (false≢true e)
-  plugin_rose name (told.Refused verdict) h e = absurd (false≢true e)
-  plugin_rose name (told.Refreshed generation) h e = absurd (false≢true e)
-  plugin_rose name told.Unchanged h e = absurd (false≢true e)
-  plugin_rose name (told.Moved generation) h e = absurd (false≢true e)
-  plugin_rose name (told.Value why) h e = absurd (false≢true e)
-  plugin_rose name (told.Unhealthy other field text) h e = absurd (false≢true e)
   plugin_rose name (told.FaultPlugin other) h e =
       subst (λ n. FaultRose link n old.links new.links) ((bytes_eq-Decides other name).0 e) h.1
-  plugin_rose name (told.FaultDice seat) h e = absurd (false≢true e)
-  plugin_rose name told.FaultStore h e = absurd (false≢true e)
-  plugin_rose name told.Full h e = absurd (false≢true e)
-  plugin_rose name told.Memory h e = absurd (false≢true e)
+  plugin_rose name other h e = absurd (false≢true e)
 
   store_fails : (reply : Told) → HasCauseAt link count asked old reply new
       → names_store reply ≡ true → StoreFails old.caller new.caller.seen
-  store_fails (told.Put revision) h e = absurd (false≢true e)
-  store_fails (told.Got revision plain) h e = absurd (false≢true e)
-  store_fails (told.Deleted revision) h e = absurd (false≢true e)
-  store_fails told.Absent h e = absurd (false≢true e)
-  store_fails (told.Rewritten rewritten fresh changed left) h e = absurd (false≢true e)
-  store_fails (told.Reloaded generation) h e = absurd (false≢true e)
-  store_fails (told.Joined generation) h e = absurd (false≢true e)
-  store_fails (told.Present generation) h e = absurd (false≢true e)
-  store_fails (told.Left generation) h e = absurd (false≢true e)
-  store_fails told.Gone h e = absurd (false≢true e)
-  store_fails (told.Refused verdict) h e = absurd (false≢true e)
-  store_fails (told.Refreshed generation) h e = absurd (false≢true e)
-  store_fails told.Unchanged h e = absurd (false≢true e)
-  store_fails (told.Moved generation) h e = absurd (false≢true e)
-  store_fails (told.Value why) h e = absurd (false≢true e)
-  store_fails (told.Unhealthy name field text) h e = absurd (false≢true e)
-  store_fails (told.FaultPlugin name) h e = absurd (false≢true e)
-  store_fails (told.FaultDice seat) h e = absurd (false≢true e)
   store_fails told.FaultStore h e = h.1
-  store_fails told.Full h e = absurd (false≢true e)
-  store_fails told.Memory h e = absurd (false≢true e)
+  store_fails other h e = absurd (false≢true e)
 
 -- ---- entries that say that the store failed
 

@@ -17,8 +17,8 @@ use Rattle.kr_rollout.specs.declared.opening.Entry.{Entry}
 use Rattle.kr_history.specs.Acting.{Caller}
 use Rattle.kr_rollout.specs.Callers.{gave_of}
 use Rattle.kr_history.specs.Calls.{LetsGo}
-use Rattle.kr_fleet.specs.declared.outcome.Joining.{Joining}
-use Rattle.kr_fleet.specs.declared.outcome.Joining.TheVariants as joining
+use Rattle.kr_history.specs.declared.outcome.Joining.{Joining}
+use Rattle.kr_history.specs.declared.outcome.Joining.TheVariants as joining
 use Rattle.kr_fleet.specs.declared.outcome.Loaded.{Loaded}
 use Rattle.kr_fleet.specs.declared.outcome.Loaded.TheVariants as loaded
 use Rattle.kr_fleet.specs.LoadCalls.{AreKeysSame, AsksInVain, BringsBy, IsJoin, IsRefresh, IsReload, Refreshes, RenewsBy, plugin_names, reload_of}
@@ -29,7 +29,7 @@ use Rattle.kr_script.specs.declared.told.Told.{Told}
 use Rattle.kr_script.specs.declared.told.Told.TheVariants as told
 use Rattle.kr_workers.specs.Causes.{AsksPlugins, DrawsBytes, IsDefined, OwnAdopted, OwnGave, TakesMemory, TellsAnswer}
 use Rattle.kr_workers.specs.Replies.{told_of_join, told_of_refresh, told_of_reload}
-use Rattle.kr_workers.specs.ScriptLines.{DoesJoin, DoesReload, IfRead, Workplace}
+use Rattle.kr_workers.specs.ScriptLines.{Workplace}
 use Rattle.kr_workers.proofs.Causing.{Causes, HasCauseAt, caused_later, early_caused, held_caused, held_gave, is_done, own_gave, refused_caused, told_caused}
 
 module _ {L D : Type 0} (link : L → Link) (left : D → Option (List ℕ))
@@ -49,16 +49,10 @@ module _ {L D : Type 0} (link : L → Link) (left : D → Option (List ℕ))
       (dice after : D) (why : CallNo)
       → BringsBy link left count rows brings replica old olds dice why new news after
       → Causes link count asked old olds dice why new news after
-  brings_caused asked may rows brings replica old new olds news dice after (refusal.Refused why)
-      b = absurd b
   brings_caused asked may rows brings replica old new olds news dice after
       (refusal.PluginFailed name) b = (may.asks, b.0.0)
   brings_caused asked may rows brings replica old new olds news dice after refusal.DiceFailed b =
       (may.draws, b.0.3)
-  brings_caused asked may rows brings replica old new olds news dice after refusal.StoreFailed b =
-      absurd b
-  brings_caused asked may rows brings replica old new olds news dice after
-      (refusal.StoreFull needed) b = absurd b
   brings_caused asked may rows brings replica old new olds news dice after
       (refusal.Unhealthy name field text) b = (may.unhealthy name field text, b.0.1)
   brings_caused asked may rows brings replica old new olds news dice after refusal.Gone b = (
@@ -69,10 +63,11 @@ module _ {L D : Type 0} (link : L → Link) (left : D → Option (List ℕ))
   brings_caused asked may rows brings replica old new olds news dice after refusal.Spent b = tt
   brings_caused asked may rows brings replica old new olds news dice after refusal.NoMemory b =
       may.wants
+  brings_caused asked may rows brings replica old new olds news dice after other b = absurd b
 
   -- ---- a reload
 
-  reload_caused : (named : ℕ) (file : List ℕ) (rows : List ConfigEntry) (old new : Workplace L D)
+  pub reload_caused : (named : ℕ) (file : List ℕ) (rows : List ConfigEntry) (old new : Workplace L D)
       (reply : Told) (result : Result Loaded CallNo)
       → Ok reply ≡ told_of_reload old.caller.seat result
       → IsReload link left count rows named old.caller old.links old.dice result new.caller
@@ -89,8 +84,6 @@ module _ {L D : Type 0} (link : L → Link) (left : D → Option (List ℕ))
         own_gave old.caller new.caller (reload_of named None r.p) (answer.Refused verdict)
             (TellsAnswer (told.Refused verdict)) r.brought refl,
       )
-  reload_caused named file rows old new reply (Ok (loaded.Moved number)) is r = absurd r
-  reload_caused named file rows old new reply (Ok (loaded.Unchanged number)) is r = absurd r
   reload_caused named file rows old new reply (Err why) is r =
       refused_caused link count (line.Reload named file) old new reply why is
       (brings_caused (line.Reload named file) (record {
@@ -101,16 +94,7 @@ module _ {L D : Type 0} (link : L → Link) (left : D → Option (List ℕ))
         unhealthy = λ name field text. tt;
       }) rows (reload_of named None) named old.caller new.caller old.links new.links old.dice
       new.dice why r)
-
-  pub reloaded_caused : (named : ℕ) (file : List ℕ) (found : Option (List ConfigEntry))
-      (old new : Workplace L D) (reply : Told)
-      → IfRead found (λ rows. DoesReload link left count named rows old (Ok reply) new)
-      → HasCauseAt link count (line.Reload named file) old reply new
-  reloaded_caused named file None old new reply d = absurd d
-  reloaded_caused named file (Some rows) old new reply (inl none) = told_caused link count
-      (line.Reload named file) old new reply told.Memory none.0 tt
-  reloaded_caused named file (Some rows) old new reply (inr d) =
-      reload_caused named file rows old new reply d.0 d.1 d.2
+  reload_caused named file rows old new reply (Ok other) is r = absurd r
 
   -- ---- a join
 
@@ -118,19 +102,16 @@ module _ {L D : Type 0} (link : L → Link) (left : D → Option (List ℕ))
       (olds news : List L) (dice after : D) (why : CallNo)
       → IsJoin link left count rows named old olds dice (Err why) new news after
       → Causes link count (line.Join named file) old olds dice why new news after
-  joins_caused named file rows old new olds news dice after (refusal.Refused why) b = absurd b
   joins_caused named file rows old new olds news dice after (refusal.PluginFailed name) b =
       (tt, b.0.0)
   joins_caused named file rows old new olds news dice after refusal.DiceFailed b = (tt, b.0.3)
-  joins_caused named file rows old new olds news dice after refusal.StoreFailed b = absurd b
-  joins_caused named file rows old new olds news dice after (refusal.StoreFull needed) b = absurd b
   joins_caused named file rows old new olds news dice after (refusal.Unhealthy name field text) b =
       (tt, b.0.1)
-  joins_caused named file rows old new olds news dice after refusal.Gone b = absurd b
   joins_caused named file rows old new olds news dice after refusal.Spent b = tt
   joins_caused named file rows old new olds news dice after refusal.NoMemory b = tt
+  joins_caused named file rows old new olds news dice after other b = absurd b
 
-  join_caused : (named : ℕ) (file : List ℕ) (rows : List ConfigEntry) (old new : Workplace L D)
+  pub join_caused : (named : ℕ) (file : List ℕ) (rows : List ConfigEntry) (old new : Workplace L D)
       (reply : Told) (result : Result Joining CallNo)
       → Ok reply ≡ told_of_join old.caller.seat result
       → IsJoin link left count rows named old.caller old.links old.dice result new.caller
@@ -158,31 +139,16 @@ module _ {L D : Type 0} (link : L → Link) (left : D → Option (List ℕ))
       (joins_caused named file rows old.caller new.caller old.links new.links old.dice new.dice
       why j)
 
-  pub joined_caused : (named : ℕ) (file : List ℕ) (found : Option (List ConfigEntry))
-      (old new : Workplace L D) (reply : Told)
-      → IfRead found (λ rows. DoesJoin link left count named rows old (Ok reply) new)
-      → HasCauseAt link count (line.Join named file) old reply new
-  joined_caused named file None old new reply d = absurd d
-  joined_caused named file (Some rows) old new reply (inl none) = told_caused link count
-      (line.Join named file) old new reply told.Memory none.0 tt
-  joined_caused named file (Some rows) old new reply (inr d) =
-      join_caused named file rows old new reply d.0 d.1 d.2
-
   -- ---- a refresh
 
   -- the plugins' key ids couldn't be asked for
   vain_caused : (p : Publication) (old new : Caller) (olds news : List L) (dice after : D)
       (why : CallNo) → AsksInVain link olds p.seeds why news
       → Causes link count line.Refresh old olds dice why new news after
-  vain_caused p old new olds news dice after (refusal.Refused why) a = absurd a
   vain_caused p old new olds news dice after (refusal.PluginFailed name) a = (tt, a.1)
-  vain_caused p old new olds news dice after refusal.DiceFailed a = absurd a
-  vain_caused p old new olds news dice after refusal.StoreFailed a = absurd a
-  vain_caused p old new olds news dice after (refusal.StoreFull needed) a = absurd a
   vain_caused p old new olds news dice after (refusal.Unhealthy name field text) a = (tt, a.1)
-  vain_caused p old new olds news dice after refusal.Gone a = absurd a
-  vain_caused p old new olds news dice after refusal.Spent a = absurd a
   vain_caused p old new olds news dice after refusal.NoMemory a = tt
+  vain_caused p old new olds news dice after other a = absurd a
 
   refreshes_caused : (replica number : ℕ) (p : Publication) (old new : Caller)
       (olds news : List L) (dice after : D) (why : CallNo)

@@ -30,11 +30,10 @@ use Rattle.kr_script.specs.declared.told.Told.{Told}
 use Rattle.kr_script.specs.declared.told.Told.TheVariants as told
 use Rattle.kr_workers.specs.declared.files.SettingsFile.{SettingsFile}
 use Rattle.kr_workers.specs.Causes.{TellsAnswer}
-use Rattle.kr_workers.specs.Files.{rows_at}
 use Rattle.kr_workers.specs.Replies.{told_of_drive}
 use Rattle.kr_workers.specs.ScriptLines.{Does, Workplace}
 use Rattle.kr_workers.proofs.Causing.{Causes, HasCauseAt, caused_later, caused_within, deleted_caused, early_caused, get_caused, held_caused, is_done, left_caused, own_gave, put_caused, refused_caused, spent_caused, store_failed, told_caused}
-use Rattle.kr_workers.proofs.CausingLoads.{joined_caused, refresh_caused, reloaded_caused}
+use Rattle.kr_workers.proofs.CausingLoads.{join_caused, refresh_caused, reload_caused}
 
 module _ {L D : Type 0} (link : L → Link) (left : D → Option (List ℕ))
     (count : D → ℕ) where
@@ -73,26 +72,7 @@ module _ {L D : Type 0} (link : L → Link) (left : D → Option (List ℕ))
       )
   replaces_caused path row stored old new olds news dice after why answer.NoMemory a r =
       as_told old new olds news dice after why refusal.NoMemory r tt
-  replaces_caused path row stored old new olds news dice after why (answer.Adopted number p) a r =
-      absurd r
-  replaces_caused path row stored old new olds news dice after why (answer.Found other) a r =
-      absurd r
-  replaces_caused path row stored old new olds news dice after why answer.Absent a r = absurd r
-  replaces_caused path row stored old new olds news dice after why answer.Released a r = absurd r
-  replaces_caused path row stored old new olds news dice after why (answer.Reloaded number) a r =
-      absurd r
-  replaces_caused path row stored old new olds news dice after why (answer.Joined number) a r =
-      absurd r
-  replaces_caused path row stored old new olds news dice after why (answer.Refused verdict) a r =
-      absurd r
-  replaces_caused path row stored old new olds news dice after why (answer.Moved number) a r =
-      absurd r
-  replaces_caused path row stored old new olds news dice after why (answer.Present number) a r =
-      absurd r
-  replaces_caused path row stored old new olds news dice after why (answer.Departed number) a r =
-      absurd r
-  replaces_caused path row stored old new olds news dice after why (answer.Gone replica) a r =
-      absurd r
+  replaces_caused path row stored old new olds news dice after why other a r = absurd r
 
   reseals_caused : (p : Publication) (row : Row) (plain : List ℕ) (old new : Caller)
       (olds news : List L) (dice after : D) (why : CallNo) (sealed : Result (List ℕ) SealNo)
@@ -104,14 +84,11 @@ module _ {L D : Type 0} (link : L → Link) (left : D → Option (List ℕ))
       r.answers
   reseals_caused p row plain old new olds news dice after why (Ok stored) s (inr n) =
       as_told old new olds news dice after why refusal.Spent n.1 tt
-  reseals_caused p row plain old new olds news dice after why (Err sealing.LooksEncrypted) s r =
-      absurd (undone why (step.Left row.path) r.0)
-  reseals_caused p row plain old new olds news dice after why (Err (sealing.TooLarge size)) s r =
-      absurd (undone why (step.Left row.path) r.0)
   reseals_caused p row plain old new olds news dice after why (Err sealing.DiceFailed) s r =
       as_told old new olds news dice after why refusal.DiceFailed r.0 (tt, s.2)
   reseals_caused p row plain old new olds news dice after why (Err sealing.NoMemory) s r =
       as_told old new olds news dice after why refusal.NoMemory r.0 tt
+  reseals_caused p row plain old new olds news dice after why (Err other) s r = absurd (undone why (step.Left row.path) r.0)
 
   rewrites_caused : (p : Publication) (row : Row) (plain : List ℕ) (stale : Bool)
       (old new : Caller) (olds news : List L) (dice after : D) (why : CallNo)
@@ -150,15 +127,9 @@ module _ {L D : Type 0} (link : L → Link) (left : D → Option (List ℕ))
   none_caused : (above : List ℕ) (old new : Caller) (olds news : List L) (dice after : D)
       (why : CallNo) → FindsNone above old (Err why) new
       → CausesStep old olds dice why new news after
-  none_caused above old new olds news dice after (refusal.Refused why) n = absurd n
-  none_caused above old new olds news dice after (refusal.PluginFailed name) n = absurd n
-  none_caused above old new olds news dice after refusal.DiceFailed n = absurd n
-  none_caused above old new olds news dice after refusal.StoreFailed n = absurd n
-  none_caused above old new olds news dice after (refusal.StoreFull needed) n = absurd n
-  none_caused above old new olds news dice after (refusal.Unhealthy name field text) n = absurd n
-  none_caused above old new olds news dice after refusal.Gone n = absurd n
   none_caused above old new olds news dice after refusal.Spent n = tt
   none_caused above old new olds news dice after refusal.NoMemory n = tt
+  none_caused above old new olds news dice after other n = absurd n
 
   steps_caused : (p : Publication) (above : List ℕ) (old new : Caller) (olds news : List L)
       (dice after : D) (why : CallNo)
@@ -229,11 +200,15 @@ module _ {L D : Type 0} (link : L → Link) (left : D → Option (List ℕ))
       deleted_caused link left count path old new reply d.0 d.1 d.2
   line_caused files replica line.Rewrite old new reply d =
       rewrite_caused replica old new reply d.0 d.1 d.2
-  line_caused files replica (line.Reload named file) old new reply d =
-      reloaded_caused link left count named file (rows_at files file) old new reply d
+  line_caused files replica (line.Reload named file) old new reply (rows, read, inl none) =
+      told_caused link count (line.Reload named file) old new reply told.Memory none.0 tt
+  line_caused files replica (line.Reload named file) old new reply (rows, read, inr d) =
+      reload_caused link left count named file rows old new reply d.0 d.1 d.2
   line_caused files replica line.Refresh old new reply d =
       refresh_caused link left count replica old new reply d.0 d.1 d.2
-  line_caused files replica (line.Join named file) old new reply d =
-      joined_caused link left count named file (rows_at files file) old new reply d
+  line_caused files replica (line.Join named file) old new reply (rows, read, inl none) =
+      told_caused link count (line.Join named file) old new reply told.Memory none.0 tt
+  line_caused files replica (line.Join named file) old new reply (rows, read, inr d) =
+      join_caused link left count named file rows old new reply d.0 d.1 d.2
   line_caused files replica (line.Leave named) old new reply d =
       left_caused link left count named old new reply d.0 d.1 d.2

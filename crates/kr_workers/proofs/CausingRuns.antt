@@ -165,15 +165,12 @@ module _ {L D : Type 0} (link : L → Link) (count : D → ℕ) where
       (h.0, own_within a b c (told.Moved generation) seen links dice s t h.1)
   cause_within asked a b c told.Full seen links dice s t h =
       (h.0, own_within a b c told.Full seen links dice s t h.1)
-  cause_within asked a b c (told.Rewritten rewritten fresh changed left) seen links dice s t h = h
   cause_within asked a b c told.Unchanged seen links dice s t h = (
     h.0,
     h.1,
     adopted_within a.caller b.caller s.part c.caller.seen t.rest seen h.1 s.adds h.2 t.seen_is,
     keys_back link (names_of link a.links) a.links b.links h.1.seeds s.asked h.3,
   )
-  cause_within asked a b c (told.Value why) seen links dice s t h = h
-  cause_within asked a b c told.Memory seen links dice s t h = h
   cause_within asked a b c (told.Unhealthy name field text) seen links dice s t h = (
     h.0,
     had link (names_of link a.links) name (λ it. HasBreach it (Some (field, text))) a.links b.links
@@ -194,6 +191,7 @@ module _ {L D : Type 0} (link : L → Link) (count : D → ℕ) where
     h.0,
     store_within a.caller b.caller s.part c.caller.seen t.rest seen s.adds h.1 t.seen_is,
   )
+  cause_within asked a b c other seen links dice s t h = h
 
 -- ---- a run
 

@@ -4,7 +4,7 @@ use Rattle.kr_config.specs.Kept.{ConfigEntry}
 use Rattle.kr_kms.specs.Calls.{Link}
 use Rattle.kr_provider.specs.Publication.{Publication}
 use Rattle.kr_provider.specs.declared.refusal.ValueNo.{ValueNo}
-use Rattle.kr_provider.specs.declared.refusal.ValueNo.TheVariants.{Short, BadBlock, BadPadding, BadTag, Wire, KeyId, Source, Annotations, SourceType, NoData, NotUtf8, NoProvider, LooksEncrypted, TooLarge, SeedLength}
+use Rattle.kr_provider.specs.declared.refusal.ValueNo.TheVariants.{LooksEncrypted, TooLarge}
 use Rattle.kr_rollout.specs.declared.answer.Answer.TheVariants as answer
 use Rattle.kr_history.specs.declared.call.CallNo.{CallNo}
 use Rattle.kr_history.specs.declared.call.CallNo.TheVariants as refusal
@@ -12,7 +12,7 @@ use Rattle.kr_rollout.specs.declared.event.Event.{Event}
 use Rattle.kr_rollout.specs.declared.event.Event.TheVariants as event
 use Rattle.kr_history.specs.Acting.{Caller, AddsEntry}
 use Rattle.kr_history.specs.Calls.{HoldsMeanwhile, LetsGo}
-use Rattle.kr_fleet.specs.declared.outcome.Joining.{Joining}
+use Rattle.kr_history.specs.declared.outcome.Joining.{Joining}
 use Rattle.kr_fleet.specs.declared.outcome.Loaded.{Loaded}
 use Rattle.kr_fleet.specs.declared.outcome.Loaded.TheVariants as loaded
 use Rattle.kr_fleet.specs.declared.outcome.Read.{Read}
@@ -75,14 +75,10 @@ module _ {L : Type 0} (link : L → Link) (path : List ℕ) where
   finds_one p old olds (Err (refusal.Refused why)) new news d = omega (arith, d.1.found.left_is)
   finds_one p old olds (Err (refusal.PluginFailed name)) new news d =
       omega (arith, d.1.found.left_is)
-  finds_one p old olds (Err refusal.DiceFailed) new news d = absurd d
-  finds_one p old olds (Err refusal.StoreFailed) new news d = absurd d
-  finds_one p old olds (Err (refusal.StoreFull needed)) new news d = absurd d
-  finds_one p old olds (Err (refusal.Unhealthy name field text)) new news d = absurd d
-  finds_one p old olds (Err refusal.Gone) new news d = absurd d
   finds_one p old olds (Err refusal.Spent) new news d = left_stays old new d.0.same
   finds_one p old olds (Err refusal.NoMemory) new news (inl d) = omega (arith, d.1.found.left_is)
   finds_one p old olds (Err refusal.NoMemory) new news (inr d) = omega (arith, d.0.left_is)
+  finds_one p old olds (Err other) new news d = absurd d
 
   spent_read : (replica : ℕ) (old : Caller) (olds : List L) (new : Caller) (news : List L)
       → IsRead link path replica old olds (Err refusal.Spent) new news → old.left < 3
@@ -106,21 +102,9 @@ module _ {D : Type 0} (left : D → Option (List ℕ)) (count : D → ℕ)
       (after : D)
       → Puts left count resource path plain p old dice (Err (refusal.Refused why)) new after
       → old.left ≤ new.left + 1
-  refused_one p old dice Short new after d = absurd d
-  refused_one p old dice BadBlock new after d = absurd d
-  refused_one p old dice BadPadding new after d = absurd d
-  refused_one p old dice BadTag new after d = absurd d
-  refused_one p old dice Wire new after d = absurd d
-  refused_one p old dice KeyId new after d = absurd d
-  refused_one p old dice Source new after d = absurd d
-  refused_one p old dice Annotations new after d = absurd d
-  refused_one p old dice SourceType new after d = absurd d
-  refused_one p old dice NoData new after d = absurd d
-  refused_one p old dice NotUtf8 new after d = absurd d
-  refused_one p old dice NoProvider new after d = absurd d
   refused_one p old dice LooksEncrypted new after d = left_stays old new d.1
   refused_one p old dice TooLarge new after d = left_stays old new d.1
-  refused_one p old dice SeedLength new after d = absurd d
+  refused_one p old dice other new after d = absurd d
 
   puts_one : (p : Publication) (old : Caller) (dice : D) (done : Result ℕ CallNo)
       (new : Caller) (after : D) → Puts left count resource path plain p old dice done new after
@@ -128,16 +112,14 @@ module _ {D : Type 0} (left : D → Option (List ℕ)) (count : D → ℕ)
   puts_one p old dice (Ok revision) new after d = omega (arith, d.put.left_is)
   puts_one p old dice (Err (refusal.Refused why)) new after d =
       refused_one p old dice why new after d
-  puts_one p old dice (Err (refusal.PluginFailed name)) new after d = absurd d
   puts_one p old dice (Err refusal.DiceFailed) new after d = left_stays old new d.1
   puts_one p old dice (Err refusal.StoreFailed) new after d = omega (arith, d.put.left_is)
   puts_one p old dice (Err (refusal.StoreFull needed)) new after d =
       omega (arith, d.put.left_is)
-  puts_one p old dice (Err (refusal.Unhealthy name field text)) new after d = absurd d
-  puts_one p old dice (Err refusal.Gone) new after d = absurd d
   puts_one p old dice (Err refusal.Spent) new after d = left_stays old new d.nothing.same
   puts_one p old dice (Err refusal.NoMemory) new after (inl d) = left_stays old new d.1
   puts_one p old dice (Err refusal.NoMemory) new after (inr d) = omega (arith, d.put.left_is)
+  puts_one p old dice (Err other) new after d = absurd d
 
   spent_write : (replica : ℕ) (old : Caller) (dice : D) (new : Caller) (after : D)
       → IsWrite left count resource path plain replica old dice (Err refusal.Spent) new after
@@ -182,14 +164,10 @@ module _ {L D : Type 0} (link : L → Link) (left : D → Option (List ℕ))
       (olds : List L) (dice : D) (why : CallNo) (new : Caller) (news : List L) (after : D)
       → BringsBy link left count rows brings replica old olds dice why new news after
       → old.left ≤ new.left + 1
-  brings_one rows brings replica old olds dice (refusal.Refused why) new news after d = absurd d
   brings_one rows brings replica old olds dice (refusal.PluginFailed name) new news after d =
       left_stays old new d.1
   brings_one rows brings replica old olds dice refusal.DiceFailed new news after d =
       left_stays old new d.1
-  brings_one rows brings replica old olds dice refusal.StoreFailed new news after d = absurd d
-  brings_one rows brings replica old olds dice (refusal.StoreFull needed) new news after d =
-      absurd d
   brings_one rows brings replica old olds dice (refusal.Unhealthy name field text) new news after
       d = left_stays old new d.1
   brings_one rows brings replica old olds dice refusal.Gone new news after d =
@@ -202,6 +180,7 @@ module _ {L D : Type 0} (link : L → Link) (left : D → Option (List ℕ))
       left_stays old new d.1
   brings_one rows brings replica old olds dice refusal.NoMemory new news after (inr (inr d)) =
       omega (arith, d.brought.left_is)
+  brings_one rows brings replica old olds dice other new news after d = absurd d
 
   stops_one : (replica number : ℕ) (p : Publication) (old : Caller) (olds : List L) (dice : D)
       (why : CallNo) (new : Caller) (news : List L) (after : D)

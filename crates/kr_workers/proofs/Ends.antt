@@ -12,49 +12,16 @@ use Rattle.kr_workers.specs.Endings.{EndingsAreTold, HasReplyOf, first_ending, i
 
 same_kind : (a b : Ending) → is_same a b ≡ true → a ≡ b
 same_kind ending.Done ending.Done e = refl
-same_kind ending.Done ending.Refused e = absurd (false≢true e)
-same_kind ending.Done ending.Unhealthy e = absurd (false≢true e)
-same_kind ending.Done ending.Full e = absurd (false≢true e)
-same_kind ending.Done ending.Memory e = absurd (false≢true e)
-same_kind ending.Done ending.Fault e = absurd (false≢true e)
-same_kind ending.Refused ending.Done e = absurd (false≢true e)
 same_kind ending.Refused ending.Refused e = refl
-same_kind ending.Refused ending.Unhealthy e = absurd (false≢true e)
-same_kind ending.Refused ending.Full e = absurd (false≢true e)
-same_kind ending.Refused ending.Memory e = absurd (false≢true e)
-same_kind ending.Refused ending.Fault e = absurd (false≢true e)
-same_kind ending.Unhealthy ending.Done e = absurd (false≢true e)
-same_kind ending.Unhealthy ending.Refused e = absurd (false≢true e)
 same_kind ending.Unhealthy ending.Unhealthy e = refl
-same_kind ending.Unhealthy ending.Full e = absurd (false≢true e)
-same_kind ending.Unhealthy ending.Memory e = absurd (false≢true e)
-same_kind ending.Unhealthy ending.Fault e = absurd (false≢true e)
-same_kind ending.Full ending.Done e = absurd (false≢true e)
-same_kind ending.Full ending.Refused e = absurd (false≢true e)
-same_kind ending.Full ending.Unhealthy e = absurd (false≢true e)
 same_kind ending.Full ending.Full e = refl
-same_kind ending.Full ending.Memory e = absurd (false≢true e)
-same_kind ending.Full ending.Fault e = absurd (false≢true e)
-same_kind ending.Memory ending.Done e = absurd (false≢true e)
-same_kind ending.Memory ending.Refused e = absurd (false≢true e)
-same_kind ending.Memory ending.Unhealthy e = absurd (false≢true e)
-same_kind ending.Memory ending.Full e = absurd (false≢true e)
 same_kind ending.Memory ending.Memory e = refl
-same_kind ending.Memory ending.Fault e = absurd (false≢true e)
-same_kind ending.Fault ending.Done e = absurd (false≢true e)
-same_kind ending.Fault ending.Refused e = absurd (false≢true e)
-same_kind ending.Fault ending.Unhealthy e = absurd (false≢true e)
-same_kind ending.Fault ending.Full e = absurd (false≢true e)
-same_kind ending.Fault ending.Memory e = absurd (false≢true e)
 same_kind ending.Fault ending.Fault e = refl
+same_kind other another e = absurd (false≢true e)
 
 itself : (a : Ending) → is_same a a ≡ true
 itself ending.Done = refl
-itself ending.Refused = refl
-itself ending.Unhealthy = refl
-itself ending.Full = refl
-itself ending.Memory = refl
-itself ending.Fault = refl
+itself other = refl
 
 -- it is among the kinds that are looked for
 looked_for : (kind : Ending) → kind ≢ ending.Done → Contains kinds kind

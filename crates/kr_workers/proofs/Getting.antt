@@ -1,6 +1,6 @@
 -- A reply to a `get` tells the content before the line's own Fetch.
 use Rattle.std.specs.Prelude.{⊤}
-use Rattle.std.proofs.Common.{◌≡◌, ℕ, ◌==◌, List, [], ◌∷◌, ◌++◌, Option, None, Result, Ok, Err, inl, inr, append-nil, ap, sym, subst, ◌∙◌, ◌⊎◌, refl}
+use Rattle.std.proofs.Common.{◌≡◌, ℕ, ◌==◌, List, [], ◌∷◌, ◌++◌, Option, None, Some, Result, Ok, Err, inl, inr, append-nil, ap, sym, subst, ◌∙◌, ◌⊎◌, refl}
 use Rattle.std.proofs.lemmas.List.{append_assoc, append_cancel_left}
 use Rattle.std.proofs.lemmas.List.Elements.{filter-append}
 use Rattle.kr_base.specs.Lines.{of_seat}
@@ -8,9 +8,11 @@ use Rattle.kr_kms.specs.Calls.{Link}
 use Rattle.kr_kms.specs.Exchanges.{Exchange}
 use Rattle.kr_kms.specs.Opens.{Opens}
 use Rattle.kr_provider.specs.BenchState.{BenchState}
-use Rattle.kr_provider.specs.Publication.{Publication}
-use Rattle.kr_provider.specs.Reading.{data_of, refused}
+use Rattle.kr_provider.specs.Publication.{Publication, list_at}
+use Rattle.kr_provider.specs.Reading.{Reading, data_of, refused, value_reading}
+use Rattle.kr_provider.specs.Unsealing.{IsReading}
 use Rattle.kr_provider.specs.declared.refusal.Opened.{Opened}
+use Rattle.kr_provider.specs.declared.refusal.UnsealNo.{UnsealNo}
 use Rattle.kr_provider.specs.declared.refusal.UnsealNo.TheVariants as unsealing
 use Rattle.kr_provider.specs.declared.refusal.ValueNo.{ValueNo}
 use Rattle.kr_store.specs.declared.rows.Row.{Row}
@@ -30,7 +32,7 @@ use Rattle.kr_history.specs.Parts.{Adds}
 use Rattle.kr_history.proofs.PartsAdd.{parts_follow}
 use Rattle.kr_fleet.specs.declared.outcome.Read.{Read}
 use Rattle.kr_fleet.specs.declared.outcome.Read.TheVariants as found
-use Rattle.kr_fleet.specs.ReadCalls.{Finds, FindsRow}
+use Rattle.kr_fleet.specs.ReadCalls.{Finds, IsContentByAny, IsKnownContent}
 use Rattle.kr_script.specs.declared.script.Part.{Part}
 use Rattle.kr_script.specs.declared.script.ScriptLine.TheVariants as line
 use Rattle.kr_script.specs.declared.told.Told.{Told}
@@ -38,9 +40,10 @@ use Rattle.kr_script.specs.declared.told.Told.TheVariants as told
 use Rattle.kr_workers.specs.declared.files.SettingsFile.{SettingsFile}
 use Rattle.kr_workers.specs.Gets.{FetchesWhere, ReadsContent}
 use Rattle.kr_workers.specs.Histories.{StandsIn}
-use Rattle.kr_workers.specs.Replies.{Reply, told_of_read, told_of_refusal}
+use Rattle.kr_workers.specs.Replies.{Reply, told_of_read}
 use Rattle.kr_workers.specs.Runs.{DoesAll, IsDone, LineDone, entries_in}
 use Rattle.kr_workers.specs.ScriptLines.{Does, Workplace}
+use Rattle.kr_workers.proofs.Shaping.{IfTold}
 
 -- ---- a line's place in a run
 
@@ -207,25 +210,28 @@ module _ (history : List Entry) (o : Opening) (seat : ℕ) (ahead part : List En
 
 module _ (history : List Entry) (o : Opening) (seat : ℕ) (ahead part : List Entry)
     (Found : Publication → Caller → Result Read CallNo → Caller → Type 0) (Stays : Type 0)
-    (Tells : Result Read CallNo → Type 0)
+    (number : ℕ) (Says : Told → Type 0) (gone : Says told.Gone) (memory : Says told.Memory)
     (found_tells : (p : Publication) (before adopted acted after : Caller)
     → IsLineIn history o seat ahead part p before adopted acted after
-    → (done : Result Read CallNo) → Found p adopted done acted → Tells done)
-    (replica : ℕ) (old new : Caller)
-    (early : (why : CallNo) → AdoptsNothing replica old why new → Tells (Err why))
-    (spent : Tells (Err refusal.Spent)) (more : List Entry) (is : history ≡ new.seen ++ more)
+    → (done : Result Read CallNo) → Found p adopted done acted
+    → IfTold Says (told_of_read number done))
+    (replica : ℕ) (old new : Caller) (more : List Entry) (is : history ≡ new.seen ++ more)
     (opening : old.opening ≡ o) (own : old.seat ≡ seat)
     (seen_own : of_seat seat_of old.seat old.seen ≡ ahead) (adds : Adds old part new)
     (known : IsCaller old) where
-  let_go_tells : (number : ℕ) (p : Publication) (adopted acted : Caller)
+  -- what its result is told as says so
+  abbrev Tells : Result Read CallNo → Type 0
+  Tells result = IfTold Says (told_of_read number result)
+
+  let_go_tells : (generation : ℕ) (p : Publication) (adopted acted : Caller)
       (done result : Result Read CallNo)
-      → AddsEntry old (event.Adopt replica) (answer.Adopted number p) adopted
+      → AddsEntry old (event.Adopt replica) (answer.Adopted generation p) adopted
       → Found p adopted done acted → LetsGo acted done result new → Tells result
-  let_go_tells number p adopted acted done result adopts d (inl g) =
+  let_go_tells generation p adopted acted done result adopts d (inl g) =
       subst (λ (r : Result Read CallNo). Tells r) (sym g.1)
       (found_tells p old adopted acted new (record {
         replica = replica;
-        number = number;
+        number = generation;
         adopts = adopts;
         lets_go = g.0;
         more = more;
@@ -236,16 +242,29 @@ module _ (history : List Entry) (o : Opening) (seat : ℕ) (ahead part : List En
         adds = adds;
         known = known;
       }) done d)
-  let_go_tells number p adopted acted done result adopts d (inr n) =
-      subst (λ (r : Result Read CallNo). Tells r) (sym n.1) spent
+  let_go_tells generation p adopted acted done result adopts d (inr n) =
+      subst (λ (r : Result Read CallNo). Tells r) (sym n.1) tt
 
-  pub call_tells : (result : Result Read CallNo) → EndsEarly replica Stays old result new
+  -- where nothing was adopted
+  early_tells : (why : CallNo) → AdoptsNothing replica old why new → Tells (Err why)
+  early_tells refusal.Gone e = gone
+  early_tells refusal.Spent e = tt
+  early_tells refusal.NoMemory e = memory
+  early_tells other e = absurd e
+
+  result_tells : (result : Result Read CallNo) → EndsEarly replica Stays old result new
       ⊎ HoldsMeanwhile (λ number p from done to. Found p from done to) replica old result new
       → Tells result
-  call_tells (Ok done) (inl e) = absurd e
-  call_tells (Err why) (inl e) = early why e.0
-  call_tells result (inr h) = let_go_tells h.number h.p h.adopted h.acted h.done result h.adopts
+  result_tells (Ok done) (inl e) = absurd e
+  result_tells (Err why) (inl e) = early_tells why e.0
+  result_tells result (inr h) = let_go_tells h.number h.p h.adopted h.acted h.done result h.adopts
       h.does h.lets_go
+
+  pub call_tells : (reply : Told) (result : Result Read CallNo)
+      → Ok reply ≡ told_of_read number result → EndsEarly replica Stays old result new
+      ⊎ HoldsMeanwhile (λ number p from done to. Found p from done to) replica old result new
+      → Says reply
+  call_tells reply result is does = subst (IfTold Says) (sym is) (result_tells result does)
 
 -- ---- what the reply tells, but for what plugins told
 
@@ -264,126 +283,58 @@ ToldContent o history seat path ahead part reply = ⊤
 
 module _ {L : Type 0} (link : L → Link) (path : List ℕ) (olds news : List L)
     (history : List Entry) (o : Opening) (seat : ℕ) (ahead part : List Entry) where
+  -- the row that was fetched reads so
+  content_read : (p : Publication) (old new : Caller) (row : Row) (opened : Result Opened UnsealNo)
+      (reading : Reading) (found : AddsEntry old (event.Fetch path) (answer.Found row) new)
+      → found.entry.published ≡ Some p
+      → IsKnownContent old.opening (old.seen ++ found.others) path reading
+      → (u : IsReading link p.seeds (list_at p row.resource) path row.stored olds opened news)
+      → value_reading u.envelope (list_at p row.resource) path row.stored ≡ reading
+      → IsContentByAny old.opening (old.seen ++ found.others) (list_at p row.resource) path
+      row.stored u.envelope reading
+      → ReadsContent old.opening path reading (old.seen ++ found.others) found.entry
+  content_read p old new row opened reading found named known u reads by_any = record {
+    known = known;
+    p = p;
+    row = row;
+    envelope = u.envelope;
+    held = named;
+    found = found.records.shows;
+    object = u.object;
+    seed = u.published;
+    unsourced = u.unsourced;
+    reads = reads;
+    by_any = by_any;
+  }
+
   -- what was found tells the content
-  abbrev TellsFound : Result Read CallNo → Type 0
-  TellsFound (Ok found.Absent) = FetchesWhere history seat path ahead part (λ front fetch.
-      (fetch.line.gave ≡ gave.Absent) × ((opens : Opens) → IsContent opens o front path None))
-  TellsFound (Ok (found.Value revision plain stale)) = FetchesWhere history seat path ahead part
-      (λ front fetch. (fetch.line.gave ≡ gave.Found revision)
-      × ReadsContent o path (data_of plain) front fetch)
-  TellsFound (Err (refusal.Refused why)) =
-      FetchesWhere history seat path ahead part (λ front fetch. (revision : ℕ)
-      × (fetch.line.gave ≡ gave.Found revision)
-      × ReadsContent o path (refused why) front fetch)
-  TellsFound (Err why) = ⊤
-
-  value_read : (p : Publication) (old new : Caller) (row : Row) (opened : Opened)
-      → (f : FindsRow link path p old olds row (Ok opened) new news)
-      → ReadsContent old.opening path (data_of opened.plain) (old.seen ++ f.found.others)
-      f.found.entry
-  value_read p old new row opened f = record {
-    known = f.content;
-    p = p;
-    row = row;
-    envelope = f.unseals.envelope;
-    held = f.named;
-    found = f.found.records.shows;
-    object = f.unseals.object;
-    seed = f.unseals.published;
-    unsourced = f.unseals.unsourced;
-    reads = f.unseals.is.0;
-    by_any = f.by_any;
-  }
-
-  value_refused : (p : Publication) (old new : Caller) (row : Row) (why : ValueNo)
-      → (f : FindsRow link path p old olds row (Err (unsealing.Refused why)) new news)
-      → ReadsContent old.opening path (refused why) (old.seen ++ f.found.others)
-      f.found.entry
-  value_refused p old new row why f = record {
-    known = f.content.1;
-    p = p;
-    row = row;
-    envelope = f.unseals.envelope;
-    held = f.named;
-    found = f.found.records.shows;
-    object = f.unseals.object;
-    seed = f.unseals.published;
-    unsourced = f.unseals.unsourced;
-    reads = f.unseals.is;
-    by_any = f.by_any;
-  }
-
-  found_tells : (p : Publication) (before adopted acted after : Caller)
+  found_tells : (number : ℕ) (p : Publication) (before adopted acted after : Caller)
       → IsLineIn history o seat ahead part p before adopted acted after
       → (done : Result Read CallNo) → Finds link path p adopted olds done acted news
-      → TellsFound done
-  found_tells p before adopted acted after it (Ok found.Absent) d =
+      → IfTold (ToldContent o history seat path ahead part) (told_of_read number done)
+  found_tells number p before adopted acted after it (Ok found.Absent) d =
       fetch_there history o seat ahead part p before adopted acted after path answer.Absent
       d.0.absent it (λ o front fetch. (fetch.line.gave ≡ gave.Absent)
       × ((opens : Opens) → IsContent opens o front path None))
       (d.0.absent.records.gave_is, d.0.content)
-  found_tells p before adopted acted after it (Ok (found.Value revision plain stale)) d =
+  found_tells number p before adopted acted after it (Ok (found.Value revision plain stale)) d =
       fetch_there history o seat ahead part p before adopted acted after path (answer.Found d.0)
       d.1.found it (λ o front fetch. (fetch.line.gave ≡ gave.Found revision)
       × ReadsContent o path (data_of plain) front fetch) (
         d.1.found.records.gave_is ∙ ap (λ n. gave.Found n) d.2,
-        value_read p adopted acted d.0 (record { plain = plain; stale = stale }) d.1,
+        content_read p adopted acted d.0 (Ok (record { plain = plain; stale = stale }))
+            (data_of plain) d.1.found d.1.named d.1.content d.1.unseals d.1.unseals.is.0 d.1.by_any,
       )
-  found_tells p before adopted acted after it (Err (refusal.Refused why)) d =
+  found_tells number p before adopted acted after it (Err (refusal.Refused why)) d =
       fetch_there history o seat ahead part p before adopted acted after path (answer.Found d.0)
       d.1.found it (λ o front fetch. (revision : ℕ) × (fetch.line.gave ≡ gave.Found revision)
-      × ReadsContent o path (refused why) front fetch)
-      (d.0.revision, d.1.found.records.gave_is, value_refused p adopted acted d.0 why d.1)
-  found_tells p before adopted acted after it (Err (refusal.PluginFailed name)) d = tt
-  found_tells p before adopted acted after it (Err refusal.DiceFailed) d = tt
-  found_tells p before adopted acted after it (Err refusal.StoreFailed) d = tt
-  found_tells p before adopted acted after it (Err (refusal.StoreFull needed)) d = tt
-  found_tells p before adopted acted after it (Err (refusal.Unhealthy name field text)) d = tt
-  found_tells p before adopted acted after it (Err refusal.Gone) d = tt
-  found_tells p before adopted acted after it (Err refusal.Spent) d = tt
-  found_tells p before adopted acted after it (Err refusal.NoMemory) d = tt
-
-  -- where nothing was adopted
-  early_tells : (replica : ℕ) (old new : Caller) (why : CallNo)
-      → AdoptsNothing replica old why new → TellsFound (Err why)
-  early_tells replica old new (refusal.Refused why) e = absurd e
-  early_tells replica old new why e = tt
-
-  -- the reply tells what was found
-  abbrev reply_in : Told → Reply → Told
-  reply_in other (Ok reply) = reply
-  reply_in other (Err spent) = other
-
-  refused_tells : (number : ℕ) (why : CallNo) (reply : Told)
-      → Ok reply ≡ told_of_refusal number why → TellsFound (Err why)
-      → ToldContent o history seat path ahead part reply
-  refused_tells number (refusal.Refused why) reply is t = subst
-      (λ r. ToldContent o history seat path ahead part r) (sym (ap (reply_in reply) is)) t
-  refused_tells number (refusal.PluginFailed name) reply is t = subst
-      (λ r. ToldContent o history seat path ahead part r) (sym (ap (reply_in reply) is)) tt
-  refused_tells number refusal.DiceFailed reply is t = subst
-      (λ r. ToldContent o history seat path ahead part r) (sym (ap (reply_in reply) is)) tt
-  refused_tells number refusal.StoreFailed reply is t = subst
-      (λ r. ToldContent o history seat path ahead part r) (sym (ap (reply_in reply) is)) tt
-  refused_tells number (refusal.StoreFull needed) reply is t = subst
-      (λ r. ToldContent o history seat path ahead part r) (sym (ap (reply_in reply) is)) tt
-  refused_tells number (refusal.Unhealthy name field text) reply is t = subst
-      (λ r. ToldContent o history seat path ahead part r) (sym (ap (reply_in reply) is)) tt
-  refused_tells number refusal.Gone reply is t = subst
-      (λ r. ToldContent o history seat path ahead part r) (sym (ap (reply_in reply) is)) tt
-  refused_tells number refusal.Spent reply is t = absurd
-      (ok_no_err (Ok reply) (Err (record {})) tt (sym is))
-  refused_tells number refusal.NoMemory reply is t = subst
-      (λ r. ToldContent o history seat path ahead part r) (sym (ap (reply_in reply) is)) tt
-
-  read_tells : (number : ℕ) (result : Result Read CallNo) (reply : Told)
-      → Ok reply ≡ told_of_read number result → TellsFound result
-      → ToldContent o history seat path ahead part reply
-  read_tells number (Ok found.Absent) reply is t = subst
-      (λ r. ToldContent o history seat path ahead part r) (sym (ap (reply_in reply) is)) t
-  read_tells number (Ok (found.Value revision plain stale)) reply is t = subst
-      (λ r. ToldContent o history seat path ahead part r) (sym (ap (reply_in reply) is)) t
-  read_tells number (Err why) reply is t = refused_tells number why reply is t
+      × ReadsContent o path (refused why) front fetch) (
+        d.0.revision,
+        d.1.found.records.gave_is,
+        content_read p adopted acted d.0 (Err (unsealing.Refused why)) (refused why) d.1.found
+            d.1.named d.1.content.1 d.1.unseals d.1.unseals.is d.1.by_any,
+      )
+  found_tells number p before adopted acted after it (Err other) d = tt
 
 -- ---- a line of a run, in a history
 
@@ -440,14 +391,10 @@ module _ {L D : Type 0} (link : L → Link)
       let o = first.caller.opening in
       let seat = first.caller.seat in
       let entries = entries_in ahead in
-      read_tells link path w.before.links w.after.links history o seat entries done.part
-      w.before.caller.seat does.0 done.reply does.1
-      (call_tells history o seat entries done.part
+      call_tells history o seat entries done.part
       (λ p from found to. Finds link path p from w.before.links found to w.after.links)
-      (w.after.links ≡ w.before.links)
-      (TellsFound link path w.before.links w.after.links history o seat entries done.part)
-      (found_tells link path w.before.links w.after.links history o seat entries done.part)
-      part.replica w.before.caller w.after.caller
-      (early_tells link path w.before.links w.after.links history o seat entries done.part
-      part.replica w.before.caller w.after.caller) tt c.more c.is c.opening c.own c.seen_own
-      w.is_done.adds w.is_done.known does.0 does.2)
+      (w.after.links ≡ w.before.links) w.before.caller.seat
+      (ToldContent o history seat path entries done.part) tt tt
+      (found_tells link path w.before.links w.after.links history o seat entries done.part
+      w.before.caller.seat) part.replica w.before.caller w.after.caller c.more c.is c.opening c.own
+      c.seen_own w.is_done.adds w.is_done.known done.reply does.0 does.1 does.2

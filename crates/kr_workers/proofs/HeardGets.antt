@@ -18,34 +18,25 @@ use Rattle.kr_rollout.specs.Entries.{seat_of}
 use Rattle.kr_history.specs.declared.call.CallNo.{CallNo}
 use Rattle.kr_history.specs.declared.call.CallNo.TheVariants as refusal
 use Rattle.kr_history.specs.Acting.{Caller, IsCaller}
-use Rattle.kr_history.specs.Calls.{AdoptsNothing}
 use Rattle.kr_history.proofs.Following.{adopted_law}
 use Rattle.kr_history.proofs.Nexts.{caller_next}
 use Rattle.kr_fleet.specs.CallExchanges.{AsksNone, FindsBy}
 use Rattle.kr_fleet.proofs.AgreeingReads.{refusal_is, value_is}
 use Rattle.kr_fleet.specs.declared.outcome.Read.{Read}
 use Rattle.kr_fleet.specs.declared.outcome.Read.TheVariants as found
-use Rattle.kr_script.specs.declared.script.ScriptLine.TheVariants as line
 use Rattle.kr_script.specs.declared.told.Told.{Told}
 use Rattle.kr_script.specs.declared.told.Told.TheVariants as told
 use Rattle.kr_workers.specs.declared.files.SettingsFile.{SettingsFile}
 use Rattle.kr_workers.specs.Gets.{FetchesWhere, GetsTellContent, IsHeardContent, TellsGotContent, heard_by}
 use Rattle.kr_workers.specs.Heard.{AgreesWithHeard, Heard}
 use Rattle.kr_workers.specs.LineExchanges.{DoesBy}
-use Rattle.kr_workers.specs.Replies.{Reply, told_of_read, told_of_refusal}
+use Rattle.kr_workers.specs.Replies.{told_of_read}
 use Rattle.kr_workers.specs.Runs.{entries_in, exchanges_in}
-use Rattle.kr_workers.proofs.Getting.{IsLineIn, ToldContent, call_tells, call_there, done_there, fetch_there, get_told, ok_no_err}
+use Rattle.kr_workers.proofs.Shaping.{IfTold}
+use Rattle.kr_workers.proofs.Getting.{IsLineIn, ToldContent, call_tells, call_there, done_there, fetch_there, get_told}
 use Rattle.kr_workers.proofs.Hearing.{run_keeps}
 
 -- ---- a seat's entry with as many of the seat before it
-
-abbrev head_or : {X : Type 0} → X → List X → X
-head_or d [] = d
-head_or d (x ∷ xs) = x
-
-abbrev tail_of : {X : Type 0} → List X → List X
-tail_of [] = []
-tail_of (x ∷ xs) = xs
 
 module _ (seat : ℕ) where
   -- how many entries the seat has
@@ -76,18 +67,21 @@ module _ (seat : ℕ) where
       → many xs ≡ many ys → xs ≡ ys
   same_front [] [] e f rest more is own other counts = refl
   same_front [] (y ∷ ys) e f rest more is own other counts =
-      let one = its_own y ys (ap (λ (x : Entry). x.line.seat) (sym (ap (head_or y) is)) ∙ own) in
+      let same : y ≡ e = cc is in
+      let one = its_own y ys (ap (λ (x : Entry). x.line.seat) same ∙ own) in
       absurd (omega (arith, counts, one))
   same_front (x ∷ xs) [] e f rest more is own other counts =
-      let one = its_own x xs (ap (λ (z : Entry). z.line.seat) (ap (head_or x) is) ∙ other) in
+      let same : x ≡ f = cc is in
+      let one = its_own x xs (ap (λ (z : Entry). z.line.seat) same ∙ other) in
       absurd (omega (arith, counts, one))
   same_front (x ∷ xs) (y ∷ ys) e f rest more is own other counts =
-      let same : x ≡ y = ap (head_or x) is in
+      let same : x ≡ y = cc is in
+      let behind : xs ++ e ∷ rest ≡ ys ++ f ∷ more = cc is in
       let a = many_more x xs in
       let b = many_more y ys in
       let one : own_count (seat_of x == seat) ≡ own_count (seat_of y == seat) =
       ap (λ (z : Entry). own_count (seat_of z == seat)) same in
-      let rest_is = same_front xs ys e f rest more (ap tail_of is) own other
+      let rest_is = same_front xs ys e f rest more behind own other
       (omega (arith, counts, a, b, one)) in
       λ i. same i ∷ rest_is i
 
@@ -130,13 +124,6 @@ module _ (history : List Entry) (seat : ℕ) (path : List ℕ) (ahead part : Lis
 
 module _ (history : List Entry) (o : Opening) (seat : ℕ) (ahead part : List Entry)
     (path : List ℕ) (heard : Heard) where
-  abbrev HeardFound : Result Read CallNo → Type 0
-  HeardFound (Ok (found.Value revision plain stale)) = FetchesWhere history seat path ahead part
-      (λ front fetch. IsHeardContent heard o path (data_of plain) front)
-  HeardFound (Err (refusal.Refused why)) = FetchesWhere history seat path ahead part
-      (λ front fetch. IsHeardContent heard o path (refused why) front)
-  HeardFound result = ⊤
-
   abbrev HeardContent : Told → Type 0
   HeardContent (told.Got revision plain) = FetchesWhere history seat path ahead part
       (λ front fetch. IsHeardContent heard o path (data_of plain) front)
@@ -152,12 +139,12 @@ module _ (history : List Entry) (o : Opening) (seat : ℕ) (ahead part : List En
     adopter before adopted acted after p it = caller_next before adopted (event.Adopt it.replica)
         (answer.Adopted it.number p) it.adopts it.known
 
-    found_heard : (p : Publication) (before adopted acted after : Caller)
+    found_heard : (number : ℕ) (p : Publication) (before adopted acted after : Caller)
         → IsLineIn history o seat ahead part p before adopted acted after
         → (done : Result Read CallNo) → FindsBy path p adopted cache done acted kept exchanges
-        → HeardFound done
-    found_heard p before adopted acted after it (Ok found.Absent) d = tt
-    found_heard p before adopted acted after it (Ok (found.Value revision plain stale)) d =
+        → IfTold HeardContent (told_of_read number done)
+    found_heard number p before adopted acted after it (Ok found.Absent) d = tt
+    found_heard number p before adopted acted after it (Ok (found.Value revision plain stale)) d =
         fetch_there history o seat ahead part p before adopted acted after path (answer.Found d.0)
         d.1.found it (λ o front fetch. IsHeardContent heard o path (data_of plain) front)
         (λ opens agrees honest. value_is opens cache kept exchanges (agree opens agrees).0
@@ -165,41 +152,14 @@ module _ (history : List Entry) (o : Opening) (seat : ℕ) (ahead part : List En
         (adopter before adopted acted after p it)
         (adopted_law before adopted it.replica it.number p it.adopts) d.0
         (record { plain = plain; stale = stale }) d.1 honest)
-    found_heard p before adopted acted after it (Err (refusal.Refused why)) d =
+    found_heard number p before adopted acted after it (Err (refusal.Refused why)) d =
         fetch_there history o seat ahead part p before adopted acted after path (answer.Found d.0)
         d.1.found it (λ o front fetch. IsHeardContent heard o path (refused why) front)
         (λ opens agrees honest. refusal_is opens cache kept exchanges (agree opens agrees).0
         (agree opens agrees).1 path it.number p adopted acted
         (adopter before adopted acted after p it)
         (adopted_law before adopted it.replica it.number p it.adopts) d.0 why d.1 honest)
-    found_heard p before adopted acted after it (Err why) d = tt
-
-  early_heard : (replica : ℕ) (old new : Caller) (why : CallNo)
-      → AdoptsNothing replica old why new → HeardFound (Err why)
-  early_heard replica old new (refusal.Refused why) e = absurd e
-  early_heard replica old new why e = tt
-
-  abbrev reply_in : Told → Reply → Told
-  reply_in other (Ok reply) = reply
-  reply_in other (Err spent) = other
-
-  -- the reply tells it
-  refusal_heard : (number : ℕ) (why : CallNo) (reply : Told)
-      → Ok reply ≡ told_of_refusal number why → HeardFound (Err why) → HeardContent reply
-  refusal_heard number (refusal.Refused why) reply is h =
-      subst (λ (r : Told). HeardContent r) (sym (ap (reply_in reply) is)) h
-  refusal_heard number refusal.Spent reply is h =
-      absurd (ok_no_err (Ok reply) (Err (record {})) tt (sym is))
-  refusal_heard number why reply is h =
-      subst (λ (r : Told). HeardContent r) (sym (ap (reply_in reply) is)) tt
-
-  read_heard : (number : ℕ) (result : Result Read CallNo) (reply : Told)
-      → Ok reply ≡ told_of_read number result → HeardFound result → HeardContent reply
-  read_heard number (Ok found.Absent) reply is h =
-      subst (λ (r : Told). HeardContent r) (sym (ap (reply_in reply) is)) tt
-  read_heard number (Ok (found.Value revision plain stale)) reply is h =
-      subst (λ (r : Told). HeardContent r) (sym (ap (reply_in reply) is)) h
-  read_heard number (Err why) reply is h = refusal_heard number why reply is h
+    found_heard number p before adopted acted after it (Err why) d = tt
 
   -- with all else that the reply tells
   all_told : (reply : Told)
@@ -239,13 +199,10 @@ gets_tell_content link step left count files history part first replies after st
     all_told history o seat entries done.part path heard done.reply
     (get_told link step left count files history part first replies after stands ahead done
     behind run_is w nothing path asked)
-    (read_heard history o seat entries done.part path heard w.before.caller.seat asks.0 done.reply
-    asks.1 (call_tells history o seat entries done.part
+    (call_tells history o seat entries done.part
     (λ p from found to. FindsBy path p from w.before.cache found to w.after.cache done.exchanges)
-    (AsksNone w.before.cache w.after.cache done.exchanges)
-    (HeardFound history o seat entries done.part path heard)
+    (AsksNone w.before.cache w.after.cache done.exchanges) w.before.caller.seat
+    (HeardContent history o seat entries done.part path heard) tt tt
     (found_heard history o seat entries done.part path heard w.before.cache w.after.cache
-    done.exchanges agree) part.replica w.before.caller w.after.caller
-    (early_heard history o seat entries done.part path heard part.replica w.before.caller
-    w.after.caller) tt c.more c.is c.opening c.own c.seen_own w.is_done.adds w.is_done.known asks.0
-    asks.2))
+    done.exchanges agree w.before.caller.seat) part.replica w.before.caller w.after.caller c.more
+    c.is c.opening c.own c.seen_own w.is_done.adds w.is_done.known done.reply asks.0 asks.1 asks.2)

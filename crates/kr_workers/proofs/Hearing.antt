@@ -1,6 +1,6 @@
 -- What plugins told workers: lines, runs and histories keep honest by all that agrees with it.
 use Rattle.std.specs.Prelude.{All, slice_index_or, ⊤}
-use Rattle.std.proofs.Common.{◌≡◌, ℕ, List, [], ◌∷◌, ◌++◌, Option, None, Some, Ok, ◌⊎◌, inl, inr, ap, sym, subst}
+use Rattle.std.proofs.Common.{◌≡◌, ℕ, List, [], ◌∷◌, ◌++◌, Option, Ok, ◌⊎◌, inl, inr, ap, sym, subst, refl}
 use Rattle.kr_base.specs.Lines.{of_seat}
 use Rattle.kr_base.specs.Walks.{Walk}
 use Rattle.kr_base.proofs.Walks.{walk_then}
@@ -33,45 +33,45 @@ use Rattle.kr_script.specs.declared.told.Told.{Told}
 use Rattle.kr_workers.specs.declared.files.SettingsFile.{SettingsFile}
 use Rattle.kr_workers.specs.Changes.{AllowsChange, MayChange}
 use Rattle.kr_workers.specs.Files.{rows_at}
-use Rattle.kr_workers.specs.LineExchanges.{DoesBy, DoesJoinBy, DoesReloadBy}
-use Rattle.kr_workers.specs.Replies.{Reply}
+use Rattle.kr_workers.specs.LineExchanges.{DoesBy}
 use Rattle.kr_workers.specs.Runs.{DoesAll, LineDone, exchanges_in}
-use Rattle.kr_workers.specs.ScriptLines.{IfRead, Workplace}
+use Rattle.kr_workers.specs.ScriptLines.{Workplace}
 use Rattle.kr_workers.proofs.HonestPlugins.{own_there}
 
 -- ---- the place of an entry in a history with more behind it
 
--- it stands in the front, or behind that
-record StandsFirst {X : Type 0} (xs front : List X) (x : X) : Type 0 where
-  between : List X
-  is : xs ≡ front ++ x ∷ between
+-- it stands in the first list or in the second
+pub record InFirst {X : Type 0} (first xs : List X) (x : X) : Type 0 where
+  pub rest : List X
+  pub is : first ≡ xs ++ x ∷ rest
 
-record StandsLater {X : Type 0} (ys : List X) (x : X) (rest : List X) : Type 0 where
-  before : List X
-  is : ys ≡ before ++ x ∷ rest
+pub record InSecond {X : Type 0} (first second xs : List X) (x : X) (ys : List X) : Type 0 where
+  pub front : List X
+  pub front_is : xs ≡ first ++ front
+  pub is : second ≡ front ++ x ∷ ys
 
-abbrev head_or : {X : Type 0} → X → List X → X
-head_or d [] = d
-head_or d (x ∷ xs) = x
-
-abbrev tail_of : {X : Type 0} → List X → List X
-tail_of [] = []
-tail_of (x ∷ xs) = xs
-
-parted : {X : Type 0} (xs ys front : List X) (x : X) (rest : List X)
-    → xs ++ ys ≡ front ++ x ∷ rest → StandsFirst xs front x ⊎ StandsLater ys x rest
-parted [] ys front x rest e = inr (record { before = front; is = e })
-parted (z ∷ xs) ys [] x rest e =
-    inl (record { between = xs; is = ap (λ h. h ∷ xs) (ap (head_or z) e) })
-parted (z ∷ xs) ys (f ∷ front) x rest e = by (parted xs ys front x rest (ap tail_of e))
+pub of_two : {X : Type 0} (first second xs : List X) (x : X) (ys : List X)
+    → first ++ second ≡ xs ++ x ∷ ys
+    → InFirst first xs x ⊎ InSecond first second xs x ys
+of_two [] second xs x ys is = inr (record { front = xs; front_is = refl; is = is })
+of_two (f ∷ first) second [] x ys is =
+    let same : f ≡ x = cc is in inl (record { rest = first; is = ap (λ h. h ∷ first) same })
+of_two {X} (f ∷ first) second (z ∷ xs) x ys is = by (of_two first second xs x ys behind)
   where
-    same : z ≡ f
-    same = ap (head_or z) e
+    same : f ≡ z
+    same = cc is
 
-    by : StandsFirst xs front x ⊎ StandsLater ys x rest
-        → StandsFirst (z ∷ xs) (f ∷ front) x ⊎ StandsLater ys x rest
-    by (inl s) = inl (record { between = s.between; is = λ i. same i ∷ s.is i })
-    by (inr l) = inr l
+    behind : first ++ second ≡ xs ++ x ∷ ys
+    behind = cc is
+
+    by : InFirst first xs x ⊎ InSecond first second xs x ys
+        → InFirst (f ∷ first) (z ∷ xs) x ⊎ InSecond (f ∷ first) second (z ∷ xs) x ys
+    by (inl a) = inl (record { rest = a.rest; is = λ i. same i ∷ a.is i })
+    by (inr b) = inr (record {
+      front = b.front;
+      front_is = λ i. sym same i ∷ b.front_is i;
+      is = b.is;
+    })
 
 -- ---- exchanges of a run up to a line
 
@@ -102,14 +102,14 @@ module _ (opens : Opens) where
       → All (IsHonestEntry opens) (of_seat seat_of seat more)
       → KeepsHonest opens o seat (seen ++ more)
   keeps_more o seat seen more keeps all = λ front e rest is own honest.
-      by front e rest own honest (parted seen more front e rest is)
+      by front e rest own honest (of_two seen more front e rest is)
     where
       by : (front : List Entry) (e : Entry) (rest : List Entry) → e.line.seat ≡ seat
-          → IsHonest opens o front → StandsFirst seen front e ⊎ StandsLater more e rest
+          → IsHonest opens o front → InFirst seen front e ⊎ InSecond seen more front e rest
           → IsHonest opens o (front ++ e ∷ [])
-      by front e rest own honest (inl s) = keeps front e s.between s.is own honest
+      by front e rest own honest (inl s) = keeps front e s.rest s.is own honest
       by front e rest own honest (inr l) = (honest_by_entries.more opens o front e honest).1
-          (own_there (IsHonestEntry opens) l.before e rest
+          (own_there (IsHonestEntry opens) l.front e rest
           (subst (λ (h : List Entry). All (IsHonestEntry opens) (of_seat seat_of e.line.seat h))
           l.is
           (subst (λ n. All (IsHonestEntry opens) (of_seat seat_of n more)) (sym own) all)))
@@ -129,14 +129,11 @@ module _ (opens : Opens) where
 -- ---- lines that ask nothing of plugins and seal nothing anew
 
 abbrev IsQuiet : ScriptLine → Type 0
-IsQuiet (line.Put resource path plain) = ⊤
-IsQuiet (line.Get path) = ⊤
-IsQuiet (line.Delete path) = ⊤
 IsQuiet line.Rewrite = ⊥
 IsQuiet (line.Reload replica file) = ⊥
 IsQuiet line.Refresh = ⊥
 IsQuiet (line.Join replica file) = ⊥
-IsQuiet (line.Leave replica) = ⊤
+IsQuiet other = ⊤
 
 module _ (opens : Opens) (settings_in : (file : List ℕ) → Option (List setting)) (own : ℕ)
     (asked : ScriptLine) (reply : Told) (quiet : IsQuiet asked) where
@@ -184,60 +181,35 @@ module _ {L D : Type 0} (link : L → Link)
   nothing_done old new same opened = stays old new (ap (λ (w : Workplace L D). w.cache) same) opened
       (keeps_same opens old.caller new.caller (ap (λ (w : Workplace L D). w.caller) same))
 
-  reloaded : (named : ℕ) (rows : Option (List setting)) (old new : Workplace L D) (reply : Reply)
-      (exchanges : List Exchange)
-      → IfRead rows (λ rows. DoesReloadBy left count named rows old reply new exchanges)
-      → AgreeAll opens exchanges → AreOpenBy opens old.cache.rows → Keeps old new
-  reloaded named None old new reply exchanges d agree opened = absurd d
-  reloaded named (Some rows) old new reply exchanges (inl d) agree opened =
-      nothing_done old new d.0.1 opened
-  reloaded named (Some rows) old new reply exchanges (inr d) agree opened = stays old new d.3 opened
-      (reloads_agree opens left count rows named old.caller old.dice d.0 new.caller new.dice
-      exchanges d.2 agree)
-
-  joined : (named : ℕ) (rows : Option (List setting)) (old new : Workplace L D) (reply : Reply)
-      (exchanges : List Exchange)
-      → IfRead rows (λ rows. DoesJoinBy left count named rows old reply new exchanges)
-      → AgreeAll opens exchanges → AreOpenBy opens old.cache.rows → Keeps old new
-  joined named None old new reply exchanges d agree opened = absurd d
-  joined named (Some rows) old new reply exchanges (inl d) agree opened =
-      nothing_done old new d.0.1 opened
-  joined named (Some rows) old new reply exchanges (inr d) agree opened = stays old new d.3 opened
-      (joins_agree opens left count rows named old.caller old.dice d.0 new.caller new.dice exchanges
-      d.2 agree)
-
   line_keeps : (replica : ℕ) (asked : ScriptLine) (old new : Workplace L D) (reply : Told)
       (part : List Entry) (exchanges : List Exchange)
       → DoesBy left count files replica asked old (Ok reply) new exchanges → IsCaller old.caller
       → Adds old.caller part new.caller
       → All (MayChange (rows_at files) replica asked reply) part
       → AgreeAll opens exchanges → AreOpenBy opens old.cache.rows → Keeps old new
-  line_keeps replica (line.Put resource path plain) old new reply part es d known adds made agree
-      opened =
-      stays old new d.1 opened (keeps_part opens old.caller new.caller part adds
-      (honest_part opens (rows_at files) replica (line.Put resource path plain) reply tt part made))
   line_keeps replica (line.Get path) old new reply part es d known adds made agree opened = (
     (reads_agree opens path replica old.caller old.cache d.0 new.caller new.cache es known d.2
         agree opened).0,
     keeps_part opens old.caller new.caller part adds
         (honest_part opens (rows_at files) replica (line.Get path) reply tt part made),
   )
-  line_keeps replica (line.Delete path) old new reply part es d known adds made agree opened =
-      stays old new d.1 opened (keeps_part opens old.caller new.caller part adds
-      (honest_part opens (rows_at files) replica (line.Delete path) reply tt part made))
   line_keeps replica line.Rewrite old new reply part es d known adds made agree opened =
       drives_agree left count opens replica [] old.caller old.cache old.dice d.0 new.caller
       new.cache new.dice es known d.2 agree opened
-  line_keeps replica (line.Reload named file) old new reply part es d known adds made agree opened =
-      reloaded named (rows_at files file) old new (Ok reply) es d agree opened
+  line_keeps replica (line.Reload named file) old new reply part es (rows, read, inl none) known
+      adds made agree opened = nothing_done old new none.0.1 opened
+  line_keeps replica (line.Reload named file) old new reply part es (rows, read, inr d) known adds
+      made agree opened = stays old new d.3 opened (reloads_agree opens left count rows named
+      old.caller old.dice d.0 new.caller new.dice es d.2 agree)
   line_keeps replica line.Refresh old new reply part es d known adds made agree opened =
       stays old new d.3 opened (refreshes_agree opens left count replica old.caller old.dice d.0
       new.caller new.dice es d.2 agree)
-  line_keeps replica (line.Join named file) old new reply part es d known adds made agree opened =
-      joined named (rows_at files file) old new (Ok reply) es d agree opened
-  line_keeps replica (line.Leave named) old new reply part es d known adds made agree opened =
-      stays old new d.1 opened (keeps_part opens old.caller new.caller part adds
-      (honest_part opens (rows_at files) replica (line.Leave named) reply tt part made))
+  line_keeps replica (line.Join named file) old new reply part es (rows, read, inl none) known
+      adds made agree opened = nothing_done old new none.0.1 opened
+  line_keeps replica (line.Join named file) old new reply part es (rows, read, inr d) known adds
+      made agree opened = stays old new d.3 opened (joins_agree opens left count rows named
+      old.caller old.dice d.0 new.caller new.dice es d.2 agree)
+  line_keeps replica other old new reply part es d known adds made agree opened = stays old new d.1 opened (keeps_part opens old.caller new.caller part adds (honest_part opens (rows_at files) replica other reply tt part made))
 
   -- ---- a run
 

@@ -8,7 +8,7 @@ use Rattle.std.proofs.lemmas.List.Elements.{All-append, All-cons, All-nil, filte
 use Rattle.std.proofs.lemmas.Option.{none-some, same_Some}
 use Rattle.kr_base.specs.Lines.{of_seat}
 use Rattle.kr_config.specs.declared.who.Who.{Who}
-use Rattle.kr_config.specs.declared.who.Who.TheVariants.{Identity, Aescbc, Aesgcm, Kms}
+use Rattle.kr_config.specs.declared.who.Who.TheVariants.{Kms}
 use Rattle.kr_envelope.specs.declared.object.EncryptedObject.{EncryptedObject}
 use Rattle.kr_envelope.specs.declared.object.ObjectNo.{ObjectNo}
 use Rattle.kr_kms.specs.Cache.{key_eq}
@@ -23,9 +23,9 @@ use Rattle.kr_provider.specs.Readers.{reader_in}
 use Rattle.kr_provider.specs.Unsealing.{HasNoSource, IsSeedOf, MayAskPlugin, MayAskFor, TakesSeed}
 use Rattle.kr_opening.specs.declared.generation.Generation.{Generation}
 use Rattle.kr_rollout.specs.declared.line.Did.{Did}
-use Rattle.kr_rollout.specs.declared.line.Did.TheVariants.{Adopt, Fetch, After, Put, Delete, Replace, LetGo, Reload, Join, Leave}
+use Rattle.kr_rollout.specs.declared.line.Did.TheVariants.{Replace, Reload, Join}
 use Rattle.kr_rollout.specs.declared.line.Gave.{Gave}
-use Rattle.kr_rollout.specs.declared.line.Gave.TheVariants.{Adopted, Found, Absent, Written, Changed, Released, Reloaded, Joined, Refused, Moved, Present, Departed, Gone, StoreFailed, StoreFull, Nothing}
+use Rattle.kr_rollout.specs.declared.line.Gave.TheVariants.{Written, Reloaded, Joined}
 use Rattle.kr_rollout.specs.declared.opening.Entry.{Entry}
 use Rattle.kr_rollout.specs.declared.opening.Opening.{Opening}
 use Rattle.kr_history.specs.Acting.{Caller}
@@ -76,7 +76,7 @@ own_there P front e rest all = at_middle P (of_seat seat_of e.line.seat front) e
     ++ cond b (e ∷ of_seat seat_of e.line.seat rest) (of_seat seat_of e.line.seat rest))
     (eq-eqb e.line.seat e.line.seat refl)) all)
 
-step_there : (o : Opening) (st : State) (front : List Entry) (e : Entry) (rest : List Entry)
+pub step_there : (o : Opening) (st : State) (front : List Entry) (e : Entry) (rest : List Entry)
     → IsRun o st (front ++ e ∷ rest) → IsStep o (state_from st front) e
 step_there o st [] e rest r = r.0
 step_there o st (x ∷ front) e rest r = step_there o (after st x) front e rest r.1
@@ -153,10 +153,8 @@ seed_opens opens name (y ∷ ys) row all is = at (bytes_eq y.name name) is
 -- where all seeds open, that of each provider does
 who_opens : (opens : Opens) (seeds : List SeedRow) (who : Who) → OpenAll opens seeds
     → SeedOpens opens seeds who
-who_opens opens seeds Identity all = tt
-who_opens opens seeds (Aescbc name secret) all = tt
-who_opens opens seeds (Aesgcm name secret) all = tt
 who_opens opens seeds (Kms name) all = λ row is. seed_opens opens name seeds row all is
+who_opens opens seeds other all = tt
 
 reader_opens : (opens : Opens) (seeds : List SeedRow) (reader : Option Who) → OpenAll opens seeds
     → ReaderOpens opens seeds reader
@@ -195,10 +193,6 @@ module _ (opens : Opens) (seeds : List SeedRow) where
         → HasNoSource envelope → ReaderOpens opens seeds reader
         → (MayAskPlugin seeds reader envelope.object → HasEnvelope opens reader bytes envelope)
         → HasEnvelope opens reader bytes envelope
-    envelope_known None envelope has takes none opened asked = tt
-    envelope_known (Some Identity) envelope has takes none opened asked = tt
-    envelope_known (Some (Aescbc name secret)) envelope has takes none opened asked = tt
-    envelope_known (Some (Aesgcm name secret)) envelope has takes none opened asked = tt
     envelope_known (Some (Kms name)) envelope has takes none opened asked =
         at envelope.object envelope.source has takes none asked
       where
@@ -213,6 +207,7 @@ module _ (opens : Opens) (seeds : List SeedRow) where
         at (Ok object) source has takes none asked =
             (has, source_opens name object source opened takes (λ may. (asked may).1))
         at (Err why) source has takes none asked = (has, none why refl)
+    envelope_known other envelope has takes none opened asked = tt
 
 -- ---- each entry
 
@@ -257,51 +252,12 @@ module _ (opens : Opens) (generations : List Generation) (e : Entry) where
       → ((path : List ℕ) (from revision : ℕ) → ◌≡◌ {A = Did} did (Replace path from)
       → ◌≡◌ {A = Gave} gave (Written revision) → KeepsData opens path e)
       → HonestBy gave did opens e
-  entry_honest (Written revision) (Adopt replica) all k = tt
-  entry_honest (Written revision) (Fetch path) all k = tt
-  entry_honest (Written revision) (After path) all k = tt
-  entry_honest (Written revision) (Put path resource plain) all k = tt
-  entry_honest (Written revision) (Delete path) all k = tt
   entry_honest (Written revision) (Replace path from) all k = k path from revision refl refl
-  entry_honest (Written revision) LetGo all k = tt
-  entry_honest (Written revision) (Reload replica p expect) all k = tt
-  entry_honest (Written revision) (Join replica p) all k = tt
-  entry_honest (Written revision) (Leave replica) all k = tt
-  entry_honest (Reloaded number) (Adopt replica) all k = tt
-  entry_honest (Reloaded number) (Fetch path) all k = tt
-  entry_honest (Reloaded number) (After path) all k = tt
-  entry_honest (Reloaded number) (Put path resource plain) all k = tt
-  entry_honest (Reloaded number) (Delete path) all k = tt
-  entry_honest (Reloaded number) (Replace path from) all k = tt
-  entry_honest (Reloaded number) LetGo all k = tt
   entry_honest (Reloaded number) (Reload replica p expect) all k = at_middle (Opening_of opens)
       generations (record { replica = replica; published = p }) [] all
-  entry_honest (Reloaded number) (Join replica p) all k = tt
-  entry_honest (Reloaded number) (Leave replica) all k = tt
-  entry_honest (Joined number) (Adopt replica) all k = tt
-  entry_honest (Joined number) (Fetch path) all k = tt
-  entry_honest (Joined number) (After path) all k = tt
-  entry_honest (Joined number) (Put path resource plain) all k = tt
-  entry_honest (Joined number) (Delete path) all k = tt
-  entry_honest (Joined number) (Replace path from) all k = tt
-  entry_honest (Joined number) LetGo all k = tt
-  entry_honest (Joined number) (Reload replica p expect) all k = tt
   entry_honest (Joined number) (Join replica p) all k = at_middle (Opening_of opens)
       generations (record { replica = replica; published = p }) [] all
-  entry_honest (Joined number) (Leave replica) all k = tt
-  entry_honest (Adopted number) did all k = tt
-  entry_honest (Found revision) did all k = tt
-  entry_honest Absent did all k = tt
-  entry_honest (Changed last) did all k = tt
-  entry_honest Released did all k = tt
-  entry_honest (Refused verdict) did all k = tt
-  entry_honest (Moved number) did all k = tt
-  entry_honest (Present number) did all k = tt
-  entry_honest (Departed number) did all k = tt
-  entry_honest (Gone replica) did all k = tt
-  entry_honest StoreFailed did all k = tt
-  entry_honest (StoreFull needed) did all k = tt
-  entry_honest Nothing did all k = tt
+  entry_honest other did all k = tt
 
 -- ---- the history
 

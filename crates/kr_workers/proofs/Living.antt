@@ -109,13 +109,7 @@ puts_with_entry history e d there puts = entry_puts history there.0 e d there.1 
 
 abbrev pub path_put : ScriptLine → List (List ℕ)
 path_put (line.Put resource path plain) = path ∷ []
-path_put (line.Get path) = []
-path_put (line.Delete path) = []
-path_put line.Rewrite = []
-path_put (line.Reload replica file) = []
-path_put line.Refresh = []
-path_put (line.Join replica file) = []
-path_put (line.Leave replica) = []
+path_put other = []
 
 abbrev pub paths_put : List ScriptLine → List (List ℕ)
 paths_put [] = []
@@ -127,13 +121,7 @@ all_put (part ∷ parts) = paths_put part.lines.0 ++ all_put parts
 
 one_path : (asked : ScriptLine) → length (path_put asked) ≡ cond (is_put asked) 1 0
 one_path (line.Put resource path plain) = refl
-one_path (line.Get path) = refl
-one_path (line.Delete path) = refl
-one_path line.Rewrite = refl
-one_path (line.Reload replica file) = refl
-one_path line.Refresh = refl
-one_path (line.Join replica file) = refl
-one_path (line.Leave replica) = refl
+one_path other = refl
 
 paths_counted : (lines : List ScriptLine) → length (paths_put lines) ≡ count_by is_put lines
 paths_counted [] = refl
@@ -201,13 +189,7 @@ module _ (path resource plain : List ℕ) where
       → Contains (path_put asked) path
   of_line (line.Put r p d) c =
       (0, omega arith, ap path_in (only_one (did.Put p r d) this_put c))
-  of_line (line.Get p) c = absurd (none_there this_put c)
-  of_line (line.Delete p) c = absurd (none_there this_put c)
-  of_line line.Rewrite c = absurd (none_there this_put c)
-  of_line (line.Reload r f) c = absurd (none_there this_put c)
-  of_line line.Refresh c = absurd (none_there this_put c)
-  of_line (line.Join r f) c = absurd (none_there this_put c)
-  of_line (line.Leave r) c = absurd (none_there this_put c)
+  of_line other c = absurd (none_there this_put c)
 
   of_part : (asked : ScriptLine) (puts : List Did) → (puts ≡ []) ⊎ (puts ≡ puts_of asked)
       → Contains puts this_put → Contains (path_put asked) path

@@ -31,8 +31,8 @@ use Rattle.kr_history.specs.Parts.{Adds}
 use Rattle.kr_history.proofs.Following.{adopted_law}
 use Rattle.kr_history.proofs.HeldFacts.{held_is_named}
 use Rattle.kr_history.proofs.Nexts.{caller_next}
-use Rattle.kr_fleet.specs.declared.outcome.Joining.{Joining}
-use Rattle.kr_fleet.specs.declared.outcome.Joining.TheVariants as joining
+use Rattle.kr_history.specs.declared.outcome.Joining.{Joining}
+use Rattle.kr_history.specs.declared.outcome.Joining.TheVariants as joining
 use Rattle.kr_fleet.specs.declared.outcome.Loaded.{Loaded}
 use Rattle.kr_fleet.specs.declared.outcome.Loaded.TheVariants as loaded
 use Rattle.kr_fleet.specs.declared.outcome.Read.{Read}
@@ -53,7 +53,7 @@ use Rattle.kr_workers.specs.declared.files.SettingsFile.{SettingsFile}
 use Rattle.kr_workers.specs.Changes.{AllowsChange, MayChange}
 use Rattle.kr_workers.specs.Files.{rows_at}
 use Rattle.kr_workers.specs.Replies.{Reply, told_of_delete, told_of_join, told_of_leave, told_of_refresh, told_of_reload, told_of_write}
-use Rattle.kr_workers.specs.ScriptLines.{Does, DoesJoin, DoesReload, IfRead, Workplace}
+use Rattle.kr_workers.specs.ScriptLines.{Does, Workplace}
 
 -- ---- replies
 
@@ -136,18 +136,13 @@ module _ {L D : Type 0} (link : L → Link) (left : D → Option (List ℕ))
 
   early_makes : (replica : ℕ) (old new : Caller) (why : CallNo)
       → AdoptsNothing replica old why new → Adding old new
-  early_makes replica old new (refusal.Refused why) e = absurd e
-  early_makes replica old new (refusal.PluginFailed name) e = absurd e
-  early_makes replica old new refusal.DiceFailed e = absurd e
-  early_makes replica old new refusal.StoreFailed e = absurd e
-  early_makes replica old new (refusal.StoreFull needed) e = absurd e
-  early_makes replica old new (refusal.Unhealthy name field text) e = absurd e
   early_makes replica old new refusal.Gone e =
       event_makes old new (event.Adopt replica) (answer.Gone replica) e tt
   early_makes replica old new refusal.Spent e = none_makes OfLine old new e
   early_makes replica old new refusal.NoMemory (inl e) = same_makes OfLine old new e
   early_makes replica old new refusal.NoMemory (inr e) =
       event_makes old new (event.Adopt replica) answer.NoMemory e tt
+  early_makes replica old new other e = absurd e
 
   let_go_makes : {T : Type 0} → (old new : Caller) (done result : Result T CallNo)
       → LetsGo old done result new → Adding old new
@@ -175,24 +170,10 @@ module _ {L D : Type 0} (link : L → Link) (left : D → Option (List ℕ))
     puts_make seat p old new dice after (Ok revision) tells d =
         event_makes old new (event.Put path resource plain d.stored) (answer.Written revision)
         d.put (is, ap (reply_in reply) tells)
-    puts_make seat p old new dice after (Err (refusal.Refused value.Short)) tells d = absurd d
-    puts_make seat p old new dice after (Err (refusal.Refused value.BadBlock)) tells d = absurd d
-    puts_make seat p old new dice after (Err (refusal.Refused value.BadPadding)) tells d = absurd d
-    puts_make seat p old new dice after (Err (refusal.Refused value.BadTag)) tells d = absurd d
-    puts_make seat p old new dice after (Err (refusal.Refused value.Wire)) tells d = absurd d
-    puts_make seat p old new dice after (Err (refusal.Refused value.KeyId)) tells d = absurd d
-    puts_make seat p old new dice after (Err (refusal.Refused value.Source)) tells d = absurd d
-    puts_make seat p old new dice after (Err (refusal.Refused value.Annotations)) tells d = absurd d
-    puts_make seat p old new dice after (Err (refusal.Refused value.SourceType)) tells d = absurd d
-    puts_make seat p old new dice after (Err (refusal.Refused value.NoData)) tells d = absurd d
-    puts_make seat p old new dice after (Err (refusal.Refused value.NotUtf8)) tells d = absurd d
-    puts_make seat p old new dice after (Err (refusal.Refused value.SeedLength)) tells d = absurd d
-    puts_make seat p old new dice after (Err (refusal.Refused value.NoProvider)) tells d = absurd d
     puts_make seat p old new dice after (Err (refusal.Refused value.LooksEncrypted)) tells d =
         same_makes OfLine old new d.1
     puts_make seat p old new dice after (Err (refusal.Refused value.TooLarge)) tells d =
         same_makes OfLine old new d.1
-    puts_make seat p old new dice after (Err (refusal.PluginFailed name)) tells d = absurd d
     puts_make seat p old new dice after (Err refusal.DiceFailed) tells d =
         same_makes OfLine old new d.1
     puts_make seat p old new dice after (Err refusal.StoreFailed) tells d =
@@ -200,14 +181,13 @@ module _ {L D : Type 0} (link : L → Link) (left : D → Option (List ℕ))
     puts_make seat p old new dice after (Err (refusal.StoreFull needed)) tells d =
         event_makes old new (event.Put path resource plain d.stored) (answer.StoreFull needed)
         d.put tt
-    puts_make seat p old new dice after (Err (refusal.Unhealthy name field text)) tells d = absurd d
-    puts_make seat p old new dice after (Err refusal.Gone) tells d = absurd d
     puts_make seat p old new dice after (Err refusal.Spent) tells d =
         none_makes OfLine old new d.nothing
     puts_make seat p old new dice after (Err refusal.NoMemory) tells (inl d) =
         same_makes OfLine old new d.1
     puts_make seat p old new dice after (Err refusal.NoMemory) tells (inr d) =
         event_makes old new (event.Put path resource plain d.stored) answer.NoMemory d.put tt
+    puts_make seat p old new dice after (Err other) tells d = absurd d
 
     write_makes : (seat replica : ℕ) (old new : Caller) (dice after : D)
         (result : Result ℕ CallNo) → Ok reply ≡ told_of_write seat result
@@ -236,16 +216,12 @@ module _ {L D : Type 0} (link : L → Link) (left : D → Option (List ℕ))
       event_makes old new (event.Fetch path) (answer.Found d.0) d.1.found tt
   finds_make path p old new olds news (Err (refusal.PluginFailed name)) d =
       event_makes old new (event.Fetch path) (answer.Found d.0) d.1.found tt
-  finds_make path p old new olds news (Err refusal.DiceFailed) d = absurd d
-  finds_make path p old new olds news (Err refusal.StoreFailed) d = absurd d
-  finds_make path p old new olds news (Err (refusal.StoreFull needed)) d = absurd d
-  finds_make path p old new olds news (Err (refusal.Unhealthy name field text)) d = absurd d
-  finds_make path p old new olds news (Err refusal.Gone) d = absurd d
   finds_make path p old new olds news (Err refusal.Spent) d = none_makes OfLine old new d.0
   finds_make path p old new olds news (Err refusal.NoMemory) (inl d) =
       event_makes old new (event.Fetch path) (answer.Found d.0) d.1.found tt
   finds_make path p old new olds news (Err refusal.NoMemory) (inr d) =
       event_makes old new (event.Fetch path) answer.NoMemory d.0 tt
+  finds_make path p old new olds news (Err other) d = absurd d
 
   read_makes : (path : List ℕ) (replica : ℕ) (old new : Caller) (olds news : List L)
       (result : Result Read CallNo) → IsRead link path replica old olds result new news
@@ -268,20 +244,16 @@ module _ {L D : Type 0} (link : L → Link) (left : D → Option (List ℕ))
       (is, ap (reply_in reply) tells)
   delete_makes path is seat old new (Ok None) tells d =
       event_makes old new (event.Delete path) answer.Absent d tt
-  delete_makes path is seat old new (Err (refusal.Refused why)) tells d = absurd d
-  delete_makes path is seat old new (Err (refusal.PluginFailed name)) tells d = absurd d
-  delete_makes path is seat old new (Err refusal.DiceFailed) tells d = absurd d
   delete_makes path is seat old new (Err refusal.StoreFailed) tells d =
       event_makes old new (event.Delete path) answer.StoreFailed d tt
   delete_makes path is seat old new (Err (refusal.StoreFull needed)) tells d =
       event_makes old new (event.Delete path) (answer.StoreFull needed) d tt
-  delete_makes path is seat old new (Err (refusal.Unhealthy name field text)) tells d = absurd d
-  delete_makes path is seat old new (Err refusal.Gone) tells d = absurd d
   delete_makes path is seat old new (Err refusal.Spent) tells d = none_makes OfLine old new d
   delete_makes path is seat old new (Err refusal.NoMemory) tells (inl d) =
       same_makes OfLine old new d
   delete_makes path is seat old new (Err refusal.NoMemory) tells (inr d) =
       event_makes old new (event.Delete path) answer.NoMemory d tt
+  delete_makes path is seat old new (Err other) tells d = absurd d
 
   leave_makes : (named : ℕ) → asked ≡ line.Leave named → (seat : ℕ) (old new : Caller)
       (result : Result (Option ℕ) CallNo) → Ok reply ≡ told_of_leave seat result
@@ -291,15 +263,8 @@ module _ {L D : Type 0} (link : L → Link) (left : D → Option (List ℕ))
       (is, ap (reply_in reply) tells)
   leave_makes named is seat old new (Ok None) tells d =
       event_makes old new (event.Leave named) (answer.Gone named) d tt
-  leave_makes named is seat old new (Err (refusal.Refused why)) tells d = absurd d
-  leave_makes named is seat old new (Err (refusal.PluginFailed name)) tells d = absurd d
-  leave_makes named is seat old new (Err refusal.DiceFailed) tells d = absurd d
-  leave_makes named is seat old new (Err refusal.StoreFailed) tells d = absurd d
-  leave_makes named is seat old new (Err (refusal.StoreFull needed)) tells d = absurd d
-  leave_makes named is seat old new (Err (refusal.Unhealthy name field text)) tells d = absurd d
-  leave_makes named is seat old new (Err refusal.Gone) tells d = absurd d
   leave_makes named is seat old new (Err refusal.Spent) tells d = none_makes OfLine old new d
-  leave_makes named is seat old new (Err refusal.NoMemory) tells d = absurd d
+  leave_makes named is seat old new (Err other) tells d = absurd d
 
   -- ---- a reload, a join, a refresh
 
@@ -307,16 +272,10 @@ module _ {L D : Type 0} (link : L → Link) (left : D → Option (List ℕ))
       (old new : Caller) (olds news : List L) (dice after : D) (why : CallNo)
       → BringsBy link left count rows brings replica old olds dice why new news after
       → Adding old new
-  brings_make rows brings replica old new olds news dice after (refusal.Refused why) b =
-      absurd b
   brings_make rows brings replica old new olds news dice after (refusal.PluginFailed name)
       b = same_makes OfLine old new b.1
   brings_make rows brings replica old new olds news dice after refusal.DiceFailed b =
       same_makes OfLine old new b.1
-  brings_make rows brings replica old new olds news dice after refusal.StoreFailed b =
-      absurd b
-  brings_make rows brings replica old new olds news dice after (refusal.StoreFull needed)
-      b = absurd b
   brings_make rows brings replica old new olds news dice after
       (refusal.Unhealthy name field text) b = same_makes OfLine old new b.1
   brings_make rows brings replica old new olds news dice after refusal.Gone b =
@@ -330,6 +289,7 @@ module _ {L D : Type 0} (link : L → Link) (left : D → Option (List ℕ))
   brings_make rows brings replica old new olds news dice after refusal.NoMemory
       (inr (inr b)) =
       event_makes old new (brings b.p) answer.NoMemory b.brought tt
+  brings_make rows brings replica old new olds news dice after other b = absurd b
 
   module _ (rows : List setting) (named : ℕ) (file : List ℕ)
       (read : settings_in file ≡ Some rows) where
@@ -352,30 +312,25 @@ module _ {L D : Type 0} (link : L → Link) (left : D → Option (List ℕ))
         }))
     reload_makes is seat old new olds news dice after (Ok (loaded.Refused verdict)) tells b =
         event_makes old new (reload_of named None b.p) (answer.Refused verdict) b.brought tt
-    reload_makes is seat old new olds news dice after (Ok (loaded.Moved number)) tells b = absurd b
-    reload_makes is seat old new olds news dice after (Ok (loaded.Unchanged number)) tells b =
-        absurd b
     reload_makes is seat old new olds news dice after (Err why) tells b = brings_make rows
         (reload_of named None) named old new olds news dice after why b
+    reload_makes is seat old new olds news dice after (Ok other) tells b = absurd b
 
     joins_make : (old new : Caller) (olds news : List L) (dice after : D) (why : CallNo)
         → IsJoin link left count rows named old olds dice (Err why) new news after
         → Adding old new
-    joins_make old new olds news dice after (refusal.Refused why) b = absurd b
     joins_make old new olds news dice after (refusal.PluginFailed name) b = brings_make rows
         (event.Join named) named old new olds news dice after (refusal.PluginFailed name) b
     joins_make old new olds news dice after refusal.DiceFailed b = brings_make rows
         (event.Join named) named old new olds news dice after refusal.DiceFailed b
-    joins_make old new olds news dice after refusal.StoreFailed b = absurd b
-    joins_make old new olds news dice after (refusal.StoreFull needed) b = absurd b
     joins_make old new olds news dice after (refusal.Unhealthy name field text) b =
         brings_make rows (event.Join named) named old new olds news dice after
         (refusal.Unhealthy name field text) b
-    joins_make old new olds news dice after refusal.Gone b = absurd b
     joins_make old new olds news dice after refusal.Spent b = brings_make rows
         (event.Join named) named old new olds news dice after refusal.Spent b
     joins_make old new olds news dice after refusal.NoMemory b = brings_make rows
         (event.Join named) named old new olds news dice after refusal.NoMemory b
+    joins_make old new olds news dice after other b = absurd b
 
     join_makes : asked ≡ line.Join named file → (seat : ℕ) (old new : Caller)
         (olds news : List L) (dice after : D) (result : Result Joining CallNo)
@@ -453,22 +408,11 @@ module _ {L D : Type 0} (link : L → Link) (left : D → Option (List ℕ))
     replaces_change : (path : List ℕ) (from : ℕ) (given : Answer) (result : Result Step CallNo)
         (held : Option ℕ) (published : Option Publication) → ReplacesBy path given result
         → Changes (gave_of given) (did.Replace path from) held published
-    replaces_change path from (answer.Adopted number p) result held published r = tt
-    replaces_change path from (answer.Gone replica) result held published r = tt
-    replaces_change path from (answer.Found row) result held published r = tt
-    replaces_change path from answer.Absent result held published r = tt
     replaces_change path from (answer.Written revision) result held published r = is
-    replaces_change path from (answer.Changed revision) result held published r = tt
-    replaces_change path from answer.StoreFailed result held published r = tt
-    replaces_change path from (answer.StoreFull needed) result held published r = tt
-    replaces_change path from answer.Released result held published r = tt
     replaces_change path from (answer.Reloaded number) result held published r = absurd r
     replaces_change path from (answer.Joined number) result held published r = absurd r
-    replaces_change path from (answer.Refused verdict) result held published r = tt
-    replaces_change path from (answer.Moved number) result held published r = tt
-    replaces_change path from (answer.Present number) result held published r = tt
     replaces_change path from (answer.Departed number) result held published r = absurd r
-    replaces_change path from answer.NoMemory result held published r = tt
+    replaces_change path from other result held published r = tt
 
     reseals_make : (p : Publication) (row : Row) (plain : List ℕ)
         (sealed : Result (List ℕ) SealNo) (old new : Caller) (result : Result Step CallNo)
@@ -508,20 +452,10 @@ module _ {L D : Type 0} (link : L → Link) (left : D → Option (List ℕ))
         → FindsNone above old result new → Adding old new
     none_found above old new (Ok step.End) n =
         event_makes old new (event.After above) answer.Absent n tt
-    none_found above old new (Ok (step.Rewritten path)) n = absurd n
-    none_found above old new (Ok (step.Fresh path)) n = absurd n
-    none_found above old new (Ok (step.Changed path)) n = absurd n
-    none_found above old new (Ok (step.Left path)) n = absurd n
-    none_found above old new (Err (refusal.Refused why)) n = absurd n
-    none_found above old new (Err (refusal.PluginFailed name)) n = absurd n
-    none_found above old new (Err refusal.DiceFailed) n = absurd n
-    none_found above old new (Err refusal.StoreFailed) n = absurd n
-    none_found above old new (Err (refusal.StoreFull needed)) n = absurd n
-    none_found above old new (Err (refusal.Unhealthy name field text)) n = absurd n
-    none_found above old new (Err refusal.Gone) n = absurd n
     none_found above old new (Err refusal.Spent) n = none_makes OfLine old new n
     none_found above old new (Err refusal.NoMemory) n =
         event_makes old new (event.After above) answer.NoMemory n tt
+    none_found above old new other n = absurd n
 
     steps_make : (p : Publication) (above : List ℕ) (old new : Caller) (olds news : List L)
         (dice after : D) (result : Result Step CallNo)
@@ -581,25 +515,9 @@ module _ {L D : Type 0} (link : L → Link) (left : D → Option (List ℕ))
 
   -- ---- each line
 
-  reloaded_makes : (named : ℕ) (file : List ℕ) (rows : Option (List setting))
-      → settings_in file ≡ rows → asked ≡ line.Reload named file → (old new : Workplace L D)
-      → IfRead rows (λ rows. DoesReload link left count named rows old (Ok reply) new)
-      → Adding old.caller new.caller
-  reloaded_makes named file None read is old new d = absurd d
-  reloaded_makes named file (Some rows) read is old new (inl none) =
-      same_makes OfLine old.caller new.caller (ap (λ (w : Workplace L D). w.caller) none.1)
-  reloaded_makes named file (Some rows) read is old new (inr d) = reload_makes rows named file read
-      is old.caller.seat old.caller new.caller old.links new.links old.dice new.dice d.0 d.1 d.2
-
-  joined_makes : (named : ℕ) (file : List ℕ) (rows : Option (List setting))
-      → settings_in file ≡ rows → asked ≡ line.Join named file → (old new : Workplace L D)
-      → IfRead rows (λ rows. DoesJoin link left count named rows old (Ok reply) new)
-      → Adding old.caller new.caller
-  joined_makes named file None read is old new d = absurd d
-  joined_makes named file (Some rows) read is old new (inl none) =
-      same_makes OfLine old.caller new.caller (ap (λ (w : Workplace L D). w.caller) none.1)
-  joined_makes named file (Some rows) read is old new (inr d) = join_makes rows named file read
-      is old.caller.seat old.caller new.caller old.links new.links old.dice new.dice d.0 d.1 d.2
+  lacking_makes : (old new : Workplace L D) → new ≡ old → Adding old.caller new.caller
+  lacking_makes old new same =
+      same_makes OfLine old.caller new.caller (ap (λ (w : Workplace L D). w.caller) same)
 
 module _ {L D : Type 0} (link : L → Link) (left : D → Option (List ℕ))
     (count : D → ℕ) (files : List SettingsFile) (own : ℕ) (asked : ScriptLine) (reply : Told)
@@ -616,13 +534,19 @@ module _ {L D : Type 0} (link : L → Link) (left : D → Option (List ℕ))
         (rows_at files) own asked reply path is old.caller.seat old.caller new.caller d.0 d.1 d.2
     line_makes line.Rewrite is old new k d = drive_makes link left count (rows_at files) own
         asked reply is own [] old.caller new.caller old.links new.links old.dice new.dice d.0 d.2
-    line_makes (line.Reload named file) is old new k d = reloaded_makes link left count
-        (rows_at files) own asked reply named file (rows_at files file) refl is old new d
+    line_makes (line.Reload named file) is old new k (rows, read, inl none) = lacking_makes link
+        left count (rows_at files) own asked reply old new none.1
+    line_makes (line.Reload named file) is old new k (rows, read, inr d) = reload_makes link left
+        count (rows_at files) own asked reply rows named file read is old.caller.seat old.caller
+        new.caller old.links new.links old.dice new.dice d.0 d.1 d.2
     line_makes line.Refresh is old new k d = refresh_makes link left count (rows_at files)
         own asked reply is old.caller.seat old.caller new.caller old.links new.links old.dice
         new.dice d.0 k d.1 d.2
-    line_makes (line.Join named file) is old new k d = joined_makes link left count
-        (rows_at files) own asked reply named file (rows_at files file) refl is old new d
+    line_makes (line.Join named file) is old new k (rows, read, inl none) = lacking_makes link
+        left count (rows_at files) own asked reply old new none.1
+    line_makes (line.Join named file) is old new k (rows, read, inr d) = join_makes link left
+        count (rows_at files) own asked reply rows named file read is old.caller.seat old.caller
+        new.caller old.links new.links old.dice new.dice d.0 d.1 d.2
     line_makes (line.Leave named) is old new k d = leave_makes link left count
         (rows_at files) own asked reply named is old.caller.seat old.caller new.caller d.0 d.1 d.2
 

@@ -1,5 +1,5 @@
 -- One line: what its call does is what the line does.
-use Rattle.std.proofs.Common.{◌≡◌, ℕ, ◌≤◌, ◌+◌, ◌*◌, length, List, [], ◌∷◌, Option, None, Some, Result, Ok, Err, inl, inr, refl, ap, sym, subst, ◌∙◌, arith}
+use Rattle.std.proofs.Common.{◌≡◌, ℕ, ◌<◌, ◌≤◌, ◌+◌, ◌*◌, get_or, length, List, [], ◌∷◌, Option, None, Some, Result, Ok, Err, inl, inr, refl, ap, sym, subst, ◌∙◌, arith}
 use Rattle.std.proofs.lemmas.Option.{same_Some}
 use Rattle.kr_config.specs.Kept.{ConfigEntry, plugins_in}
 use Rattle.kr_base.specs.Walks.{Talk, Walk}
@@ -16,12 +16,12 @@ use Rattle.kr_history.specs.declared.call.CallNo.TheVariants as refusal
 use Rattle.kr_rollout.specs.Openings.{NamesAmong}
 use Rattle.kr_rollout.specs.declared.line.Did.TheVariants as did
 use Rattle.kr_history.specs.Acting.{Caller}
-use Rattle.kr_rollout.specs.Callers.{holding}
+use Rattle.kr_rollout.specs.Callers.{holding, reloads_in}
 use Rattle.kr_history.specs.Calls.{IsIdle}
 use Rattle.kr_history.specs.KeyMoments.{Happens, call_moments}
 use Rattle.kr_history.specs.Parts.{AddsWithin}
 use Rattle.kr_history.proofs.PartsAdd.{parts_follow}
-use Rattle.kr_fleet.specs.declared.outcome.Joining.{Joining}
+use Rattle.kr_history.specs.declared.outcome.Joining.{Joining}
 use Rattle.kr_fleet.specs.declared.outcome.Loaded.{Loaded}
 use Rattle.kr_fleet.specs.declared.outcome.Read.{Read}
 use Rattle.kr_fleet.specs.CallExchanges.{IsJoinBy, IsReadBy, IsRefreshBy, IsReloadBy}
@@ -37,11 +37,14 @@ use Rattle.kr_script.specs.declared.script.ScriptLine.TheVariants as line
 use Rattle.kr_script.specs.declared.told.Told.TheVariants as told
 use Rattle.kr_workers.specs.declared.files.SettingsFile.{SettingsFile}
 use Rattle.kr_workers.specs.Files.{rows_at}
-use Rattle.kr_workers.specs.LineExchanges.{DoesBy, DoesJoinBy, DoesReloadBy}
+use Rattle.kr_workers.specs.LineExchanges.{BringsFileBy, DoesBy}
 use Rattle.kr_workers.specs.Replies.{Reply, told_of_delete, told_of_drive, told_of_join, told_of_leave, told_of_read, told_of_refresh, told_of_reload, told_of_write}
 use Rattle.kr_history.proofs.AskedReaders.{asked_all}
-use Rattle.kr_workers.specs.ScriptLines.{Does, DoesJoin, DoesReload, IfRead}
-use Rattle.kr_workers.specs.inner.Serving.{AddsFor, EndsFor, IsIdleAt, Serves, place_of}
+use Rattle.kr_workers.specs.ScriptLines.{BringsFile, Does, MayBringFile, WasRead}
+use Rattle.kr_workers.specs.declared.line.Way.{Way}
+use Rattle.kr_workers.specs.declared.line.Way.TheVariants as way
+use Rattle.kr_workers.specs.inner.Bringing.{line_by}
+use Rattle.kr_workers.specs.inner.Serving.{AddsFor, EndsFor, IsIdleAt, IsReadyFor, MovesKeys, Serves, place_of}
 use Rattle.kr_workers.specs.LineMoments.{adopts_published}
 use Rattle.kr_workers.proofs.MovedKeys.{moves_nothing}
 use Rattle.kr_workers.proofs.Cutting.{delete_spent, join_spent, leave_spent, read_spent, refresh_spent, reload_spent, write_spent}
@@ -217,79 +220,92 @@ module _ {L D : Type 0} (link : L → Link) (step : L → Exchange → L → Typ
       keys = keys;
     }
 
-    pub serves_reload : (named : ℕ) (file : List ℕ) (rows : List ConfigEntry)
-        (result : Result Loaded CallNo) → rows_at files file ≡ Some rows
-        → reply ≡ told_of_reload old.seat result
-        → IsReload link left count rows named old b.links b.dice result new after.links
-        after.dice → AddsWithin 1 1 [] old new
-        → holding new.mine ≡ None → AskedOnly link (plugins_in rows) b.links after.links
-        → count b.dice ≤ count after.dice
-        → after ≡ record b { links = after.links; dice = after.dice }
-        → Talk (Among step) b.links after.links
-        (IsReloadBy left count rows named old b.dice result new after.dice)
-        → Serves link step left count files replica (line.Reload named file) old b reply new after
-    serves_reload named file rows result read is does adds idle asked later kept talk =
-        record {
-          does = subst (λ (r : Option (List ConfigEntry)). IfRead r (λ rows.
-              DoesReload link left count named rows (place_of old b) reply
-              (place_of new after)))
-              (sym read) (inr (result, is, does, asked));
-          asks = record {
-            steps = talk.steps;
-            walk = talk.walk;
-            are = subst (λ (r : Option (List ConfigEntry)). IfRead r (λ rows.
-                DoesReloadBy left count named rows (place_of old b) reply (place_of new after)
-                talk.steps)) (sym read)
-                (inr (result, is, talk.are, ap (λ (s : BenchState L D). s.cache) kept));
-          };
-          adds = adds;
-          spent = subst (λ r. EndsFor (line.Reload named file) old r) (sym is)
-              (ends_reload (line.Reload named file) old old.seat result
-              (reload_spent link left count rows named old b.links b.dice new after.links
-              after.dice result does));
-          idle = idle_always reply new idle;
-          asked_only = asked_all link (plugins_in rows) b.links after.links asked;
-          later = later;
-          pages = ap (λ (s : BenchState L D). size_of s.pages) kept;
-          keys = ap (λ (s : BenchState L D). adoption_of s) kept;
-        }
+    -- a file was read, and a call brought its settings
+    module _ {T : Type 0} (tells : ℕ → Result T CallNo → Reply)
+        (Calls : List ConfigEntry → Result T CallNo → Type 0)
+        (CallsBy : List ConfigEntry → Result T CallNo → List Exchange → Type 0) where
+      -- by what the call ensures, the line is served
+      abbrev pub ServesBrought : ScriptLine → (file : List ℕ) → Type 0
+      ServesBrought asked file = (rows : List ConfigEntry) (result : Result T CallNo)
+          → rows_at files file ≡ Some rows → reply ≡ tells old.seat result → Calls rows result
+          → AddsWithin 1 1 [] old new → holding new.mine ≡ None
+          → AskedOnly link (plugins_in rows) b.links after.links
+          → count b.dice ≤ count after.dice
+          → after ≡ record b { links = after.links; dice = after.dice }
+          → Talk (Among step) b.links after.links (CallsBy rows result)
+          → Serves link step left count files replica asked old b reply new after
 
-    pub serves_join : (named : ℕ) (file : List ℕ) (rows : List ConfigEntry)
-        (result : Result Joining CallNo) → rows_at files file ≡ Some rows
-        → reply ≡ told_of_join old.seat result
-        → IsJoin link left count rows named old b.links b.dice result new after.links
-        after.dice → AddsWithin 1 1 [] old new
-        → holding new.mine ≡ None → AskedOnly link (plugins_in rows) b.links after.links
-        → count b.dice ≤ count after.dice
-        → after ≡ record b { links = after.links; dice = after.dice }
-        → Talk (Among step) b.links after.links
-        (IsJoinBy left count rows named old b.dice result new after.dice)
-        → Serves link step left count files replica (line.Join named file) old b reply new after
-    serves_join named file rows result read is does adds idle asked later kept talk =
-        record {
-          does = subst (λ (r : Option (List ConfigEntry)). IfRead r (λ rows.
-              DoesJoin link left count named rows (place_of old b) reply
-              (place_of new after)))
-              (sym read) (inr (result, is, does, asked));
-          asks = record {
-            steps = talk.steps;
-            walk = talk.walk;
-            are = subst (λ (r : Option (List ConfigEntry)). IfRead r (λ rows.
-                DoesJoinBy left count named rows (place_of old b) reply (place_of new after)
-                talk.steps)) (sym read)
-                (inr (result, is, talk.are, ap (λ (s : BenchState L D). s.cache) kept));
-          };
-          adds = adds;
-          spent = subst (λ r. EndsFor (line.Join named file) old r) (sym is)
-              (ends_join (line.Join named file) old old.seat result
-              (join_spent link left count rows named old b.links b.dice new after.links
-              after.dice result does));
-          idle = idle_always reply new idle;
-          asked_only = asked_all link (plugins_in rows) b.links after.links asked;
-          later = later;
-          pages = ap (λ (s : BenchState L D). size_of s.pages) kept;
-          keys = ap (λ (s : BenchState L D). adoption_of s) kept;
-        }
+      serves_brought : (asked : ScriptLine) (file : List ℕ)
+          → (WasRead (rows_at files file) (λ rows. BringsFile link tells (Calls rows) rows
+          (place_of old b) reply (place_of new after))
+          → Does link left count files replica asked (place_of old b) reply (place_of new after))
+          → ((es : List Exchange) → WasRead (rows_at files file) (λ rows. BringsFileBy tells
+          (CallsBy rows) (place_of old b) reply (place_of new after) es)
+          → DoesBy left count files replica asked (place_of old b) reply (place_of new after) es)
+          → (AddsWithin 1 1 [] old new → AddsFor asked old new)
+          → (adoption_of after ≡ adoption_of b → MovesKeys (adopts_published asked) old
+          (adoption_of b) new (adoption_of after))
+          → ((rows : List ConfigEntry) (result : Result T CallNo) → Calls rows result
+          → EndsFor asked old (tells old.seat result))
+          → ServesBrought asked file
+      serves_brought asked file does_so asks_so adds_so keys_so ends rows result read is does adds
+          idle asked_only later kept talk = record {
+            does = does_so (rows, read, inr (result, is, does, asked_only));
+            asks = record {
+              steps = talk.steps;
+              walk = talk.walk;
+              are = asks_so talk.steps (
+                rows,
+                read,
+                inr (result, is, talk.are, ap (λ (s : BenchState L D). s.cache) kept),
+              );
+            };
+            adds = adds_so adds;
+            spent = subst (λ r. EndsFor asked old r) (sym is) (ends rows result does);
+            idle = idle_always reply new idle;
+            asked_only = asked_all link (plugins_in rows) b.links after.links asked_only;
+            later = later;
+            pages = ap (λ (s : BenchState L D). size_of s.pages) kept;
+            keys = keys_so (ap (λ (s : BenchState L D). adoption_of s) kept);
+          }
+
+    abbrev pub Reloads : (named : ℕ) → List ConfigEntry → Result Loaded CallNo → Type 0
+    Reloads named rows result =
+        IsReload link left count rows named old b.links b.dice result new after.links after.dice
+
+    abbrev pub Joins : (named : ℕ) → List ConfigEntry → Result Joining CallNo → Type 0
+    Joins named rows result =
+        IsJoin link left count rows named old b.links b.dice result new after.links after.dice
+
+    pub serves_reload : (by : Way) → by ≡ way.Reload → (named : ℕ) (file : List ℕ)
+        → ServesBrought told_of_reload (Reloads named)
+        (λ rows result. IsReloadBy left count rows named old b.dice result new after.dice)
+        (line_by by named file) file
+    serves_reload by by_is named file = subst
+        (λ (w : Way). ServesBrought told_of_reload (Reloads named)
+        (λ rows result. IsReloadBy left count rows named old b.dice result new after.dice)
+        (line_by w named file) file) (sym by_is)
+        (serves_brought told_of_reload (Reloads named)
+        (λ rows result. IsReloadBy left count rows named old b.dice result new after.dice)
+        (line.Reload named file) file (λ d. d) (λ es d. d) (λ a. a) (λ k. k)
+        (λ rows result does. ends_reload (line.Reload named file) old old.seat result
+        (reload_spent link left count rows named old b.links b.dice new after.links after.dice
+        result does)))
+
+    pub serves_join : (by : Way) → by ≡ way.Join → (named : ℕ) (file : List ℕ)
+        → ServesBrought told_of_join (Joins named)
+        (λ rows result. IsJoinBy left count rows named old b.dice result new after.dice)
+        (line_by by named file) file
+    serves_join by by_is named file = subst
+        (λ (w : Way). ServesBrought told_of_join (Joins named)
+        (λ rows result. IsJoinBy left count rows named old b.dice result new after.dice)
+        (line_by w named file) file) (sym by_is)
+        (serves_brought told_of_join (Joins named)
+        (λ rows result. IsJoinBy left count rows named old b.dice result new after.dice)
+        (line.Join named file) file (λ d. d) (λ es d. d) (λ a. a) (λ k. k)
+        (λ rows result does. ends_join (line.Join named file) old old.seat result
+        (join_spent link left count rows named old b.links b.dice new after.links after.dice
+        result does)))
 
   module _ (old new : Caller) (b : BenchState L D) (reply : Reply) where
     pub serves_delete : (path : List ℕ) (result : Result (Option ℕ) CallNo)
@@ -330,6 +346,15 @@ module _ {L D : Type 0} (link : L → Link) (step : L → Exchange → L → Typ
 
 -- ---- settings that were read
 
+-- what a reload and a join ask for alike
+pub may_bring : {L D : Type 0} {link : L → Link} {files : List SettingsFile} {replica : ℕ} {c : Caller}
+    {b : BenchState L D} (by : Way) (named : ℕ) (file : List ℕ)
+    → IsReadyFor link files replica (line_by by named file) c b
+    → MayBringFile c.opening files named file
+    × (reloads_in c.mine < get_or c.opening.reloads c.seat 0)
+may_bring way.Reload named file ready = (ready.may, omega (arith, ready.room))
+may_bring way.Join named file ready = (ready.may, omega (arith, ready.room))
+
 pub read_rows : (names : List (List ℕ)) (files : List SettingsFile) (file lent : List ℕ)
     (rows found : List ConfigEntry) → lent ≡ file → rows_at files file ≡ Some rows
     → rows_at files lent ≡ Some found → NamesAmong names rows → NamesAmong names found
@@ -339,26 +364,16 @@ read_rows names files file lent rows found same read is h = subst (NamesAmong na
 module _ {L D : Type 0} (link : L → Link) (step : L → Exchange → L → Type 0) (left : D → Option (List ℕ))
     (count : D → ℕ) (files : List SettingsFile) (replica : ℕ) (c : Caller) (b : BenchState L D)
   where
-    pub unread_reload : (named : ℕ) (file : List ℕ) (rows : List ConfigEntry)
+    -- no memory for one more owner of the settings
+    pub unread : (by : Way) (named : ℕ) (file : List ℕ) (rows : List ConfigEntry)
         → rows_at files file ≡ Some rows → holding c.mine ≡ None
-        → Serves link step left count files replica (line.Reload named file) c b (Ok told.Memory) c
-        b
-    unread_reload named file rows read idle = serves_nothing link step left count files replica
-        (line.Reload named file) c b (subst (λ (r : Option (List ConfigEntry)). IfRead r (λ rows.
-        DoesReload link left count named rows (place_of c b) (Ok told.Memory) (place_of c b)))
-        (sym read) (inl (refl, refl))) (subst (λ (r : Option (List ConfigEntry)). IfRead r (λ rows.
-        DoesReloadBy left count named rows (place_of c b) (Ok told.Memory) (place_of c b) []))
-        (sym read) (inl ((refl, refl), refl))) idle
-
-    pub unread_join : (named : ℕ) (file : List ℕ) (rows : List ConfigEntry)
-        → rows_at files file ≡ Some rows → holding c.mine ≡ None
-        → Serves link step left count files replica (line.Join named file) c b (Ok told.Memory) c b
-    unread_join named file rows read idle = serves_nothing link step left count files replica
-        (line.Join named file) c b (subst (λ (r : Option (List ConfigEntry)). IfRead r (λ rows.
-        DoesJoin link left count named rows (place_of c b) (Ok told.Memory) (place_of c b)))
-        (sym read) (inl (refl, refl))) (subst (λ (r : Option (List ConfigEntry)). IfRead r (λ rows.
-        DoesJoinBy left count named rows (place_of c b) (Ok told.Memory) (place_of c b) []))
-        (sym read) (inl ((refl, refl), refl))) idle
+        → Serves link step left count files replica (line_by by named file) c b (Ok told.Memory) c b
+    unread way.Reload named file rows read = serves_nothing link step left count files replica
+        (line.Reload named file) c b (rows, read, inl (refl, refl))
+        (rows, read, inl ((refl, refl), refl))
+    unread way.Join named file rows read = serves_nothing link step left count files replica
+        (line.Join named file) c b (rows, read, inl (refl, refl))
+        (rows, read, inl ((refl, refl), refl))
 
     -- no copy of the data
     pub uncopied_put : (resource path plain : List ℕ) → holding c.mine ≡ None

@@ -56,24 +56,12 @@ module _ (paths real : ℕ) (is : paths ≡ min real (2 ^ 64 - 1)) where
 
   same_entries : (asked : ScriptLine) → line_entries paths asked ≤ journal_limit
       → line_entries paths asked ≡ line_entries real asked
-  same_entries (line.Put resource path plain) l = refl
-  same_entries (line.Get path) l = refl
-  same_entries (line.Delete path) l = refl
   same_entries line.Rewrite l = counted paths real is l
-  same_entries (line.Reload replica file) l = refl
-  same_entries line.Refresh l = refl
-  same_entries (line.Join replica file) l = refl
-  same_entries (line.Leave replica) l = refl
+  same_entries other l = refl
 
   lower_entries : (asked : ScriptLine) → line_entries paths asked ≤ line_entries real asked
-  lower_entries (line.Put resource path plain) = omega arith
-  lower_entries (line.Get path) = omega arith
-  lower_entries (line.Delete path) = omega arith
   lower_entries line.Rewrite = lower paths real is
-  lower_entries (line.Reload replica file) = omega arith
-  lower_entries line.Refresh = omega arith
-  lower_entries (line.Join replica file) = omega arith
-  lower_entries (line.Leave replica) = omega arith
+  lower_entries other = omega arith
 
   same_budget : (lines : List ScriptLine) → budget_of paths lines ≤ journal_limit
       → budget_of paths lines ≡ budget_of real lines

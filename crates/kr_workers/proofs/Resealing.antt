@@ -34,8 +34,8 @@ use Rattle.kr_history.proofs.Following.{adopted_law, next_law, stays_law}
 use Rattle.kr_history.proofs.FoundRows.{replaced_is_live}
 use Rattle.kr_history.proofs.HeldFacts.{found_is_named, held_is_named}
 use Rattle.kr_history.proofs.Nexts.{caller_next, legal_now}
-use Rattle.kr_fleet.specs.declared.outcome.Joining.{Joining}
-use Rattle.kr_fleet.specs.declared.outcome.Joining.TheVariants as joining
+use Rattle.kr_history.specs.declared.outcome.Joining.{Joining}
+use Rattle.kr_history.specs.declared.outcome.Joining.TheVariants as joining
 use Rattle.kr_fleet.specs.declared.outcome.Loaded.{Loaded}
 use Rattle.kr_fleet.specs.declared.outcome.Loaded.TheVariants as loaded
 use Rattle.kr_fleet.specs.declared.outcome.Read.{Read}
@@ -53,11 +53,10 @@ use Rattle.kr_rewrite.specs.Rewrites.{FindsNone, IsStep, ResealsBy, Rewrites, Re
 use Rattle.kr_script.specs.declared.script.ScriptLine.{ScriptLine}
 use Rattle.kr_script.specs.declared.script.ScriptLine.TheVariants as line
 use Rattle.kr_workers.specs.declared.files.SettingsFile.{SettingsFile}
-use Rattle.kr_workers.specs.Files.{rows_at}
 use Rattle.kr_workers.specs.Plugins.{IsReplaced, Reseals}
 use Rattle.kr_workers.specs.Replies.{Reply}
 use Rattle.kr_workers.specs.Runs.{DoesAll, LineDone}
-use Rattle.kr_workers.specs.ScriptLines.{Does, DoesJoin, DoesReload, IfRead, Workplace}
+use Rattle.kr_workers.specs.ScriptLines.{Does, Workplace}
 
 -- ---- entries that replace nothing
 
@@ -120,18 +119,13 @@ module _ {L D : Type 0} (link : L → Link) (step : L → Exchange → L → Typ
 
   early_keeps : (replica : ℕ) (old new : Caller) (why : CallNo)
       → AdoptsNothing replica old why new → Keeps old new
-  early_keeps replica old new (refusal.Refused why) e = absurd e
-  early_keeps replica old new (refusal.PluginFailed name) e = absurd e
-  early_keeps replica old new refusal.DiceFailed e = absurd e
-  early_keeps replica old new refusal.StoreFailed e = absurd e
-  early_keeps replica old new (refusal.StoreFull needed) e = absurd e
-  early_keeps replica old new (refusal.Unhealthy name field text) e = absurd e
   early_keeps replica old new refusal.Gone e =
       quiet_keeps old new (event.Adopt replica) (answer.Gone replica) refl e
   early_keeps replica old new refusal.Spent e = none_keeps old new e
   early_keeps replica old new refusal.NoMemory (inl e) = same_keeps old new e
   early_keeps replica old new refusal.NoMemory (inr e) =
       quiet_keeps old new (event.Adopt replica) answer.NoMemory refl e
+  early_keeps replica old new other e = absurd e
 
   let_go_keeps : {T : Type 0} → (old new : Caller) (done result : Result T CallNo)
       → LetsGo old done result new → Keeps old new
@@ -164,38 +158,10 @@ module _ {L D : Type 0} (link : L → Link) (step : L → Exchange → L → Typ
   puts_keep resource path plain p old new dice after (Ok revision) d =
       quiet_keeps old new (event.Put path resource plain d.stored) (answer.Written revision) refl
       d.put
-  puts_keep resource path plain p old new dice after (Err (refusal.Refused value.Short)) d =
-      absurd d
-  puts_keep resource path plain p old new dice after (Err (refusal.Refused value.BadBlock)) d =
-      absurd d
-  puts_keep resource path plain p old new dice after (Err (refusal.Refused value.BadPadding)) d =
-      absurd d
-  puts_keep resource path plain p old new dice after (Err (refusal.Refused value.BadTag)) d =
-      absurd d
-  puts_keep resource path plain p old new dice after (Err (refusal.Refused value.Wire)) d =
-      absurd d
-  puts_keep resource path plain p old new dice after (Err (refusal.Refused value.KeyId)) d =
-      absurd d
-  puts_keep resource path plain p old new dice after (Err (refusal.Refused value.Source)) d =
-      absurd d
-  puts_keep resource path plain p old new dice after (Err (refusal.Refused value.Annotations)) d =
-      absurd d
-  puts_keep resource path plain p old new dice after (Err (refusal.Refused value.SourceType)) d =
-      absurd d
-  puts_keep resource path plain p old new dice after (Err (refusal.Refused value.NoData)) d =
-      absurd d
-  puts_keep resource path plain p old new dice after (Err (refusal.Refused value.NotUtf8)) d =
-      absurd d
-  puts_keep resource path plain p old new dice after (Err (refusal.Refused value.SeedLength)) d =
-      absurd d
-  puts_keep resource path plain p old new dice after (Err (refusal.Refused value.NoProvider)) d =
-      absurd d
   puts_keep resource path plain p old new dice after
       (Err (refusal.Refused value.LooksEncrypted)) d = same_keeps old new d.1
   puts_keep resource path plain p old new dice after (Err (refusal.Refused value.TooLarge)) d =
       same_keeps old new d.1
-  puts_keep resource path plain p old new dice after (Err (refusal.PluginFailed name)) d =
-      absurd d
   puts_keep resource path plain p old new dice after (Err refusal.DiceFailed) d =
       same_keeps old new d.1
   puts_keep resource path plain p old new dice after (Err refusal.StoreFailed) d =
@@ -203,15 +169,13 @@ module _ {L D : Type 0} (link : L → Link) (step : L → Exchange → L → Typ
   puts_keep resource path plain p old new dice after (Err (refusal.StoreFull needed)) d =
       quiet_keeps old new (event.Put path resource plain d.stored) (answer.StoreFull needed) refl
       d.put
-  puts_keep resource path plain p old new dice after
-      (Err (refusal.Unhealthy name field text)) d = absurd d
-  puts_keep resource path plain p old new dice after (Err refusal.Gone) d = absurd d
   puts_keep resource path plain p old new dice after (Err refusal.Spent) d =
       none_keeps old new d.nothing
   puts_keep resource path plain p old new dice after (Err refusal.NoMemory) (inl d) =
       same_keeps old new d.1
   puts_keep resource path plain p old new dice after (Err refusal.NoMemory) (inr d) =
       quiet_keeps old new (event.Put path resource plain d.stored) answer.NoMemory refl d.put
+  puts_keep resource path plain p old new dice after (Err other) d = absurd d
 
   write_keeps : (resource path plain : List ℕ) (replica : ℕ) (old new : Caller)
       (dice after : D) (result : Result ℕ CallNo)
@@ -236,16 +200,12 @@ module _ {L D : Type 0} (link : L → Link) (step : L → Exchange → L → Typ
       quiet_keeps old new (event.Fetch path) (answer.Found d.0) refl d.1.found
   finds_keep path p old new olds news (Err (refusal.PluginFailed name)) d =
       quiet_keeps old new (event.Fetch path) (answer.Found d.0) refl d.1.found
-  finds_keep path p old new olds news (Err refusal.DiceFailed) d = absurd d
-  finds_keep path p old new olds news (Err refusal.StoreFailed) d = absurd d
-  finds_keep path p old new olds news (Err (refusal.StoreFull needed)) d = absurd d
-  finds_keep path p old new olds news (Err (refusal.Unhealthy name field text)) d = absurd d
-  finds_keep path p old new olds news (Err refusal.Gone) d = absurd d
   finds_keep path p old new olds news (Err refusal.Spent) d = none_keeps old new d.0
   finds_keep path p old new olds news (Err refusal.NoMemory) (inl d) =
       quiet_keeps old new (event.Fetch path) (answer.Found d.0) refl d.1.found
   finds_keep path p old new olds news (Err refusal.NoMemory) (inr d) =
       quiet_keeps old new (event.Fetch path) answer.NoMemory refl d.0
+  finds_keep path p old new olds news (Err other) d = absurd d
 
   read_keeps : (path : List ℕ) (replica : ℕ) (old new : Caller) (olds news : List L)
       (result : Result Read CallNo) → IsRead link path replica old olds result new news
@@ -264,19 +224,15 @@ module _ {L D : Type 0} (link : L → Link) (step : L → Exchange → L → Typ
       quiet_keeps old new (event.Delete path) (answer.Written revision) refl d
   delete_keeps path old new (Ok None) d =
       quiet_keeps old new (event.Delete path) answer.Absent refl d
-  delete_keeps path old new (Err (refusal.Refused why)) d = absurd d
-  delete_keeps path old new (Err (refusal.PluginFailed name)) d = absurd d
-  delete_keeps path old new (Err refusal.DiceFailed) d = absurd d
   delete_keeps path old new (Err refusal.StoreFailed) d =
       quiet_keeps old new (event.Delete path) answer.StoreFailed refl d
   delete_keeps path old new (Err (refusal.StoreFull needed)) d =
       quiet_keeps old new (event.Delete path) (answer.StoreFull needed) refl d
-  delete_keeps path old new (Err (refusal.Unhealthy name field text)) d = absurd d
-  delete_keeps path old new (Err refusal.Gone) d = absurd d
   delete_keeps path old new (Err refusal.Spent) d = none_keeps old new d
   delete_keeps path old new (Err refusal.NoMemory) (inl d) = same_keeps old new d
   delete_keeps path old new (Err refusal.NoMemory) (inr d) =
       quiet_keeps old new (event.Delete path) answer.NoMemory refl d
+  delete_keeps path old new (Err other) d = absurd d
 
   leave_keeps : (named : ℕ) (old new : Caller) (result : Result (Option ℕ) CallNo)
       → IsLeave named old result new → Keeps old new
@@ -284,15 +240,8 @@ module _ {L D : Type 0} (link : L → Link) (step : L → Exchange → L → Typ
       quiet_keeps old new (event.Leave named) (answer.Departed number) refl d
   leave_keeps named old new (Ok None) d =
       quiet_keeps old new (event.Leave named) (answer.Gone named) refl d
-  leave_keeps named old new (Err (refusal.Refused why)) d = absurd d
-  leave_keeps named old new (Err (refusal.PluginFailed name)) d = absurd d
-  leave_keeps named old new (Err refusal.DiceFailed) d = absurd d
-  leave_keeps named old new (Err refusal.StoreFailed) d = absurd d
-  leave_keeps named old new (Err (refusal.StoreFull needed)) d = absurd d
-  leave_keeps named old new (Err (refusal.Unhealthy name field text)) d = absurd d
-  leave_keeps named old new (Err refusal.Gone) d = absurd d
   leave_keeps named old new (Err refusal.Spent) d = none_keeps old new d
-  leave_keeps named old new (Err refusal.NoMemory) d = absurd d
+  leave_keeps named old new (Err other) d = absurd d
 
   -- ---- a reload, a join, a refresh
 
@@ -301,16 +250,10 @@ module _ {L D : Type 0} (link : L → Link) (step : L → Exchange → L → Typ
       (old new : Caller) (olds news : List L) (dice after : D) (why : CallNo)
       → BringsBy link left count rows brings replica old olds dice why new news after
       → Keeps old new
-  brings_keep rows brings quiet replica old new olds news dice after (refusal.Refused why) b =
-      absurd b
   brings_keep rows brings quiet replica old new olds news dice after (refusal.PluginFailed name)
       b = same_keeps old new b.1
   brings_keep rows brings quiet replica old new olds news dice after refusal.DiceFailed b =
       same_keeps old new b.1
-  brings_keep rows brings quiet replica old new olds news dice after refusal.StoreFailed b =
-      absurd b
-  brings_keep rows brings quiet replica old new olds news dice after (refusal.StoreFull needed)
-      b = absurd b
   brings_keep rows brings quiet replica old new olds news dice after
       (refusal.Unhealthy name field text) b = same_keeps old new b.1
   brings_keep rows brings quiet replica old new olds news dice after refusal.Gone b =
@@ -324,6 +267,7 @@ module _ {L D : Type 0} (link : L → Link) (step : L → Exchange → L → Typ
   brings_keep rows brings quiet replica old new olds news dice after refusal.NoMemory
       (inr (inr b)) =
       quiet_keeps old new (brings b.p) answer.NoMemory (quiet b.p) b.brought
+  brings_keep rows brings quiet replica old new olds news dice after other b = absurd b
 
   reload_keeps : (rows : List setting) (replica : ℕ) (old new : Caller) (olds news : List L)
       (dice after : D) (result : Result Loaded CallNo)
@@ -333,32 +277,27 @@ module _ {L D : Type 0} (link : L → Link) (step : L → Exchange → L → Typ
       quiet_keeps old new (reload_of replica None b.p) (answer.Reloaded number) refl b.brought
   reload_keeps rows replica old new olds news dice after (Ok (loaded.Refused verdict)) b =
       quiet_keeps old new (reload_of replica None b.p) (answer.Refused verdict) refl b.brought
-  reload_keeps rows replica old new olds news dice after (Ok (loaded.Moved number)) b = absurd b
-  reload_keeps rows replica old new olds news dice after (Ok (loaded.Unchanged number)) b =
-      absurd b
   reload_keeps rows replica old new olds news dice after (Err why) b = brings_keep rows
       (reload_of replica None) (λ p. refl) replica old new olds news dice after why b
+  reload_keeps rows replica old new olds news dice after (Ok other) b = absurd b
 
   joins_keep : (rows : List setting) (replica : ℕ) (old new : Caller) (olds news : List L)
       (dice after : D) (why : CallNo)
       → IsJoin link left count rows replica old olds dice (Err why) new news after
       → Keeps old new
-  joins_keep rows replica old new olds news dice after (refusal.Refused why) b = absurd b
   joins_keep rows replica old new olds news dice after (refusal.PluginFailed name) b = brings_keep
       rows (event.Join replica) (λ p. refl) replica old new olds news dice after
       (refusal.PluginFailed name) b
   joins_keep rows replica old new olds news dice after refusal.DiceFailed b = brings_keep rows
       (event.Join replica) (λ p. refl) replica old new olds news dice after refusal.DiceFailed b
-  joins_keep rows replica old new olds news dice after refusal.StoreFailed b = absurd b
-  joins_keep rows replica old new olds news dice after (refusal.StoreFull needed) b = absurd b
   joins_keep rows replica old new olds news dice after (refusal.Unhealthy name field text) b =
       brings_keep rows (event.Join replica) (λ p. refl) replica old new olds news dice after
       (refusal.Unhealthy name field text) b
-  joins_keep rows replica old new olds news dice after refusal.Gone b = absurd b
   joins_keep rows replica old new olds news dice after refusal.Spent b = brings_keep rows
       (event.Join replica) (λ p. refl) replica old new olds news dice after refusal.Spent b
   joins_keep rows replica old new olds news dice after refusal.NoMemory b = brings_keep rows
       (event.Join replica) (λ p. refl) replica old new olds news dice after refusal.NoMemory b
+  joins_keep rows replica old new olds news dice after other b = absurd b
 
   join_keeps : (rows : List setting) (replica : ℕ) (old new : Caller) (olds news : List L)
       (dice after : D) (result : Result Joining CallNo)
@@ -456,30 +395,7 @@ module _ {L D : Type 0} (link : L → Link) (step : L → Exchange → L → Typ
         subst (λ q. Reseals q a.entry)
         (ap (replaced_path path) (sym a.records.did_is ∙ r.did_is))
         (resealed stored revision sealing a)
-    replaced_known stored (answer.Adopted n q) sealing a =
-        unwritten stored (answer.Adopted n q) refl a
-    replaced_known stored (answer.Gone other) sealing a =
-        unwritten stored (answer.Gone other) refl a
-    replaced_known stored (answer.Found x) sealing a = unwritten stored (answer.Found x) refl a
-    replaced_known stored answer.Absent sealing a = unwritten stored answer.Absent refl a
-    replaced_known stored (answer.Changed last) sealing a =
-        unwritten stored (answer.Changed last) refl a
-    replaced_known stored answer.StoreFailed sealing a =
-        unwritten stored answer.StoreFailed refl a
-    replaced_known stored (answer.StoreFull needed) sealing a =
-        unwritten stored (answer.StoreFull needed) refl a
-    replaced_known stored answer.Released sealing a = unwritten stored answer.Released refl a
-    replaced_known stored (answer.Reloaded n) sealing a =
-        unwritten stored (answer.Reloaded n) refl a
-    replaced_known stored (answer.Joined n) sealing a = unwritten stored (answer.Joined n) refl a
-    replaced_known stored (answer.Refused verdict) sealing a =
-        unwritten stored (answer.Refused verdict) refl a
-    replaced_known stored (answer.Moved n) sealing a = unwritten stored (answer.Moved n) refl a
-    replaced_known stored (answer.Present n) sealing a =
-        unwritten stored (answer.Present n) refl a
-    replaced_known stored (answer.Departed n) sealing a =
-        unwritten stored (answer.Departed n) refl a
-    replaced_known stored answer.NoMemory sealing a = unwritten stored answer.NoMemory refl a
+    replaced_known stored other sealing a = unwritten stored other refl a
 
     reseals_keep : (sealed : Result (List ℕ) SealNo) (result : Result Step CallNo)
         → ResealsBy p row opened.plain sealed old result new → Keeps old new
@@ -521,20 +437,10 @@ module _ {L D : Type 0} (link : L → Link) (step : L → Exchange → L → Typ
       → FindsNone above old result new → Keeps old new
   none_found above old new (Ok taken_step.End) n =
       quiet_keeps old new (event.After above) answer.Absent refl n
-  none_found above old new (Ok (taken_step.Rewritten path)) n = absurd n
-  none_found above old new (Ok (taken_step.Fresh path)) n = absurd n
-  none_found above old new (Ok (taken_step.Changed path)) n = absurd n
-  none_found above old new (Ok (taken_step.Left path)) n = absurd n
-  none_found above old new (Err (refusal.Refused why)) n = absurd n
-  none_found above old new (Err (refusal.PluginFailed name)) n = absurd n
-  none_found above old new (Err refusal.DiceFailed) n = absurd n
-  none_found above old new (Err refusal.StoreFailed) n = absurd n
-  none_found above old new (Err (refusal.StoreFull needed)) n = absurd n
-  none_found above old new (Err (refusal.Unhealthy name field text)) n = absurd n
-  none_found above old new (Err refusal.Gone) n = absurd n
   none_found above old new (Err refusal.Spent) n = none_keeps old new n
   none_found above old new (Err refusal.NoMemory) n =
       quiet_keeps old new (event.After above) answer.NoMemory refl n
+  none_found above old new other n = absurd n
 
   steps_keep : (number : ℕ) (p : Publication) (above : List ℕ) (old new : Caller)
       (olds news : List L) (dice after : D) (result : Result Step CallNo)
@@ -596,23 +502,9 @@ module _ {L D : Type 0} (link : L → Link) (step : L → Exchange → L → Typ
 
   -- ---- each line
 
-  reloaded_keeps : (named : ℕ) (rows : Option (List setting)) (old new : Workplace L D)
-      (reply : Reply) → IfRead rows (λ rows. DoesReload link left count named rows old reply
-      new) → Keeps old.caller new.caller
-  reloaded_keeps named None old new reply d = absurd d
-  reloaded_keeps named (Some rows) old new reply (inl none) =
-      same_keeps old.caller new.caller (ap (λ (w : Workplace L D). w.caller) none.1)
-  reloaded_keeps named (Some rows) old new reply (inr d) = reload_keeps rows named old.caller
-      new.caller old.links new.links old.dice new.dice d.0 d.2
-
-  joined_keeps : (named : ℕ) (rows : Option (List setting)) (old new : Workplace L D)
-      (reply : Reply) → IfRead rows (λ rows. DoesJoin link left count named rows old reply
-      new) → Keeps old.caller new.caller
-  joined_keeps named None old new reply d = absurd d
-  joined_keeps named (Some rows) old new reply (inl none) =
-      same_keeps old.caller new.caller (ap (λ (w : Workplace L D). w.caller) none.1)
-  joined_keeps named (Some rows) old new reply (inr d) = join_keeps rows named old.caller
-      new.caller old.links new.links old.dice new.dice d.0 d.2
+  lacking_keeps : (old new : Workplace L D) → new ≡ old → Keeps old.caller new.caller
+  lacking_keeps old new same =
+      same_keeps old.caller new.caller (ap (λ (w : Workplace L D). w.caller) same)
 
   line_keeps : (files : List SettingsFile) (replica : ℕ) (asked : ScriptLine)
       (old new : Workplace L D) (reply : Reply)
@@ -626,12 +518,16 @@ module _ {L D : Type 0} (link : L → Link) (step : L → Exchange → L → Typ
       delete_keeps path old.caller new.caller d.0 d.2
   line_keeps files replica line.Rewrite old new reply d = drive_keeps replica [] old.caller
       new.caller old.links new.links old.dice new.dice d.0 d.2
-  line_keeps files replica (line.Reload named file) old new reply d =
-      reloaded_keeps named (rows_at files file) old new reply d
+  line_keeps files replica (line.Reload named file) old new reply (rows, read, inl none) =
+      lacking_keeps old new none.1
+  line_keeps files replica (line.Reload named file) old new reply (rows, read, inr d) =
+      reload_keeps rows named old.caller new.caller old.links new.links old.dice new.dice d.0 d.2
   line_keeps files replica line.Refresh old new reply d = refresh_keeps replica old.caller
       new.caller old.links new.links old.dice new.dice d.0 d.2
-  line_keeps files replica (line.Join named file) old new reply d =
-      joined_keeps named (rows_at files file) old new reply d
+  line_keeps files replica (line.Join named file) old new reply (rows, read, inl none) =
+      lacking_keeps old new none.1
+  line_keeps files replica (line.Join named file) old new reply (rows, read, inr d) =
+      join_keeps rows named old.caller new.caller old.links new.links old.dice new.dice d.0 d.2
   line_keeps files replica (line.Leave named) old new reply d =
       leave_keeps named old.caller new.caller d.0 d.2
 
@@ -639,8 +535,7 @@ module _ {L D : Type 0} (link : L → Link) (step : L → Exchange → L → Typ
       (run : List LineDone) (last : Workplace L D)
       → DoesAll link step left count files replica first run last
       → Keeps first.caller last.caller
-  run_keeps files replica first [] last same =
-      same_keeps first.caller last.caller (ap (λ (w : Workplace L D). w.caller) same)
+  run_keeps files replica first [] last same = lacking_keeps first last same
   run_keeps files replica first (done ∷ run) last all =
       then_keeps first.caller all.0.caller last.caller
       (line_keeps files replica done.line first all.0 (Ok done.reply) all.1.does)

@@ -59,12 +59,10 @@ module _ {T L D : Type 0} (link : L → Link) (count : D → ℕ) (history : Lis
   -- an ending rests on something where it does so if not all was done
   told_rests : (kind : Ending) → (kind ≢ ending.Done → RestsOn link count history old new kind)
       → RestsOn link count history old new kind
-  told_rests ending.Done h = tt
-  told_rests ending.Refused h = tt
   told_rests ending.Unhealthy h = h not_unhealthy
   told_rests ending.Full h = h not_full
-  told_rests ending.Memory h = tt
   told_rests ending.Fault h = h not_fault
+  told_rests other h = tt
 
   module _ (o : Opening) (number budget : ℕ) (before after : Worker T L D)
       (before_is : slice_get old number ≡ Some before)
@@ -84,21 +82,7 @@ module _ {T L D : Type 0} (link : L → Link) (count : D → ℕ) (history : Lis
         → HasCause link count asked (first_place o number budget before.bench) reply history
         after.bench.links after.bench.dice
         → RestsOn link count history old new (reply_ending reply)
-    reply_rests (told.Put revision) h = tt
-    reply_rests (told.Got revision plain) h = tt
-    reply_rests (told.Deleted revision) h = tt
-    reply_rests told.Absent h = tt
     reply_rests (told.Rewritten rewritten fresh changed left) h = if_rests (left == 0)
-    reply_rests (told.Reloaded generation) h = tt
-    reply_rests (told.Joined generation) h = tt
-    reply_rests (told.Present generation) h = tt
-    reply_rests (told.Left generation) h = tt
-    reply_rests told.Gone h = tt
-    reply_rests (told.Refused verdict) h = tt
-    reply_rests (told.Refreshed generation) h = tt
-    reply_rests told.Unchanged h = tt
-    reply_rests (told.Moved generation) h = tt
-    reply_rests (told.Value why) h = tt
     reply_rests (told.Unhealthy name field text) h =
         some_worker (MayBeUnhealthy link count history) (name, field, text, h.1)
     reply_rests (told.FaultPlugin name) h =
@@ -113,7 +97,7 @@ module _ {T L D : Type 0} (link : L → Link) (count : D → ℕ) (history : Lis
       h.1.says.0,
       h.1.says.1,
     )
-    reply_rests told.Memory h = tt
+    reply_rests other h = tt
 
 -- ---- the ending
 

@@ -17,10 +17,7 @@ pub record HasLast {X : Type 0} (xs : List X) (n : ℕ) : Type 0 where
   pub long : length front ≡ n
 
 pub last_of : {X : Type 0} (xs : List X) (n : ℕ) → length xs ≡ n + 1 → HasLast xs n
-last_of [] n e = absurd (omega (arith, e))
 last_of (x ∷ []) zero e = record { front = []; last = x; parted = refl; long = refl }
-last_of (x ∷ []) (suc n) e = absurd (omega (arith, e))
-last_of (x ∷ (y ∷ xs)) zero e = absurd (omega (arith, e))
 last_of (x ∷ (y ∷ xs)) (suc n) e =
     let h = last_of (y ∷ xs) n (omega (arith, e)) in record {
       front = x ∷ h.front;
@@ -28,6 +25,7 @@ last_of (x ∷ (y ∷ xs)) (suc n) e =
       parted = ap (λ l. x ∷ l) h.parted;
       long = ap suc h.long;
     }
+last_of other n e = absurd (omega (arith, e))
 
 pub set_between : {X : Type 0} (front back : List X) (old new : X)
     → set (front ++ old ∷ back) (length front) new ≡ front ++ new ∷ back

@@ -252,17 +252,12 @@ module _ {L D : Type 0} (link : L → Link) (left : D → Option (List ℕ))
 
     early_put : (why : CallNo) → AdoptsNothing own old why new
         → IfTold PutsPart (told_of_refusal old.seat why)
-    early_put (refusal.Refused why) e = absurd e
-    early_put (refusal.PluginFailed name) e = absurd e
-    early_put refusal.DiceFailed e = absurd e
-    early_put refusal.StoreFailed e = absurd e
-    early_put (refusal.StoreFull needed) e = absurd e
-    early_put (refusal.Unhealthy name field text) e = absurd e
     early_put refusal.Gone e =
         part_here (IsOut own) old new part adds (out_parted own old new k idle e)
     early_put refusal.Spent e = tt
     early_put refusal.NoMemory (inl same) = inl (none same)
     early_put refusal.NoMemory (inr e) = inr (inl (single (event.Adopt own) answer.NoMemory e))
+    early_put other e = absurd e
 
     module _ (number : ℕ) (p : Publication) (adopted acted : Caller)
         (a : AddsEntry old (event.Adopt own) (answer.Adopted number p) adopted)
@@ -304,33 +299,18 @@ module _ {L D : Type 0} (link : L → Link) (left : D → Option (List ℕ))
           → Puts left count resource path plain p adopted dice result acted after
           → IfTold PutsPart (told_of_write old.seat result)
       puts_part (Ok revision) d = put_one d.stored (answer.Written revision) d.put
-      puts_part (Err (refusal.Refused value.Short)) d = absurd d
-      puts_part (Err (refusal.Refused value.BadBlock)) d = absurd d
-      puts_part (Err (refusal.Refused value.BadPadding)) d = absurd d
-      puts_part (Err (refusal.Refused value.BadTag)) d = absurd d
-      puts_part (Err (refusal.Refused value.Wire)) d = absurd d
-      puts_part (Err (refusal.Refused value.KeyId)) d = absurd d
-      puts_part (Err (refusal.Refused value.Source)) d = absurd d
-      puts_part (Err (refusal.Refused value.Annotations)) d = absurd d
-      puts_part (Err (refusal.Refused value.SourceType)) d = absurd d
-      puts_part (Err (refusal.Refused value.NoData)) d = absurd d
-      puts_part (Err (refusal.Refused value.NotUtf8)) d = absurd d
-      puts_part (Err (refusal.Refused value.SeedLength)) d = absurd d
-      puts_part (Err (refusal.Refused value.NoProvider)) d = absurd d
       puts_part (Err (refusal.Refused value.LooksEncrypted)) d =
           put_refused value.LooksEncrypted (d.0.1, d.0.2) d.1
       puts_part (Err (refusal.Refused value.TooLarge)) d = put_refused value.TooLarge d.0.1 d.1
-      puts_part (Err (refusal.PluginFailed name)) d = absurd d
       puts_part (Err refusal.DiceFailed) d = (refl, d.0.2, put_none d.1)
       puts_part (Err refusal.StoreFailed) d = put_one d.stored answer.StoreFailed d.put
       puts_part (Err (refusal.StoreFull needed)) d =
           (needed, put_one d.stored (answer.StoreFull needed) d.put)
-      puts_part (Err (refusal.Unhealthy name field text)) d = absurd d
-      puts_part (Err refusal.Gone) d = absurd d
       puts_part (Err refusal.Spent) d = tt
       puts_part (Err refusal.NoMemory) (inl d) = inr (inr (inl (put_none d.1)))
       puts_part (Err refusal.NoMemory) (inr d) =
           inr (inr (inr (put_one d.stored answer.NoMemory d.put)))
+      puts_part (Err other) d = absurd d
 
     pub write_part : (result : Result ℕ CallNo)
         → IsWrite left count resource path plain own old dice result new after
@@ -356,17 +336,12 @@ module _ {L D : Type 0} (link : L → Link) (left : D → Option (List ℕ))
 
     early_get : (why : CallNo) → AdoptsNothing own old why new
         → IfTold GetsPart (told_of_refusal old.seat why)
-    early_get (refusal.Refused why) e = absurd e
-    early_get (refusal.PluginFailed name) e = absurd e
-    early_get refusal.DiceFailed e = absurd e
-    early_get refusal.StoreFailed e = absurd e
-    early_get (refusal.StoreFull needed) e = absurd e
-    early_get (refusal.Unhealthy name field text) e = absurd e
     early_get refusal.Gone e =
         part_here (IsOut own) old new part adds (out_parted own old new k idle e)
     early_get refusal.Spent e = tt
     early_get refusal.NoMemory (inl same) = inl (none same)
     early_get refusal.NoMemory (inr e) = inr (inl (single (event.Adopt own) answer.NoMemory e))
+    early_get other e = absurd e
 
     module _ (number : ℕ) (p : Publication) (adopted acted : Caller)
         (a : AddsEntry old (event.Adopt own) (answer.Adopted number p) adopted)
@@ -401,11 +376,6 @@ module _ {L D : Type 0} (link : L → Link) (left : D → Option (List ℕ))
             (λ p e. (row : Row) × (e.row ≡ Some row) × ReadBy name p row)
             (d.0, d.1.found.records.shows, d.1.unseals.reader),
       )
-      gets_part (Err refusal.DiceFailed) d = absurd d
-      gets_part (Err refusal.StoreFailed) d = absurd d
-      gets_part (Err (refusal.StoreFull needed)) d = absurd d
-      gets_part (Err (refusal.Unhealthy name field text)) d = absurd d
-      gets_part (Err refusal.Gone) d = absurd d
       gets_part (Err refusal.Spent) d = tt
       gets_part (Err refusal.NoMemory) (inl d) = inr (inr (inr (
         d.0.revision,
@@ -413,6 +383,7 @@ module _ {L D : Type 0} (link : L → Link) (left : D → Option (List ℕ))
       )))
       gets_part (Err refusal.NoMemory) (inr d) =
           inr (inr (inl (get_one answer.NoMemory d.0 (λ p e. ⊤) tt)))
+      gets_part (Err other) d = absurd d
 
     pub read_part : (result : Result Read CallNo)
         → IsRead link path own old olds result new news
@@ -441,18 +412,14 @@ module _ {L D : Type 0} (link : L → Link) (left : D → Option (List ℕ))
         → IfTold DeletesPart (told_of_delete old.seat result)
     delete_part (Ok (Some revision)) d = single (event.Delete path) (answer.Written revision) d
     delete_part (Ok None) d = single (event.Delete path) answer.Absent d
-    delete_part (Err (refusal.Refused why)) d = absurd d
-    delete_part (Err (refusal.PluginFailed name)) d = absurd d
-    delete_part (Err refusal.DiceFailed) d = absurd d
     delete_part (Err refusal.StoreFailed) d = single (event.Delete path) answer.StoreFailed d
     delete_part (Err (refusal.StoreFull needed)) d =
         (needed, single (event.Delete path) (answer.StoreFull needed) d)
-    delete_part (Err (refusal.Unhealthy name field text)) d = absurd d
-    delete_part (Err refusal.Gone) d = absurd d
     delete_part (Err refusal.Spent) d = tt
     delete_part (Err refusal.NoMemory) (inl same) = inl (none same)
     delete_part (Err refusal.NoMemory) (inr d) =
         inr (single (event.Delete path) answer.NoMemory d)
+    delete_part (Err other) d = absurd d
 
   module _ (settings_in : (file : List ℕ) → Option (List setting)) (named : ℕ) where
     abbrev LeavesPart : Told → Type 0
@@ -467,12 +434,5 @@ module _ {L D : Type 0} (link : L → Link) (left : D → Option (List ℕ))
         (single (event.Leave named) (answer.Departed number) d)
     leave_part (Ok None) reply is d = subst LeavesPart (sym (ap reply_of is))
         (single (event.Leave named) (answer.Gone named) d)
-    leave_part (Err (refusal.Refused why)) reply is d = absurd d
-    leave_part (Err (refusal.PluginFailed name)) reply is d = absurd d
-    leave_part (Err refusal.DiceFailed) reply is d = absurd d
-    leave_part (Err refusal.StoreFailed) reply is d = absurd d
-    leave_part (Err (refusal.StoreFull needed)) reply is d = absurd d
-    leave_part (Err (refusal.Unhealthy name field text)) reply is d = absurd d
-    leave_part (Err refusal.Gone) reply is d = absurd d
     leave_part (Err refusal.Spent) reply is d = absurd (false≢true (sym (ap has_reply is)))
-    leave_part (Err refusal.NoMemory) reply is d = absurd d
+    leave_part (Err other) reply is d = absurd d

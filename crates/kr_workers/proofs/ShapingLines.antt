@@ -1,5 +1,5 @@
 -- The part of each line that was done has its shape.
-use Rattle.std.proofs.Common.{◌≡◌, ℕ, List, [], Option, None, Some, Ok, inl, inr, refl, ap, sym, subst}
+use Rattle.std.proofs.Common.{◌≡◌, ℕ, List, [], Option, None, Some, Ok, inl, inr, ap, sym, subst}
 use Rattle.kr_base.specs.Faults.{Rose}
 use Rattle.kr_config.specs.Kept.{ConfigEntry as setting}
 use Rattle.kr_kms.specs.Calls.{Link}
@@ -19,11 +19,11 @@ use Rattle.kr_workers.specs.declared.files.SettingsFile.{SettingsFile}
 use Rattle.kr_workers.specs.Files.{rows_at}
 use Rattle.kr_workers.specs.LineParts.{HasShape, PartsHaveShape}
 use Rattle.kr_workers.specs.Replies.{Reply}
-use Rattle.kr_workers.specs.ScriptLines.{Does, DoesJoin, DoesReload, IfRead, Workplace}
+use Rattle.kr_workers.specs.ScriptLines.{Does, Workplace}
 use Rattle.kr_workers.specs.Configurations.{CannotBeSealed, IsFresh, IsLeft, IsStale, NamesPlugin, ReadBy}
 use Rattle.kr_workers.specs.RewriteParts.{RewritePart}
 use Rattle.kr_workers.specs.Shapes.{JoinPart, ReloadPart}
-use Rattle.kr_workers.proofs.Shaping.{IfTold, delete_part, leave_part, nothing_added, read_part, reply_of, write_part}
+use Rattle.kr_workers.proofs.Shaping.{IfTold, delete_part, leave_part, nothing_added, read_part, write_part}
 use Rattle.kr_workers.proofs.ShapingLoads.{join_part, refresh_part, reload_part}
 use Rattle.kr_workers.proofs.ShapingRewrites.{drive_part, linked}
 
@@ -65,79 +65,58 @@ module _ {L D : Type 0} (link : L → Link) (left : D → Option (List ℕ))
       old.caller.seat own part
 
   -- the reply is what the call's answer tells
-  as_told : (asked : ScriptLine) (other : Reply) → Ok reply ≡ other
-      → IfTold (Shaped asked) other → Shaped asked reply
-  as_told asked other is s = subst (IfTold (Shaped asked)) (sym is) s
+  as_told : (Part : Told → Type 0) (other : Reply) → Ok reply ≡ other → IfTold Part other
+      → Part reply
+  as_told Part other is t = subst (IfTold Part) (sym is) t
 
-  reloaded : (named : ℕ) (file : List ℕ)
-      → IfRead (rows_at files file) (λ rows. DoesReload link left count named rows old
-      (Ok reply) new)
-      → Shaped (line.Reload named file) reply
-  reloaded named file d = by (rows_at files file) refl d
-    where
-      by : (rows : Option (List setting)) → rows_at files file ≡ rows
-          → IfRead rows (λ rows. DoesReload link left count named rows old (Ok reply) new)
-          → Shaped (line.Reload named file) reply
-      by None is d = absurd d
-      by (Some rows) is (inl none) = (
-        rows,
-        is,
-        subst (λ (r : Told). ReloadShape link count own old new part named rows r)
-            (sym (ap reply_of none.0)) (inl (nothing_added old.caller new.caller part adds
-            (ap (λ (place : Workplace L D). place.caller) none.1))),
-      )
-      by (Some rows) is (inr d) = (
-        rows,
-        is,
-        subst (IfTold (λ (r : Told). ReloadShape link count own old new part named rows r)) (sym d.1)
-            (reload_part link left count own old.caller new.caller k idle old.links new.links
-            old.dice new.dice RewriteDone part adds named rows d.0 d.2),
-      )
-
-  joined : (named : ℕ) (file : List ℕ)
-      → IfRead (rows_at files file) (λ rows. DoesJoin link left count named rows old
-      (Ok reply) new)
-      → Shaped (line.Join named file) reply
-  joined named file d = by (rows_at files file) refl d
-    where
-      by : (rows : Option (List setting)) → rows_at files file ≡ rows
-          → IfRead rows (λ rows. DoesJoin link left count named rows old (Ok reply) new)
-          → Shaped (line.Join named file) reply
-      by None is d = absurd d
-      by (Some rows) is (inl none) = (
-        rows,
-        is,
-        subst (λ (r : Told). JoinShape link count own old new part named rows r)
-            (sym (ap reply_of none.0)) (inl (nothing_added old.caller new.caller part adds
-            (ap (λ (place : Workplace L D). place.caller) none.1))),
-      )
-      by (Some rows) is (inr d) = (
-        rows,
-        is,
-        subst (IfTold (λ (r : Told). JoinShape link count own old new part named rows r)) (sym d.1)
-            (join_part link left count own old.caller new.caller k idle old.links new.links
-            old.dice new.dice RewriteDone part adds named rows d.0 d.2),
-      )
+  -- memory lacked
+  unchanged : new ≡ old → part ≡ []
+  unchanged same = nothing_added old.caller new.caller part adds
+      (ap (λ (place : Workplace L D). place.caller) same)
 
   pub line_part : (asked : ScriptLine)
       → Does link left count files own asked old (Ok reply) new → Shaped asked reply
-  line_part (line.Put resource path plain) d = as_told (line.Put resource path plain) _ d.1
+  line_part (line.Put resource path plain) d = as_told (Shaped (line.Put resource path plain)) _ d.1
       (write_part link left count own old.caller new.caller k idle old.links new.links
       old.dice new.dice RewriteDone part adds resource path plain d.0 d.2)
-  line_part (line.Get path) d = as_told (line.Get path) _ d.1
+  line_part (line.Get path) d = as_told (Shaped (line.Get path)) _ d.1
       (read_part link left count own old.caller new.caller k idle old.links new.links
       old.dice new.dice RewriteDone part adds path d.0 d.2)
-  line_part (line.Delete path) d = as_told (line.Delete path) _ d.1
+  line_part (line.Delete path) d = as_told (Shaped (line.Delete path)) _ d.1
       (delete_part link left count own old.caller new.caller k idle old.links new.links
       old.dice new.dice RewriteDone part adds path d.0 d.2)
-  line_part line.Rewrite d = as_told line.Rewrite _ d.1
+  line_part line.Rewrite d = as_told (Shaped line.Rewrite) _ d.1
       (drive_part (linked link) left count own old.caller new.caller k idle old.links
       new.links tt old.dice new.dice part adds d.0 d.2)
-  line_part (line.Reload named file) d = reloaded named file d
-  line_part line.Refresh d = as_told line.Refresh _ d.1
+  line_part (line.Reload named file) (rows, read, inl none) = (
+    rows,
+    read,
+    as_told (ReloadShape link count own old new part named rows) _ none.0
+        (inl (unchanged none.1)),
+  )
+  line_part (line.Reload named file) (rows, read, inr d) = (
+    rows,
+    read,
+    as_told (ReloadShape link count own old new part named rows) _ d.1
+        (reload_part link left count own old.caller new.caller k idle old.links new.links old.dice
+        new.dice RewriteDone part adds named rows d.0 d.2),
+  )
+  line_part line.Refresh d = as_told (Shaped line.Refresh) _ d.1
       (refresh_part link left count own old.caller new.caller k idle old.links new.links
       old.dice new.dice RewriteDone part adds d.0 d.2)
-  line_part (line.Join named file) d = joined named file d
+  line_part (line.Join named file) (rows, read, inl none) = (
+    rows,
+    read,
+    as_told (JoinShape link count own old new part named rows) _ none.0
+        (inl (unchanged none.1)),
+  )
+  line_part (line.Join named file) (rows, read, inr d) = (
+    rows,
+    read,
+    as_told (JoinShape link count own old new part named rows) _ d.1
+        (join_part link left count own old.caller new.caller k idle old.links new.links old.dice
+        new.dice RewriteDone part adds named rows d.0 d.2),
+  )
   line_part (line.Leave named) d = leave_part link left count own old.caller new.caller k
       idle old.links new.links old.dice new.dice RewriteDone part adds (rows_at files) named d.0 reply
       d.1 d.2

@@ -27,8 +27,8 @@ use Rattle.kr_history.specs.declared.call.CallNo.TheVariants as refusal
 use Rattle.kr_history.proofs.Following.{adopted_law}
 use Rattle.kr_history.proofs.Nexts.{adopted_admitted, caller_next}
 use Rattle.kr_fleet.specs.LoadCalls.{AreKeysSame, AsksInVain, AsksUpTo, Brings, BringsBy, IsJoin, IsKeyChanged, IsRefresh, IsReload, Refreshes, plugin_names, reload_of}
-use Rattle.kr_fleet.specs.declared.outcome.Joining.{Joining}
-use Rattle.kr_fleet.specs.declared.outcome.Joining.TheVariants as joining
+use Rattle.kr_history.specs.declared.outcome.Joining.{Joining}
+use Rattle.kr_history.specs.declared.outcome.Joining.TheVariants as joining
 use Rattle.kr_fleet.specs.declared.outcome.Loaded.{Loaded}
 use Rattle.kr_fleet.specs.declared.outcome.Loaded.TheVariants as loaded
 use Rattle.kr_script.specs.declared.told.Told.{Told}
@@ -125,17 +125,12 @@ module _ {L D : Type 0} (link : L → Link) (left : D → Option (List ℕ))
         → IfTold ReloadsPart (told_of_reload old.seat result)
     reload_part (Ok (loaded.Generation number)) b = reloaded (answer.Reloaded number) b
     reload_part (Ok (loaded.Refused verdict)) b = reloaded (answer.Refused verdict) b
-    reload_part (Ok (loaded.Moved number)) b = absurd b
-    reload_part (Ok (loaded.Unchanged number)) b = absurd b
-    reload_part (Err (refusal.Refused why)) b = absurd b
     reload_part (Err (refusal.PluginFailed name)) b = (
       b.0.0,
       ends_there link left count rows olds dice after name b.0.1,
       none b.1,
     )
     reload_part (Err refusal.DiceFailed) b = (refl, b.0.3, none b.1)
-    reload_part (Err refusal.StoreFailed) b = absurd b
-    reload_part (Err (refusal.StoreFull needed)) b = absurd b
     reload_part (Err (refusal.Unhealthy name field text)) b =
         (b.0.1, b.0.0.there, none b.1)
     reload_part (Err refusal.Gone) b = reloaded (answer.Gone named) b
@@ -143,6 +138,7 @@ module _ {L D : Type 0} (link : L → Link) (left : D → Option (List ℕ))
     reload_part (Err refusal.NoMemory) (inl b) = inl (none b.1)
     reload_part (Err refusal.NoMemory) (inr (inl b)) = inl (none b.1)
     reload_part (Err refusal.NoMemory) (inr (inr b)) = inr (reloaded answer.NoMemory b)
+    reload_part other b = absurd b
 
     pub join_part : (result : Result Joining CallNo)
         → IsJoin link left count rows named old olds dice result new news after
@@ -150,22 +146,19 @@ module _ {L D : Type 0} (link : L → Link) (left : D → Option (List ℕ))
     join_part (Ok (joining.Generation number)) b = joined (answer.Joined number) b
     join_part (Ok (joining.Refused verdict)) b = joined (answer.Refused verdict) b
     join_part (Ok (joining.Present number)) b = joined (answer.Present number) b
-    join_part (Err (refusal.Refused why)) b = absurd b
     join_part (Err (refusal.PluginFailed name)) b = (
       b.0.0,
       ends_there link left count rows olds dice after name b.0.1,
       none b.1,
     )
     join_part (Err refusal.DiceFailed) b = (refl, b.0.3, none b.1)
-    join_part (Err refusal.StoreFailed) b = absurd b
-    join_part (Err (refusal.StoreFull needed)) b = absurd b
     join_part (Err (refusal.Unhealthy name field text)) b =
         (b.0.1, b.0.0.there, none b.1)
-    join_part (Err refusal.Gone) b = absurd b
     join_part (Err refusal.Spent) b = tt
     join_part (Err refusal.NoMemory) (inl b) = inl (none b.1)
     join_part (Err refusal.NoMemory) (inr (inl b)) = inl (none b.1)
     join_part (Err refusal.NoMemory) (inr (inr b)) = inr (joined answer.NoMemory b)
+    join_part (Err other) b = absurd b
 
   -- ---- a refresh
 
@@ -176,18 +169,13 @@ module _ {L D : Type 0} (link : L → Link) (left : D → Option (List ℕ))
 
   early_refresh : (why : CallNo) → AdoptsNothing own old why new
       → IfTold RefreshesPart (told_of_refusal old.seat why)
-  early_refresh (refusal.Refused why) e = absurd e
-  early_refresh (refusal.PluginFailed name) e = absurd e
-  early_refresh refusal.DiceFailed e = absurd e
-  early_refresh refusal.StoreFailed e = absurd e
-  early_refresh (refusal.StoreFull needed) e = absurd e
-  early_refresh (refusal.Unhealthy name field text) e = absurd e
   early_refresh refusal.Gone e =
       inl (part_here (IsOut own) old new part adds (out_parted own old new k idle e))
   early_refresh refusal.Spent e = tt
   early_refresh refusal.NoMemory (inl same) = inl (none same)
   early_refresh refusal.NoMemory (inr e) =
       inr (inl (added_one (event.Adopt own) answer.NoMemory e))
+  early_refresh other e = absurd e
 
   module _ (number : ℕ) (p : Publication) (adopted acted : Caller)
       (a : AddsEntry old (event.Adopt own) (answer.Adopted number p) adopted)
@@ -273,23 +261,18 @@ module _ {L D : Type 0} (link : L → Link) (left : D → Option (List ℕ))
     -- the plugins couldn't be asked
     in_vain : (why : CallNo) → AsksInVain link olds p.seeds why news → acted ≡ adopted
         → IfTold RefreshesPart (told_of_refusal old.seat why)
-    in_vain (refusal.Refused why) v same = absurd v
     in_vain (refusal.PluginFailed name) v same = (
       v.1,
       none_brought (λ p. Contains (plugins_in p.rows) name)
           (asked_there link olds p name published v.0) same,
     )
-    in_vain refusal.DiceFailed v same = absurd v
-    in_vain refusal.StoreFailed v same = absurd v
-    in_vain (refusal.StoreFull needed) v same = absurd v
     in_vain (refusal.Unhealthy name field text) v same = (
       v.1,
       none_brought (λ p. Contains (plugins_in p.rows) name)
           (asked_there link olds p name published v.0) same,
     )
-    in_vain refusal.Gone v same = absurd v
-    in_vain refusal.Spent v same = absurd v
     in_vain refusal.NoMemory v same = inr (inr (lacks_early same))
+    in_vain other v same = absurd v
 
     -- or were, and the settings couldn't be published or brought
     renews_not : (links : List L) → AskedOnly link (plugin_names p.seeds) olds links
@@ -297,7 +280,6 @@ module _ {L D : Type 0} (link : L → Link) (left : D → Option (List ℕ))
         → BringsBy link left count p.rows (reload_of own (Some number)) own adopted links dice
         why acted news after
         → IfTold RefreshesPart (told_of_refusal old.seat why)
-    renews_not links asked changed (refusal.Refused why) b = absurd b
     renews_not links asked changed (refusal.PluginFailed name) b = (
       rose_later link (plugin_names p.seeds) name olds links news asked b.0.0,
       none_brought (λ p. Contains (plugins_in p.rows) name)
@@ -310,8 +292,6 @@ module _ {L D : Type 0} (link : L → Link) (left : D → Option (List ℕ))
           (held_parted own old adopted acted new number p (λ p number mids. mids ≡ []) a g
           (none_between number p (λ mids. mids ≡ []) adopted acted b.1 refl)),
     )
-    renews_not links asked changed refusal.StoreFailed b = absurd b
-    renews_not links asked changed (refusal.StoreFull needed) b = absurd b
     renews_not links asked changed (refusal.Unhealthy name field text) b = (
       had link (plugin_names p.seeds) name (λ it. HasBreach it (Some (field, text))) olds links
           (breach_back (Some (field, text))) asked b.0.1,
@@ -323,6 +303,7 @@ module _ {L D : Type 0} (link : L → Link) (left : D → Option (List ℕ))
     renews_not links asked changed refusal.NoMemory (inr (inl b)) = inr (inr (lacks_early b.1))
     renews_not links asked changed refusal.NoMemory (inr (inr b)) =
         inr (inr (lacks_late links b))
+    renews_not links asked changed other b = absurd b
 
     refreshes_part : (result : Result Loaded CallNo)
         → Refreshes link left count own number p adopted olds dice result acted news after

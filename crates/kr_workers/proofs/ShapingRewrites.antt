@@ -258,17 +258,7 @@ module _ {S : Type 0} (reader : Reader S) where
     replaced stale stored answer.NoMemory result a r = subst RowDoes (sym r)
         (both_entries stale stored answer.NoMemory a (Lacks p above)
         (inr (inr (row.path, resealed stale stored answer.NoMemory a))))
-    replaced stale stored (answer.Adopted other q) result a r = absurd r
-    replaced stale stored (answer.Found other) result a r = absurd r
-    replaced stale stored answer.Absent result a r = absurd r
-    replaced stale stored answer.Released result a r = absurd r
-    replaced stale stored (answer.Reloaded other) result a r = absurd r
-    replaced stale stored (answer.Joined other) result a r = absurd r
-    replaced stale stored (answer.Refused verdict) result a r = absurd r
-    replaced stale stored (answer.Moved other) result a r = absurd r
-    replaced stale stored (answer.Present other) result a r = absurd r
-    replaced stale stored (answer.Departed other) result a r = absurd r
-    replaced stale stored (answer.Gone replica) result a r = absurd r
+    replaced stale stored other result a r = absurd r
 
     sealed_anew : (plain : List ℕ) → MakesData p row plain true
         → (sealed : Result (List ℕ) SealNo) (result : Result Step CallNo)
@@ -366,17 +356,6 @@ module _ {S : Type 0} (reader : Reader S) where
         none_found : (result : Result Step CallNo) → FindsNone above old result new → Does result
         none_found (Ok step.End) n = one_between number p old new (event.After above)
             answer.Absent k held n (λ e. ⊤) tt
-        none_found (Ok (step.Rewritten path)) n = absurd n
-        none_found (Ok (step.Fresh path)) n = absurd n
-        none_found (Ok (step.Changed path)) n = absurd n
-        none_found (Ok (step.Left path)) n = absurd n
-        none_found (Err (refusal.Refused why)) n = absurd n
-        none_found (Err (refusal.PluginFailed name)) n = absurd n
-        none_found (Err refusal.DiceFailed) n = absurd n
-        none_found (Err refusal.StoreFailed) n = absurd n
-        none_found (Err (refusal.StoreFull needed)) n = absurd n
-        none_found (Err (refusal.Unhealthy name field text)) n = absurd n
-        none_found (Err refusal.Gone) n = absurd n
         none_found (Err refusal.Spent) n = tt
         none_found (Err refusal.NoMemory) n = parted_one (Mids number p (Lacks p above)) old new
             (event.After above) answer.NoMemory n (
@@ -388,6 +367,7 @@ module _ {S : Type 0} (reader : Reader S) where
                 is = tt;
               }),
             )
+        none_found other n = absurd n
 
         steps_do : (result : Result Step CallNo) → reader.IsSo from
             → StepsOver reader.Reads left count p above old from dice result new to after
@@ -411,7 +391,6 @@ module _ {S : Type 0} (reader : Reader S) where
               a g s,
           released_law acted new g,
         )
-        held_step number p adopted acted a g (Err (refusal.Refused why)) s = absurd s
         held_step number p adopted acted a g (Err (refusal.PluginFailed name)) s = (
           s.0,
           held_parted own old adopted acted new number p
@@ -428,22 +407,15 @@ module _ {S : Type 0} (reader : Reader S) where
         held_step number p adopted acted a g (Err (refusal.StoreFull needed)) s =
             held_parted own old adopted acted new number p (λ p number mids. IsFull p above mids) a
             g s
-        held_step number p adopted acted a g (Err (refusal.Unhealthy name field text)) s = absurd s
-        held_step number p adopted acted a g (Err refusal.Gone) s = absurd s
         held_step number p adopted acted a g (Err refusal.Spent) s = tt
         held_step number p adopted acted a g (Err refusal.NoMemory) s =
             parted_as (λ part. HoldsPart own part (λ p number mids. Lacks p above mids))
             (LacksAt own above) old new (λ part h. inr (inr h))
             (held_parted own old adopted acted new number p (λ p number mids. Lacks p above mids) a g
             s)
+        held_step number p adopted acted a g (Err other) s = absurd s
 
         early_step : (why : CallNo) → AdoptsNothing own old why new → AddsBy (Err why)
-        early_step (refusal.Refused why) e = absurd e
-        early_step (refusal.PluginFailed name) e = absurd e
-        early_step refusal.DiceFailed e = absurd e
-        early_step refusal.StoreFailed e = absurd e
-        early_step (refusal.StoreFull needed) e = absurd e
-        early_step (refusal.Unhealthy name field text) e = absurd e
         early_step refusal.Gone e = out_parted own old new k idle e
         early_step refusal.Spent e = tt
         early_step refusal.NoMemory (inl same) =
@@ -451,6 +423,7 @@ module _ {S : Type 0} (reader : Reader S) where
         early_step refusal.NoMemory (inr e) = parted_as (IsAlone (did.Adopt own) gave.Nothing)
             (LacksAt own above) old new (λ part h. inr (inl h))
             (alone old new (event.Adopt own) answer.NoMemory k idle e)
+        early_step other e = absurd e
 
         step_adds : (result : Result Step CallNo)
             → IsStepOver reader.Reads left count own above old from dice result new to after

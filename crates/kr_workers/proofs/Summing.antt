@@ -53,13 +53,7 @@ module _ (paths : ℕ) (parts : List Part) (part : Part) (k : ℕ) (below : k < 
 
 line_fits : (paths : ℕ) (asked : ScriptLine) → brought_count asked ≤ line_entries paths asked
 line_fits paths (line.Put resource path plain) = omega arith
-line_fits paths (line.Get path) = omega arith
-line_fits paths (line.Delete path) = omega arith
-line_fits paths line.Rewrite = omega arith
-line_fits paths (line.Reload replica file) = omega arith
-line_fits paths line.Refresh = omega arith
-line_fits paths (line.Join replica file) = omega arith
-line_fits paths (line.Leave replica) = omega arith
+line_fits paths other = omega arith
 
 lines_fit : (paths : ℕ) (lines : List ScriptLine) → reloads_of lines ≤ budget_of paths lines
 lines_fit paths [] = omega arith

@@ -5,8 +5,8 @@ use Rattle.kr_history.specs.declared.call.CallNo.TheVariants as refusal
 use Rattle.kr_history.specs.Acting.{Caller}
 use Rattle.kr_rollout.specs.Callers.{holding}
 use Rattle.kr_history.specs.Calls.{IsIdle, IsIdleAfter}
-use Rattle.kr_fleet.specs.declared.outcome.Joining.{Joining}
-use Rattle.kr_fleet.specs.declared.outcome.Joining.TheVariants as joining
+use Rattle.kr_history.specs.declared.outcome.Joining.{Joining}
+use Rattle.kr_history.specs.declared.outcome.Joining.TheVariants as joining
 use Rattle.kr_fleet.specs.declared.outcome.Loaded.{Loaded}
 use Rattle.kr_fleet.specs.declared.outcome.Loaded.TheVariants as loaded
 use Rattle.kr_fleet.specs.declared.outcome.Read.{Read}
@@ -22,15 +22,8 @@ use Rattle.kr_workers.specs.inner.Serving.{EndsFor, IsIdleAt, IsShortFor}
 
 pub idle_refused : (seat : ℕ) (why : CallNo) (new : Caller) → IsIdleAfter why new
     → IsIdleAt (told_of_refusal seat why) new
-idle_refused seat (refusal.Refused x) new h = h
-idle_refused seat (refusal.PluginFailed name) new h = h
-idle_refused seat refusal.DiceFailed new h = h
-idle_refused seat refusal.StoreFailed new h = h
-idle_refused seat (refusal.StoreFull needed) new h = h
-idle_refused seat (refusal.Unhealthy name field text) new h = h
-idle_refused seat refusal.Gone new h = h
 idle_refused seat refusal.Spent new h = tt
-idle_refused seat refusal.NoMemory new h = h
+idle_refused seat other new h = h
 
 pub idle_write : (seat : ℕ) (result : Result ℕ CallNo) (new : Caller) → IsIdle result new
     → IsIdleAt (told_of_write seat result) new
@@ -46,10 +39,8 @@ idle_read seat (Err why) new h = idle_refused seat why new h
 pub idle_refresh : (seat : ℕ) (result : Result Loaded CallNo) (new : Caller) → IsIdle result new
     → IsIdleAt (told_of_refresh seat result) new
 idle_refresh seat (Ok (loaded.Generation number)) new h = h
-idle_refresh seat (Ok (loaded.Refused verdict)) new h = h
-idle_refresh seat (Ok (loaded.Moved number)) new h = h
-idle_refresh seat (Ok (loaded.Unchanged number)) new h = h
 idle_refresh seat (Err why) new h = idle_refused seat why new h
+idle_refresh seat (Ok other) new h = h
 
 pub idle_drive : (seat : ℕ) (result : Result Report (Report × CallNo)) (new : Caller)
     → IsIdleAtEnd result new → IsIdleAt (told_of_drive seat result) new
@@ -69,15 +60,8 @@ spent_err T why e = λ i. Err (e i)
 module _ (asked : ScriptLine) (c : Caller) (seat : ℕ) where
   pub ends_refused : (why : CallNo) → (why ≡ refusal.Spent → IsShortFor asked c)
       → EndsFor asked c (told_of_refusal seat why)
-  ends_refused (refusal.Refused x) h = tt
-  ends_refused (refusal.PluginFailed name) h = tt
-  ends_refused refusal.DiceFailed h = tt
-  ends_refused refusal.StoreFailed h = tt
-  ends_refused (refusal.StoreFull needed) h = tt
-  ends_refused (refusal.Unhealthy name field text) h = tt
-  ends_refused refusal.Gone h = tt
   ends_refused refusal.Spent h = h refl
-  ends_refused refusal.NoMemory h = tt
+  ends_refused other h = tt
 
   -- the call of the line was cut short only where the seat may add fewer lines
   abbrev pub IsFewWhereSpent : {T : Type 0} → Result T CallNo → Type 0
@@ -109,25 +93,20 @@ module _ (asked : ScriptLine) (c : Caller) (seat : ℕ) where
   pub ends_join : (result : Result Joining CallNo) → IsFewWhereSpent result
       → EndsFor asked c (told_of_join seat result)
   ends_join (Ok (joining.Generation number)) h = tt
-  ends_join (Ok (joining.Refused verdict)) h = tt
-  ends_join (Ok (joining.Present number)) h = tt
   ends_join (Err why) h = ends_refused why (λ e. h (spent_err Joining why e))
+  ends_join (Ok other) h = tt
 
   pub ends_reload : (result : Result Loaded CallNo) → IsFewWhereSpent result
       → EndsFor asked c (told_of_reload seat result)
   ends_reload (Ok (loaded.Generation number)) h = tt
-  ends_reload (Ok (loaded.Refused verdict)) h = tt
-  ends_reload (Ok (loaded.Moved number)) h = tt
-  ends_reload (Ok (loaded.Unchanged number)) h = tt
   ends_reload (Err why) h = ends_refused why (λ e. h (spent_err Loaded why e))
+  ends_reload (Ok other) h = tt
 
   pub ends_refresh : (result : Result Loaded CallNo) → IsFewWhereSpent result
       → EndsFor asked c (told_of_refresh seat result)
   ends_refresh (Ok (loaded.Generation number)) h = tt
-  ends_refresh (Ok (loaded.Refused verdict)) h = tt
-  ends_refresh (Ok (loaded.Moved number)) h = tt
-  ends_refresh (Ok (loaded.Unchanged number)) h = tt
   ends_refresh (Err why) h = ends_refused why (λ e. h (spent_err Loaded why e))
+  ends_refresh (Ok other) h = tt
 
 -- of a rewrite that was cut short nothing is said
 pub ends_drive : (c : Caller) (seat : ℕ) (result : Result Report (Report × CallNo))

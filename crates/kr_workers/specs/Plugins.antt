@@ -49,9 +49,9 @@ pub record Reseals (path : List ℕ) (e : Entry) : Type 0 where
   pub is : Unseals envelope p.seeds (list_at p old.resource) path old.stored (Ok opened)
   pub sealing : IsSealing p old.resource path opened.plain new.stored
 
--- by these openings the source of the replaced row opens to the envelope's: a source by which the row
--- reads as these data. That is asked only where a plugin read the row and may have been asked for
--- its source
+-- by these openings the source of the replaced row opens to the envelope's: a source by which the
+-- row reads as these data. That is asked only where a plugin read the row and may have been asked
+-- for its source
 abbrev pub UnwrappedBy : {path : List ℕ} → {e : Entry} → Opens → Reseals path e → Type 0
 UnwrappedBy opens r =
     MayAskPlugin r.p.seeds (reader_in (list_at r.p r.old.resource) r.old.stored) r.envelope.object
@@ -62,18 +62,18 @@ abbrev pub ReaderOpens : Opens → List SeedRow → Option Who → Type 0
 ReaderOpens opens seeds None = ⊤
 ReaderOpens opens seeds (Some who) = SeedOpens opens seeds who
 
--- by these openings all that was asked for one row, or may have been: the seeds open of the provider
--- that read it and of the one that sealed its data anew, and so does its source
+-- by these openings all that was asked for one row, or may have been: the seeds open of the
+-- provider that read it and of the one that sealed its data anew, and so does its source
 pub record SourcesOpen {path : List ℕ} {e : Entry} (opens : Opens) (r : Reseals path e)
     : Type 0 where
   pub read : ReaderOpens opens r.p.seeds (reader_in (list_at r.p r.old.resource) r.old.stored)
   pub sealed : SeedOpens opens r.p.seeds (writer_at r.p r.old.resource)
   pub unwrapped : UnwrappedBy opens r
 
--- By any openings by which plugins unwrap what they wrapped the history is honest: by which each seed
--- of each configuration is what its source opens to, and each row that was replaced has a source
--- that opens to the one by which it reads as what was sealed anew. That rewrites keep their data
--- follows, and of one row by what was asked for that row alone
+-- By any openings by which plugins unwrap what they wrapped the history is honest: by which each
+-- seed of each configuration is what its source opens to, and each row that was replaced has a
+-- source that opens to the one by which it reads as what was sealed anew. That rewrites keep their
+-- data follows, and of one row by what was asked for that row alone
 pub record FollowsPlugins (o : Opening) (history : List Entry) : Type 0 where
   pub reseals : (front : List Entry) (e : Entry) (rest : List Entry) (path : List ℕ)
       → history ≡ front ++ e ∷ rest → IsReplaced path e → Reseals path e

@@ -1,5 +1,5 @@
 -- What a worker's line does: its call's own relation, and the reply that tells the call's result.
-use Rattle.std.specs.Prelude.{◌≡◌, ◌⊎◌, ◌<◌, ℕ, List, [], length, Option, None, Some, Result, Ok, ⊤}
+use Rattle.std.specs.Prelude.{◌≡◌, ◌⊎◌, ◌<◌, ℕ, List, [], length, Option, Some, Result, Ok, ⊤}
 use Rattle.kr_base.specs.Rules.{IsPath, IsResource}
 use Rattle.kr_config.specs.Kept.{ConfigEntry, plugins_in}
 use Rattle.kr_kms.specs.Cache.{CacheState}
@@ -9,7 +9,6 @@ use Rattle.kr_history.specs.declared.call.CallNo.{CallNo}
 use Rattle.kr_rollout.specs.declared.opening.Opening.{Opening}
 use Rattle.kr_history.specs.Acting.{Caller}
 use Rattle.kr_rollout.specs.Openings.{NamesAmong}
-use Rattle.kr_fleet.specs.declared.outcome.Joining.{Joining}
 use Rattle.kr_fleet.specs.declared.outcome.Loaded.{Loaded}
 use Rattle.kr_fleet.specs.declared.outcome.Read.{Read}
 use Rattle.kr_fleet.specs.SingleCalls.{IsDelete, IsLeave}
@@ -61,32 +60,36 @@ module _ {L D : Type 0} where
   abbrev pub LacksMemory : Workplace L D → Reply → Workplace L D → Type 0
   LacksMemory old reply new = (reply ≡ Ok told.Memory) × (new ≡ old)
 
+  -- such a call brings a file's settings, is told so, and asks their plugins alone, unless memory
+  -- lacked for one more owner of them
+  abbrev pub BringsFile : {R : Type 0} → (L → Link) → (told : ℕ → R → Reply) → (Calls : R → Type 0)
+      → List ConfigEntry → Workplace L D → Reply → Workplace L D → Type 0
+  BringsFile {R} link told Calls rows old reply new = LacksMemory old reply new
+      ⊎ ((result : R) × (reply ≡ told (seat_at old) result) × Calls result
+      × AskedOnly link (plugins_in rows) old.links new.links)
+
   -- links and random source aren't used
   abbrev pub UsesNeither : (old new : Workplace L D) → Type 0
   UsesNeither old new = (new.links ≡ old.links) × (new.dice ≡ old.dice)
 
--- the settings of a file that was read are brought so
-abbrev pub IfRead : Option (List ConfigEntry) → (List ConfigEntry → Type 0) → Type 0
-IfRead None Brings = ⊥
-IfRead (Some rows) Brings = Brings rows
+-- the file was read, and its settings are brought so
+abbrev pub WasRead : Option (List ConfigEntry) → (List ConfigEntry → Type 0) → Type 0
+WasRead found Brings = (rows : List ConfigEntry) × (found ≡ Some rows) × Brings rows
 
 module _ {L D : Type 0} (link : L → Link) (left : D → Option (List ℕ))
     (count : D → ℕ) where
-  -- the file's settings are published and brought, and their plugins alone are asked, unless memory
-  -- lacked for one more owner of them
+  -- by a reload, or by a join
   abbrev pub DoesReload : (replica : ℕ) → List ConfigEntry → Workplace L D → Reply → Workplace L D
       → Type 0
-  DoesReload replica rows old reply new = LacksMemory old reply new
-      ⊎ ((result : Result Loaded CallNo) × (reply ≡ told_of_reload (seat_at old) result)
-      × IsReload link left count rows replica old.caller old.links old.dice result new.caller
-      new.links new.dice × AskedOnly link (plugins_in rows) old.links new.links)
+  DoesReload replica rows old reply new = BringsFile link told_of_reload
+      (λ result. IsReload link left count rows replica old.caller old.links old.dice result
+      new.caller new.links new.dice) rows old reply new
 
   abbrev pub DoesJoin : (replica : ℕ) → List ConfigEntry → Workplace L D → Reply → Workplace L D
       → Type 0
-  DoesJoin replica rows old reply new = LacksMemory old reply new
-      ⊎ ((result : Result Joining CallNo) × (reply ≡ told_of_join (seat_at old) result)
-      × IsJoin link left count rows replica old.caller old.links old.dice result new.caller
-      new.links new.dice × AskedOnly link (plugins_in rows) old.links new.links)
+  DoesJoin replica rows old reply new = BringsFile link told_of_join
+      (λ result. IsJoin link left count rows replica old.caller old.links old.dice result
+      new.caller new.links new.dice) rows old reply new
 
   -- a line of a worker at this replica: a line that isn't of a replica's own speaks of the worker's
   abbrev pub Does : List SettingsFile → (replica : ℕ) → ScriptLine → Workplace L D → Reply
@@ -107,13 +110,13 @@ module _ {L D : Type 0} (link : L → Link) (left : D → Option (List ℕ))
       × IsDrive link left count replica [] old.caller old.links old.dice result new.caller
       new.links new.dice
   Does files replica (line.Reload named file) old reply new =
-      IfRead (rows_at files file) (λ rows. DoesReload named rows old reply new)
+      WasRead (rows_at files file) (λ rows. DoesReload named rows old reply new)
   Does files replica line.Refresh old reply new =
       (result : Result Loaded CallNo) × (reply ≡ told_of_refresh (seat_at old) result)
       × IsRefresh link left count replica old.caller old.links old.dice result new.caller
       new.links new.dice
   Does files replica (line.Join named file) old reply new =
-      IfRead (rows_at files file) (λ rows. DoesJoin named rows old reply new)
+      WasRead (rows_at files file) (λ rows. DoesJoin named rows old reply new)
   Does files replica (line.Leave named) old reply new =
       (result : Result (Option ℕ) CallNo) × (reply ≡ told_of_leave (seat_at old) result)
       × IsLeave named old.caller result new.caller × UsesNeither old new

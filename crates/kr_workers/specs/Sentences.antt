@@ -95,10 +95,10 @@ module _ {T L D : Type 0} (link : L → Link)
     (step : L → Exchange → L → Type 0) (left : D → Option (List ℕ))
     (count : D → ℕ) (files : List SettingsFile) (history : List Entry) (o : Opening) where
   -- each line has a reply, and one to a `get` tells the content of its path before the line's own
-  -- Fetch; that what stands there is honest, which this asks for, follows by any openings that agree
-  -- with all that the workers' plugins answered in this run, where the opening is honest by them.
-  -- Each reply has its cause, no worker's replies name an object as failed more often than its count
-  -- rose, and the ending has its cause too
+  -- Fetch; that what stands there is honest, which this asks for, follows by any openings that
+  -- agree with all that the workers' plugins answered in this run, where the opening is honest by
+  -- them. Each reply has its cause, no worker's replies name an object as failed more often than
+  -- its count rose, and the ending has its cause too
   pub record RepliesAreTrue (parts : List Part) (budgets : List ℕ) (old new : List (Worker T L D))
       : Type 0 where
     pub each : (number : ℕ) (part : Part) (worker : Worker T L D)

@@ -75,9 +75,9 @@ pub record BringsRows (brings : Publication → Did) (rows : List setting) (give
 -- What is known of the outside while the line was done: a plugin failed, or the random source, so
 -- the count of its faults rose; a plugin's status breaks a rule; no plugin tells another key than a
 -- configuration has, or one does. What a configuration makes of its settings, of data and of a row.
--- And the second page: what a rewrite did that is told so. `home` is the worker's own replica. Where
--- memory lacked a line did nothing, or what it asked for came to nothing, or a row that it found
--- wasn't read; a generation that it adopted is let go all the same
+-- And the second page: what a rewrite did that is told so. `home` is the worker's own replica.
+-- Where memory lacked a line did nothing, or what it asked for came to nothing, or a row that it
+-- found wasn't read; a generation that it adopted is let go all the same
 module _ (PluginFailed : (name : List ℕ) → Type 0) (SourceFailed : Type 0)
     (BreaksRule : (name : List ℕ) → Field → (text : List ℕ) → Type 0)
     (KeysAreSame KeyChanged : Publication → Type 0)

@@ -1,4 +1,5 @@
 -- Definitions that serve inner contracts alone.
+pub mod Bringing
 pub mod Serving
 pub mod WholeRuns
 pub mod Going

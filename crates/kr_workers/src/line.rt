@@ -3,6 +3,7 @@ ghost use Rattle.std.specs.Prelude.{◌≡◌, IfOk, IsSome, Some};
 ghost use Rattle.kr_config.specs.Kept.{rows_of};
 ghost use Rattle.kr_script.specs.declared.script.ScriptLine.TheVariants as line;
 ghost use Rattle.kr_workers.specs.Files.{rows_at};
+ghost use Rattle.kr_workers.specs.inner.Bringing.{line_by};
 ghost use Rattle.kr_workers.specs.inner.Serving.{IsReadyFor, Serves};
 
 use crate::files::{SettingsFile, file_settings};
@@ -47,12 +48,21 @@ pub(crate) fn serve_line<A: Acts, L: Kms, D: Dice>(
         ScriptLine::Reload {
             replica: named,
             file,
-        } => reload_line(alloc, acts, bench, files, replica, *named, file),
+        } => bring_line(
+            alloc,
+            acts,
+            bench,
+            files,
+            replica,
+            Way::Reload,
+            *named,
+            file,
+        ),
         ScriptLine::Refresh => refresh_line(alloc, acts, bench, files, replica),
         ScriptLine::Join {
             replica: named,
             file,
-        } => join_line(alloc, acts, bench, files, replica, *named, file),
+        } => bring_line(alloc, acts, bench, files, replica, Way::Join, *named, file),
         ScriptLine::Leave { replica: named } => leave_line(acts, bench, files, replica, *named),
     }
 }
@@ -133,45 +143,30 @@ fn delete_line<A: Acts, L: Kms, D: Dice>(
     told_of_delete(number, done)
 }
 
-/// The file's settings are brought.
-fn reload_line<A: Acts, L: Kms, D: Dice>(
-    alloc: Global,
-    acts: &mut A,
-    bench: &mut Bench<L, D>,
-    files: &[SettingsFile],
-    replica: u32,
-    named: u32,
-    file: &Text,
-) -> Result<Told, Spent>
-    requires ready { IsReadyFor L.link files.now replica (line.Reload named file.now)
-        (A.caller acts.old) bench.old }
-    ensures serves { Serves L.link L.step D.left D.count files.now replica
-        (line.Reload named file.now) (A.caller acts.old) bench.old result
-        (A.caller acts.new) bench.new }
-    ensures place { A.place acts.new ≡ A.place acts.old }
-{
-    let Ok(settings) = share_file_settings(files, file.as_str()) else {
-        return Ok(Told::Memory);
-    };
-    let number = acts.seat();
-    let done = reload(alloc, acts, bench, named, settings);
-    told_of_reload(number, done)
+/// How the settings of a file come to a replica.
+#[derive(Clone, Copy)]
+enum Way {
+    /// The replica is in.
+    Reload,
+    /// It isn't in.
+    Join,
 }
 
-/// The file's settings are brought to a replica that isn't in.
-fn join_line<A: Acts, L: Kms, D: Dice>(
+/// The file's settings are brought to the replica.
+fn bring_line<A: Acts, L: Kms, D: Dice>(
     alloc: Global,
     acts: &mut A,
     bench: &mut Bench<L, D>,
     files: &[SettingsFile],
     replica: u32,
+    way: Way,
     named: u32,
     file: &Text,
 ) -> Result<Told, Spent>
-    requires ready { IsReadyFor L.link files.now replica (line.Join named file.now)
+    requires ready { IsReadyFor L.link files.now replica (line_by way named file.now)
         (A.caller acts.old) bench.old }
     ensures serves { Serves L.link L.step D.left D.count files.now replica
-        (line.Join named file.now) (A.caller acts.old) bench.old result
+        (line_by way named file.now) (A.caller acts.old) bench.old result
         (A.caller acts.new) bench.new }
     ensures place { A.place acts.new ≡ A.place acts.old }
 {
@@ -179,8 +174,10 @@ fn join_line<A: Acts, L: Kms, D: Dice>(
         return Ok(Told::Memory);
     };
     let number = acts.seat();
-    let done = join(alloc, acts, bench, named, settings);
-    told_of_join(number, done)
+    match way {
+        Way::Reload => told_of_reload(number, reload(alloc, acts, bench, named, settings)),
+        Way::Join => told_of_join(number, join(alloc, acts, bench, named, settings)),
+    }
 }
 
 /// All stale objects are sealed anew, from the first path on.

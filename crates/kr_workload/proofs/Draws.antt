@@ -2,14 +2,14 @@
 -- since no configuration of a load names a plugin.
 use Rattle.std.specs.Prelude.{All, Contains}
 use Rattle.std.specs.Io.KnownBytes.{Consumes, Keeps}
-use Rattle.std.proofs.Common.{◌≡◌, ℕ, ◌+◌, ◌*◌, ◌≤◌, List, [], ◌∷◌, ◌++◌, length, map, Option, None, Some, Result, Ok, Err, inl, inr, refl, ap, sym, subst, ◌∙◌, arith}
+use Rattle.std.proofs.Common.{◌≡◌, ℕ, ◌+◌, ◌*◌, ◌≤◌, List, [], ◌∷◌, ◌++◌, length, map, Option, None, Result, Ok, Err, inl, inr, refl, ap, sym, subst, ◌∙◌, arith}
 use Rattle.std.proofs.KnownBytes.{Consumes-kept, Consumes-nil, Consumes-trans}
 use Rattle.std.proofs.lemmas.List.{length-append, length-map}
 use Rattle.std.proofs.lemmas.List.Elements.{All-head, All-tail}
 use Rattle.kr_base.specs.Streams.{TakesAtMost}
 use Rattle.kr_config.specs.Kept.{ConfigEntry, plugins_in}
 use Rattle.kr_config.specs.declared.who.Who.{Who}
-use Rattle.kr_config.specs.declared.who.Who.TheVariants.{Identity, Aescbc, Aesgcm, Kms}
+use Rattle.kr_config.specs.declared.who.Who.TheVariants.{Identity}
 use Rattle.kr_kms.specs.Calls.{Link}
 use Rattle.kr_kms.specs.Exchanges.{Exchange}
 use Rattle.kr_kms.specs.declared.seeds.SeedRow.{SeedRow}
@@ -34,20 +34,17 @@ use Rattle.kr_fleet.specs.WriteCalls.{IsWrite, Puts}
 use Rattle.kr_script.specs.declared.script.Part.{Part}
 use Rattle.kr_script.specs.declared.script.ScriptLine.{ScriptLine}
 use Rattle.kr_script.specs.declared.told.Told.{Told}
-use Rattle.kr_workers.specs.Files.{rows_at}
 use Rattle.kr_workers.specs.Histories.{StandsIn, first_place}
 use Rattle.kr_workers.specs.Replies.{Reply}
 use Rattle.kr_workers.specs.Runs.{DoesAll, LineDone, lines_in}
-use Rattle.kr_workers.specs.ScriptLines.{Does, DoesReload, IfRead, Workplace}
+use Rattle.kr_workers.specs.ScriptLines.{Does, DoesReload, Workplace}
 use Rattle.kr_workers.specs.declared.files.SettingsFile.{SettingsFile}
 use Rattle.kr_workload.specs.Loads.{configurations, lines_of, named_configuration}
 use Rattle.kr_workload.proofs.LoadLines.{IsLoadLine, file_bare, lines_are, lines_few}
 
 few_bytes : (who : Who) → draw_size who ≤ 44
 few_bytes Identity = omega arith
-few_bytes (Aescbc name secret) = omega arith
-few_bytes (Aesgcm name secret) = omega arith
-few_bytes (Kms name) = omega arith
+few_bytes other = omega arith
 
 none_within : {X : Type 0} (x : X) → Contains [] x → ⊥
 none_within x (k, below, is) = omega (arith, below)
@@ -105,39 +102,24 @@ module _ {L D : Type 0} (link : L → Link) (left : D → Option (List ℕ))
         → Puts left count resource path plain p from old done to new → Drew 44 old new
     puts_draw p from to old new (Ok revision) d =
         sealed p.seeds (writer_at p resource) path plain old new d.stored d.seals
-    puts_draw p from to old new (Err (refusal.Refused value.Short)) d = absurd d
-    puts_draw p from to old new (Err (refusal.Refused value.BadBlock)) d = absurd d
-    puts_draw p from to old new (Err (refusal.Refused value.BadPadding)) d = absurd d
-    puts_draw p from to old new (Err (refusal.Refused value.BadTag)) d = absurd d
-    puts_draw p from to old new (Err (refusal.Refused value.Wire)) d = absurd d
-    puts_draw p from to old new (Err (refusal.Refused value.KeyId)) d = absurd d
-    puts_draw p from to old new (Err (refusal.Refused value.Source)) d = absurd d
-    puts_draw p from to old new (Err (refusal.Refused value.Annotations)) d = absurd d
-    puts_draw p from to old new (Err (refusal.Refused value.SourceType)) d = absurd d
-    puts_draw p from to old new (Err (refusal.Refused value.NoData)) d = absurd d
-    puts_draw p from to old new (Err (refusal.Refused value.NotUtf8)) d = absurd d
-    puts_draw p from to old new (Err (refusal.Refused value.SeedLength)) d = absurd d
-    puts_draw p from to old new (Err (refusal.Refused value.NoProvider)) d = absurd d
     puts_draw p from to old new (Err (refusal.Refused value.LooksEncrypted)) d =
         unsealed p.seeds (writer_at p resource) path plain old new sealing.LooksEncrypted d.0
     puts_draw p from to old new (Err (refusal.Refused value.TooLarge)) d =
         unsealed p.seeds (writer_at p resource) path plain old new
         (sealing.TooLarge (length plain)) d.0
-    puts_draw p from to old new (Err (refusal.PluginFailed name)) d = absurd d
     puts_draw p from to old new (Err refusal.DiceFailed) d =
         unsealed p.seeds (writer_at p resource) path plain old new sealing.DiceFailed d.0
     puts_draw p from to old new (Err refusal.StoreFailed) d =
         sealed p.seeds (writer_at p resource) path plain old new d.stored d.seals
     puts_draw p from to old new (Err (refusal.StoreFull needed)) d =
         sealed p.seeds (writer_at p resource) path plain old new d.stored d.seals
-    puts_draw p from to old new (Err (refusal.Unhealthy name field text)) d = absurd d
-    puts_draw p from to old new (Err refusal.Gone) d = absurd d
     puts_draw p from to old new (Err refusal.Spent) d =
         sealed p.seeds (writer_at p resource) path plain old new d.stored d.seals
     puts_draw p from to old new (Err refusal.NoMemory) (inl d) =
         unsealed p.seeds (writer_at p resource) path plain old new sealing.NoMemory d.0
     puts_draw p from to old new (Err refusal.NoMemory) (inr d) =
         sealed p.seeds (writer_at p resource) path plain old new d.stored d.seals
+    puts_draw p from to old new (Err other) d = absurd d
 
     write_draws : (replica : ℕ) (from to : Caller) (old new : D) (result : Result ℕ CallNo)
         → IsWrite left count resource path plain replica from old result to new → Drew 44 old new
@@ -175,13 +157,10 @@ module _ {L D : Type 0} (link : L → Link) (left : D → Option (List ℕ))
     brings_draw : (replica : ℕ) (from to : Caller) (why : CallNo)
         → BringsBy link left count rows (reload_of replica None) replica from olds old why to
         news new → Drew 44 old new
-    brings_draw replica from to (refusal.Refused why) b = absurd b
     brings_draw replica from to (refusal.PluginFailed name) b =
         published_draws (Err (publishing.PluginFailed name)) b.0
     brings_draw replica from to refusal.DiceFailed b =
         published_draws (Err publishing.DiceFailed) b.0
-    brings_draw replica from to refusal.StoreFailed b = absurd b
-    brings_draw replica from to (refusal.StoreFull needed) b = absurd b
     brings_draw replica from to (refusal.Unhealthy name field text) b =
         published_draws (Err (publishing.Unhealthy name field text)) b.0
     brings_draw replica from to refusal.Gone b = published_draws (Ok b.p) b.publishes
@@ -191,6 +170,7 @@ module _ {L D : Type 0} (link : L → Link) (left : D → Option (List ℕ))
     brings_draw replica from to refusal.NoMemory (inr (inl b)) = published_draws (Ok b.0.0) b.0.1
     brings_draw replica from to refusal.NoMemory (inr (inr b)) =
         published_draws (Ok b.p) b.publishes
+    brings_draw replica from to other b = absurd b
 
     reload_draws : (replica : ℕ) (from to : Caller) (result : Result Loaded CallNo)
         → IsReload link left count rows replica from olds old result to news new
@@ -199,21 +179,16 @@ module _ {L D : Type 0} (link : L → Link) (left : D → Option (List ℕ))
         published_draws (Ok b.p) b.publishes
     reload_draws replica from to (Ok (loaded.Refused verdict)) b =
         published_draws (Ok b.p) b.publishes
-    reload_draws replica from to (Ok (loaded.Moved number)) b = absurd b
-    reload_draws replica from to (Ok (loaded.Unchanged number)) b = absurd b
     reload_draws replica from to (Err why) b = brings_draw replica from to why b
+    reload_draws replica from to (Ok other) b = absurd b
 
-  reloaded_draws : (named : ℕ) (found : Option (List ConfigEntry))
-      → ((rows : List ConfigEntry) → found ≡ Some rows → plugins_in rows ≡ [])
-      → (old new : Workplace L D) (reply : Reply)
-      → IfRead found (λ rows. DoesReload link left count named rows old reply new)
-      → Drew 44 old.dice new.dice
-  reloaded_draws named None bare old new reply d = absurd d
-  reloaded_draws named (Some rows) bare old new reply (inl none) =
+  reloaded_draws : (named : ℕ) (rows : List ConfigEntry) → plugins_in rows ≡ []
+      → (old new : Workplace L D) (reply : Reply) → DoesReload link left count named rows old reply
+      new → Drew 44 old.dice new.dice
+  reloaded_draws named rows bare old new reply (inl none) =
       drew_none 44 old.dice new.dice (ap (λ (w : Workplace L D). w.dice) none.1)
-  reloaded_draws named (Some rows) bare old new reply (inr d) =
-      reload_draws rows (bare rows refl) old.links new.links old.dice new.dice named old.caller
-      new.caller d.0 d.2
+  reloaded_draws named rows bare old new reply (inr d) = reload_draws rows bare old.links
+      new.links old.dice new.dice named old.caller new.caller d.0 d.2
 
   -- ---- the lines of a load
 
@@ -231,9 +206,10 @@ module _ {L D : Type 0} (link : L → Link) (left : D → Option (List ℕ))
         (λ (l : ScriptLine). Does link left count files replica l old reply new) is d in
         drew_none 44 old.dice new.dice g.3
     line_draws asked (inr (inr (named, file, is, which))) old new reply d =
-        reloaded_draws named (rows_at files file) (file_bare seed files files_are file which) old
-        new reply
-        (subst (λ (l : ScriptLine). Does link left count files replica l old reply new) is d)
+        let r = subst
+        (λ (l : ScriptLine). Does link left count files replica l old reply new) is d in
+        reloaded_draws named r.0 (file_bare seed files files_are file which r.0 r.1) old new reply
+        r.2
 
     module _ (step : L → Exchange → L → Type 0) where
       all_draw : (first : Workplace L D) (run : List LineDone) (last : Workplace L D)

@@ -14,27 +14,8 @@ use Rattle.kr_workload.specs.inner.Refusing.{ending_of_refusals, refuses, some_r
 
 -- a reply that doesn't count is a refusal
 counts_unless : (reply : Told) → (counts reply ≡ true) ⊎ (reply_ending reply ≡ ending.Refused)
-counts_unless (told.Put revision) = inl refl
-counts_unless (told.Got revision plain) = inl refl
-counts_unless (told.Deleted revision) = inl refl
-counts_unless told.Absent = inl refl
-counts_unless (told.Rewritten rewritten fresh changed left) = inl refl
-counts_unless (told.Reloaded generation) = inl refl
-counts_unless (told.Joined generation) = inl refl
-counts_unless (told.Present generation) = inl refl
-counts_unless (told.Left generation) = inl refl
-counts_unless told.Gone = inl refl
 counts_unless (told.Refused verdict) = inr refl
-counts_unless (told.Refreshed generation) = inl refl
-counts_unless told.Unchanged = inl refl
-counts_unless (told.Moved generation) = inl refl
-counts_unless (told.Value why) = inl refl
-counts_unless (told.Unhealthy name field text) = inl refl
-counts_unless (told.FaultPlugin name) = inl refl
-counts_unless (told.FaultDice seat) = inl refl
-counts_unless told.FaultStore = inl refl
-counts_unless told.Full = inl refl
-counts_unless told.Memory = inl refl
+counts_unless other = inl refl
 
 -- so one of another kind counts
 other_counts : (kind : Ending) → is_same ending.Refused kind ≡ false → (reply : Told)
@@ -82,26 +63,15 @@ pick fault memory full unhealthy refused =
 
 refused_at : (a b c d r s : Bool) → pick a b c d r ≡ ending.Refused
     → (if s then ending.Refused else ending.Done) ≡ pick a b c d s
-refused_at true b c d r s e =
-    absurd (false≢true (ap (λ k. is_same k ending.Refused) e))
-refused_at false true c d r s e =
-    absurd (false≢true (ap (λ k. is_same k ending.Refused) e))
-refused_at false false true d r s e =
-    absurd (false≢true (ap (λ k. is_same k ending.Refused) e))
-refused_at false false false true r s e =
-    absurd (false≢true (ap (λ k. is_same k ending.Refused) e))
 refused_at false false false false r s e = refl
+refused_at other b c d r s e = absurd (false≢true (ap (λ k. is_same k ending.Refused) e))
 
 other_at : (a b c d r s : Bool) (k : Ending) → pick a b c d r ≡ k
     → is_same k ending.Refused ≡ false → (s ≡ true → r ≡ true) → k ≡ pick a b c d s
-other_at true b c d r s k e apart back = sym e
-other_at false true c d r s k e apart back = sym e
-other_at false false true d r s k e apart back = sym e
-other_at false false false true r s k e apart back = sym e
 other_at false false false false true s k e apart back =
     absurd (false≢true (sym apart ∙ ap (λ k. is_same k ending.Refused) (sym e)))
 other_at false false false false false true k e apart back = absurd (false≢true (back refl))
-other_at false false false false false false k e apart back = sym e
+other_at other b c d r s k e apart back = sym e
 
 -- the load's ending by the tests of its replies
 pub load_picks : (replies : List (List Told × ℕ)) → ending_of_load replies

@@ -33,13 +33,10 @@ module _ (Said : List ℕ → List ℕ → Type 0) where
   else_fails : (test : Told → Bool) → IsElse test → (asked : ScriptLine) (reply : Told)
       → IsFullReply Said asked reply → test reply ≡ false
   else_fails test e (line.Put resource path plain) (told.Put revision) f = e.put revision
-  else_fails test e (line.Put resource path plain) reply f = absurd f
   else_fails test e (line.Get path) (told.Got revision plain) f = e.got revision plain
-  else_fails test e (line.Get path) reply f = absurd f
   else_fails test e (line.Reload replica file) (told.Reloaded generation) f =
       e.reloaded generation
   else_fails test e (line.Reload replica file) (told.Refused verdict) f = e.refused verdict
-  else_fails test e (line.Reload replica file) reply f = absurd f
   else_fails test e asked reply f = absurd f
 
   put_is : (resource path plain : List ℕ) (reply : Told)
@@ -180,15 +177,13 @@ module _ (seed size worker : ℕ) where
       → objects_run run ≡ map (λ number. (object_path worker number, plain_of seed size worker number))
       (range_with_len first count)
   all_got first zero few [] is all = refl
-  all_got first zero few (done ∷ run) is all =
-      absurd (let e = ap length is in omega (arith, e))
-  all_got first (suc count) few [] is all = absurd (let e = ap length is in omega (arith, e))
   all_got first (suc count) few (done ∷ run) is all =
       let Is : LineDone → Type 0 = λ d. IsFullLine seed size worker d in
       let one = got_so done first (omega (arith, few)) (ap (head_line done.line) is)
       (All-head Is done run all) in
       let more = all_got (first + 1) count (omega (arith, few)) run (ap tail_lines is)
       (All-tail Is done run all) in λ i. one i ++ more i
+  all_got first other few another is all = absurd (let e = ap length is in omega (arith, e))
 
   module _ (run : List LineDone) (all : All (IsFullLine seed size worker) run)
       (p : Splits run (map (put_of seed size worker) (range_with_len 0 size))

@@ -74,12 +74,8 @@ record Four {X : Type 0} (xs : List X) : Type 0 where
   is : xs ≡ a ∷ (b ∷ (c ∷ (d ∷ [])))
 
 four_of : {X : Type 0} (xs : List X) → length xs ≡ 4 → Four xs
-four_of [] is = absurd (omega (arith, is))
-four_of (a ∷ []) is = absurd (omega (arith, is))
-four_of (a ∷ (b ∷ [])) is = absurd (omega (arith, is))
-four_of (a ∷ (b ∷ (c ∷ []))) is = absurd (omega (arith, is))
 four_of (a ∷ (b ∷ (c ∷ (d ∷ [])))) is = record { a = a; b = b; c = c; d = d; is = refl }
-four_of (a ∷ (b ∷ (c ∷ (d ∷ (e ∷ xs))))) is = absurd (omega (arith, is))
+four_of other is = absurd (omega (arith, is))
 
 -- ---- tests
 

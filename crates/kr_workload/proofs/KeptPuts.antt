@@ -39,13 +39,14 @@ use Rattle.kr_workers.specs.Sentences.{Replies}
 use Rattle.kr_workers.specs.declared.files.SettingsFile.{SettingsFile}
 use Rattle.kr_workers.specs.declared.worker.Worker.{Worker}
 use Rattle.kr_workers.proofs.Sentencing.{done_at}
+use Rattle.kr_workers.proofs.HonestPlugins.{at_middle, step_there}
 use Rattle.kr_workload.specs.KeptPuts.{HasRow, PutsAreKept}
 use Rattle.kr_workload.specs.LoadRuns.{IsLoadRun, opening_rows}
 use Rattle.kr_workload.specs.Loads.{configurations, named_configuration, object_path, plain_of}
 use Rattle.kr_workload.specs.Loads as load
 use Rattle.kr_workload.proofs.FullRuns.{four_parts, its_lines, its_part, now, of_four, run_of, was}
 use Rattle.kr_workload.proofs.LineParts.{IsOf}
-use Rattle.kr_workload.proofs.LoadHistories.{at_middle, front_all, secrets, step_there}
+use Rattle.kr_workload.proofs.LoadHistories.{front_all, secrets}
 use Rattle.kr_workload.proofs.LoadSeats.{entries_owned, entry_in, put_told}
 use Rattle.kr_workload.proofs.PutParts.{HasWritten, TellsPut}
 use Rattle.kr_workload.proofs.RunParts.{own_there, parted}
@@ -82,55 +83,28 @@ rows_among (file ∷ files) name rows is =
 
 brings_of : (seed : ℕ) (files : List SettingsFile) → map named_configuration files ≡ configurations seed
     → (asked : ScriptLine) (done : Did) → IsOf files asked done → Brings seed done
-brings_of seed files are asked (did.Adopt replica) is = tt
-brings_of seed files are asked (did.Fetch path) is = tt
-brings_of seed files are asked (did.After path) is = tt
-brings_of seed files are asked (did.Put path resource plain) is = tt
-brings_of seed files are asked (did.Delete path) is = tt
-brings_of seed files are asked (did.Replace path from) is = tt
-brings_of seed files are asked did.LetGo is = tt
 brings_of seed files are asked (did.Reload replica p expect) (named, file, line, found) =
     subst (λ fs. Contains (map (λ (q : List ℕ × List ConfigEntry). q.1) fs) p.rows) are
     (rows_among files file p.rows found)
 brings_of seed files are asked (did.Join replica p) is = absurd is
-brings_of seed files are asked (did.Leave replica) is = tt
+brings_of seed files are asked other is = tt
 
 -- ---- generations
 
 new_of_load : (seed : ℕ) (done : Did) → Brings seed done
     → All (LoadGeneration seed) (new_generation done)
-new_of_load seed (did.Adopt replica) b = All-nil (LoadGeneration seed)
-new_of_load seed (did.Fetch path) b = All-nil (LoadGeneration seed)
-new_of_load seed (did.After path) b = All-nil (LoadGeneration seed)
-new_of_load seed (did.Put path resource plain) b = All-nil (LoadGeneration seed)
-new_of_load seed (did.Delete path) b = All-nil (LoadGeneration seed)
-new_of_load seed (did.Replace path from) b = All-nil (LoadGeneration seed)
-new_of_load seed did.LetGo b = All-nil (LoadGeneration seed)
 new_of_load seed (did.Reload replica p expect) b =
     All-cons (LoadGeneration seed) (record { replica = replica; published = p }) [] b
     (All-nil (LoadGeneration seed))
 new_of_load seed (did.Join replica p) b = absurd b
-new_of_load seed (did.Leave replica) b = All-nil (LoadGeneration seed)
+new_of_load seed other b = All-nil (LoadGeneration seed)
 
 module _ (P : Generation → Type 0) where
   if_new : (given : Gave) (done : Did) → All P (new_generation done)
       → All P (new_generations given done)
   if_new (gave.Reloaded number) done all = all
   if_new (gave.Joined number) done all = all
-  if_new (gave.Adopted number) done all = All-nil P
-  if_new (gave.Gone replica) done all = All-nil P
-  if_new (gave.Found revision) done all = All-nil P
-  if_new gave.Absent done all = All-nil P
-  if_new (gave.Written revision) done all = All-nil P
-  if_new (gave.Changed last) done all = All-nil P
-  if_new gave.StoreFailed done all = All-nil P
-  if_new (gave.StoreFull needed) done all = All-nil P
-  if_new gave.Released done all = All-nil P
-  if_new (gave.Refused verdict) done all = All-nil P
-  if_new (gave.Moved number) done all = All-nil P
-  if_new (gave.Present number) done all = All-nil P
-  if_new (gave.Departed number) done all = All-nil P
-  if_new gave.Nothing done all = All-nil P
+  if_new other done all = All-nil P
 
 module _ (seed : ℕ) where
   generations_all : (st : State) (history : List Entry)

@@ -1,6 +1,6 @@
 -- What a put, a get and a reload add to the history, by the relation of each call.
 use Rattle.std.specs.Prelude.{All, ⊤}
-use Rattle.std.proofs.Common.{◌≡◌, ℕ, List, [], ◌∷◌, ◌++◌, Option, None, Some, Result, Ok, Err, inl, inr, refl, ap, sym, subst, ◌∙◌, append-nil}
+use Rattle.std.proofs.Common.{◌≡◌, ℕ, List, [], ◌∷◌, ◌++◌, Option, None, Some, Result, Ok, Err, inl, inr, ap, sym, subst, ◌∙◌, append-nil}
 use Rattle.std.proofs.lemmas.List.{append_assoc}
 use Rattle.std.proofs.lemmas.List.Elements.{All-append, All-cons, All-nil}
 use Rattle.kr_config.specs.Kept.{ConfigEntry}
@@ -31,7 +31,7 @@ use Rattle.kr_script.specs.declared.script.ScriptLine.TheVariants as line
 use Rattle.kr_workers.specs.declared.files.SettingsFile.{SettingsFile}
 use Rattle.kr_workers.specs.Files.{rows_at}
 use Rattle.kr_workers.specs.Replies.{Reply}
-use Rattle.kr_workers.specs.ScriptLines.{Does, DoesReload, IfRead, Workplace}
+use Rattle.kr_workers.specs.ScriptLines.{Does, Workplace}
 
 -- ---- what an entry of a line may be
 
@@ -104,18 +104,13 @@ module _ {L D : Type 0} (link : L → Link) (left : D → Option (List ℕ))
 
   early_makes : (replica : ℕ) (old new : Caller) (why : CallNo)
       → AdoptsNothing replica old why new → Adding old new
-  early_makes replica old new (refusal.Refused why) e = absurd e
-  early_makes replica old new (refusal.PluginFailed name) e = absurd e
-  early_makes replica old new refusal.DiceFailed e = absurd e
-  early_makes replica old new refusal.StoreFailed e = absurd e
-  early_makes replica old new (refusal.StoreFull needed) e = absurd e
-  early_makes replica old new (refusal.Unhealthy name field text) e = absurd e
   early_makes replica old new refusal.Gone e =
       event_makes old new (event.Adopt replica) (answer.Gone replica) e tt
   early_makes replica old new refusal.Spent e = none_makes OfLine old new e
   early_makes replica old new refusal.NoMemory (inl e) = same_makes OfLine old new e
   early_makes replica old new refusal.NoMemory (inr e) =
       event_makes old new (event.Adopt replica) answer.NoMemory e tt
+  early_makes replica old new other e = absurd e
 
   let_go_makes : {T : Type 0} → (old new : Caller) (done result : Result T CallNo)
       → LetsGo old done result new → Adding old new
@@ -142,37 +137,22 @@ module _ {L D : Type 0} (link : L → Link) (left : D → Option (List ℕ))
     puts_make p old new dice after (Ok revision) d =
         event_makes old new (event.Put path resource plain d.stored) (answer.Written revision)
         d.put is
-    puts_make p old new dice after (Err (refusal.Refused value.Short)) d = absurd d
-    puts_make p old new dice after (Err (refusal.Refused value.BadBlock)) d = absurd d
-    puts_make p old new dice after (Err (refusal.Refused value.BadPadding)) d = absurd d
-    puts_make p old new dice after (Err (refusal.Refused value.BadTag)) d = absurd d
-    puts_make p old new dice after (Err (refusal.Refused value.Wire)) d = absurd d
-    puts_make p old new dice after (Err (refusal.Refused value.KeyId)) d = absurd d
-    puts_make p old new dice after (Err (refusal.Refused value.Source)) d = absurd d
-    puts_make p old new dice after (Err (refusal.Refused value.Annotations)) d = absurd d
-    puts_make p old new dice after (Err (refusal.Refused value.SourceType)) d = absurd d
-    puts_make p old new dice after (Err (refusal.Refused value.NoData)) d = absurd d
-    puts_make p old new dice after (Err (refusal.Refused value.NotUtf8)) d = absurd d
-    puts_make p old new dice after (Err (refusal.Refused value.SeedLength)) d = absurd d
-    puts_make p old new dice after (Err (refusal.Refused value.NoProvider)) d = absurd d
     puts_make p old new dice after (Err (refusal.Refused value.LooksEncrypted)) d =
         same_makes OfLine old new d.1
     puts_make p old new dice after (Err (refusal.Refused value.TooLarge)) d =
         same_makes OfLine old new d.1
-    puts_make p old new dice after (Err (refusal.PluginFailed name)) d = absurd d
     puts_make p old new dice after (Err refusal.DiceFailed) d = same_makes OfLine old new d.1
     puts_make p old new dice after (Err refusal.StoreFailed) d =
         event_makes old new (event.Put path resource plain d.stored) answer.StoreFailed d.put is
     puts_make p old new dice after (Err (refusal.StoreFull needed)) d =
         event_makes old new (event.Put path resource plain d.stored) (answer.StoreFull needed)
         d.put is
-    puts_make p old new dice after (Err (refusal.Unhealthy name field text)) d = absurd d
-    puts_make p old new dice after (Err refusal.Gone) d = absurd d
     puts_make p old new dice after (Err refusal.Spent) d = none_makes OfLine old new d.nothing
     puts_make p old new dice after (Err refusal.NoMemory) (inl d) =
         same_makes OfLine old new d.1
     puts_make p old new dice after (Err refusal.NoMemory) (inr d) =
         event_makes old new (event.Put path resource plain d.stored) answer.NoMemory d.put is
+    puts_make p old new dice after (Err other) d = absurd d
 
     write_makes : (replica : ℕ) (old new : Caller) (dice after : D) (result : Result ℕ CallNo)
         → IsWrite left count resource path plain replica old dice result new after
@@ -198,16 +178,12 @@ module _ {L D : Type 0} (link : L → Link) (left : D → Option (List ℕ))
       event_makes old new (event.Fetch path) (answer.Found d.0) d.1.found tt
   finds_make path p old new olds news (Err (refusal.PluginFailed name)) d =
       event_makes old new (event.Fetch path) (answer.Found d.0) d.1.found tt
-  finds_make path p old new olds news (Err refusal.DiceFailed) d = absurd d
-  finds_make path p old new olds news (Err refusal.StoreFailed) d = absurd d
-  finds_make path p old new olds news (Err (refusal.StoreFull needed)) d = absurd d
-  finds_make path p old new olds news (Err (refusal.Unhealthy name field text)) d = absurd d
-  finds_make path p old new olds news (Err refusal.Gone) d = absurd d
   finds_make path p old new olds news (Err refusal.Spent) d = none_makes OfLine old new d.0
   finds_make path p old new olds news (Err refusal.NoMemory) (inl d) =
       event_makes old new (event.Fetch path) (answer.Found d.0) d.1.found tt
   finds_make path p old new olds news (Err refusal.NoMemory) (inr d) =
       event_makes old new (event.Fetch path) answer.NoMemory d.0 tt
+  finds_make path p old new olds news (Err other) d = absurd d
 
   read_makes : (path : List ℕ) (replica : ℕ) (old new : Caller) (olds news : List L)
       (result : Result Read CallNo) → IsRead link path replica old olds result new news
@@ -234,37 +210,23 @@ module _ {L D : Type 0} (link : L → Link) (left : D → Option (List ℕ))
     brings_make : (why : CallNo)
         → BringsBy link left count rows (reload_of replica None) replica old olds dice why
         new news after → Adding old new
-    brings_make (refusal.Refused why) b = absurd b
     brings_make (refusal.PluginFailed name) b = same_makes OfLine old new b.1
     brings_make refusal.DiceFailed b = same_makes OfLine old new b.1
-    brings_make refusal.StoreFailed b = absurd b
-    brings_make (refusal.StoreFull needed) b = absurd b
     brings_make (refusal.Unhealthy name field text) b = same_makes OfLine old new b.1
     brings_make refusal.Gone b = brought_makes (answer.Gone replica) b
     brings_make refusal.Spent b = none_makes OfLine old new b.1
     brings_make refusal.NoMemory (inl b) = same_makes OfLine old new b.1
     brings_make refusal.NoMemory (inr (inl b)) = same_makes OfLine old new b.1
     brings_make refusal.NoMemory (inr (inr b)) = brought_makes answer.NoMemory b
+    brings_make other b = absurd b
 
     reload_makes : (result : Result Loaded CallNo)
         → IsReload link left count rows replica old olds dice result new news after
         → Adding old new
     reload_makes (Ok (loaded.Generation number)) b = brought_makes (answer.Reloaded number) b
     reload_makes (Ok (loaded.Refused verdict)) b = brought_makes (answer.Refused verdict) b
-    reload_makes (Ok (loaded.Moved number)) b = absurd b
-    reload_makes (Ok (loaded.Unchanged number)) b = absurd b
     reload_makes (Err why) b = brings_make why b
-
-  reloaded_makes : (named : ℕ) (file : List ℕ) → asked ≡ line.Reload named file
-      → (rows : Option (List ConfigEntry)) → rows_at files file ≡ rows → (old new : Workplace L D)
-      (reply : Reply) → IfRead rows (λ rows. DoesReload link left count named rows old reply
-      new) → Adding old.caller new.caller
-  reloaded_makes named file is None there old new reply d = absurd d
-  reloaded_makes named file is (Some rows) there old new reply (inl none) =
-      same_makes OfLine old.caller new.caller (ap (λ (w : Workplace L D). w.caller) none.1)
-  reloaded_makes named file is (Some rows) there old new reply (inr d) =
-      reload_makes named file is rows there named old.caller new.caller old.links new.links
-      old.dice new.dice d.0 d.2
+    reload_makes (Ok other) b = absurd b
 
   pub line_makes : (replica : ℕ) (it : ScriptLine) → asked ≡ it → IsSimple it
       → (old new : Workplace L D) (reply : Reply)
@@ -274,10 +236,9 @@ module _ {L D : Type 0} (link : L → Link) (left : D → Option (List ℕ))
       write_makes resource path plain is replica old.caller new.caller old.dice new.dice d.0 d.2
   line_makes replica (line.Get path) is simple old new reply d =
       read_makes path replica old.caller new.caller old.links new.links d.0 d.2
-  line_makes replica (line.Delete path) is simple old new reply d = absurd simple
-  line_makes replica line.Rewrite is simple old new reply d = absurd simple
-  line_makes replica (line.Reload named file) is simple old new reply d =
-      reloaded_makes named file is (rows_at files file) refl old new reply d
-  line_makes replica line.Refresh is simple old new reply d = absurd simple
-  line_makes replica (line.Join named file) is simple old new reply d = absurd simple
-  line_makes replica (line.Leave named) is simple old new reply d = absurd simple
+  line_makes replica (line.Reload named file) is simple old new reply (rows, read, inl none) =
+      same_makes OfLine old.caller new.caller (ap (λ (w : Workplace L D). w.caller) none.1)
+  line_makes replica (line.Reload named file) is simple old new reply (rows, read, inr d) =
+      reload_makes named file is rows read named old.caller new.caller old.links new.links
+      old.dice new.dice d.0 d.2
+  line_makes replica other is simple old new reply d = absurd simple

@@ -82,30 +82,8 @@ module _ (seed size worker number : ℕ) (small : size ≤ 10000) (few : worker 
       = subst (λ (d : List ℕ). IsOnly (puts (plain_of seed size worker number))
       (if bytes_eq own (object_path worker number) then Some (puts d) else None)) (sym p)
       (by_put seat other less down own is (bytes_eq own (object_path worker number)) refl)
-  change_only seat less (gave.Written revision) (did.Adopt replica) is = inl refl
-  change_only seat less (gave.Written revision) (did.Fetch own) is = inl refl
-  change_only seat less (gave.Written revision) (did.After own) is = inl refl
   change_only seat less (gave.Written revision) (did.Delete own) is = absurd is
-  change_only seat less (gave.Written revision) (did.Replace own from) is = inl refl
-  change_only seat less (gave.Written revision) did.LetGo is = inl refl
-  change_only seat less (gave.Written revision) (did.Reload replica p expect) is = inl refl
-  change_only seat less (gave.Written revision) (did.Join replica p) is = inl refl
-  change_only seat less (gave.Written revision) (did.Leave replica) is = inl refl
-  change_only seat less (gave.Adopted n) asked is = inl refl
-  change_only seat less (gave.Gone replica) asked is = inl refl
-  change_only seat less (gave.Found revision) asked is = inl refl
-  change_only seat less gave.Absent asked is = inl refl
-  change_only seat less (gave.Changed last) asked is = inl refl
-  change_only seat less gave.StoreFailed asked is = inl refl
-  change_only seat less (gave.StoreFull needed) asked is = inl refl
-  change_only seat less gave.Released asked is = inl refl
-  change_only seat less (gave.Reloaded n) asked is = inl refl
-  change_only seat less (gave.Joined n) asked is = inl refl
-  change_only seat less (gave.Refused verdict) asked is = inl refl
-  change_only seat less (gave.Moved n) asked is = inl refl
-  change_only seat less (gave.Present n) asked is = inl refl
-  change_only seat less (gave.Departed n) asked is = inl refl
-  change_only seat less gave.Nothing asked is = inl refl
+  change_only seat less other asked is = inl refl
 
   only_entry : (e : Entry) → IsLoadEntry seed size e
       → IsOnly (puts (plain_of seed size worker number))

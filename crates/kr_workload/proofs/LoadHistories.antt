@@ -40,6 +40,7 @@ use Rattle.kr_store.specs.declared.rows.Row as stored_row
 use Rattle.kr_workload.specs.Loads.{object_path, plain_of}
 use Rattle.kr_workload.proofs.LoadTexts.{path_short}
 use Rattle.kr_workload.proofs.Ruling.{piece_long}
+use Rattle.kr_workers.proofs.HonestPlugins.{at_middle, step_there}
 
 abbrev pub secrets : List ℕ
 secrets = codes "secrets"
@@ -76,16 +77,6 @@ module _ (seed size : ℕ) where
     pub asks : IsLoads seed size (seat_of e) e.line.did
 
 -- ---- lists
-
-pub step_there : (o : Opening) (st : State) (front : List Entry) (e : Entry) (rest : List Entry)
-    → IsRun o st (front ++ e ∷ rest) → IsStep o (state_from st front) e
-step_there o st [] e rest r = r.0
-step_there o st (x ∷ front) e rest r = step_there o (after st x) front e rest r.1
-
-pub at_middle : {X : Type 0} (P : X → Type 0) (xs : List X) (x : X) (ys : List X)
-    → All P (xs ++ x ∷ ys) → P x
-at_middle P [] x ys a = a 0 x (omega arith)
-at_middle P (y ∷ xs) x ys a = at_middle P xs x ys (λ k d l. a (suc k) d (omega arith))
 
 pub front_all : {X : Type 0} (P : X → Type 0) (xs ys : List X) → All P (xs ++ ys) → All P xs
 front_all P [] ys a = All-nil P
@@ -135,40 +126,14 @@ module _ (seed size worker : ℕ) (o : Opening) (current : List (Option ℕ)) (i
     in_after : (given : Gave) (asked : Did) (st : State) (held : Option ℕ)
         → IsLoads seed size worker asked → IsAnswer asked given st held
         → AreIn o (current_after given asked current)
-    in_after (gave.Adopted number) asked st held own is = i
-    in_after (gave.Gone replica) asked st held own is = i
-    in_after (gave.Found revision) asked st held own is = i
-    in_after gave.Absent asked st held own is = i
-    in_after (gave.Written revision) asked st held own is = i
-    in_after (gave.Changed last) asked st held own is = i
-    in_after gave.StoreFailed asked st held own is = i
-    in_after (gave.StoreFull needed) asked st held own is = i
-    in_after gave.Released asked st held own is = i
-    in_after (gave.Reloaded number) (did.Adopt replica) st held own is = i
-    in_after (gave.Reloaded number) (did.Fetch path) st held own is = i
-    in_after (gave.Reloaded number) (did.After path) st held own is = i
-    in_after (gave.Reloaded number) (did.Put path resource plain) st held own is = i
-    in_after (gave.Reloaded number) (did.Delete path) st held own is = i
-    in_after (gave.Reloaded number) (did.Replace path from) st held own is = i
-    in_after (gave.Reloaded number) did.LetGo st held own is = i
     in_after (gave.Reloaded number) (did.Reload replica p expect) st held own is =
         set_in o current replica number i
     in_after (gave.Reloaded number) (did.Join replica p) st held own is = absurd own
     in_after (gave.Reloaded number) (did.Leave replica) st held own is = absurd own
-    in_after (gave.Joined number) (did.Adopt replica) st held own is = i
-    in_after (gave.Joined number) (did.Fetch path) st held own is = i
-    in_after (gave.Joined number) (did.After path) st held own is = i
-    in_after (gave.Joined number) (did.Put path resource plain) st held own is = i
-    in_after (gave.Joined number) (did.Delete path) st held own is = i
-    in_after (gave.Joined number) (did.Replace path from) st held own is = i
-    in_after (gave.Joined number) did.LetGo st held own is = i
     in_after (gave.Joined number) (did.Reload replica p expect) st held own is =
         set_in o current replica number i
     in_after (gave.Joined number) (did.Join replica p) st held own is = absurd own
     in_after (gave.Joined number) (did.Leave replica) st held own is = absurd own
-    in_after (gave.Refused verdict) asked st held own is = i
-    in_after (gave.Moved number) asked st held own is = i
-    in_after (gave.Present number) asked st held own is = i
     in_after (gave.Departed number) (did.Adopt replica) st held own is = absurd is
     in_after (gave.Departed number) (did.Fetch path) st held own is = absurd is
     in_after (gave.Departed number) (did.After path) st held own is = absurd is
@@ -179,7 +144,7 @@ module _ (seed size worker : ℕ) (o : Opening) (current : List (Option ℕ)) (i
     in_after (gave.Departed number) (did.Reload replica p expect) st held own is = absurd is
     in_after (gave.Departed number) (did.Join replica p) st held own is = absurd is
     in_after (gave.Departed number) (did.Leave replica) st held own is = absurd own
-    in_after gave.Nothing asked st held own is = i
+    in_after other asked st held own is = i
 
 -- so no replica is answered to be gone
 module _ (seed size worker : ℕ) (o : Opening) (st : State) (i : AreIn o st.current) where
@@ -192,16 +157,11 @@ module _ (seed size worker : ℕ) (o : Opening) (st : State) (i : AreIn o st.cur
   none_gone : (asked : Did) (replica : ℕ) (held : Option ℕ) → IsLoads seed size worker asked
       → KeepsRules asked o → IsAnswer asked (gave.Gone replica) st held → ⊥
   none_gone (did.Adopt own) replica held is rules answer = not_gone own rules answer.2
-  none_gone (did.Fetch path) replica held is rules answer = answer
-  none_gone (did.After path) replica held is rules answer = answer
-  none_gone (did.Put path resource plain) replica held is rules answer = answer
-  none_gone (did.Delete path) replica held is rules answer = answer
-  none_gone (did.Replace path from) replica held is rules answer = answer
-  none_gone did.LetGo replica held is rules answer = answer
   none_gone (did.Reload own p expect) replica held is rules answer =
       not_gone own rules.0 answer.1
   none_gone (did.Join own p) replica held is rules answer = is
   none_gone (did.Leave own) replica held is rules answer = is
+  none_gone other replica held is rules answer = answer
 
 -- ---- the generations
 
@@ -209,42 +169,11 @@ keyed_after : (seed size worker : ℕ) (given : Gave) (asked : Did)
     → IsLoads seed size worker asked → All Keyed (new_generations given asked)
 keyed_after seed size worker (gave.Reloaded number) (did.Reload replica p expect) own =
     All-cons Keyed (record { replica = replica; published = p }) [] own (All-nil Keyed)
-keyed_after seed size worker (gave.Reloaded number) (did.Adopt replica) own = All-nil Keyed
-keyed_after seed size worker (gave.Reloaded number) (did.Fetch path) own = All-nil Keyed
-keyed_after seed size worker (gave.Reloaded number) (did.After path) own = All-nil Keyed
-keyed_after seed size worker (gave.Reloaded number) (did.Put path resource plain) own =
-    All-nil Keyed
-keyed_after seed size worker (gave.Reloaded number) (did.Delete path) own = All-nil Keyed
-keyed_after seed size worker (gave.Reloaded number) (did.Replace path from) own = All-nil Keyed
-keyed_after seed size worker (gave.Reloaded number) did.LetGo own = All-nil Keyed
 keyed_after seed size worker (gave.Reloaded number) (did.Join replica p) own = absurd own
-keyed_after seed size worker (gave.Reloaded number) (did.Leave replica) own = All-nil Keyed
 keyed_after seed size worker (gave.Joined number) (did.Reload replica p expect) own =
     All-cons Keyed (record { replica = replica; published = p }) [] own (All-nil Keyed)
-keyed_after seed size worker (gave.Joined number) (did.Adopt replica) own = All-nil Keyed
-keyed_after seed size worker (gave.Joined number) (did.Fetch path) own = All-nil Keyed
-keyed_after seed size worker (gave.Joined number) (did.After path) own = All-nil Keyed
-keyed_after seed size worker (gave.Joined number) (did.Put path resource plain) own =
-    All-nil Keyed
-keyed_after seed size worker (gave.Joined number) (did.Delete path) own = All-nil Keyed
-keyed_after seed size worker (gave.Joined number) (did.Replace path from) own = All-nil Keyed
-keyed_after seed size worker (gave.Joined number) did.LetGo own = All-nil Keyed
 keyed_after seed size worker (gave.Joined number) (did.Join replica p) own = absurd own
-keyed_after seed size worker (gave.Joined number) (did.Leave replica) own = All-nil Keyed
-keyed_after seed size worker (gave.Adopted number) asked own = All-nil Keyed
-keyed_after seed size worker (gave.Gone replica) asked own = All-nil Keyed
-keyed_after seed size worker (gave.Found revision) asked own = All-nil Keyed
-keyed_after seed size worker gave.Absent asked own = All-nil Keyed
-keyed_after seed size worker (gave.Written revision) asked own = All-nil Keyed
-keyed_after seed size worker (gave.Changed last) asked own = All-nil Keyed
-keyed_after seed size worker gave.StoreFailed asked own = All-nil Keyed
-keyed_after seed size worker (gave.StoreFull needed) asked own = All-nil Keyed
-keyed_after seed size worker gave.Released asked own = All-nil Keyed
-keyed_after seed size worker (gave.Refused verdict) asked own = All-nil Keyed
-keyed_after seed size worker (gave.Moved number) asked own = All-nil Keyed
-keyed_after seed size worker (gave.Present number) asked own = All-nil Keyed
-keyed_after seed size worker (gave.Departed number) asked own = All-nil Keyed
-keyed_after seed size worker gave.Nothing asked own = All-nil Keyed
+keyed_after seed size worker other asked own = All-nil Keyed
 
 -- what an entry names is one of them
 published_keyed : (generations : List Generation) (number : Option ℕ) (p : Publication)

@@ -153,7 +153,6 @@ module _ (seed : ℕ) (files : List SettingsFile)
       → (done : Did) → IsOf files asked done → IsLoads seed size worker done
   of_load size worker asked own (did.Adopt replica) is = tt
   of_load size worker asked own (did.Fetch path) is = tt
-  of_load size worker asked own (did.After path) is = absurd is
   of_load size worker asked (inl (number, below, put)) (did.Put path resource plain) is = (
     number,
     below,
@@ -166,8 +165,6 @@ module _ (seed : ℕ) (files : List SettingsFile)
   of_load size worker asked (inr (inr (replica, file, reload, named)))
       (did.Put path resource plain) is =
       absurd (false≢true (sym (ap is_put_line reload) ∙ ap is_put_line is))
-  of_load size worker asked own (did.Delete path) is = absurd is
-  of_load size worker asked own (did.Replace path from) is = absurd is
   of_load size worker asked own did.LetGo is = tt
   of_load size worker asked (inl (number, below, put)) (did.Reload replica p expect)
       (named, file, is, found) =
@@ -179,8 +176,7 @@ module _ (seed : ℕ) (files : List SettingsFile)
       (named, file, is, found) =
       let same : own ≡ file = ap (file_in file) (sym reload ∙ is) in
       file_keyed file p.rows (subst (λ f. (f ≡ codes "B") ⊎ (f ≡ codes "C")) same which) found
-  of_load size worker asked own (did.Join replica p) is = absurd is
-  of_load size worker asked own (did.Leave replica) is = absurd is
+  of_load size worker asked own other is = absurd is
 
 -- ---- how many entries they may add
 

@@ -11,7 +11,7 @@ use Rattle.kr_kms.specs.Calls.{Link}
 use Rattle.kr_kms.specs.Opens.{Opens}
 use Rattle.kr_provider.specs.Names.{names_of}
 use Rattle.kr_provider.specs.Publication.{Publication}
-use Rattle.kr_provider.specs.Reading.{Reading, data_of, refused, unopened}
+use Rattle.kr_provider.specs.Reading.{Reading, data_of, refused}
 use Rattle.kr_provider.specs.declared.refusal.ValueNo.{ValueNo}
 use Rattle.kr_provider.specs.declared.refusal.ValueNo.TheVariants as value
 use Rattle.kr_history.specs.ContentLaws.{NamesNoPlugin}
@@ -102,27 +102,11 @@ module _ {L D : Type 0} (link : L → Link) (count : D → ℕ) (history : List 
 
     pub no_fault : (asked : ScriptLine) (reply : Told) → Caused asked reply
         → is_same (reply_ending reply) ending.Fault ≡ false
-    no_fault asked (told.Put revision) c = refl
-    no_fault asked (told.Got revision plain) c = refl
-    no_fault asked (told.Deleted revision) c = refl
-    no_fault asked told.Absent c = refl
     no_fault asked (told.Rewritten rewritten fresh changed left) c = by_left (left == 0)
-    no_fault asked (told.Reloaded generation) c = refl
-    no_fault asked (told.Joined generation) c = refl
-    no_fault asked (told.Present generation) c = refl
-    no_fault asked (told.Left generation) c = refl
-    no_fault asked told.Gone c = refl
-    no_fault asked (told.Refused verdict) c = refl
-    no_fault asked (told.Refreshed generation) c = refl
-    no_fault asked told.Unchanged c = refl
-    no_fault asked (told.Moved generation) c = refl
-    no_fault asked (told.Value why) c = refl
-    no_fault asked (told.Unhealthy name field text) c = refl
     no_fault asked (told.FaultPlugin name) c = absurd (no_link c.1.old c.1.old_there)
     no_fault asked (told.FaultDice seat) c = absurd (calm.drawn c.2)
     no_fault asked told.FaultStore c = absurd (none_failed c.1)
-    no_fault asked told.Full c = refl
-    no_fault asked told.Memory c = refl
+    no_fault asked other c = refl
 
     -- ---- a put
 
@@ -135,71 +119,36 @@ module _ {L D : Type 0} (link : L → Link) (count : D → ℕ) (history : List 
             let w = calm.keyed t.entry (inside t.entry t.there) t.p t.published in
             no_identity w.name w.secret (sym w.writer ∙ t.writer)
         value_ends value.TooLarge c t = omega (arith, c, long)
-        value_ends value.Short c t = c
-        value_ends value.BadBlock c t = c
-        value_ends value.BadPadding c t = c
-        value_ends value.BadTag c t = c
-        value_ends value.Wire c t = c
-        value_ends value.KeyId c t = c
-        value_ends value.Source c t = c
-        value_ends value.Annotations c t = c
-        value_ends value.SourceType c t = c
-        value_ends value.NoData c t = c
-        value_ends value.NotUtf8 c t = c
-        value_ends value.SeedLength c t = c
-        value_ends value.NoProvider c t = c
+        value_ends other c t = c
 
         pub put_ends : (reply : Told) → Caused (line.Put secrets path plain) reply
             → TellsPut secrets path plain part reply
             → IsReply Said (line.Put secrets path plain) reply
         put_ends (told.Put revision) c t = inr tt
-        put_ends (told.Got revision found) c t = absurd c.0
-        put_ends (told.Deleted revision) c t = absurd c.0
-        put_ends told.Absent c t = absurd c.0
         put_ends (told.Rewritten rewritten fresh changed left) c t = absurd c
-        put_ends (told.Reloaded generation) c t = absurd c.0
-        put_ends (told.Joined generation) c t = absurd c.0
-        put_ends (told.Present generation) c t = absurd c.0
-        put_ends (told.Left generation) c t = absurd c.0
         put_ends told.Gone c t = absurd (none_gone c.1)
-        put_ends (told.Refused verdict) c t = absurd c.0
-        put_ends (told.Refreshed generation) c t = absurd c.0
-        put_ends told.Unchanged c t = absurd c.0
-        put_ends (told.Moved generation) c t = absurd c.0
         put_ends (told.Value why) c t = absurd (value_ends why c t)
-        put_ends (told.Unhealthy name field text) c t = absurd c.0
-        put_ends (told.FaultPlugin name) c t = absurd c.0
         put_ends (told.FaultDice seat) c t = absurd (calm.drawn c.2)
         put_ends told.FaultStore c t = absurd (none_failed c.1)
         put_ends told.Full c t = absurd (none_full c.1)
         put_ends told.Memory c t = inl refl
+        put_ends other c t = absurd c.0
 
       -- ---- a reload
 
       pub reload_ends : (replica : ℕ) (file : List ℕ) (reply : Told)
           → Caused (line.Reload replica file) reply → IsReply Said (line.Reload replica file) reply
-      reload_ends replica file (told.Put revision) c = absurd c.0
-      reload_ends replica file (told.Got revision found) c = absurd c.0
-      reload_ends replica file (told.Deleted revision) c = absurd c.0
-      reload_ends replica file told.Absent c = absurd c.0
       reload_ends replica file (told.Rewritten rewritten fresh changed left) c = absurd c
       reload_ends replica file (told.Reloaded generation) c = inr tt
-      reload_ends replica file (told.Joined generation) c = absurd c.0
-      reload_ends replica file (told.Present generation) c = absurd c.0
-      reload_ends replica file (told.Left generation) c = absurd c.0
       reload_ends replica file told.Gone c = absurd (none_gone c.1)
       reload_ends replica file (told.Refused verdict) c = inr tt
-      reload_ends replica file (told.Refreshed generation) c = absurd c.0
-      reload_ends replica file told.Unchanged c = absurd c.0
-      reload_ends replica file (told.Moved generation) c = absurd c.0
       reload_ends replica file (told.Value why) c = absurd c
       reload_ends replica file (told.Unhealthy name field text) c =
           absurd (no_link c.1.it c.1.there)
       reload_ends replica file (told.FaultPlugin name) c = absurd (no_link c.1.old c.1.old_there)
       reload_ends replica file (told.FaultDice seat) c = absurd (calm.drawn c.2)
-      reload_ends replica file told.FaultStore c = absurd c.0
-      reload_ends replica file told.Full c = absurd c.0
       reload_ends replica file told.Memory c = inl refl
+      reload_ends replica file other c = absurd c.0
 
       -- ---- a get
 
@@ -226,42 +175,27 @@ module _ {L D : Type 0} (link : L → Link) (count : D → ℕ) (history : List 
         data_in other content = other
 
         abbrev has_data : Option Reading → Bool
-        has_data None = false
         has_data (Some (data_of found)) = true
-        has_data (Some (refused why)) = false
-        has_data (Some unopened) = false
+        has_data other = false
 
         pub get_ends : (reply : Told) → Caused (line.Get path) reply
             → TellsGotContent heard o history seat path ahead part reply
             → IsReply Said (line.Get path) reply
-        get_ends (told.Put revision) c t = absurd c.0
         get_ends (told.Got revision found) c t =
             let now = known t.front t.fetch t.rest t.adopt t.there t.its in
             let same : plain ≡ found = sym (ap (data_in plain) (content_is t.front
             (Some (data_of found)) now
             (t.holds.1.known any (no_names t.front (t.fetch ∷ t.rest) t.there)))) in
             inr (subst (λ d. Said path d) same says)
-        get_ends (told.Deleted revision) c t = absurd c.0
         get_ends told.Absent c t =
             let now = known t.front t.fetch t.rest t.adopt t.there t.its in
             absurd (false≢true (ap has_data (content_is t.front None now (t.holds.1 any))))
         get_ends (told.Rewritten rewritten fresh changed left) c t = absurd c
-        get_ends (told.Reloaded generation) c t = absurd c.0
-        get_ends (told.Joined generation) c t = absurd c.0
-        get_ends (told.Present generation) c t = absurd c.0
-        get_ends (told.Left generation) c t = absurd c.0
         get_ends told.Gone c t = absurd (none_gone c.1)
-        get_ends (told.Refused verdict) c t = absurd c.0
-        get_ends (told.Refreshed generation) c t = absurd c.0
-        get_ends told.Unchanged c t = absurd c.0
-        get_ends (told.Moved generation) c t = absurd c.0
         get_ends (told.Value why) c t =
             let now = known t.front t.fetch t.rest t.adopt t.there t.its in
             absurd (false≢true (ap has_data (content_is t.front (Some (refused why)) now
             (t.holds.2.known any (no_names t.front (t.fetch ∷ t.rest) t.there)))))
-        get_ends (told.Unhealthy name field text) c t = absurd c.0
         get_ends (told.FaultPlugin name) c t = absurd (no_link c.1.old c.1.old_there)
-        get_ends (told.FaultDice seat) c t = absurd c.0
-        get_ends told.FaultStore c t = absurd c.0
-        get_ends told.Full c t = absurd c.0
         get_ends told.Memory c t = inl refl
+        get_ends other c t = absurd c.0

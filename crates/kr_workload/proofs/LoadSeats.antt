@@ -29,10 +29,11 @@ use Rattle.kr_workers.specs.ScriptLines.{Does}
 use Rattle.kr_workers.specs.declared.ending.Ending.TheVariants as ending
 use Rattle.kr_workers.specs.declared.files.SettingsFile.{SettingsFile}
 use Rattle.kr_workers.proofs.CausingRuns.{replies_have_causes}
+use Rattle.kr_workers.proofs.HonestPlugins.{at_middle}
 use Rattle.kr_workload.specs.Loads.{load_get_line, lines_of, object_path, plain_of, put_of, load_reloads}
 use Rattle.kr_workload.proofs.LineParts.{IsOf, line_makes}
 use Rattle.kr_workload.proofs.LoadContents.{stays_put}
-use Rattle.kr_workload.proofs.LoadHistories.{IsLoadEntry, at_middle, front_all, secrets}
+use Rattle.kr_workload.proofs.LoadHistories.{IsLoadEntry, front_all, secrets}
 use Rattle.kr_workload.proofs.LoadLines.{IsLoadLine, IsReloading, lines_are, lines_few, load_simple, reloading}
 use Rattle.kr_workload.proofs.LoadReplies.{IsCalm, IsFullReply, IsReply, get_ends, no_fault, put_ends, reload_ends}
 use Rattle.kr_workload.proofs.LoadTexts.{one_number}

@@ -121,28 +121,7 @@ module _ {D : Type 0} (left : D → Option (List ℕ)) (count : D → ℕ)
           published = adopts.records.shows;
           writer = d.0.1;
         }
-    puts_tell (Err (refusal.Refused value.Short)) d = tt
-    puts_tell (Err (refusal.Refused value.BadBlock)) d = tt
-    puts_tell (Err (refusal.Refused value.BadPadding)) d = tt
-    puts_tell (Err (refusal.Refused value.BadTag)) d = tt
-    puts_tell (Err (refusal.Refused value.Wire)) d = tt
-    puts_tell (Err (refusal.Refused value.KeyId)) d = tt
-    puts_tell (Err (refusal.Refused value.Source)) d = tt
-    puts_tell (Err (refusal.Refused value.Annotations)) d = tt
-    puts_tell (Err (refusal.Refused value.SourceType)) d = tt
-    puts_tell (Err (refusal.Refused value.NoData)) d = tt
-    puts_tell (Err (refusal.Refused value.NotUtf8)) d = tt
-    puts_tell (Err (refusal.Refused value.SeedLength)) d = tt
-    puts_tell (Err (refusal.Refused value.NoProvider)) d = tt
-    puts_tell (Err (refusal.Refused value.TooLarge)) d = tt
-    puts_tell (Err (refusal.PluginFailed name)) d = tt
-    puts_tell (Err refusal.DiceFailed) d = tt
-    puts_tell (Err refusal.StoreFailed) d = tt
-    puts_tell (Err (refusal.StoreFull needed)) d = tt
-    puts_tell (Err (refusal.Unhealthy name field text)) d = tt
-    puts_tell (Err refusal.Gone) d = tt
-    puts_tell (Err refusal.Spent) d = tt
-    puts_tell (Err refusal.NoMemory) d = tt
+    puts_tell (Err other) d = tt
 
   let_go_tells : (number : ℕ) (p : Publication) (adopted acted : Caller)
       (done result : Result ℕ CallNo)
@@ -159,16 +138,9 @@ module _ {D : Type 0} (left : D → Option (List ℕ)) (count : D → ℕ)
       → IsWrite left count resource path plain replica old dice result new after → Says result
   write_tells (Ok revision) (inl e) = absurd e
   write_tells (Err (refusal.Refused why)) (inl e) = absurd e.0
-  write_tells (Err (refusal.PluginFailed name)) (inl e) = tt
-  write_tells (Err refusal.DiceFailed) (inl e) = tt
-  write_tells (Err refusal.StoreFailed) (inl e) = tt
-  write_tells (Err (refusal.StoreFull needed)) (inl e) = tt
-  write_tells (Err (refusal.Unhealthy name field text)) (inl e) = tt
-  write_tells (Err refusal.Gone) (inl e) = tt
-  write_tells (Err refusal.Spent) (inl e) = tt
-  write_tells (Err refusal.NoMemory) (inl e) = tt
   write_tells result (inr h) = let_go_tells h.number h.p h.adopted h.acted h.done result h.adopts
       h.does h.lets_go
+  write_tells (Err other) (inl e) = tt
 
   -- ---- by the reply
 
@@ -188,22 +160,9 @@ module _ {D : Type 0} (left : D → Option (List ℕ)) (count : D → ℕ)
       → Tells reply
   refused_tells seat (refusal.Refused why) reply is t =
       subst (λ r. Tells r) (sym (ap (reply_in reply) is)) t
-  refused_tells seat (refusal.PluginFailed name) reply is t =
-      subst (λ r. Tells r) (sym (ap (reply_in reply) is)) tt
-  refused_tells seat refusal.DiceFailed reply is t =
-      subst (λ r. Tells r) (sym (ap (reply_in reply) is)) tt
-  refused_tells seat refusal.StoreFailed reply is t =
-      subst (λ r. Tells r) (sym (ap (reply_in reply) is)) tt
-  refused_tells seat (refusal.StoreFull needed) reply is t =
-      subst (λ r. Tells r) (sym (ap (reply_in reply) is)) tt
-  refused_tells seat (refusal.Unhealthy name field text) reply is t =
-      subst (λ r. Tells r) (sym (ap (reply_in reply) is)) tt
-  refused_tells seat refusal.Gone reply is t =
-      subst (λ r. Tells r) (sym (ap (reply_in reply) is)) tt
   refused_tells seat refusal.Spent reply is t =
       absurd (subst is_ok is tt)
-  refused_tells seat refusal.NoMemory reply is t =
-      subst (λ r. Tells r) (sym (ap (reply_in reply) is)) tt
+  refused_tells seat other reply is t = subst (λ r. Tells r) (sym (ap (reply_in reply) is)) tt
 
   pub put_tells : (seat : ℕ) (result : Result ℕ CallNo) (reply : Told)
       → Ok reply ≡ told_of_write seat result

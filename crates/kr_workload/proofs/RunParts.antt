@@ -16,7 +16,7 @@ use Rattle.kr_script.specs.declared.told.Told.{Told}
 use Rattle.kr_workers.specs.declared.files.SettingsFile.{SettingsFile}
 use Rattle.kr_workers.specs.Runs.{DoesAll, IsDone, LineDone, entries_in, lines_in, replies_in}
 use Rattle.kr_workers.specs.ScriptLines.{Workplace}
-use Rattle.kr_workload.proofs.LoadHistories.{at_middle}
+use Rattle.kr_workers.proofs.HonestPlugins.{at_middle}
 
 -- ---- lists
 
@@ -153,8 +153,6 @@ all_numbered : (f : ℕ → ScriptLine) (first size : ℕ) (run : List LineDone)
     → lines_in run ≡ map f (range_with_len first size)
     → All (IsNumbered f (first + size)) run
 all_numbered f first zero [] is = All-nil (IsNumbered f (first + 0))
-all_numbered f first zero (done ∷ run) is = absurd (let e = ap length is in omega (arith, e))
-all_numbered f first (suc size) [] is = absurd (let e = ap length is in omega (arith, e))
 all_numbered f first (suc size) (done ∷ run) is =
     let same : first + 1 + size ≡ first + suc size = omega arith in
     All-cons (IsNumbered f (first + suc size)) done run (record {
@@ -163,6 +161,7 @@ all_numbered f first (suc size) (done ∷ run) is =
       line_is = ap (head_line done.line) is;
     }) (subst (λ n. All (IsNumbered f n) run) same
     (all_numbered f (first + 1) size run (ap tail_lines is)))
+all_numbered f first other another is = absurd (let e = ap length is in omega (arith, e))
 
 -- and each number has its line
 numbered_there : (f : ℕ → ScriptLine) (first size : ℕ) (run : List LineDone)

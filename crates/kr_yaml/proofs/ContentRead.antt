@@ -399,36 +399,22 @@ leaf_begins bytes s = record {
   no_item = s.no_item;
 }
 
+leaf_from : (c : ℕ) (more : List ℕ) → (c == 32) ≡ false → (c == 35) ≡ false → (c == 45) ≡ false
+    → LeafStart (c ∷ more)
+leaf_from c more space hash item = record {
+  first = c;
+  more = more;
+  begins = refl;
+  no_space = space;
+  no_hash = hash;
+  no_item = λ rest. other_first c more (32 ∷ rest) item;
+}
+
 pub leaf_start : (d : Data) (bytes : List ℕ) → IsLeaf d bytes → LeafStart bytes
 leaf_start d bytes (scalar e bs s) = leaf_begins bs (scalar_start e bs s)
-leaf_start d bytes empty_list = record {
-  first = 91;
-  more = 93 ∷ [];
-  begins = refl;
-  no_space =
-      refl;
-  no_hash = refl;
-  no_item = λ rest. other_first 91 (93 ∷ []) (32 ∷ rest) refl;
-}
-leaf_start d bytes (flow_list ds bs p) = record {
-  first = 91;
-  more = bs ++ 93 ∷ [];
-  begins =
-      refl;
-  no_space = refl;
-  no_hash = refl;
-  no_item = λ rest. other_first 91 (bs ++ 93 ∷ [])
-      (32 ∷ rest) refl;
-}
-leaf_start d bytes empty_mapping = record {
-  first = 123;
-  more = 125 ∷ [];
-  begins = refl;
-  no_space =
-      refl;
-  no_hash = refl;
-  no_item = λ rest. other_first 123 (125 ∷ []) (32 ∷ rest) refl;
-}
+leaf_start d bytes empty_list = leaf_from 91 (93 ∷ []) refl refl refl
+leaf_start d bytes (flow_list ds bs p) = leaf_from 91 (bs ++ 93 ∷ []) refl refl refl
+leaf_start d bytes empty_mapping = leaf_from 123 (125 ∷ []) refl refl refl
 
 skip_leaf : (bytes rest : List ℕ) → LeafStart bytes → skip (bytes ++ rest) ≡ bytes ++ rest
 skip_leaf bytes rest s =

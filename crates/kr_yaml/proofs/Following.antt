@@ -80,11 +80,10 @@ breaks_more us line P n t b = record {
 
 pub first_more : (us : List (ℕ × Token)) (why : YamlNo) (n : ℕ) (t : Token) → IsFirst us why
     → IsFirst (us ++ (n, t) ∷ []) why
-first_more us (Outside line) n t h = absurd h
 first_more us (Indent line) n t h = breaks_more us line FormNone n t h
 first_more us (DuplicateKey line) n t h = breaks_more us line FormTwice n t h
 first_more us (Deep line) n t h = breaks_more us line FormDeep n t h
-first_more us NoMemory n t h = absurd h
+first_more us other n t h = absurd h
 
 breaks_here : (us : List (ℕ × Token)) (nodes : Nodes) (n : ℕ) (t : Token) (P : List Token → Type 0)
     → IsGoing us nodes → P (plain us ++ t ∷ []) → BreaksTree (us ++ (n, t) ∷ []) n P
@@ -103,7 +102,6 @@ breaks_here us nodes n t P g h = record {
 failed : (us : List (ℕ × Token)) (nodes : Nodes) (n : ℕ) (t : Token) (why : YamlNo)
     → IsGoing us nodes → Fails (put t (frame_views nodes.nodes.items) (option_map view nodes.value))
     (doubles t (frame_views nodes.nodes.items)) n why → IsFirst (us ++ (n, t) ∷ []) why
-failed us nodes n t (Outside line) g f = absurd f
 failed us nodes n t (Indent line) g f =
     subst (λ m. BreaksTree (us ++ (n, t) ∷ []) m FormNone) (sym f.0) (breaks_here us nodes n t FormNone
     g (none_forms (plain us) t (state_view nodes.nodes.items nodes.value) g.runs f.1))
@@ -131,7 +129,7 @@ failed us nodes n t (Deep line) g f =
           m.shape m.stands,
       omega arith,
     ))
-failed us nodes n t NoMemory g f = absurd f
+failed us nodes n t other g f = absurd f
 
 frames_count : (nodes : Nodes) → length (frame_views nodes.nodes.items) ≤ 16
 frames_count nodes = let few : length nodes.nodes.items ≤ 16 =

@@ -27,9 +27,8 @@ any_last k l (x ∷ ks) = ap (λ u. bytes_eq x k || u) (any_last k l ks)
 
 cond_or : (b v : Bool) → cond b true v ≡ (v || b)
 cond_or true true = refl
-cond_or true false = refl
 cond_or false true = refl
-cond_or false false = refl
+cond_or other another = refl
 
 pub with_key : (ks : List (List ℕ)) (key k : List ℕ) → cond (is_eq (slice_cmp nat_cmp key k)) true
     (list_any (λ x. bytes_eq x k) ks) ≡ list_any (λ x. bytes_eq x k) (ks ++ key ∷ [])

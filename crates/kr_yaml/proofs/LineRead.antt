@@ -470,16 +470,12 @@ left_by : (first m p : Bool) (o : Option (List Token)) (ts : List Token)
     → Left first m p o ts
 left_by true true p o ts h = inl (refl, refl, some_same [] ts h)
 left_by false true p o ts h = absurd cc
-left_by true false true o ts h = inr (refl, refl, h)
-left_by true false false o ts h = inr (refl, refl, h)
 left_by false false true o ts h = absurd cc
-left_by false false false o ts h = inr (refl, refl, h)
+left_by true false true o ts h = inr (refl, refl, h)
+left_by other false another o ts h = inr (refl, refl, h)
 
 unmarked_by : (allowed first m n p q : Bool) (o : Option (List Token)) (ts : List Token)
     → by_marks allowed first m n p q o ≡ Some ts → Unmarked allowed first m n p q o ts
-unmarked_by false first m n p q o ts h = absurd cc
-unmarked_by true first m true p q o ts h = absurd cc
-unmarked_by true first m false p true o ts h = absurd cc
 unmarked_by true first m false p false o ts h = record {
   allows = refl;
   no_more = refl;
@@ -487,6 +483,7 @@ unmarked_by true first m false p false o ts h = record {
       refl;
   left = left_by first m p o ts h;
 }
+unmarked_by other first m n p q o ts h = absurd cc
 
 first_of : (p first : Bool) → p ≡ true → (p && not first) ≡ false → first ≡ true
 first_of true true e h = refl

@@ -34,10 +34,8 @@ repeated_next c b ms l k v d st false e = cc
 
 next_length : (t : Token) (f : Frame) (d : Data) (st : State) → is_repeated t f ≡ true
     → next t f d ≡ Some st → length st.0 ≤ 1
-next_length (dash c) f d st h e = cc
-next_length (leaf c x) f d st h e = cc
-next_length (pair c k v) (items b ds) d st h e = cc
 next_length (pair c k v) (members b ms l) d st h e = repeated_next c b ms l k v d st (c == b) e
+next_length other f d st h e = cc
 
 abbrev Flat : Token → List Frame → Type 0
 Flat t fs = (o : Option Data) (st : State) → doubles t fs ≡ true → put t fs o ≡ Some st
@@ -198,39 +196,29 @@ one_breach : (us : List (ℕ × Token)) (why other : YamlNo) → IsFirst us why 
     → why ≡ other
 one_breach us (Outside n) other h k = absurd h
 one_breach us NoMemory other h k = absurd h
-one_breach us (Indent n) (Outside m) h k = absurd k
 one_breach us (Indent n) (Indent m) h k = ap Indent (meets us n m FormNone FormNone none_stops
     none_stops h k).line
 one_breach us (Indent n) (DuplicateKey m) h k = absurd (apart_none_twice us n m h k)
 one_breach us (Indent n) (Deep m) h k = absurd (apart_none_deep us n m h k)
-one_breach us (Indent n) NoMemory h k = absurd k
-one_breach us (DuplicateKey n) (Outside m) h k = absurd k
 one_breach us (DuplicateKey n) (Indent m) h k = absurd (apart_none_twice us m n k h)
 one_breach us (DuplicateKey n) (DuplicateKey m) h k =
     ap DuplicateKey (meets us n m FormTwice FormTwice twice_stops twice_stops h k).line
 one_breach us (DuplicateKey n) (Deep m) h k = absurd (apart_twice_deep us n m h k)
-one_breach us (DuplicateKey n) NoMemory h k = absurd k
-one_breach us (Deep n) (Outside m) h k = absurd k
 one_breach us (Deep n) (Indent m) h k = absurd (apart_none_deep us m n k h)
 one_breach us (Deep n) (DuplicateKey m) h k = absurd (apart_twice_deep us m n k h)
 one_breach us (Deep n) (Deep m) h k = ap Deep (meets us n m FormDeep FormDeep deep_stops deep_stops
     h k).line
-one_breach us (Deep n) NoMemory h k = absurd k
+one_breach us other another h k = absurd k
 
 refuses_first : (us : List (ℕ × Token)) (why : YamlNo) → Refuses (Ok us) why
     → (why ≡ NoMemory) ⊎ IsFirst us why
-refuses_first us (Outside n) h = inr h
-refuses_first us (Indent n) h = inr h
-refuses_first us (DuplicateKey n) h = inr h
-refuses_first us (Deep n) h = inr h
 refuses_first us NoMemory h = inl refl
+refuses_first us other h = inr h
 
 refuses_line : (n : ℕ) (why : YamlNo) → Refuses (Err n) why → (why ≡ NoMemory) ⊎ (why ≡ Outside n)
 refuses_line n (Outside m) h = inr (ap Outside h)
-refuses_line n (Indent m) h = absurd h
-refuses_line n (DuplicateKey m) h = absurd h
-refuses_line n (Deep m) h = absurd h
 refuses_line n NoMemory h = inl refl
+refuses_line n other h = absurd h
 
 tree_or : (wanted : Result (List (ℕ × Token)) ℕ) (x : Tree) (why : YamlNo) → ReadsTree wanted x
     → Refuses wanted why → why ≡ NoMemory

@@ -27,8 +27,7 @@ After c (leaf b d ∷ ts) = (c ≤ b) × (ts ≡ [])
 after_more : (c e : ℕ) (ts : List Token) → c ≤ e → After e ts → After c ts
 after_more c e [] h a = tt
 after_more c e (dash b ∷ ts) h a = (let l = a.0 in omega arith, a.1)
-after_more c e (pair b k v ∷ ts) h a = (let l = a.0 in omega arith, a.1)
-after_more c e (leaf b d ∷ ts) h a = (let l = a.0 in omega arith, a.1)
+after_more c e (other ∷ ts) h a = (let l = a.0 in omega arith, a.1)
 
 after_content : (c : ℕ) (bytes : List ℕ) (ts : List Token) → AreContentTokens c bytes ts → After c ts
 after_content c bytes ts (empty_item b) = (omega arith, tt)
@@ -37,9 +36,7 @@ after_content c bytes ts (item b n bs us h) = (
   after_more (suc b) (b + 1 + suc n) us (omega arith) (after_content (b + 1 + suc n)
       bs us h),
 )
-after_content c bytes ts (empty_member b key bs k) = (omega arith, refl)
-after_content c bytes ts (member b n key bs d more k l) = (omega arith, refl)
-after_content c bytes ts (value b d bs l h) = (omega arith, refl)
+after_content c bytes ts other = (omega arith, refl)
 
 after_line : (line : List ℕ) (ts : List Token) → IsLine line ts → After 0 ts
 after_line line ts (empty_line n) = tt
@@ -59,8 +56,7 @@ not_over (x ∷ front) t ts e = cc
 
 after_column : (c : ℕ) (u : Token) (rest : List Token) → After c (u ∷ rest) → c ≤ token_column u
 after_column c (dash b) rest a = a.0
-after_column c (pair b k v) rest a = a.0
-after_column c (leaf b d) rest a = a.0
+after_column c other rest a = a.0
 
 behind_of : (c : ℕ) (front : List Token) (t u : Token) (rest : List Token)
     → After c (front ++ t ∷ (u ∷ rest)) → Behind t u
@@ -70,11 +66,9 @@ behind_of c [] (dash b) u rest a = let h = after_column (suc b) u rest a.1 in re
   is = refl;
   right = omega arith;
 }
-behind_of c [] (pair b k v) u rest a = absurd (not_over [] u rest a.1)
-behind_of c [] (leaf b d) u rest a = absurd (not_over [] u rest a.1)
 behind_of c (dash b ∷ front) t u rest a = behind_of (suc b) front t u rest a.1
-behind_of c (pair b k v ∷ front) t u rest a = absurd (not_over front t (u ∷ rest) a.1)
-behind_of c (leaf b d ∷ front) t u rest a = absurd (not_over front t (u ∷ rest) a.1)
+behind_of c [] other u rest a = absurd (not_over [] u rest a.1)
+behind_of c (other ∷ front) t u rest a = absurd (not_over front t (u ∷ rest) a.1)
 
 -- the open nodes behind a dash stand at its column or to the left
 abbrev column : Frame → ℕ

@@ -27,11 +27,8 @@ NoComment text = (front rest : List ℕ) → text ≢ front ++ 32 ∷ (35 ∷ re
 
 all_four : (a b c d : Bool) → (not a && not b && not c && not d) ≡ true
     → (a ≡ false) × (b ≡ false) × (c ≡ false) × (d ≡ false)
-all_four true b c d h = absurd cc
-all_four false true c d h = absurd cc
-all_four false false true d h = absurd cc
-all_four false false false true h = absurd cc
 all_four false false false false h = (refl, refl, refl, refl)
+all_four other b c d h = absurd cc
 
 abbrev dash_space : List ℕ → Bool
 dash_space [] = false
@@ -184,6 +181,14 @@ no_comment_in front rest text more h e a b k =
     clash (h a (35 ∷ (b ++ more)) 32
     (e ∙ ap (λ l. l ++ more) k ∙ append_assoc a (32 ∷ (35 ∷ b)) more))
 
+-- what is cut is its text without the spaces at its end, these, and the rest
+parted : (front : List ℕ) {bs gone rest : List ℕ} → front ++ gone ≡ bs → gone ≡ rest
+    → bs ≡ trim front ++ (spaces (trim_is front).0 ++ rest)
+parted front {bs} {gone} {rest} whole behind =
+    let t = trim_is front in
+    sym whole ∙ ap (λ l. l ++ gone) t.1 ∙ append_assoc (trim front) (spaces t.0) gone
+    ∙ ap (λ l. trim front ++ (spaces t.0 ++ l)) behind
+
 value_made : (bs front gone : List ℕ) (s : Scalar) (rest : List ℕ) → NoSpaceFront bs
     → front ++ gone ≡ bs → Inside (stops KeyEnd) front gone → closes rest ≡ true
     → plain_scalar (plain_text front gone) gone ≡ found s rest
@@ -194,9 +199,7 @@ value_made bs front gone s rest f whole inside c h =
     let text : plain_text front gone ≡ trim front =
     ap (λ o. option_map_or (λ _. front) o (trim front)) none in
     let t = trim_is front in
-    let split : bs ≡ trim front ++ (spaces t.0 ++ rest) =
-    sym whole ∙ ap (λ l. l ++ gone) t.1 ∙ append_assoc (trim front) (spaces t.0) gone
-    ∙ ap (λ l. trim front ++ (spaces t.0 ++ l)) p.behind in (
+    let split = parted front whole p.behind in (
       record {
         text = trim front;
         count = t.0;
@@ -263,9 +266,7 @@ flow_made bs front gone s rest true f whole inside c h = absurd cc
 flow_made bs front gone s rest false f whole inside c h =
     let p = plain_read (trim front) gone s rest h in
     let t = trim_is front in
-    let split : bs ≡ trim front ++ (spaces t.0 ++ rest) =
-    sym whole ∙ ap (λ l. l ++ gone) t.1 ∙ append_assoc (trim front) (spaces t.0) gone
-    ∙ ap (λ l. trim front ++ (spaces t.0 ++ l)) p.behind in (
+    let split = parted front whole p.behind in (
       record {
         text = trim front;
         count = t.0;

@@ -215,15 +215,14 @@ pub added : (c : ℕ) (ms : List (List ℕ × Data)) (l k : List ℕ) (v : Optio
     (why : PlaceError) → Adds (members c ms l) d k (Err why)
     → GoesOn (next (pair c k v) (members c ms l) d) (is_repeated (pair c k v) (members c ms l))
     (Err why)
-added c ms l k v d Indent h = absurd h
 added c ms l k v d DuplicateKey h = (
   (members c (ms ++ (l, d) ∷ []) k ∷ [], v),
   ap
       (λ x. if x then Some (members c (ms ++ (l, d) ∷ []) k ∷ [], v) else None) (equal c),
   h,
 )
-added c ms l k v d Deep h = absurd h
 added c ms l k v d NoMemory h = tt
+added c ms l k v d other h = absurd h
 
 pub goes : (t u : Token) (f g : Frame) (d : Data) (why : PlaceError) → t ≡ u → f ≡ g
     → GoesOn (next u g d) (is_repeated u g) (Err why)

@@ -7,6 +7,7 @@ use Rattle.std.specs.Prelude.{if◌then◌else◌, ◌==◌, ◌||◌, nat_lt}
 use Rattle.std.specs.Option.{option_map_or}
 use Rattle.kr_yaml.specs.Bytes.{behind}
 use Rattle.kr_yaml.specs.inner.Stops.{stops, length_before_stop, at_stop, ascii_first}
+use Rattle.kr_yaml.specs.declared.bytes.ScanStop.{ScanStop}
 use Rattle.kr_yaml.specs.declared.bytes.ScanStop.TheVariants.{SingleQuote, DoubleQuote}
 use Rattle.kr_yaml.specs.inner.ScalarReading.{with_front, single, single_quote, double}
 use Rattle.kr_yaml.specs.inner.ScalarReading.{behind_backslash}
@@ -31,24 +32,50 @@ pub behind_cons : (c : ℕ) (bs m : List ℕ) → Some m ≡ behind c bs → bs 
 behind_cons c [] m h = cc
 behind_cons c (b ∷ bs) m h = chosen_cons c b bs m (b == c) refl h
 
--- single quotes
-single_at : (b : ℕ) (bs : List ℕ) (v : Bool) → (b == 39) ≡ v
-    → single bs ≡ with_front (take (length_before_stop (stops SingleQuote) bs) bs)
-    (single (drop (length_before_stop (stops SingleQuote) bs) bs))
-    → single (b ∷ bs) ≡ with_front
-    (take (if v then 0 else suc (length_before_stop (stops SingleQuote) bs)) (b ∷ bs))
-    (single (drop (if v then 0 else suc (length_before_stop (stops SingleQuote) bs)) (b ∷ bs)))
-single_at b bs true e rest = sym (nil_bytes (single (b ∷ bs)))
-single_at b bs false e rest = ap (λ v. if v then single_quote bs else with_front (b ∷ [])
-    (single bs)) e ∙ ap (with_front (b ∷ [])) rest
-    ∙ sym (join_bytes (b ∷ []) (take (length_before_stop (stops SingleQuote) bs) bs)
-    (single (drop (length_before_stop (stops SingleQuote) bs) bs)))
+-- a reader that takes each byte at which it needn't stop
+abbrev Takes : ScanStop → (List ℕ → Option (List ℕ × List ℕ)) → Type 0
+Takes stop reader = (b : ℕ) (bs : List ℕ) → stops stop (b ∷ bs) ≡ false
+    → reader (b ∷ bs) ≡ with_front (b ∷ []) (reader bs)
 
-pub single_jump : (bs : List ℕ)
-    → single bs ≡ with_front (take (length_before_stop (stops SingleQuote) bs) bs)
-    (single (drop (length_before_stop (stops SingleQuote) bs) bs))
-single_jump [] = refl
-single_jump (b ∷ bs) = single_at b bs (b == 39) refl (single_jump bs)
+-- such a reader goes on behind the bytes up to the next stop
+abbrev Jumps : ScanStop → (List ℕ → Option (List ℕ × List ℕ)) → List ℕ → Type 0
+Jumps stop reader bs = reader bs ≡ with_front (take (length_before_stop (stops stop) bs) bs)
+    (reader (drop (length_before_stop (stops stop) bs) bs))
+
+jump_at : (stop : ScanStop) (reader : List ℕ → Option (List ℕ × List ℕ)) → Takes stop reader
+    → (b : ℕ) (bs : List ℕ) (v : Bool) → stops stop (b ∷ bs) ≡ v → Jumps stop reader bs
+    → reader (b ∷ bs) ≡ with_front
+    (take (if v then 0 else suc (length_before_stop (stops stop) bs)) (b ∷ bs))
+    (reader (drop (if v then 0 else suc (length_before_stop (stops stop) bs)) (b ∷ bs)))
+jump_at stop reader takes b bs true e rest = sym (nil_bytes (reader (b ∷ bs)))
+jump_at stop reader takes b bs false e rest =
+    takes b bs e ∙ ap (with_front (b ∷ [])) rest
+    ∙ sym (join_bytes (b ∷ []) (take (length_before_stop (stops stop) bs) bs)
+    (reader (drop (length_before_stop (stops stop) bs) bs)))
+
+jump : (stop : ScanStop) (reader : List ℕ → Option (List ℕ × List ℕ)) → Takes stop reader
+    → (bs : List ℕ) → Jumps stop reader bs
+jump stop reader takes [] = sym (nil_bytes (reader []))
+jump stop reader takes (b ∷ bs) =
+    jump_at stop reader takes b bs (stops stop (b ∷ bs)) refl (jump stop reader takes bs)
+
+-- one more piece, up to a stop
+piece_more : (stop : ScanStop) (reader : List ℕ → Option (List ℕ × List ℕ)) → Takes stop reader
+    → (text w rest piece after : List ℕ) → reader text ≡ with_front w (reader rest)
+    → piece ≡ take (length_before_stop (stops stop) rest) rest
+    → after ≡ drop (length_before_stop (stops stop) rest) rest
+    → reader text ≡ with_front (w ++ piece) (reader after)
+piece_more stop reader takes text w rest piece after inv pe ae =
+    inv ∙ ap (with_front w) (jump stop reader takes rest)
+    ∙ sym (join_bytes w (take (length_before_stop (stops stop) rest) rest)
+    (reader (drop (length_before_stop (stops stop) rest) rest)))
+    ∙ ap (λ p. with_front (w ++ p) (reader (drop (length_before_stop (stops stop) rest) rest)))
+    (sym pe)
+    ∙ ap (λ a. with_front (w ++ piece) (reader a)) (sym ae)
+
+-- single quotes
+single_takes : Takes SingleQuote single
+single_takes b bs e = ap (λ v. if v then single_quote bs else with_front (b ∷ []) (single bs)) e
 
 closed_at : (b : ℕ) (bs : List ℕ) (v : Bool) → None ≡ (if v then Some bs else None)
     → (if v then with_front (39 ∷ []) (single bs) else Some ([], b ∷ bs)) ≡ Some ([], b ∷ bs)
@@ -69,24 +96,13 @@ single_open : (after : List ℕ) → at_stop SingleQuote after ≡ true → None
 single_open [] e h = refl
 single_open (b ∷ bs) e h = open_at (b == 39) bs e h
 
-single_step : (text w rest piece after : List ℕ) → single text ≡ with_front w (single rest)
-    → piece ≡ take (length_before_stop (stops SingleQuote) rest) rest
-    → after ≡ drop (length_before_stop (stops SingleQuote) rest) rest
-    → single text ≡ with_front (w ++ piece) (single after)
-single_step text w rest piece after inv pe ae =
-    inv ∙ ap (with_front w) (single_jump rest)
-    ∙ sym (join_bytes w (take (length_before_stop (stops SingleQuote) rest) rest)
-    (single (drop (length_before_stop (stops SingleQuote) rest) rest)))
-    ∙ ap (λ p. with_front (w ++ p) (single (drop (length_before_stop (stops SingleQuote) rest) rest)))
-    (sym pe)
-    ∙ ap (λ a. with_front (w ++ piece) (single a)) (sym ae)
-
 pub single_refused : (text w rest piece after : List ℕ) → single text ≡ with_front w (single rest)
     → piece ≡ take (length_before_stop (stops SingleQuote) rest) rest
     → after ≡ drop (length_before_stop (stops SingleQuote) rest) rest
     → at_stop SingleQuote after ≡ true → None ≡ behind 39 after → single text ≡ None
-single_refused text w rest piece after inv pe ae there none = single_step text w rest piece after
-    inv pe ae ∙ ap (with_front (w ++ piece)) (single_open after there none)
+single_refused text w rest piece after inv pe ae there none =
+    piece_more SingleQuote single single_takes text w rest piece after inv pe ae
+    ∙ ap (with_front (w ++ piece)) (single_open after there none)
 
 ended : (w : List ℕ) (m : List ℕ) → with_front w (Some ([], m)) ≡ Some (w, m)
 ended w m = ap (λ l. Some (l, m)) (append-nil w)
@@ -97,7 +113,7 @@ pub single_ended : (text w rest piece after more : List ℕ)
     → after ≡ drop (length_before_stop (stops SingleQuote) rest) rest
     → Some more ≡ behind 39 after → None ≡ behind 39 more → single text ≡ Some (w ++ piece, more)
 single_ended text w rest piece after more inv pe ae some none =
-    single_step text w rest piece after inv pe ae
+    piece_more SingleQuote single single_takes text w rest piece after inv pe ae
     ∙ ap (λ a. with_front (w ++ piece) (single a)) (behind_cons 39 after more some)
     ∙ ap (with_front (w ++ piece)) (single_closed more none)
     ∙ ended (w ++ piece) more
@@ -109,7 +125,7 @@ pub single_goes_on : (text w rest piece after more next : List ℕ)
     → Some more ≡ behind 39 after → Some next ≡ behind 39 more
     → single text ≡ with_front ((w ++ piece) ++ (39 ∷ [])) (single next)
 single_goes_on text w rest piece after more next inv pe ae some again =
-    single_step text w rest piece after inv pe ae
+    piece_more SingleQuote single single_takes text w rest piece after inv pe ae
     ∙ ap (λ a. with_front (w ++ piece) (single a)) (behind_cons 39 after more some)
     ∙ ap (λ a. with_front (w ++ piece) (single_quote a)) (behind_cons 39 more next again)
     ∙ sym (join_bytes (w ++ piece) (39 ∷ []) (single next))
@@ -123,39 +139,12 @@ or_false : (v w : Bool) → (v || w) ≡ false → (v ≡ false) × (w ≡ false
 or_false true w e = cc
 or_false false w e = (refl, e)
 
-double_at : (b : ℕ) (bs : List ℕ) (v : Bool) → (b == 34 || b == 92) ≡ v
-    → double bs ≡ with_front (take (length_before_stop (stops DoubleQuote) bs) bs)
-    (double (drop (length_before_stop (stops DoubleQuote) bs) bs))
-    → double (b ∷ bs) ≡ with_front
-    (take (if v then 0 else suc (length_before_stop (stops DoubleQuote) bs)) (b ∷ bs))
-    (double (drop (if v then 0 else suc (length_before_stop (stops DoubleQuote) bs)) (b ∷ bs)))
-double_at b bs true e rest = sym (nil_bytes (double (b ∷ bs)))
-double_at b bs false e rest =
+double_takes : Takes DoubleQuote double
+double_takes b bs e =
     let both = or_false (b == 34) (b == 92) e in
     ap (λ v. if v then Some ([], bs) else (if b == 92 then behind_backslash bs else with_front
     (b ∷ []) (double bs))) both.0
     ∙ ap (λ v. if v then behind_backslash bs else with_front (b ∷ []) (double bs)) both.1
-    ∙ ap (with_front (b ∷ [])) rest
-    ∙ sym (join_bytes (b ∷ []) (take (length_before_stop (stops DoubleQuote) bs) bs)
-    (double (drop (length_before_stop (stops DoubleQuote) bs) bs)))
-
-pub double_jump : (bs : List ℕ)
-    → double bs ≡ with_front (take (length_before_stop (stops DoubleQuote) bs) bs)
-    (double (drop (length_before_stop (stops DoubleQuote) bs) bs))
-double_jump [] = refl
-double_jump (b ∷ bs) = double_at b bs (b == 34 || b == 92) refl (double_jump bs)
-
-double_step : (text w rest piece after : List ℕ) → double text ≡ with_front w (double rest)
-    → piece ≡ take (length_before_stop (stops DoubleQuote) rest) rest
-    → after ≡ drop (length_before_stop (stops DoubleQuote) rest) rest
-    → double text ≡ with_front (w ++ piece) (double after)
-double_step text w rest piece after inv pe ae =
-    inv ∙ ap (with_front w) (double_jump rest)
-    ∙ sym (join_bytes w (take (length_before_stop (stops DoubleQuote) rest) rest)
-    (double (drop (length_before_stop (stops DoubleQuote) rest) rest)))
-    ∙ ap (λ p. with_front (w ++ p) (double (drop (length_before_stop (stops DoubleQuote) rest) rest)))
-    (sym pe)
-    ∙ ap (λ a. with_front (w ++ piece) (double a)) (sym ae)
 
 two_open : {P : Type 0} (v w : Bool) (bs : List ℕ) → (v || w) ≡ true
     → None ≡ (if v then Some bs else None) → None ≡ (if w then Some bs else None) → P
@@ -173,8 +162,9 @@ pub double_refused : (text w rest piece after : List ℕ) → double text ≡ wi
     → after ≡ drop (length_before_stop (stops DoubleQuote) rest) rest
     → at_stop DoubleQuote after ≡ true → None ≡ behind 34 after → None ≡ behind 92 after
     → double text ≡ None
-double_refused text w rest piece after inv pe ae there h k = double_step text w rest piece after inv
-    pe ae ∙ ap (with_front (w ++ piece)) (double_open after there h k)
+double_refused text w rest piece after inv pe ae there h k =
+    piece_more DoubleQuote double double_takes text w rest piece after inv pe ae
+    ∙ ap (with_front (w ++ piece)) (double_open after there h k)
 
 pub double_ended : (text w rest piece after more : List ℕ)
     → double text ≡ with_front w (double rest)
@@ -182,7 +172,7 @@ pub double_ended : (text w rest piece after more : List ℕ)
     → after ≡ drop (length_before_stop (stops DoubleQuote) rest) rest
     → Some more ≡ behind 34 after → double text ≡ Some (w ++ piece, more)
 double_ended text w rest piece after more inv pe ae some =
-    double_step text w rest piece after inv pe ae
+    piece_more DoubleQuote double double_takes text w rest piece after inv pe ae
     ∙ ap (λ a. with_front (w ++ piece) (double a)) (behind_cons 34 after more some)
     ∙ ended (w ++ piece) more
 
@@ -191,8 +181,8 @@ double_escape : (text w rest piece after more : List ℕ) → double text ≡ wi
     → after ≡ drop (length_before_stop (stops DoubleQuote) rest) rest
     → Some more ≡ behind 92 after → double text ≡ with_front (w ++ piece) (behind_backslash more)
 double_escape text w rest piece after more inv pe ae some =
-    double_step text w rest piece after inv pe ae ∙ ap (λ a. with_front (w ++ piece) (double a))
-    (behind_cons 92 after more some)
+    piece_more DoubleQuote double double_takes text w rest piece after inv pe ae
+    ∙ ap (λ a. with_front (w ++ piece) (double a)) (behind_cons 92 after more some)
 
 -- a byte, and those behind it
 abbrev found : ℕ → List ℕ → Option (ℕ × List ℕ)

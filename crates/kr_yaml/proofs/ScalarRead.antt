@@ -45,32 +45,26 @@ pub record Start (bytes : List ℕ) : Type 0 where
 pub other_first : (c : ℕ) (bs rest : List ℕ) → (c == 45) ≡ false → c ∷ bs ≢ 45 ∷ rest
 other_first c bs rest h e = differ c 45 h (heads e)
 
-quoted_start : (text bytes : List ℕ) → IsQuoted text bytes → Start bytes
-quoted_start text bytes (in_single t) = record {
-  first = 39;
-  more = with_quotes_twice t ++ 39 ∷ [];
+-- a byte that begins nothing else
+begun_by : (c : ℕ) (more : List ℕ) → (c == 32) ≡ false → (c == 35) ≡ false → (c == 91) ≡ false
+    → (c == 93) ≡ false → (c == 123) ≡ false → (c == 45) ≡ false → Start (c ∷ more)
+begun_by c more space hash list end mapping item = record {
+  first = c;
+  more = more;
   begins = refl;
-  no_space = refl;
-  no_hash = refl;
-  no_list = refl;
-  no_end = refl;
-  no_mapping =
-      refl;
-  no_item = λ rest. other_first 39 (with_quotes_twice t ++ 39 ∷ []) (32 ∷ rest) refl;
+  no_space = space;
+  no_hash = hash;
+  no_list = list;
+  no_end = end;
+  no_mapping = mapping;
+  no_item = λ rest. other_first c more (32 ∷ rest) item;
 }
-quoted_start text bytes (in_double t w e) = record {
-  first = 34;
-  more = w ++ 34 ∷ [];
-  begins =
-      refl;
-  no_space = refl;
-  no_hash = refl;
-  no_list = refl;
-  no_end = refl;
-  no_mapping =
-      refl;
-  no_item = λ rest. other_first 34 (w ++ 34 ∷ []) (32 ∷ rest) refl;
-}
+
+quoted_start : (text bytes : List ℕ) → IsQuoted text bytes → Start bytes
+quoted_start text bytes (in_single t) =
+    begun_by 39 (with_quotes_twice t ++ 39 ∷ []) refl refl refl refl refl refl
+quoted_start text bytes (in_double t w e) =
+    begun_by 34 (w ++ 34 ∷ []) refl refl refl refl refl refl
 
 not_first : (b c : ℕ) → is_indicator c ≡ true → is_indicator b ≡ false → (b == c) ≡ false
 not_first b c h e =

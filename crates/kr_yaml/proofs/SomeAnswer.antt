@@ -5,10 +5,11 @@ use Rattle.std.proofs.Common.{arith}
 use Rattle.std.specs.Prelude.{nat_lt}
 use Rattle.std.proofs.lemmas.List.{append_assoc, append-nil}
 use Rattle.kr_yaml.specs.Lines.{Token}
-use Rattle.kr_yaml.specs.Forms.{Shape, flat}
+use Rattle.kr_yaml.specs.Data.{Data}
+use Rattle.kr_yaml.specs.Forms.{Form, Shape, flat}
 use Rattle.kr_yaml.specs.inner.Open.{State, put, doubles, run, closed_value}
 use Rattle.kr_yaml.specs.inner.Standing.{Stands, empty}
-use Rattle.kr_yaml.specs.Reads.{plain, MakesTree, FormNone, FormTwice, FormDeep, BreaksTree, IsFirst}
+use Rattle.kr_yaml.specs.Reads.{plain, MakesTree, FormNone, BreaksTree, IsFirst}
 use Rattle.kr_yaml.specs.Reads.{Refuses}
 use Rattle.kr_yaml.specs.Laws.{AnswerOf, SomeAnswer}
 use Rattle.kr_yaml.specs.declared.yaml_no.YamlNo.{YamlNo}
@@ -60,6 +61,21 @@ more_levels n h = grind arith
 few_levels : (n : ℕ) → nat_lt 16 n ≡ false → n ≤ 16
 few_levels n h = grind arith
 
+-- the tokens form a tree, and this holds of its shape
+abbrev FormWith : (Shape → Type 0) → List Token → Type 0
+FormWith P ts = (d : Data) × (s : Shape) × Form ts d s × P s
+
+-- with this token they form one whose shape is refused
+broken : (us : List (ℕ × Token)) (n : ℕ) (t : Token) (g : Stood us) (new : State)
+    (m : Grows 0 (plain us) t (doubles t g.st.0) g.shape new) (P : Shape → Type 0)
+    → P m.shape → BreaksTree (us ++ (n, t) ∷ []) n (FormWith P)
+broken us n t g new m P h = breaks us n t (FormWith P) g (
+  closed_value new.0 new.1,
+  m.shape,
+  stands_node 0 (plain us ++ t ∷ []) new.0 new.1 m.shape m.stands,
+  h,
+)
+
 single : (us : List (ℕ × Token)) (n : ℕ) (t : Token) (g : Stood us) (new : State)
     → put t g.st.0 g.st.1 ≡ Some new → (m : Grows 0 (plain us) t (doubles t g.st.0) g.shape new)
     → m.shape.twice ≡ false → (v : Bool) → (v ≡ true → 16 < m.shape.levels)
@@ -67,13 +83,7 @@ single : (us : List (ℕ × Token)) (n : ℕ) (t : Token) (g : Stood us) (new : 
     → Stood (us ++ (n, t) ∷ []) ⊎ Broke (us ++ (n, t) ∷ [])
 single us n t g new e m once true deep few = inr (record {
   why = Deep n;
-  first = breaks us n t FormDeep g (
-    closed_value new.0 new.1,
-    m.shape,
-    stands_node 0
-        (plain us ++ t ∷ []) new.0 new.1 m.shape m.stands,
-    deep refl,
-  );
+  first = broken us n t g new m (λ s. 16 < s.levels) (deep refl);
 })
 single us n t g new e m once false deep few = inl (record {
   st = new;
@@ -90,13 +100,7 @@ grown : (us : List (ℕ × Token)) (n : ℕ) (t : Token) (g : Stood us) (new : S
     → (v : Bool) → m.shape.twice ≡ v → Stood (us ++ (n, t) ∷ []) ⊎ Broke (us ++ (n, t) ∷ [])
 grown us n t g new e m true twice = inr (record {
   why = DuplicateKey n;
-  first = breaks us n t FormTwice g (
-    closed_value new.0 new.1,
-    m.shape,
-    stands_node 0
-        (plain us ++ t ∷ []) new.0 new.1 m.shape m.stands,
-    twice,
-  );
+  first = broken us n t g new m (λ s. s.twice ≡ true) twice;
 })
 grown us n t g new e m false once = single us n t g new e m once (nat_lt 16 m.shape.levels)
     (more_levels m.shape.levels) (few_levels m.shape.levels)
@@ -139,10 +143,8 @@ none_yet = record {
 refuses : (us : List (ℕ × Token)) (why : YamlNo) → IsFirst us why
     → Refuses (Ok us) why × (why ≢ NoMemory)
 refuses us (Outside n) h = absurd h
-refuses us (Indent n) h = (h, λ e. cc)
-refuses us (DuplicateKey n) h = (h, λ e. cc)
-refuses us (Deep n) h = (h, λ e. cc)
 refuses us NoMemory h = absurd h
+refuses us other h = (h, λ e. cc)
 
 answered : (us : List (ℕ × Token)) → Reached us → AnswerOf (Ok us)
 answered us (inl g) = inl (closed_value g.st.0 g.st.1, makes us g)

@@ -94,6 +94,13 @@ trim_is bs =
 
 -- tails
 
+-- what holds of spaces and of spaces with a comment behind them holds of tails
+of_tail : (P : List ℕ → Type 0) → ((n : ℕ) → P (spaces n))
+    → ((n : ℕ) (text : List ℕ) → P (spaces (suc n) ++ 35 ∷ text)) → (tail : List ℕ) → IsTail tail
+    → P tail
+of_tail P alone comment tail (spaces_alone n) = alone n
+of_tail P alone comment tail (comment_behind n text) = comment n text
+
 over_spaces : (n : ℕ) → over (skip (spaces n)) ≡ true
 over_spaces zero = refl
 over_spaces (suc n) = over_spaces n
@@ -103,24 +110,22 @@ spaces_close zero = refl
 spaces_close (suc n) = over_spaces n
 
 pub tail_closes : (tail : List ℕ) → IsTail tail → closes tail ≡ true
-tail_closes tail (spaces_alone n) = spaces_close n
-tail_closes tail (comment_behind n text) = ap over (skip_spaces n (35 ∷ text))
+tail_closes =
+    of_tail (λ l. closes l ≡ true) spaces_close (λ n text. ap over (skip_spaces n (35 ∷ text)))
 
 spaces_open : (n : ℕ) → opens (spaces n) ≡ true
 spaces_open zero = refl
 spaces_open (suc n) = refl
 
 pub tail_opens : (tail : List ℕ) → IsTail tail → opens tail ≡ true
-tail_opens tail (spaces_alone n) = spaces_open n
-tail_opens tail (comment_behind n text) = refl
+tail_opens = of_tail (λ l. opens l ≡ true) spaces_open (λ n text. refl)
 
 spaces_no_hash : (n : ℕ) → is_hash (spaces n) ≡ false
 spaces_no_hash zero = refl
 spaces_no_hash (suc n) = refl
 
 pub tail_no_hash : (tail : List ℕ) → IsTail tail → is_hash tail ≡ false
-tail_no_hash tail (spaces_alone n) = spaces_no_hash n
-tail_no_hash tail (comment_behind n text) = refl
+tail_no_hash = of_tail (λ l. is_hash l ≡ false) spaces_no_hash (λ n text. refl)
 
 spaces_no_byte : (c n : ℕ) → (32 == c) ≡ false → behind c (spaces n) ≡ None
 spaces_no_byte c zero h = refl

@@ -33,31 +33,9 @@ pub until_ends : (t : List ℕ → Bool) (bs : List ℕ) (i : ℕ) → length bs
     → length_before_stop t (drop i bs) ≡ 0
 until_ends t bs i h = ap (length_before_stop t) (drop_all i bs h)
 
-colon_ascii : (b : ℕ) (bs : List ℕ) → stops Colon (b ∷ bs) ≡ true → b < 128
-colon_ascii b bs h = grind arith
-
-comment_ascii : (b : ℕ) (bs : List ℕ) → stops Comment (b ∷ bs) ≡ true → b < 128
-comment_ascii b bs h = grind arith
-
-key_ascii : (b : ℕ) (bs : List ℕ) → stops KeyEnd (b ∷ bs) ≡ true → b < 128
-key_ascii b bs h = grind arith
-
-flow_ascii : (b : ℕ) (bs : List ℕ) → stops FlowSign (b ∷ bs) ≡ true → b < 128
-flow_ascii b bs h = grind arith
-
-single_ascii : (b : ℕ) (bs : List ℕ) → stops SingleQuote (b ∷ bs) ≡ true → b < 128
-single_ascii b bs h = grind arith
-
-double_ascii : (b : ℕ) (bs : List ℕ) → stops DoubleQuote (b ∷ bs) ≡ true → b < 128
-double_ascii b bs h = grind arith
-
 stop_ascii : (stop : ScanStop) (b : ℕ) (bs : List ℕ) → stops stop (b ∷ bs) ≡ true → b < 128
-stop_ascii Colon = colon_ascii
-stop_ascii Comment = comment_ascii
-stop_ascii KeyEnd = key_ascii
-stop_ascii FlowSign = flow_ascii
-stop_ascii SingleQuote = single_ascii
-stop_ascii DoubleQuote = double_ascii
+stop_ascii Colon b bs h = grind arith
+stop_ascii other b bs h = grind arith
 
 at_first : (stop : ScanStop) (b : ℕ) (bs : List ℕ) (v : Bool) → stops stop (b ∷ bs) ≡ v
     → (length_before_stop (stops stop) bs < length bs → get_or bs (length_before_stop (stops stop) bs) 0 < 128)

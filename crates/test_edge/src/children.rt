@@ -3,7 +3,7 @@ ghost use Rattle.std.specs.Prelude.{◌≡◌};
 
 use kr_base::Annotations;
 use kr_edge::{RealWorld, SystemFiles};
-use kr_kms::{Kms, World};
+use kr_kms::{Kms, World, WrappedRef};
 use std::alloc::Global;
 use std::fs::{File, OpenOptions};
 use std::io::Write;
@@ -93,7 +93,12 @@ fn unwraps<L: Kms>(alloc: Global, link: &mut L) -> bool
     ensures { (L.link link.new).name ≡ (L.link link.old).name }
 {
     let annotations = Annotations::new(alloc);
-    match link.unwrap_source(alloc, "k", &annotations, b"ab") {
+    let wrapped = WrappedRef {
+        cipher: b"ab",
+        key_id: "k",
+        annotations: &annotations,
+    };
+    match link.unwrap_source(alloc, &wrapped) {
         Ok(plain) => plain.as_slice() == b"hello".as_slice(),
         Err(_) => false,
     }

@@ -8,7 +8,7 @@ use Rattle.kr_kms.specs.Calls.{Link}
 use Rattle.kr_provider.proofs.AskedLists.{names_stay}
 use Rattle.kr_provider.specs.AskedLinks.{AskedOnly}
 use Rattle.kr_provider.specs.BenchState.{BenchState}
-use Rattle.kr_provider.specs.KeyPages.{size_of}
+use Rattle.kr_provider.specs.KeyPages.{KeyPages, size_of}
 use Rattle.kr_provider.specs.Names.{HasLinks, names_of}
 use Rattle.kr_provider.specs.Publication.{Publication}
 use Rattle.kr_history.specs.declared.call.CallNo.{CallNo}
@@ -111,16 +111,8 @@ true_false false e f = absurd (cc)
 
 pub idle_after : {T : Type 0} (done : Result T CallNo) (new : Caller) (spent : Bool)
     → IsIdle done new → spent ≡ is_spent done → spent ≡ false → holding new.mine ≡ None
-idle_after (Ok done) new spent i e f = i
-idle_after (Err (Refused why)) new spent i e f = i
-idle_after (Err (PluginFailed name)) new spent i e f = i
-idle_after (Err DiceFailed) new spent i e f = i
-idle_after (Err StoreFailed) new spent i e f = i
-idle_after (Err (StoreFull needed)) new spent i e f = i
-idle_after (Err (Unhealthy name field text)) new spent i e f = i
-idle_after (Err Gone) new spent i e f = i
 idle_after (Err Spent) new spent i e f = absurd (true_false spent e f)
-idle_after (Err NoMemory) new spent i e f = i
+idle_after other new spent i e f = i
 
 -- ---- a drive
 
@@ -142,3 +134,46 @@ module _ {L D : Type 0} (link : L → Link) (left : D → Option (List ℕ))
       (4 * length d.steps + 4, d.ends.few)
   drive_few above old olds dice (Err cut) new news after (inr d) =
       (0, same_within 0 0 [] old new d.same)
+
+-- ---- both, behind a call
+
+module _ {L D : Type 0} (link : L → Link) (old new : BenchState L D) where
+  -- which may have told that the seat is spent
+  pub called : (entries brought : ℕ) (puts : List Did) {T : Type 0} (done : Result T CallNo)
+      {before behind : Caller} {replicas left later : ℕ} {ended spent : Bool}
+      → IsCallerOf before replicas left ended × IsBench (names_of link old.links) old.pages
+      → AddsWithin entries brought puts before behind → later + brought ≤ left
+      → IsIdle done behind → spent ≡ is_spent done → IsBench (names_of link new.links) new.pages
+      → IsCallerOf behind replicas later spent × IsBench (names_of link new.links) new.pages
+  called entries brought puts done {before} {behind} {replicas} {left} {later} {ended} {spent} was
+      adds few idle is bench = (
+        caller_after before behind replicas left later entries brought puts ended spent was.0 adds few
+            (idle_after done behind spent idle is),
+        bench,
+      )
+
+  -- a configuration was brought
+  pub brought : (names : List (List ℕ)) {before behind : Caller} {replicas left later : ℕ}
+      {ended : Bool}
+      → IsCallerOf before replicas left ended × IsBench (names_of link old.links) old.pages
+      → AddsWithin 1 1 [] before behind → later + 1 ≤ left → holding behind.mine ≡ None
+      → AskedOnly link names old.links new.links
+      → new ≡ record old { links = new.links; dice = new.dice }
+      → IsCallerOf behind replicas later ended × IsBench (names_of link new.links) new.pages
+  brought names {before} {behind} {replicas} {left} {later} {ended} was adds few idle asked kept = (
+    caller_after before behind replicas left later 1 1 [] ended ended was.0 adds few (λ e. idle),
+    bench_kept link names old new was.1 asked kept,
+  )
+
+-- ---- what a call requires
+
+pub names_kept : {c : Caller} {replicas left : ℕ} {ended : Bool} {linked : List (List ℕ)}
+    {pages : KeyPages} → IsCallerOf c replicas left ended × IsBench linked pages
+    → (rows : List ConfigEntry) → NamesAmong one_name rows → NamesAmong c.opening.names rows
+names_kept {c} kept rows h = among c.opening.names rows kept.0.names h
+
+pub links_serve : {c : Caller} {replicas left : ℕ} {ended : Bool} {linked : List (List ℕ)}
+    {pages : KeyPages} → IsCallerOf c replicas left ended × IsBench linked pages
+    → AreServed c.opening.names linked
+links_serve {c} {linked = linked} kept =
+    served c.opening.names linked kept.0.names kept.1.linked_is

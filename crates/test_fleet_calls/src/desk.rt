@@ -1,5 +1,5 @@
 //! A caller of a core, with the bench by which it makes its calls.
-ghost use Rattle.std.specs.Prelude.{◌≡◌, ◌<◌, ◌⊎◌, [], false, IsTrue};
+ghost use Rattle.std.specs.Prelude.{◌≡◌, ◌<◌, ◌⊎◌, [], false, IfOk};
 ghost use Rattle.kr_base.specs.Rules.{IsPath};
 ghost use Rattle.kr_provider.specs.Names.{names_of};
 ghost use Rattle.test_fleet_calls.specs.Desks.{IsBench, IsCallerOf, is_spent, parts_of};
@@ -46,33 +46,50 @@ impl<A: Acts, L: Kms> Model for Desk<A, L> {
 /// What a call answered.
 pub type Done<T> = Result<T, CallNo>;
 
-/// Whether a seat may make a call of the replica.
-fn may(ended: bool, replicas: u32, replica: u32) -> bool
-    ensures { IsTrue result → (ended ≡ false) × (replica < replicas) }
+/// A seat makes calls of a replica only while it goes on, and where there is such a one.
+fn may(ended: bool, replicas: u32, replica: u32) -> Result<(), Wrong>
+    ensures { IfOk result (λ _. (ended ≡ false) × (replica < replicas)) }
 {
-    !ended && replica < replicas
+    if ended {
+        return Err(Wrong::Form);
+    }
+    if replica >= replicas {
+        return Err(Wrong::Form);
+    }
+    Ok(())
 }
 
-/// Whether it may make one for the object at this path.
-fn may_call(ended: bool, replicas: u32, replica: u32, path: &str) -> bool
-    ensures { IsTrue result → (ended ≡ false) × (replica < replicas) × IsPath path.now }
+/// And for an object only at a path.
+fn may_call(ended: bool, replicas: u32, replica: u32, path: &str) -> Result<(), Wrong>
+    ensures { IfOk result (λ _. (ended ≡ false) × (replica < replicas) × IsPath path.now) }
 {
-    may(ended, replicas, replica) && path_ok(path)
+    may(ended, replicas, replica)?;
+    if path_ok(path) {
+        return Ok(());
+    }
+    Err(Wrong::Form)
 }
 
-/// Whether it may make one for what stands above this.
-fn may_above(ended: bool, replicas: u32, replica: u32, path: &str) -> bool
-    ensures { IsTrue result → (ended ≡ false) × (replica < replicas)
-        × ((path.now ≡ []) ⊎ IsPath path.now) }
+/// And for what stands above a path, or above none.
+fn may_above(ended: bool, replicas: u32, replica: u32, path: &str) -> Result<(), Wrong>
+    ensures { IfOk result (λ _. (ended ≡ false) × (replica < replicas)
+        × ((path.now ≡ []) ⊎ IsPath path.now)) }
 {
-    may(ended, replicas, replica) && (path.is_empty() || path_ok(path))
+    if path.is_empty() {
+        return may(ended, replicas, replica);
+    }
+    may_call(ended, replicas, replica, path)
 }
 
-/// Whether it may bring the replica a configuration, of so many.
-fn may_bring(ended: bool, replicas: u32, replica: u32, left: u32) -> bool
-    ensures { IsTrue result → (ended ≡ false) × (replica < replicas) × (0 < left) }
+/// And brings it a configuration only as long as some are left.
+fn may_bring(ended: bool, replicas: u32, replica: u32, left: u32) -> Result<(), Wrong>
+    ensures { IfOk result (λ _. (ended ≡ false) × (replica < replicas) × (0 < left)) }
 {
-    may(ended, replicas, replica) && left > 0
+    may(ended, replicas, replica)?;
+    if left == 0 {
+        return Err(Wrong::Form);
+    }
+    Ok(())
 }
 
 /// Whether the seat may add no more lines.
@@ -122,9 +139,7 @@ impl<A: Acts, L: Kms> Desk<A, L> {
     /// The object at the path. Where the seat is spent, or there is no such replica or path, no
     /// call is made, as with those below.
     pub fn read(&mut self, alloc: Global, replica: u32, path: &str) -> Result<Done<Read>, Wrong> {
-        if !may_call(self.ended, self.replicas, replica, path) {
-            return Err(Wrong::Form);
-        }
+        may_call(self.ended, self.replicas, replica, path)?;
         let done = read(alloc, &mut self.acts, replica, &mut self.bench, path);
         self.ended = is_spent(&done);
         Ok(done)
@@ -139,9 +154,7 @@ impl<A: Acts, L: Kms> Desk<A, L> {
         path: &str,
         plain: &[u8],
     ) -> Result<Done<u64>, Wrong> {
-        if !may_call(self.ended, self.replicas, replica, path) {
-            return Err(Wrong::Form);
-        }
+        may_call(self.ended, self.replicas, replica, path)?;
         if !resource_ok(resource) {
             return Err(Wrong::Form);
         }
@@ -173,9 +186,7 @@ impl<A: Acts, L: Kms> Desk<A, L> {
 
     /// The generation that the replica had, if it was in.
     pub fn leave(&mut self, replica: u32) -> Result<Done<Option<u32>>, Wrong> {
-        if !may(self.ended, self.replicas, replica) {
-            return Err(Wrong::Form);
-        }
+        may(self.ended, self.replicas, replica)?;
         let done = leave(&mut self.acts, replica);
         Ok(done)
     }
@@ -187,9 +198,7 @@ impl<A: Acts, L: Kms> Desk<A, L> {
         replica: u32,
         settings: &Shared<Settings>,
     ) -> Result<Done<Loaded>, Wrong> {
-        if !may_bring(self.ended, self.replicas, replica, self.left) {
-            return Err(Wrong::Form);
-        }
+        may_bring(self.ended, self.replicas, replica, self.left)?;
         let settings = share_allowed(alloc, settings)?;
         self.left -= 1;
         let done = reload(alloc, &mut self.acts, &mut self.bench, replica, settings);
@@ -203,9 +212,7 @@ impl<A: Acts, L: Kms> Desk<A, L> {
         replica: u32,
         settings: &Shared<Settings>,
     ) -> Result<Done<Joining>, Wrong> {
-        if !may_bring(self.ended, self.replicas, replica, self.left) {
-            return Err(Wrong::Form);
-        }
+        may_bring(self.ended, self.replicas, replica, self.left)?;
         let settings = share_allowed(alloc, settings)?;
         self.left -= 1;
         let done = join(alloc, &mut self.acts, &mut self.bench, replica, settings);
@@ -214,9 +221,7 @@ impl<A: Acts, L: Kms> Desk<A, L> {
 
     /// Whether a key of a plugin changed, and what became of the configuration then.
     pub fn refresh(&mut self, alloc: Global, replica: u32) -> Result<Done<Loaded>, Wrong> {
-        if !may_bring(self.ended, self.replicas, replica, self.left) {
-            return Err(Wrong::Form);
-        }
+        may_bring(self.ended, self.replicas, replica, self.left)?;
         self.left -= 1;
         let done = refresh(alloc, &mut self.acts, replica, &mut self.bench);
         self.ended = is_spent(&done);
@@ -225,9 +230,7 @@ impl<A: Acts, L: Kms> Desk<A, L> {
 
     /// What became of the first object behind this path.
     pub fn step(&mut self, alloc: Global, replica: u32, after: &str) -> Result<Done<Step>, Wrong> {
-        if !may_above(self.ended, self.replicas, replica, after) {
-            return Err(Wrong::Form);
-        }
+        may_above(self.ended, self.replicas, replica, after)?;
         let done = rewrite_next(alloc, &mut self.acts, replica, &mut self.bench, after);
         self.ended = is_spent(&done);
         Ok(done)
@@ -240,9 +243,7 @@ impl<A: Acts, L: Kms> Desk<A, L> {
         replica: u32,
         after: &str,
     ) -> Result<(Report, Done<()>), Wrong> {
-        if !may_above(self.ended, self.replicas, replica, after) {
-            return Err(Wrong::Form);
-        }
+        may_above(self.ended, self.replicas, replica, after)?;
         let driven = drive(alloc, &mut self.acts, replica, &mut self.bench, after);
         let told = parted(driven);
         self.ended = is_spent(&told.1);

@@ -3,10 +3,10 @@
 //!     adopt REPLICA, leave REPLICA, reload REPLICA, join REPLICA, letgo
 //!     fetch PATH, after PATH, delete PATH, put PATH RESOURCE HEX, replace PATH REVISION
 use crate::configuration::published;
-use kr_base::{Bytes, Text, both};
+use kr_base::Text;
 use kr_rollout::Did;
 use std::alloc::Global;
-use test_support::{Wrong, own_text_or_empty, parse_hex, parse_long, parse_number, two_words};
+use test_support::{Wrong, own_text_or_empty, parse_long, parse_number, split_put, two_words};
 
 /// Reads what a seat did. A path, a resource and the hex stand as words, so none holds a space.
 pub fn parse_did(alloc: Global, text: &str) -> Result<Did, Wrong> {
@@ -49,24 +49,12 @@ fn about_replica(alloc: Global, kind: &str, replica: u32) -> Result<Did, Wrong> 
 
 /// `PATH RESOURCE HEX`.
 fn parse_put(alloc: Global, rest: &str) -> Result<Did, Wrong> {
-    let (path, rest) = two_words(rest)?;
-    let (resource, plain) = two_words(rest)?;
-    let names = both(
-        own_text_or_empty(alloc, path),
-        own_text_or_empty(alloc, resource),
-    );
-    match both(names, parse_hex(alloc, plain)) {
-        Ok((names, plain)) => {
-            let (path, resource) = names;
-            let plain = Bytes::from_vec(plain);
-            Ok(Did::Put {
-                path,
-                resource,
-                plain,
-            })
-        }
-        Err(why) => Err(why),
-    }
+    let ((path, resource), plain) = split_put(alloc, rest)?;
+    Ok(Did::Put {
+        path,
+        resource,
+        plain,
+    })
 }
 
 /// `PATH REVISION`.

@@ -15,15 +15,25 @@ use kr_rollout::Line;
 use kr_script::read_script;
 use std::alloc::{AllocError, Global};
 use std::mem;
-use test_support::{Wrong, answer_or_line, first_word, parse_hex, split_number};
+use test_support::{Answers, Wrong, answer_or_line, first_word, parse_hex, split_number};
 
-/// Takes the line up, and tells what is printed for it.
-pub fn answer(
-    alloc: Global,
-    current: &mut Option<FleetOutput>,
-    line: &str,
-) -> Result<Vec<u8>, AllocError> {
-    answer_or_line(alloc, act(alloc, current, line))
+/// The output at hand, if there is one.
+#[derive(Drop)]
+pub struct Outputs {
+    current: Option<FleetOutput>,
+}
+
+impl Outputs {
+    /// No output yet.
+    pub fn new() -> Outputs {
+        Outputs { current: None }
+    }
+}
+
+impl Answers for Outputs {
+    fn answer(&mut self, alloc: Global, line: &str) -> Result<Vec<u8>, AllocError> {
+        answer_or_line(alloc, act(alloc, &mut self.current, line))
+    }
 }
 
 fn act(alloc: Global, current: &mut Option<FleetOutput>, line: &str) -> Result<Vec<u8>, Wrong> {

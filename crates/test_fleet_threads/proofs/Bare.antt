@@ -28,17 +28,15 @@ first_in (None ∷ rest) one = absurd one
 first_in (Some p ∷ rest) one = refl
 
 pub one_long : (replicas : List (Option Publication)) → IsOneBare replicas → length replicas ≡ 1
-one_long [] one = absurd one
-one_long (None ∷ rest) one = absurd one
 one_long (Some p ∷ rest) one = ap (λ ps. length (Some p ∷ ps)) one.0
+one_long other one = absurd one
 
 bare_among : (replicas : List (Option Publication)) → IsOneBare replicas → AreAmong [] replicas
-bare_among [] one = absurd one
-bare_among (None ∷ rest) one = absurd one
 bare_among (Some p ∷ rest) one =
     subst (λ ps. AreAmong [] (Some p ∷ ps)) (sym one.0)
     (All-cons (λ replica. IfSome replica (λ q. NamesAmong [] q.rows)) (Some p) []
     (bare_names p.rows one.1) (All-nil (λ replica. IfSome replica (λ q. NamesAmong [] q.rows))))
+bare_among other one = absurd one
 
 pub among : (names : List (List ℕ)) (replicas : List (Option Publication)) → names ≡ []
     → IsOneBare replicas → AreAmong names replicas

@@ -21,16 +21,31 @@ use crate::play::{Play, Then};
 use kr_paths::Path;
 use std::alloc::{AllocError, Global};
 use std::mem;
-use test_support::{Wrong, answer_or_line, first_word, parse_number, split_number, two_words};
+use test_support::{
+    Answers, Wrong, answer_or_line, first_word, parse_number, split_number, two_words,
+};
 
-/// Makes the line's call, and tells what is printed for it.
-pub fn answer(
-    alloc: Global,
-    named: &mut NamedSettings,
-    current: &mut Option<Play>,
-    line: &str,
-) -> Result<Vec<u8>, AllocError> {
-    answer_or_line(alloc, act(alloc, named, current, line))
+/// The settings that lines named, and the board at hand, if there is one.
+#[derive(Drop)]
+pub struct Judging {
+    named: NamedSettings,
+    current: Option<Play>,
+}
+
+impl Judging {
+    /// Nothing yet.
+    pub fn new(alloc: Global) -> Judging {
+        Judging {
+            named: NamedSettings::new(alloc),
+            current: None,
+        }
+    }
+}
+
+impl Answers for Judging {
+    fn answer(&mut self, alloc: Global, line: &str) -> Result<Vec<u8>, AllocError> {
+        answer_or_line(alloc, act(alloc, &mut self.named, &mut self.current, line))
+    }
 }
 
 fn act(

@@ -39,12 +39,10 @@ get_set_same (hand ∷ hands) (suc at) old new e = get_set_same hands at old new
 
 get_set_other : (hands : List Hand) (at place : ℕ) (new : Hand) → (at ≡ place → ⊥)
     → slice_get (slice_set hands at new) place ≡ slice_get hands place
-get_set_other [] at place new n = refl
 get_set_other (hand ∷ hands) zero zero new n = absurd (n refl)
-get_set_other (hand ∷ hands) zero (suc place) new n = refl
-get_set_other (hand ∷ hands) (suc at) zero new n = refl
 get_set_other (hand ∷ hands) (suc at) (suc place) new n =
     get_set_other hands at place new (λ e. n (ap suc e))
+get_set_other other at place new n = refl
 
 -- ---- one more entry of the seat's own
 
@@ -67,69 +65,27 @@ held_is : (given : Answer) (e : Entry) (now : Option (ℕ × Publication)) → S
     → option_map (λ x. x.1) (holding_then (gave_of given) e.published now)
     ≡ held_after (answer_gain given) (option_map (λ x. x.1) now)
 held_is (answer.Adopted number p) e now shown = ap (λ q. option_map (λ x. x.1) (holding_then (gave_of (answer.Adopted number p)) q now)) shown
-held_is (answer.Gone replica) e now shown = refl
-held_is (answer.Found row) e now shown = refl
-held_is answer.Absent e now shown = refl
-held_is (answer.Written revision) e now shown = refl
-held_is (answer.Changed revision) e now shown = refl
-held_is answer.StoreFailed e now shown = refl
-held_is (answer.StoreFull needed) e now shown = refl
-held_is answer.Released e now shown = refl
-held_is (answer.Reloaded number) e now shown = refl
-held_is (answer.Joined number) e now shown = refl
-held_is (answer.Refused verdict) e now shown = refl
-held_is (answer.Moved number) e now shown = refl
-held_is (answer.Present number) e now shown = refl
-held_is (answer.Departed number) e now shown = refl
-held_is answer.NoMemory e now shown = refl
+held_is other e now shown = refl
 
 row_is : (given : Answer) (e : Entry) → ShowsEntry given e
     → found_by (gave_of given) e.row ≡ row_in (answer_gain given)
-row_is (answer.Adopted number p) e shown = refl
-row_is (answer.Gone replica) e shown = refl
 row_is (answer.Found row) e shown = shown
-row_is answer.Absent e shown = refl
-row_is (answer.Written revision) e shown = refl
-row_is (answer.Changed revision) e shown = refl
-row_is answer.StoreFailed e shown = refl
-row_is (answer.StoreFull needed) e shown = refl
-row_is answer.Released e shown = refl
-row_is (answer.Reloaded number) e shown = refl
-row_is (answer.Joined number) e shown = refl
-row_is (answer.Refused verdict) e shown = refl
-row_is (answer.Moved number) e shown = refl
-row_is (answer.Present number) e shown = refl
-row_is (answer.Departed number) e shown = refl
-row_is answer.NoMemory e shown = refl
+row_is other e shown = refl
 
 found_is : (asked : Event) (given : Answer) (e : Entry) (now : Option Row) → ShowsEntry given e
     → found_then (did_of asked) (gave_of given) e.row now
     ≡ found_after (event_effect asked) (answer_gain given) now
-found_is (event.Adopt replica) given e now shown = refl
 found_is (event.Fetch path) given e now shown = row_is given e shown
 found_is (event.After path) given e now shown = row_is given e shown
-found_is (event.Put path resource plain stored) given e now shown = refl
-found_is (event.Delete path) given e now shown = refl
-found_is (event.Replace path revision stored) given e now shown = refl
-found_is event.LetGo given e now shown = refl
-found_is (event.Reload replica q expect) given e now shown = refl
-found_is (event.Join replica q) given e now shown = refl
-found_is (event.Leave replica) given e now shown = refl
+found_is other given e now shown = refl
 
 left_is : (o : Opening) (seat : ℕ) (own : List Entry) (asked : Event) (n : ℕ)
     → reloads_in own + n ≡ get_or o.reloads seat 0 → Allows o seat own asked
     → reloads_in own + cond (brings_settings (did_of asked)) 1 0 + left_after (event_effect asked) n
     ≡ get_or o.reloads seat 0
-left_is o seat own (event.Adopt replica) n h a = omega (arith, h)
-left_is o seat own (event.Fetch path) n h a = omega (arith, h)
-left_is o seat own (event.After path) n h a = omega (arith, h)
-left_is o seat own (event.Put path resource plain stored) n h a = omega (arith, h)
-left_is o seat own (event.Delete path) n h a = omega (arith, h)
-left_is o seat own (event.Replace path revision stored) n h a = omega (arith, h)
-left_is o seat own event.LetGo n h a = omega (arith, h)
 left_is o seat own (event.Reload replica q expect) n h a = omega (arith, h, a.2)
 left_is o seat own (event.Join replica q) n h a = omega (arith, h, a.2)
-left_is o seat own (event.Leave replica) n h a = omega (arith, h)
+left_is o seat own other n h a = omega (arith, h)
 
 -- ---- the hand behind an event
 

@@ -11,12 +11,12 @@ use crate::play::{Play, Stage};
 use crate::request::Request;
 use crate::stored::add_parts;
 use crate::table::Table;
-use kr_base::{Bytes, Text, both};
+use kr_base::Text;
 use kr_rollout::{Event, Gave};
 use std::alloc::Global;
 use test_support::{
-    Page, Wrong, first_word, own_text_or_empty, parse_hex, parse_number, parse_option,
-    split_number, two_words,
+    Page, Wrong, first_word, own_text_or_empty, parse_number, parse_option, split_number,
+    split_put, two_words,
 };
 
 impl Play {
@@ -84,24 +84,12 @@ fn parse_request(alloc: Global, named: &Named, event: &str) -> Result<Request, W
 
 /// `PATH RESOURCE HEX`.
 fn putting(alloc: Global, rest: &str) -> Result<Request, Wrong> {
-    let (path, rest) = two_words(rest)?;
-    let (resource, plain) = two_words(rest)?;
-    let names = both(
-        own_text_or_empty(alloc, path),
-        own_text_or_empty(alloc, resource),
-    );
-    match both(names, parse_hex(alloc, plain)) {
-        Ok((names, plain)) => {
-            let (path, resource) = names;
-            let plain = Bytes::from_vec(plain);
-            Ok(Request::Put {
-                path,
-                resource,
-                plain,
-            })
-        }
-        Err(why) => Err(why),
-    }
+    let ((path, resource), plain) = split_put(alloc, rest)?;
+    Ok(Request::Put {
+        path,
+        resource,
+        plain,
+    })
 }
 
 fn about_path(key: &str, path: Text) -> Request {

@@ -1,10 +1,9 @@
 //! Published configurations by their names. None names a plugin.
-use kr_base::{Bytes, List, MemDice, Shared, whole};
+use kr_base::{List, Shared, whole};
 use kr_config::Settings;
-use kr_kms::TablePlugin;
-use kr_provider::{Links, Published, publish};
+use kr_provider::Published;
 use std::alloc::Global;
-use test_support::{NamedValues, Wrong, add, parse_settings, shared, two_words};
+use test_support::{NamedValues, Wrong, add, published, two_words};
 
 /// Configurations that lines named.
 #[derive(Drop)]
@@ -59,54 +58,27 @@ impl Named {
         alloc: Global,
         names: &str,
     ) -> Result<List<Option<Shared<Settings>>>, Wrong> {
-        let mut replicas = List::new(alloc);
-        let done = self.add_settings(names, &mut replicas);
-        whole(replicas, done)
-    }
-
-    fn add_settings(
-        &self,
-        names: &str,
-        all: &mut List<Option<Shared<Settings>>>,
-    ) -> Result<(), Wrong> {
-        for name in names.split(',') {
-            add(all, self.parse_settings(name))?;
-        }
-        Ok(())
-    }
-
-    fn parse_settings(&self, name: &str) -> Result<Option<Shared<Settings>>, Wrong> {
-        if name == "-" {
-            return Ok(None);
-        }
-        Ok(Some(self.all.find_named(name)?.get().settings.share()?))
+        let replicas = self.replicas(alloc, names)?;
+        let mut settings = List::new(alloc);
+        let done = add_settings(replicas.as_slice(), &mut settings);
+        drop(replicas);
+        whole(settings, done)
     }
 }
 
-fn published(alloc: Global, text: &str) -> Result<Shared<Published>, Wrong> {
-    match parse_settings(alloc, text) {
-        Ok(settings) => publish_bare(alloc, settings),
-        Err(why) => Err(why),
+fn add_settings(
+    replicas: &[Option<Shared<Published>>],
+    all: &mut List<Option<Shared<Settings>>>,
+) -> Result<(), Wrong> {
+    for replica in replicas {
+        add(all, share_settings(replica))?;
     }
+    Ok(())
 }
 
-/// Publishes settings that name no plugin.
-fn publish_bare(alloc: Global, settings: Shared<Settings>) -> Result<Shared<Published>, Wrong> {
-    let mut links = Links::<TablePlugin>::new(alloc);
-    if !links.serve(settings.get()) {
-        drop(links);
-        drop(settings);
-        return Err(Wrong::Form);
-    }
-    let mut dice = MemDice::new(Bytes::new(alloc), List::new(alloc));
-    let made = publish(alloc, settings, &mut links, &mut dice);
-    drop(links);
-    drop(dice);
-    match made {
-        Ok(published) => shared(alloc, published),
-        Err(why) => {
-            drop(why);
-            Err(Wrong::Memory)
-        }
+fn share_settings(replica: &Option<Shared<Published>>) -> Result<Option<Shared<Settings>>, Wrong> {
+    match replica {
+        Some(published) => Ok(Some(published.get().settings.share()?)),
+        None => Ok(None),
     }
 }

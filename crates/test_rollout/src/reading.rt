@@ -21,14 +21,15 @@
 use crate::play::Play;
 use crate::stored::put_row;
 use std::alloc::{AllocError, Global};
-use test_support::{Page, Wrong, answer_or_line, first_word, load_store};
+use test_support::{Answers, Page, Wrong, answer_or_line, first_word, load_store};
 
 /// How many bytes a tape may have.
 const ROOM: usize = 65_536;
 
-/// Does what the line says, and tells what is printed for it.
-pub fn answer(alloc: Global, play: &mut Play, line: &str) -> Result<Vec<u8>, AllocError> {
-    answer_or_line(alloc, print_line(alloc, play, line))
+impl Answers for Play {
+    fn answer(&mut self, alloc: Global, line: &str) -> Result<Vec<u8>, AllocError> {
+        answer_or_line(alloc, print_line(alloc, self, line))
+    }
 }
 
 /// What the line prints.

@@ -2,8 +2,8 @@
 ghost use Rattle.std.specs.Prelude.{◌≡◌, None};
 ghost use Rattle.kr_kms.specs.Exchanges.{KeepsLink, TellsAnswer};
 
-use kr_base::{Annotations, Bytes, List, NoMemory, Text};
-use kr_kms::{Kms, KmsNo, Status, TablePlugin, Wrapped};
+use kr_base::{Bytes, List, NoMemory, Text};
+use kr_kms::{Kms, KmsNo, Status, TablePlugin, Wrapped, WrappedRef};
 use std::alloc::Global;
 
 /// Key ids, each of which a plugin has from the call of a number on, the first being 1.
@@ -103,17 +103,9 @@ impl Kms for TurningPlugin {
         }
     }
 
-    fn unwrap_source(
-        &mut self,
-        alloc: Global,
-        key_id: &str,
-        annotations: &Annotations,
-        source: &[u8],
-    ) -> Result<Bytes, KmsNo> {
+    fn unwrap_source(&mut self, alloc: Global, wrapped: &WrappedRef<'_>) -> Result<Bytes, KmsNo> {
         match self.key_ids.turn(alloc, &mut self.plugin) {
-            Ok(()) => self
-                .plugin
-                .unwrap_source(alloc, key_id, annotations, source),
+            Ok(()) => self.plugin.unwrap_source(alloc, wrapped),
             Err(_) => Err(KmsNo::NoMemory),
         }
     }

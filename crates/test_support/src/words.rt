@@ -1,7 +1,7 @@
 //! The words of a line, parted by single spaces.
 use crate::wrong::Wrong;
 use hex::FromHexError;
-use kr_base::{List, Text, whole};
+use kr_base::{Bytes, List, Text, both, whole};
 use std::alloc::Global;
 
 /// Puts an item that was made at the end.
@@ -36,6 +36,20 @@ pub fn two_words(text: &str) -> Result<(&str, &str), Wrong> {
     match text.split_once(' ') {
         Some(words) => Ok(words),
         None => Err(Wrong::Form),
+    }
+}
+
+/// `PATH RESOURCE HEX`.
+pub fn split_put(alloc: Global, text: &str) -> Result<((Text, Text), Bytes), Wrong> {
+    let (path, rest) = two_words(text)?;
+    let (resource, plain) = two_words(rest)?;
+    let names = both(
+        own_text_or_empty(alloc, path),
+        own_text_or_empty(alloc, resource),
+    );
+    match both(names, parse_hex(alloc, plain)) {
+        Ok((names, plain)) => Ok((names, Bytes::from_vec(plain))),
+        Err(why) => Err(why),
     }
 }
 

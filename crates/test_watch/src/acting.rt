@@ -16,17 +16,27 @@ use crate::printing::{page_lines, since_lines};
 use std::alloc::{AllocError, Global};
 use std::mem;
 use test_support::{
-    Wrong, answer_or_line, first_word, own_text_or_empty, parse_hex, parse_long, parse_number,
-    split_number, two_words,
+    Answers, Wrong, answer_or_line, first_word, own_text_or_empty, parse_hex, parse_long,
+    parse_number, split_number, two_words,
 };
 
-/// Makes the line's call, and tells what is printed for it.
-pub fn answer(
-    alloc: Global,
-    current: &mut Option<Play>,
-    line: &str,
-) -> Result<Vec<u8>, AllocError> {
-    answer_or_line(alloc, act(alloc, current, line))
+/// The watch at hand, if there is one.
+#[derive(Drop)]
+pub struct Watching {
+    current: Option<Play>,
+}
+
+impl Watching {
+    /// No watch yet.
+    pub fn new() -> Watching {
+        Watching { current: None }
+    }
+}
+
+impl Answers for Watching {
+    fn answer(&mut self, alloc: Global, line: &str) -> Result<Vec<u8>, AllocError> {
+        answer_or_line(alloc, act(alloc, &mut self.current, line))
+    }
 }
 
 fn act(alloc: Global, current: &mut Option<Play>, line: &str) -> Result<Vec<u8>, Wrong> {

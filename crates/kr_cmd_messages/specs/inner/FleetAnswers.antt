@@ -20,10 +20,14 @@ IsFleetAsked words (Err (Words why)) =
 IsFleetAsked words (Err NoMemory) = ⊤
 IsFleetAsked words (Err stop) = ⊥
 
+-- the fleet that options name, if they name its file and the store
+abbrev pub NamesFleet : List (List ℕ × List ℕ) → Option FleetWords → Type 0
+NamesFleet options None =
+    (value_of options (codes "file") ≡ None) ⊎ (value_of options (codes "store") ≡ None)
+NamesFleet options (Some fleet) = (value_of options (codes "file") ≡ Some fleet.file)
+    × (value_of options (codes "store") ≡ Some fleet.store) × (fleet.options ≡ options)
+
 -- the fleet of a verb with its options, if it is one
 abbrev pub IsFleetOf : Verb → List (List ℕ × List ℕ) → Option FleetWords → Type 0
-IsFleetOf verb options None = (verb ≡ verbs.Fleet → ⊥)
-    ⊎ (value_of options (codes "file") ≡ None) ⊎ (value_of options (codes "store") ≡ None)
-IsFleetOf verb options (Some asked) = (verb ≡ verbs.Fleet)
-    × (value_of options (codes "file") ≡ Some asked.file)
-    × (value_of options (codes "store") ≡ Some asked.store) × (asked.options ≡ options)
+IsFleetOf verb options None = (verb ≡ verbs.Fleet → ⊥) ⊎ NamesFleet options None
+IsFleetOf verb options (Some asked) = (verb ≡ verbs.Fleet) × NamesFleet options (Some asked)

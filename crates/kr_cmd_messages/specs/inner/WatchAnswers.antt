@@ -6,6 +6,7 @@ use Rattle.kr_words.specs.declared.command.Verb.{Verb}
 use Rattle.kr_words.specs.declared.command.Verb.TheVariants as verbs
 use Rattle.kr_cmd_messages.specs.Command.{AskBadly}
 use Rattle.kr_cmd_messages.specs.WatchAsked.{AsksWatch, AskNoWatch, IsSince}
+use Rattle.kr_cmd_messages.specs.inner.FleetAnswers.{NamesFleet}
 use Rattle.kr_cmd_messages.specs.declared.watch_words.WatchWords.{WatchWords}
 use Rattle.kr_cmd_messages.specs.declared.refusal.Stop.{Stop}
 use Rattle.kr_cmd_messages.specs.declared.refusal.Stop.TheVariants.{Words, NoMemory}
@@ -21,11 +22,8 @@ IsWatchAsked words (Err stop) = ⊥
 -- the watch of a verb with its options, if it is one
 abbrev pub IsWatchOf : Verb → List (List ℕ × List ℕ) → Option WatchWords → Type 0
 IsWatchOf verb options None = (verb ≡ verbs.Watch → ⊥)
-    ⊎ (value_of options (codes "file") ≡ None) ⊎ (value_of options (codes "store") ≡ None)
-    ⊎ (value_of options (codes "resource") ≡ None)
+    ⊎ (value_of options (codes "resource") ≡ None) ⊎ NamesFleet options None
 IsWatchOf verb options (Some asked) = (verb ≡ verbs.Watch)
-    × (value_of options (codes "file") ≡ Some asked.fleet.file)
-    × (value_of options (codes "store") ≡ Some asked.fleet.store)
+    × NamesFleet options (Some asked.fleet)
     × (value_of options (codes "resource") ≡ Some asked.resource)
     × IsNumberAt options (codes "limit") asked.limit × IsSince options asked.since
-    × (asked.fleet.options ≡ options)

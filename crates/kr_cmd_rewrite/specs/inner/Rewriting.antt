@@ -58,8 +58,8 @@ StartsAlone store p names room (Ok core) = MayStart store.rows (Some p.rows ∷ 
 StartsAlone store p names room (Err refused) = (cause : StartNo)
     × IsNoStart store.rows (Some p.rows ∷ []) cause × (refused.0 ≡ start_stop cause)
 
--- a core at its opening, of one replica and one seat that brings no configuration, over a tape whose
--- count of faults can rise
+-- a core at its opening, of one replica and one seat that brings no configuration, over a tape
+-- whose count of faults can rise
 pub record IsAlone (core : CoreState) : Type 0 where
   pub p : Publication
   pub replicas : core.opening.replicas ≡ Some p ∷ []

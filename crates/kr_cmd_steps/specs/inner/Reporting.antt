@@ -1,5 +1,5 @@
 -- What a command reported, and what is around it once it did.
-use Rattle.std.specs.Prelude.{◌≡◌, Option, None, Some, Result, ℕ, List, []}
+use Rattle.std.specs.Prelude.{Option, None, Some, Result, ℕ, List, []}
 use Rattle.kr_cmd_steps.specs.Around.{Around, IsHome, left_of, with_what_is_said}
 use Rattle.kr_cmd_steps.specs.Ran.{EndsAll}
 use Rattle.kr_cmd_messages.specs.declared.command.Command.{Command}

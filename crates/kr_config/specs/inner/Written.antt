@@ -1,5 +1,5 @@
 -- What the types of settings keep: a secret's bytes are below 256.
-use Rattle.std.specs.Prelude.{ℕ, ◌<◌, List, All, ⊤}
+use Rattle.std.specs.Prelude.{◌<◌, List, All, ⊤}
 use Rattle.kr_config.specs.declared.who.Who.{Who}
 use Rattle.kr_config.specs.declared.who.Who.TheVariants.{Identity, Aescbc, Aesgcm, Kms}
 use Rattle.kr_config.specs.Kept.{ConfigEntry}

@@ -7,45 +7,23 @@ use Rattle.kr_provider.specs.Exchanges.{PublishesBy, TellsKeyIdAt}
 use Rattle.kr_provider.specs.Publication.{Publication}
 use Rattle.kr_provider.specs.Publishing.{Publishes}
 use Rattle.kr_provider.specs.declared.refusal.PublishNo.{PublishNo}
-use Rattle.kr_store.specs.declared.rows.Row.{Row}
-use Rattle.kr_rollout.specs.declared.answer.Answer.{Answer}
-use Rattle.kr_rollout.specs.declared.answer.Answer.TheVariants as answer
-use Rattle.kr_rollout.specs.declared.event.Event.{Event}
-use Rattle.kr_rollout.specs.declared.event.Event.TheVariants as event
-use Rattle.kr_rollout.specs.declared.opening.Entry.{Entry}
-use Rattle.kr_history.specs.Acting.{Caller, AddsEntry}
-use Rattle.kr_rollout.specs.Callers.{holding}
 use Rattle.kr_provider.specs.declared.refusal.Opened.{Opened}
 use Rattle.kr_provider.specs.declared.refusal.SealNo.{SealNo}
 use Rattle.kr_provider.specs.declared.refusal.SealNo.TheVariants as sealing
 use Rattle.kr_provider.specs.declared.refusal.UnsealNo.{UnsealNo}
 use Rattle.kr_provider.specs.declared.refusal.UnsealNo.TheVariants as unsealing
 use Rattle.kr_provider.specs.declared.refusal.ValueNo.TheVariants.{LooksEncrypted, TooLarge}
-use Rattle.kr_fleet.specs.CallForms.{BringsNothingWhere, BringsWhere, publish_refusal, reload_of}
-use Rattle.kr_fleet.specs.declared.loading.Way.{Way}
-use Rattle.kr_fleet.specs.declared.loading.Way.TheVariants as way
+use Rattle.kr_fleet.specs.CallForms.{publish_refusal}
+use Rattle.kr_fleet.specs.declared.outcome.Loaded.{Loaded}
+use Rattle.kr_fleet.specs.declared.outcome.Loaded.TheVariants as loaded
 use Rattle.kr_fleet.specs.declared.outcome.Read.{Read}
 use Rattle.kr_fleet.specs.declared.outcome.Read.TheVariants.{Value}
 use Rattle.kr_history.specs.declared.call.CallNo.{CallNo}
 use Rattle.kr_history.specs.declared.call.CallNo.TheVariants as refusal
-use Rattle.kr_history.specs.Calls.{AddsNothing}
+use Rattle.kr_history.specs.declared.outcome.Reloading.{Reloading}
+use Rattle.kr_history.specs.declared.outcome.Reloading.TheVariants as reloading
 use Rattle.kr_fleet.specs.LoadCalls.{AreKeysSame, AsksInVain, IsKeyChanged}
 use Rattle.kr_kms.specs.declared.seeds.SeedRow.{SeedRow}
-
--- the path's row is fetched
-abbrev pub Fetches : (path : List ℕ) → Caller → Result (Option Row) CallNo → Caller → Type 0
-Fetches path old (Ok (Some row)) new = AddsEntry old (event.Fetch path) (answer.Found row) new
-Fetches path old (Ok None) new = AddsEntry old (event.Fetch path) answer.Absent new
-Fetches path old (Err refusal.NoMemory) new = AddsEntry old (event.Fetch path) answer.NoMemory new
-Fetches path old (Err refusal.Spent) new = AddsNothing old new
-Fetches path old (Err why) new = ⊥
-
--- the seat holds a generation of the configuration that the bench adopted
-pub record HoldsAdopted (published : Option Publication) (own : List Entry) : Type 0 where
-  pub number : ℕ
-  pub p : Publication
-  pub adopted : published ≡ Some p
-  pub held : holding own ≡ Some (number, p)
 
 -- what a row of this revision holds
 abbrev pub row_value : (revision : ℕ) → Result Opened UnsealNo → Result Read CallNo
@@ -82,30 +60,12 @@ abbrev pub SharesPublishedBy : {D : Type 0} → (D → Option (List ℕ)) → (D
 SharesPublishedBy left count rows dice result after exchanges = SharesWhere
     (λ made. PublishesBy left count rows dice made after exchanges) result
 
--- the event that brings a configuration
-abbrev pub brought_by : Way → (replica : ℕ) → Publication → Event
-brought_by (way.Reload expect) replica = reload_of replica expect
-brought_by way.Join replica = event.Join replica
-
--- settings are published, shared and brought, and this is answered to the event; or they weren't
--- shared, or there was no event left to bring them
-abbrev pub BringsShared : (Result Publication PublishNo → Type 0) → (Publication → Event) → Caller
-    → Result Answer CallNo → Caller → Type 0
-BringsShared Publishes brings old (Ok given) new = BringsWhere Publishes brings old given new
-BringsShared Publishes brings old (Err why) new = (NotSharedWhere Publishes why × (new ≡ old))
-    ⊎ ((why ≡ refusal.Spent) × BringsNothingWhere Publishes × AddsNothing old new)
-
-abbrev pub IsBrought : {L D : Type 0} → (L → Link) → (D → Option (List ℕ)) → (D → ℕ)
-    → List settings_row → (Publication → Event) → Caller → List L → D → Result Answer CallNo
-    → Caller → List L → D → Type 0
-IsBrought link left count rows brings old olds dice result new news after = BringsShared
-    (λ made. Publishes link left count rows olds dice made news after) brings old result new
-
-abbrev pub IsBroughtBy : {D : Type 0} → (D → Option (List ℕ)) → (D → ℕ) → List settings_row
-    → (Publication → Event) → Caller → D → Result Answer CallNo → Caller → D → List Exchange
-    → Type 0
-IsBroughtBy left count rows brings old dice result new after exchanges = BringsShared
-    (λ made. PublishesBy left count rows dice made after exchanges) brings old result new
+-- what the replica has by what its Reload did
+abbrev pub load_done : Result Reloading CallNo → Result Loaded CallNo
+load_done (Ok (reloading.Generation number)) = Ok (loaded.Generation number)
+load_done (Ok (reloading.Refused verdict)) = Ok (loaded.Refused verdict)
+load_done (Ok (reloading.Moved current)) = Ok (loaded.Moved current)
+load_done (Err why) = Err why
 
 -- the plugins' key ids are those of their seeds, or one isn't, or one can't be asked for
 abbrev pub ComparesKeys : {L : Type 0} → (L → Link) → List SeedRow → List L → Result Bool CallNo

@@ -6,12 +6,19 @@ use Rattle.kr_config.specs.declared.who.Who.{Who}
 use Rattle.kr_config.specs.Kept.{ConfigEntry}
 use Rattle.kr_judge.specs.declared.judging.Writer.{Writer}
 use Rattle.kr_judge.specs.declared.judging.Writer.TheVariants.{Other, New}
+use Rattle.kr_judge.specs.declared.verdict.Verdict.{Verdict}
+use Rattle.kr_judge.specs.declared.verdict.Verdict.TheVariants.{DropsWriter, Unread}
 use Rattle.kr_judge.specs.Boards.{GenerationState}
 use Rattle.kr_judge.specs.Verdicts.{others, unread_classes, lost_writers, unread_writers}
 
 -- a generation's number, a class, and what is written there and not read
 abbrev pub Loss : Type 0
 Loss = ℕ × Class × Who
+
+-- the verdict that tells it
+abbrev pub verdict_on_loss : Writer → Loss → Verdict
+verdict_on_loss Other loss = DropsWriter loss.0 loss.1 loss.2
+verdict_on_loss New loss = Unread loss.0 loss.1 loss.2
 
 abbrev pub losses_at : Writer → List Class → (own new : List ConfigEntry) → List (Class × Who)
 losses_at Other classes own new = unread_classes classes own new

@@ -83,24 +83,24 @@ pub record ServesLast (plugin : Plugin) (left held_old held : Option (List ℕ))
   pub short : length all ≤ line_limit
   pub wrote : Appends held_old held (answers plugin (last_line all))
 
+-- the next bytes without an LF, no more than a line may have, and what stands behind them
+pub record NextPart (all : List ℕ) : Type 0 where
+  pub next : List ℕ
+  pub behind : List ℕ
+  pub is : all ≡ next ++ behind
+  pub unbroken : HasNoBreak next
+  pub short : length next ≤ line_limit
+
 pub record Fails (plugin : Plugin) (left held_old held : Option (List ℕ)) (all : List ℕ)
     (SourceRises SinkRises : Type 0) : Type 0 where
-  pub next : List ℕ
-  pub behind : List ℕ
-  pub is : all ≡ next ++ behind
-  pub unbroken : HasNoBreak next
-  pub short : length next ≤ line_limit
-  pub wrote : (SourceRises × (behind ≡ []) × Appends held_old held [])
-      ⊎ (SinkRises × IsWholeLine behind left
-      × ((n : ℕ) × Appends held_old held (take n (answer plugin next))))
+  pub part : NextPart all
+  pub wrote : (SourceRises × (part.behind ≡ []) × Appends held_old held [])
+      ⊎ (SinkRises × IsWholeLine part.behind left
+      × ((n : ℕ) × Appends held_old held (take n (answer plugin part.next))))
 
 pub record Starves (held_old held : Option (List ℕ)) (all : List ℕ) : Type 0 where
-  pub next : List ℕ
-  pub behind : List ℕ
-  pub is : all ≡ next ++ behind
-  pub unbroken : HasNoBreak next
-  pub short : length next ≤ line_limit
-  pub stops : StopsThere behind
+  pub part : NextPart all
+  pub stops : StopsThere part.behind
   pub wrote : Appends held_old held []
 
 pub record Passes (held_old held : Option (List ℕ)) (all : List ℕ) : Type 0 where

@@ -9,7 +9,6 @@ use Rattle.kr_kms.specs.Cache.{CacheState, FetchesBy}
 use Rattle.kr_kms.specs.Calls.{Link}
 use Rattle.kr_kms.specs.Exchanges.{Exchange}
 use Rattle.kr_kms.specs.declared.plugin.KmsNo.{KmsNo}
-use Rattle.kr_kms.specs.Opens.{key_of}
 use Rattle.kr_kms.specs.declared.seeds.SeedRow.{SeedRow}
 use Rattle.kr_provider.specs.AskedLinks.{AskedOnly, FaultRose}
 use Rattle.kr_provider.specs.Envelopes.{seed_key}

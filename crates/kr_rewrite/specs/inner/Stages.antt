@@ -1,20 +1,15 @@
 -- What parts of a step do.
-use Rattle.std.specs.Prelude.{◌≡◌, ◌⊎◌, ℕ, Bool, true, false, List, Option, None, Some, Result, Ok, Err, ⊤}
+use Rattle.std.specs.Prelude.{◌≡◌, ◌⊎◌, ℕ, Bool, true, false, List, Option, Result, Ok, Err, ⊤}
 use Rattle.kr_base.specs.Numbering.{next_number}
 use Rattle.kr_kms.specs.Cache.{CacheState}
 use Rattle.kr_kms.specs.Calls.{Link}
 use Rattle.kr_kms.specs.Exchanges.{Exchange}
 use Rattle.kr_provider.specs.Publication.{Publication}
 use Rattle.kr_store.specs.declared.rows.Row.{Row}
-use Rattle.kr_rollout.specs.declared.answer.Answer.{Answer}
-use Rattle.kr_rollout.specs.declared.answer.Answer.TheVariants as answer
-use Rattle.kr_rollout.specs.declared.event.Event.TheVariants as event
-use Rattle.kr_rollout.specs.declared.opening.Entry.{Entry}
 use Rattle.kr_history.specs.declared.call.CallNo.{CallNo}
-use Rattle.kr_history.specs.declared.call.CallNo.TheVariants as refusal
-use Rattle.kr_history.specs.Acting.{Caller, AddsEntry}
-use Rattle.kr_rollout.specs.Callers.{holding}
-use Rattle.kr_history.specs.Calls.{AddsNothing}
+use Rattle.kr_history.specs.declared.outcome.Replacing.{Replacing}
+use Rattle.kr_history.specs.declared.outcome.Replacing.TheVariants as replacing
+use Rattle.kr_history.specs.Acting.{Caller}
 use Rattle.kr_rewrite.specs.DriveExchanges.{ReadsRow, before, behind}
 use Rattle.kr_rewrite.specs.Drives.{DrivesOver, IsCutOver, StayLinks}
 use Rattle.kr_rewrite.specs.Rewrites.{CopiesNothing, Reseals, RewritesOver, ReadsFoundRow, StepsOver, UnsealsRow}
@@ -22,44 +17,13 @@ use Rattle.kr_rewrite.specs.declared.outcome.Report.{Report}
 use Rattle.kr_rewrite.specs.declared.outcome.Step.{Step}
 use Rattle.kr_rewrite.specs.declared.outcome.Step.TheVariants as step
 
--- the seat holds a generation of the configuration that the bench adopted
-pub record HoldsAdopted (published : Option Publication) (own : List Entry) : Type 0 where
-  pub number : ℕ
-  pub p : Publication
-  pub adopted : published ≡ Some p
-  pub held : holding own ≡ Some (number, p)
-
--- ---- the next row
-
-abbrev pub AnswersAfter : Answer → Type 0
-AnswersAfter (answer.Found row) = ⊤
-AnswersAfter answer.Absent = ⊤
-AnswersAfter answer.NoMemory = ⊤
-AnswersAfter given = ⊥
-
-abbrev pub FindsBy : Answer → Result (Option Row) CallNo → Type 0
-FindsBy (answer.Found row) result = result ≡ Ok (Some row)
-FindsBy answer.Absent result = result ≡ Ok None
-FindsBy answer.NoMemory result = result ≡ Err refusal.NoMemory
-FindsBy given result = ⊥
-
-abbrev pub LooksAbove : (above : List ℕ) → Caller → Result (Option Row) CallNo → Caller → Type 0
-LooksAbove above old (Ok (Some row)) new = AddsEntry old (event.After above) (answer.Found row) new
-LooksAbove above old (Ok None) new = AddsEntry old (event.After above) answer.Absent new
-LooksAbove above old (Err refusal.NoMemory) new =
-    AddsEntry old (event.After above) answer.NoMemory new
-LooksAbove above old (Err refusal.Spent) new = AddsNothing old new
-LooksAbove above old (Err why) new = ⊥
-
 -- ---- the row in its place
 
-abbrev pub AnswersReplace : Answer → Type 0
-AnswersReplace (answer.Written revision) = ⊤
-AnswersReplace (answer.Changed revision) = ⊤
-AnswersReplace answer.StoreFailed = ⊤
-AnswersReplace (answer.StoreFull needed) = ⊤
-AnswersReplace answer.NoMemory = ⊤
-AnswersReplace given = ⊥
+-- what the step did by what its Replace did
+abbrev pub replaced_step : (path : List ℕ) → Result Replacing CallNo → Result Step CallNo
+replaced_step path (Ok (replacing.Written revision)) = Ok (step.Rewritten path)
+replaced_step path (Ok (replacing.Changed last)) = Ok (step.Changed path)
+replaced_step path (Err why) = Err why
 
 -- the data of a stale row are sealed anew, unless there is no memory for a copy of its path
 abbrev pub ResealsRow : {D : Type 0} → (D → Option (List ℕ)) → (D → ℕ) → Publication → Row

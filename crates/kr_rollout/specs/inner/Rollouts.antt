@@ -83,6 +83,11 @@ pub record KeepsFaults (torn : Bool) (count : ℕ) (store : Kept) : Type 0 where
   pub later : count ≤ store.count
   pub torn_since : store.torn ≡ true → (torn ≡ true) ⊎ Rose count store.count
 
+-- the seat holds one of the generations
+abbrev pub HoldsOne : (held : List (Option ℕ)) → List Generation → (seat : ℕ) → Type 0
+HoldsOne held generations seat = (seat < length held)
+    × (number : ℕ) × (number_at held seat ≡ Some number) × (number < length generations)
+
 -- the replica may be given the settings: they name no other plugins, and there is room for one
 -- more generation
 abbrev pub MayTake : RolloutState → (replica : ℕ) → Publication → Type 0

@@ -4,8 +4,9 @@ use Rattle.kr_store.specs.declared.answers.PutNo.{PutNo}
 use Rattle.kr_store.specs.declared.answers.PutNo.TheVariants as no
 use Rattle.kr_store.specs.declared.rows.Row.{Row}
 use Rattle.kr_store.specs.declared.rows.LogRow.{LogRow}
-use Rattle.kr_store.specs.Rows.{put_of, latest, revision_of}
-use Rattle.kr_store.specs.Stores.{Kept, IsLatestPut, Wrote, Fails, Refusal}
+use Rattle.kr_store.specs.declared.format.Check.{Check}
+use Rattle.kr_store.specs.Rows.{put_of, check_in, latest, revision_of}
+use Rattle.kr_store.specs.Stores.{Kept, IsLatestPut, Wrote, Fails, Refusal, Puts, Replaces}
 use Rattle.kr_provider.specs.Publication.{Publication, list_at}
 use Rattle.kr_provider.specs.Readers.{writer_of}
 use Rattle.kr_judge.specs.declared.need.Need.{Need}
@@ -39,6 +40,25 @@ abbrev pub needs_without : Result (Option ℕ) PutNo → List ℕ → List Need 
 needs_without (Ok None) path needs = needs
 needs_without (Ok (Some revision)) path needs = drop_need needs path
 needs_without (Err why) path needs = needs
+
+-- a put of the resource, or a row in the place of the one with this revision
+abbrev pub WritesRow : (over : Option ℕ) → Kept → Kept → (path resource stored : List ℕ) → Check
+    → Result ℕ PutNo → Type 0
+WritesRow None old new path resource stored check result =
+    Puts old new (put_of path resource stored (check_in old.format check)) result
+WritesRow (Some revision) old new path resource stored check result =
+    Replaces old new path revision stored check result
+
+-- a value was put, or not; one that was written needs the writer of its resource
+abbrev pub PutsBy : Publication → Kept → Kept → (path resource stored : List ℕ) → BoardState
+    → BoardState → Result ℕ PutNo → Type 0
+PutsBy p old new path resource stored before after result =
+    Puts old new (put_of path resource stored (written_check old.format p resource)) result
+    × (after ≡ record before {
+      needs = needs_with result
+          (record { path = path; resource = resource; who = writer_of (list_at p resource) })
+          before.needs;
+    })
 
 -- a row that takes the place of this one, with the check of the writer of its resource
 abbrev pub sealed_over : Kept → Publication → Row → (path stored : List ℕ) → LogRow

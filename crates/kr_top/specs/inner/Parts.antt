@@ -18,8 +18,8 @@ use Rattle.kr_top.specs.Asked.{RanHearing, RanWatchHearing}
 
 -- a command that no one waits in, or words that mean none
 pub record RunsAlone {L : Type 0} (link : L → Link) (step : L → Exchange → L → Type 0)
-    (lent took : ℕ → L → Type 0) (words : List (List ℕ)) (old new : Around) (output errors : Receipt)
-    (status : ℕ) : Type 0 where
+    (lent took : ℕ → L → Type 0) (words : List (List ℕ)) (old new : Around)
+    (output errors : Receipt) (status : ℕ) : Type 0 where
   pub ran : Ran words old new output errors status
   pub asked : RanHearing link lent took step words old new output errors status
   pub readings : Readings words old new output errors status

@@ -4,8 +4,8 @@ ghost use Rattle.kr_base.specs.Faults.{Rose, counted};
 ghost use Rattle.kr_kms.specs.Exchanges.{KeepsLink, TellsAnswer, has_failed};
 ghost use Rattle.test_acceptance.specs.Gates.{counting};
 
-use kr_base::{Annotations, Bytes, FaultCount};
-use kr_kms::{Kms, KmsNo, Status, Wrapped};
+use kr_base::{Bytes, FaultCount};
+use kr_kms::{Kms, KmsNo, Status, Wrapped, WrappedRef};
 use std::alloc::Global;
 use std::sync::atomic::{AtomicBool, Ordering};
 use std::thread::yield_now;
@@ -94,18 +94,12 @@ impl<'a, L: Kms + Drop> Kms for Gate<'a, L> {
     }
 
     #[tactic(auto, using(crate::proofs::Gates::asks, crate::proofs::Gates::keeps))]
-    fn unwrap_source(
-        &mut self,
-        alloc: Global,
-        key_id: &str,
-        annotations: &Annotations,
-        source: &[u8],
-    ) -> Result<Bytes, KmsNo> {
+    fn unwrap_source(&mut self, alloc: Global, wrapped: &WrappedRef<'_>) -> Result<Bytes, KmsNo> {
         if !self.meets() {
             self.faults.rise();
             return Err(KmsNo::Failed);
         }
-        let answer = self.inner.unwrap_source(alloc, key_id, annotations, source);
+        let answer = self.inner.unwrap_source(alloc, wrapped);
         count(&mut self.faults, &answer);
         answer
     }

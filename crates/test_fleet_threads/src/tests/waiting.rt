@@ -1,8 +1,8 @@
 //! A link that waits in the midst of its unwraps.
 ghost use Rattle.kr_kms.specs.Exchanges.{KeepsLink, TellsAnswer};
 
-use kr_base::{Annotations, Bytes};
-use kr_kms::{Kms, KmsNo, Status, Wrapped};
+use kr_base::Bytes;
+use kr_kms::{Kms, KmsNo, Status, Wrapped, WrappedRef};
 use std::alloc::Global;
 use std::sync::atomic::{AtomicBool, Ordering};
 use std::thread::yield_now;
@@ -62,16 +62,10 @@ impl<'a, L: Kms + Drop> Kms for Waiting<'a, L> {
         self.inner.wrap(alloc, plain)
     }
 
-    fn unwrap_source(
-        &mut self,
-        alloc: Global,
-        key_id: &str,
-        annotations: &Annotations,
-        source: &[u8],
-    ) -> Result<Bytes, KmsNo> {
+    fn unwrap_source(&mut self, alloc: Global, wrapped: &WrappedRef<'_>) -> Result<Bytes, KmsNo> {
         if !self.is_let() {
             return Err(KmsNo::NoMemory);
         }
-        self.inner.unwrap_source(alloc, key_id, annotations, source)
+        self.inner.unwrap_source(alloc, wrapped)
     }
 }

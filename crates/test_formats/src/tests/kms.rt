@@ -2,7 +2,8 @@
 use crate::tests::making::{annotate, both, gives, make_plugin, plugin};
 use kr_base::{Annotations, Bytes, Dice, List, MemDice};
 use kr_kms::{
-    Field, Kms, KmsNo, SeedCache, SeedNo, SeedRow, TablePlugin, healthy_key_id, make_seed,
+    Field, Kms, KmsNo, SeedCache, SeedNo, SeedRow, TablePlugin, WrappedRef, healthy_key_id,
+    make_seed,
 };
 use std::alloc::Global;
 
@@ -17,7 +18,7 @@ fn salted(alloc: Global, salt: &[u8]) -> Option<Annotations> {
     }
 }
 
-/// Whether a source of a key is unwrapped as that.
+/// Whether two bytes 9d under a key are unwrapped as that.
 fn unwraps_to_plain(
     alloc: Global,
     link: &mut TablePlugin,
@@ -25,7 +26,12 @@ fn unwraps_to_plain(
     salt: &Annotations,
     plain: &[u8],
 ) -> bool {
-    gives(link.unwrap_source(alloc, key_id, salt, b"\x9d\x9d"), plain)
+    let wrapped = WrappedRef {
+        cipher: b"\x9d\x9d",
+        key_id,
+        annotations: salt,
+    };
+    gives(link.unwrap_source(alloc, &wrapped), plain)
 }
 
 // The masks were summed by hand: 9d is 6b + 31 + 01.

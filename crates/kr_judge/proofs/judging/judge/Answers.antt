@@ -14,13 +14,13 @@ pub returns-in-Some-default : goal.returns-in-Some-default
 returns-in-Some-default c =
     let lost = c.in-Some-default in
     tells_writer c.args.needs.now.needs c.args.generations.now.generations c.args.replica (rows_of c.args.settings.now.entries.0)
-    lost.number (lent_class lost.class) lost.who.now c.drops_writer.result (none_stored (rows_of c.args.settings.now.entries.0) c.args.needs.now.needs c.in-None.ensures)
-    (ap (option_map {U = Loss} (λ lost. (lost.0, lent_class lost.1, lost.2.now))) (sym lost.is-0) ∙ c.first_losses.ensures.dropped) c.drops_writer.ensures
+    lost.number (lent_class lost.class) lost.who.now c.on_lost_class.result (none_stored (rows_of c.args.settings.now.entries.0) c.args.needs.now.needs c.in-None.ensures)
+    (ap (option_map {U = Loss} (λ lost. (lost.0, lent_class lost.1, lost.2.now))) (sym lost.is-0) ∙ c.first_losses.ensures.dropped) c.on_lost_class.ensures
 
 pub returns-in-None-Some : goal.returns-in-None-Some
 returns-in-None-Some c =
     let lost = c.in-None-Some in
     tells_unread c.args.needs.now.needs c.args.generations.now.generations c.args.replica (rows_of c.args.settings.now.entries.0)
-    lost.number (lent_class lost.class) lost.who.now c.unread.result (none_stored (rows_of c.args.settings.now.entries.0) c.args.needs.now.needs c.in-None.ensures)
+    lost.number (lent_class lost.class) lost.who.now c.on_lost_class-in-None-Some.result (none_stored (rows_of c.args.settings.now.entries.0) c.args.needs.now.needs c.in-None.ensures)
     (ap (option_map {U = Loss} (λ lost. (lost.0, lent_class lost.1, lost.2.now))) (sym lost.is-0) ∙ c.first_losses.ensures.dropped)
-    (ap (option_map {U = Loss} (λ lost. (lost.0, lent_class lost.1, lost.2.now))) (sym lost.is-1) ∙ c.first_losses.ensures.unread) c.unread.ensures
+    (ap (option_map {U = Loss} (λ lost. (lost.0, lent_class lost.1, lost.2.now))) (sym lost.is-1) ∙ c.first_losses.ensures.unread) c.on_lost_class-in-None-Some.ensures

@@ -4,12 +4,10 @@ use Rattle.kr_provider.specs.Publication.{list_at, writer_at}
 use Rattle.kr_provider.specs.Reading.{HasSomeReading, data_of}
 use Rattle.kr_provider.specs.Sealing.{IsSealing, Seals}
 use Rattle.kr_history.specs.declared.call.CallNo.TheVariants as refusal
-use Rattle.kr_rollout.specs.declared.event.Event.TheVariants as event
-use Rattle.kr_history.proofs.KeptByEvents.{holds_still}
-use Rattle.kr_history.proofs.PartsAdd.{entry_within, nothing_within, same_within}
+use Rattle.kr_history.proofs.PartsAdd.{nothing_within}
 use Rattle.kr_rewrite.specs.inner.Stages.{ResealsRow}
 use Rattle.kr_rewrite.proofs.Options.{holds_at, holds_of, is_there}
-use Rattle.kr_rewrite.proofs.Replacing.{may_replace, replaces_to, reseals_done, reseals_in_vain, reseals_nothing, unsealed_to}
+use Rattle.kr_rewrite.proofs.Replacing.{may_replace, replaces_to, reseals_done, reseals_nothing, unsealed_to}
 use Rattle.kr_rewrite.proofs.row.reseal.Goals as goal
 
 pub returns-in_default-clause-reseals : goal.returns-in_default-clause-reseals
@@ -52,32 +50,34 @@ returns-in-Err-clause-path g c = unsealed_to c.args.path c.args.row.now.path c.i
 pub returns-in-Err-clause-adds : goal.returns-in-Err-clause-adds
 returns-in-Err-clause-adds g c = nothing_within 1 0 [] (g.A.Acts.caller c.args.acts.now)
 
-pub act-requires : goal.act-requires
-act-requires g c =
+pub replace-requires : goal.replace-requires
+replace-requires g c =
     let h = c.requires.held in
     let old = g.A.Acts.caller c.args.acts.now in
-    may_replace old.opening old.seat old.mine h.number h.p c.args.row.now c.args.plain
-    c.in-Ok.copy c.in-Ok-seal_in_place.stored c.known.ensures.seat_in c.requires.rules.0 h.held
-    c.requires.found (c.in-Ok.ensures ∙ c.as_str.ensures)
-    (holds_of (λ p. HasSomeReading (list_at p c.args.row.now.resource) c.args.row.now.path
-    c.args.row.now.stored (data_of c.args.plain)) c.args.bench.now.published h.p h.adopted
-    c.requires.reads)
-    (holds_of (λ p. IsSealing p c.args.row.now.resource c.args.row.now.path c.args.plain
-    c.in-Ok-seal_in_place.stored) c.args.bench.now.published h.p h.adopted
-    c.in-Ok-seal_in_place.ensures.sealing)
+    record {
+      may = may_replace old.opening old.seat old.mine h.number h.p c.args.row.now
+          c.args.plain c.in-Ok.copy c.in-Ok-seal_in_place.stored c.requires.rules.0 h.held
+          c.requires.found (c.in-Ok.ensures ∙ c.as_str.ensures)
+          (holds_of (λ p. HasSomeReading (list_at p c.args.row.now.resource) c.args.row.now.path
+          c.args.row.now.stored (data_of c.args.plain)) c.args.bench.now.published h.p h.adopted
+          c.requires.reads)
+          (holds_of (λ p. IsSealing p c.args.row.now.resource c.args.row.now.path c.args.plain
+          c.in-Ok-seal_in_place.stored) c.args.bench.now.published h.p h.adopted
+          c.in-Ok-seal_in_place.ensures.sealing);
+    }
 
-pub returns-in-Ok-act-clause-reseals : goal.returns-in-Ok-act-clause-reseals
-returns-in-Ok-act-clause-reseals g c =
+pub returns-clause-reseals : goal.returns-clause-reseals
+returns-clause-reseals g c =
     let h = c.requires.held in
     let old = g.A.Acts.caller c.args.acts.now in
-    let new = g.A.Acts.caller c.act.new.self in
+    let new = g.A.Acts.caller c.replace.new.acts in
     let dice = c.args.bench.now.dice in
     let after = c.seal_in_place.new.bench.dice in
     holds_at (λ p. ResealsRow g.D.Dice.left g.D.Dice.count p c.args.row.now c.args.plain old dice
     c.replaced_step.result new after) c.args.bench.now.published h.p h.adopted
     (reseals_done g.D.Dice.left g.D.Dice.count c.args.row.now c.args.path c.args.plain
     c.requires.path c.args.bench.now.published h.p h.adopted old new dice after
-    c.in-Ok.copy c.in-Ok-seal_in_place.stored c.in-Ok-act.answer c.replaced_step.result
+    c.in-Ok.copy c.in-Ok-seal_in_place.stored c.replace.result c.replaced_step.result
     (holds_of (λ p. Seals g.D.Dice.left g.D.Dice.count p.seeds (writer_at p
     c.args.row.now.resource) c.args.row.now.path c.args.plain dice after
     (Ok c.in-Ok-seal_in_place.stored)) c.args.bench.now.published h.p h.adopted
@@ -85,43 +85,9 @@ returns-in-Ok-act-clause-reseals g c =
     (holds_of (λ p. IsSealing p c.args.row.now.resource c.args.row.now.path c.args.plain
     c.in-Ok-seal_in_place.stored) c.args.bench.now.published h.p h.adopted
     c.in-Ok-seal_in_place.ensures.sealing)
-    (c.in-Ok.ensures ∙ c.as_str.ensures) c.in-Ok-act.ensures.acted c.replaced_step.ensures)
+    (c.in-Ok.ensures ∙ c.as_str.ensures) c.replace.ensures.replaces c.replaced_step.ensures)
 
-pub returns-in-Ok-act-clause-path : goal.returns-in-Ok-act-clause-path
-returns-in-Ok-act-clause-path g c = replaces_to c.args.path c.args.row.now.path
-    c.in-Ok-act.answer c.replaced_step.result c.requires.path c.requires.rules.0
+pub returns-clause-path : goal.returns-clause-path
+returns-clause-path g c = replaces_to c.args.path c.args.row.now.path
+    c.replace.result c.replaced_step.result c.requires.path c.requires.rules.0
     c.replaced_step.ensures
-
-pub returns-in-Ok-act-clause-adds : goal.returns-in-Ok-act-clause-adds
-returns-in-Ok-act-clause-adds g c = entry_within (g.A.Acts.caller c.args.acts.now)
-    (g.A.Acts.caller c.act.new.self)
-    (event.Replace c.in-Ok.copy c.args.row.now.revision c.in-Ok-seal_in_place.stored)
-    c.in-Ok-act.answer c.in-Ok-act.ensures.acted
-
-pub returns-in-Ok-act-clause-holds : goal.returns-in-Ok-act-clause-holds
-returns-in-Ok-act-clause-holds g c = holds_still (g.A.Acts.caller c.args.acts.now)
-    (g.A.Acts.caller c.act.new.self)
-    (event.Replace c.in-Ok.copy c.args.row.now.revision c.in-Ok-seal_in_place.stored)
-    c.in-Ok-act.answer tt c.in-Ok-act.ensures.acted
-
-pub returns-in-Err-act-clause-reseals : goal.returns-in-Err-act-clause-reseals
-returns-in-Err-act-clause-reseals g c =
-    let h = c.requires.held in
-    let old = g.A.Acts.caller c.args.acts.now in
-    let new = g.A.Acts.caller c.act.new.self in
-    let dice = c.args.bench.now.dice in
-    let after = c.seal_in_place.new.bench.dice in
-    holds_at (λ p. ResealsRow g.D.Dice.left g.D.Dice.count p c.args.row.now c.args.plain old dice
-    (Err refusal.Spent) new after) c.args.bench.now.published h.p h.adopted
-    (reseals_in_vain g.D.Dice.left g.D.Dice.count c.args.row.now c.args.path c.args.plain
-    c.requires.path c.args.bench.now.published h.p h.adopted old new dice after
-    c.in-Ok-seal_in_place.stored
-    (holds_of (λ p. Seals g.D.Dice.left g.D.Dice.count p.seeds (writer_at p
-    c.args.row.now.resource) c.args.row.now.path c.args.plain dice after
-    (Ok c.in-Ok-seal_in_place.stored)) c.args.bench.now.published h.p h.adopted
-    c.in-Ok-seal_in_place.ensures.sealed)
-    (record { spent = c.in-Err-act.ensures.spent.0 refl; same = c.in-Err-act.ensures.nothing }))
-
-pub returns-in-Err-act-clause-adds : goal.returns-in-Err-act-clause-adds
-returns-in-Err-act-clause-adds g c = same_within 1 0 [] (g.A.Acts.caller c.args.acts.now)
-    (g.A.Acts.caller c.act.new.self) c.in-Err-act.ensures.nothing

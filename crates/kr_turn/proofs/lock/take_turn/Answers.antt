@@ -2,7 +2,7 @@
 use Rattle.std.proofs.Common.{rules, ◌-◌, ◌∷◌, ap, sym, ◌∙◌, subst, Some}
 use Rattle.atomic_table.specs.Table.{rest}
 use Rattle.kr_turn.specs.declared.view.View.{View}
-use Rattle.kr_turn.specs.inner.Steps.{SeatState, waiting_view, IsServed}
+use Rattle.kr_turn.specs.inner.Steps.{SeatState, IsServed}
 use Rattle.kr_turn.proofs.Acts.{one_in_hand, has_in_hand, some_same, rests_by, turned_held}
 use Rattle.kr_turn.proofs.Acts.{makes_turn}
 use Rattle.kr_turn.proofs.lock.take_turn.Goals as goal

@@ -1,5 +1,5 @@
 -- What the tactic leaves open of `have_values`.
-use Rattle.std.proofs.Common.{◌≡◌, ◌∙◌, ap, subst, sym}
+use Rattle.std.proofs.Common.{subst, sym}
 use Rattle.kr_words.specs.declared.name.OptionName.TheVariants.{Replica}
 use Rattle.kr_words.specs.Names.{option_text}
 use Rattle.kr_words.specs.Options.{count_options}
@@ -9,25 +9,20 @@ use Rattle.kr_words.proofs.rules.have_values.Goals as goal
 
 pub returns-then-not-is_option : goal.returns-then-not-is_option
 returns-then-not-is_option c =
-    let options = c.args.options.now in
-    let count = count_options options (option_text Replica) in
-    let counted : c.count_options-replicas.result ≡ count =
-    c.count_options-replicas.ensures ∙ ap (count_options options) c.text.ensures in
-    all_stops (IsOption c.args.verb count) options c.loop-option.option-index c.option-item.result
+    all_stops (IsOption c.args.verb (count_options c.args.options.now (option_text Replica)))
+    c.args.options.now c.loop-option.option-index c.option-item.result
     c.loop-option-test.true c.option-item.is
     (λ is. let a = c.is_option.ensures.1
-    (subst (λ n. IsOption c.args.verb n c.option-item.result) (sym counted) is) in
+    (subst (λ n. IsOption c.args.verb n c.option-item.result) (sym c.count_named-replicas.ensures) is)
+    in
     let b = c.if-not-is_option.true in cc)
 
 pub loop-option-preserved : goal.loop-option-preserved
 loop-option-preserved c =
-    let options = c.args.options.now in
-    let count = count_options options (option_text Replica) in
-    let counted : c.count_options-replicas.result ≡ count =
-    c.count_options-replicas.ensures ∙ ap (count_options options) c.text.ensures in
-    all_more (IsOption c.args.verb count) options c.loop-option.option-index c.option-item.result
+    all_more (IsOption c.args.verb (count_options c.args.options.now (option_text Replica)))
+    c.args.options.now c.loop-option.option-index c.option-item.result
     c.loop-option-test.true c.option-item.is
-    (subst (λ n. IsOption c.args.verb n c.option-item.result) counted
+    (subst (λ n. IsOption c.args.verb n c.option-item.result) c.count_named-replicas.ensures
     (c.is_option.ensures.0 c.if-not-is_option.false)) c.loop-option.invariant
 
 pub returns : goal.returns

@@ -9,9 +9,7 @@ pub returns-in_err-value-in-None : goal.returns-in_err-value-in-None
 returns-in_err-value-in-None c =
     let option = c.in_ok-option.option.now in
     let first = c.in_ok-option.ensures.cases in
-    let whole = dashed c.args.words.now c.in_ok-word.rest.now c.in_ok-word.word.now
-    c.as_str.result.now option first.0 c.in_ok-word.ensures.cases.0 c.as_str.ensures.value
-    first.1.1 first.2 in
+    let whole = dashed first.0 c.in_ok-word.ensures.cases.0 c.as_str.ensures.value first.1.1 first.2 in
     let last = ap (λ r. (codes "--" ++ option) ∷ texts r)
     (none_left c.in_ok-word.rest.now c.in_err-value-in-None.ensures.cases) in
     rw c.from_residual-in_err-value-in-None.ensures
@@ -23,9 +21,7 @@ pub returns-in-Some : goal.returns-in-Some
 returns-in-Some c =
     let option = c.in_ok-option.option.now in
     let first = c.in_ok-option.ensures.cases in
-    let whole = dashed c.args.words.now c.in_ok-word.rest.now c.in_ok-word.word.now
-    c.as_str.result.now option first.0 c.in_ok-word.ensures.cases.0 c.as_str.ensures.value
-    first.1.1 first.2 in
+    let whole = dashed first.0 c.in_ok-word.ensures.cases.0 c.as_str.ensures.value first.1.1 first.2 in
     let parts = split_parts 61 option (Some (c.in-Some.name, c.in-Some.value))
     c.in-Some.ensures.cases (omega arith) in (
       plain_bytes c.in-Some.name.now parts.1,
@@ -37,9 +33,7 @@ pub returns-in_ok-value-in-None : goal.returns-in_ok-value-in-None
 returns-in_ok-value-in-None c =
     let option = c.in_ok-option.option.now in
     let first = c.in_ok-option.ensures.cases in
-    let whole = dashed c.args.words.now c.in_ok-word.rest.now c.in_ok-word.word.now
-    c.as_str.result.now option first.0 c.in_ok-word.ensures.cases.0 c.as_str.ensures.value
-    first.1.1 first.2 in
+    let whole = dashed first.0 c.in_ok-word.ensures.cases.0 c.as_str.ensures.value first.1.1 first.2 in
     let behind = texts c.in_ok-value-in-None.rest.now in
     let next : texts c.in_ok-word.rest.now ≡ c.as_str-in-None.result.now ∷ behind = let f =
     ap texts c.in_ok-value-in-None.ensures.cases.0 in cc in (

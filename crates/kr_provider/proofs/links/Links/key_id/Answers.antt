@@ -1,16 +1,8 @@
 -- `Links::key_id`: the link at the place of the name is asked, and the others stay.
-use Rattle.std.proofs.Common.{◌∙◌, Bool, [], ◌∷◌, Contains, ap, refl, sym, subst}
-use Rattle.std.specs.Prelude.{position, slice_set}
-use Rattle.std.specs.Str.{bytes_eq}
-use Rattle.kr_kms.specs.Calls.{IsSameLink}
-use Rattle.kr_kms.specs.Health.{TellsKeyId}
-use Rattle.kr_provider.specs.AskedLinks.{AsksOne}
+use Rattle.std.proofs.Common.{◌∙◌, Contains, sym, subst}
+use Rattle.kr_kms.specs.Health.{TellsKeyId, TellsKeyIdBy}
 use Rattle.kr_provider.specs.Names.{names_of}
-use Rattle.kr_base.specs.Walks.{Talk}
-use Rattle.kr_kms.specs.Health.{TellsKeyIdBy}
-use Rattle.kr_provider.specs.AskedLinks.{Among}
-use Rattle.kr_provider.proofs.AskedLists.{asked_alone, asks_at, distinct_stay, place_named}
-use Rattle.kr_provider.proofs.LinkTalks.{talk_among}
+use Rattle.kr_provider.proofs.LinkPlaces.{asks_there, distinct_there, talks_there}
 use Rattle.kr_provider.proofs.links.Links.key_id.Goals as goal
 
 pub plugin_link_place-at-requires : goal.plugin_link_place-at-requires
@@ -18,46 +10,19 @@ plugin_link_place-at-requires g c = subst (λ l. Contains (names_of g.L.Kms.link
     (sym c.self.view_is ∙ sym c.as_slice.ensures.value) c.requires
 
 pub invariant_of-self : goal.invariant_of-self
-invariant_of-self g c =
-    let test : g.row.L.Denot → Bool = λ l. bytes_eq (g.L.Kms.link l).name c.args.name.now in
-    let same : g.row.L.Denot → g.row.L.Denot → Type 0 = λ old new.
-    IsSameLink (g.L.Kms.link old) (g.L.Kms.link new) in
-    let place = ap (position test) (sym c.as_slice.ensures.value)
-    ∙ c.plugin_link_place-at.ensures.place in
-    let items = c.self.inside.items.items in
-    let news = slice_set items c.plugin_link_place-at.result c.healthy_key_id.new.link in
-    distinct_stay g.L.Kms.link (c.args.name.now ∷ []) items news
-    (asked_alone g.L.Kms.link c.args.name.now same items news
-    (asks_at g.L.Kms.link c.args.name.now same items news c.plugin_link_place-at.result c.index_mut.result.now
-    c.healthy_key_id.new.link place c.index_mut.ensures.value refl
-    c.healthy_key_id.ensures.same c.healthy_key_id.ensures.same)) c.self.invariant
+invariant_of-self g c = distinct_there g.L.Kms.link c.args.name.now c.healthy_key_id.new.link c.self.view_is
+    c.as_slice.ensures.value c.plugin_link_place-at.ensures.place c.index_mut.ensures.value
+    c.healthy_key_id.ensures.same c.self.invariant
 
 pub returns-clause-told : goal.returns-clause-told
-returns-clause-told g c =
-    let test : g.row.L.Denot → Bool = λ l. bytes_eq (g.L.Kms.link l).name c.args.name.now in
-    let asks : g.row.L.Denot → g.row.L.Denot → Type 0 = λ old new. TellsKeyId (g.L.Kms.link old) c.healthy_key_id.result (g.L.Kms.link new) in
-    let place = ap (position test) (sym c.as_slice.ensures.value)
-    ∙ c.plugin_link_place-at.ensures.place in
-    let items = c.self.inside.items.items in
-    let news = slice_set items c.plugin_link_place-at.result c.healthy_key_id.new.link in
-    subst (λ l. AsksOne g.L.Kms.link c.args.name.now asks l news) c.self.view_is
-    (asks_at g.L.Kms.link c.args.name.now asks items news c.plugin_link_place-at.result c.index_mut.result.now
-    c.healthy_key_id.new.link place c.index_mut.ensures.value refl
-    c.healthy_key_id.ensures.same c.healthy_key_id.ensures.told)
+returns-clause-told g c = asks_there g.L.Kms.link c.args.name.now c.healthy_key_id.new.link c.self.view_is
+    c.as_slice.ensures.value c.plugin_link_place-at.ensures.place c.index_mut.ensures.value
+    c.healthy_key_id.ensures.same
+    (λ old new. TellsKeyId (g.L.Kms.link old) c.healthy_key_id.result (g.L.Kms.link new))
+    c.healthy_key_id.ensures.told
 
 pub returns-clause-exchanged : goal.returns-clause-exchanged
-returns-clause-exchanged g c =
-    let step = g.L.Kms.step in
-    let test : g.row.L.Denot → Bool = λ l. bytes_eq (g.L.Kms.link l).name c.args.name.now in
-    let Are = TellsKeyIdBy c.args.name.now c.healthy_key_id.result in
-    let talks : g.row.L.Denot → g.row.L.Denot → Type 0 = λ old new. Talk step old new Are in
-    let place = ap (position test) (sym c.as_slice.ensures.value) ∙ c.plugin_link_place-at.ensures.place in
-    let items = c.self.inside.items.items in
-    let news = slice_set items c.plugin_link_place-at.result c.healthy_key_id.new.link in
-    subst (λ l. Talk (Among step) l news Are) c.self.view_is
-    (talk_among step g.L.Kms.link c.args.name.now Are items news
-    (asks_at g.L.Kms.link c.args.name.now talks items news c.plugin_link_place-at.result c.index_mut.result.now
-    c.healthy_key_id.new.link place c.index_mut.ensures.value refl c.healthy_key_id.ensures.same
-    (subst (λ n. Talk step c.index_mut.result.now c.healthy_key_id.new.link (TellsKeyIdBy n c.healthy_key_id.result))
-    (place_named g.L.Kms.link c.args.name.now items c.plugin_link_place-at.result c.index_mut.result.now place
-    c.index_mut.ensures.value) c.healthy_key_id.ensures.asked)))
+returns-clause-exchanged g c = talks_there g.L.Kms.link c.args.name.now c.healthy_key_id.new.link c.self.view_is
+    c.as_slice.ensures.value c.plugin_link_place-at.ensures.place c.index_mut.ensures.value
+    c.healthy_key_id.ensures.same g.L.Kms.step
+    (λ n. TellsKeyIdBy n c.healthy_key_id.result) c.healthy_key_id.ensures.asked

@@ -1,49 +1,36 @@
-use Rattle.std.proofs.Common.{◌≡◌, ◌<◌, List, length, Some, sym, ap, subst, ◌∙◌, arith}
-use Rattle.kr_rollout.specs.declared.event.Event.TheVariants as event
+use Rattle.std.proofs.Common.{List, length, Some, sym, ap, ◌∙◌, arith}
 use Rattle.kr_opening.specs.declared.generation.Generation.{Generation}
 use Rattle.kr_rollout.specs.Entries.{published_at}
-use Rattle.kr_rollout.specs.States.{number_at}
-use Rattle.kr_rollout.specs.inner.Rollouts.{RolloutState, MayServe}
-use Rattle.kr_rollout.proofs.Keeping.{read_number, board_holds, rollout_taken}
+use Rattle.kr_rollout.proofs.Keeping.{seat_before, read_adopted, board_holds, rollout_taken}
 use Rattle.kr_rollout.proofs.Serving.{adopted_at}
 use Rattle.kr_rollout.proofs.rollout.Rollout.adopt.Goals as goal
 
 pub published_generation-requires : goal.published_generation-requires
 published_generation-requires g c =
-    let may = subst (λ (x : RolloutState). MayServe x c.args.seat (event.Adopt c.args.replica))
-    (sym c.self.view_is) c.requires.may in
-    let is : number_at c.self.inside.current.items c.args.replica ≡ Some c.in-Some.generation =
-    read_number c.self.inside.current.items c.args.replica c.index.result.now
-    (omega (arith, may.0, c.self.invariant.0.replicas)) c.index.ensures ∙ c.in-Some.is in
+    let a = read_adopted c.self.view_is c.self.invariant.0 c.args.seat c.args.replica
+    c.index.result.now c.requires.may c.index.ensures in
     omega (
       arith,
-      c.self.invariant.0.current c.args.replica c.in-Some.generation is,
+      c.self.invariant.0.current c.args.replica c.in-Some.generation (a.1 ∙ c.in-Some.is),
       ap (λ (l : List Generation). length l) c.as_slice.ensures,
     )
 
 pub hold-requires : goal.hold-requires
 hold-requires g c =
-    let may = subst (λ (x : RolloutState). MayServe x c.args.seat (event.Adopt c.args.replica))
-    (sym c.self.view_is) c.requires.may in
-    let is : number_at c.self.inside.current.items c.args.replica ≡ Some c.in-Some.generation =
-    read_number c.self.inside.current.items c.args.replica c.index.result.now
-    (omega (arith, may.0, c.self.invariant.0.replicas)) c.index.ensures ∙ c.in-Some.is in
+    let a = read_adopted c.self.view_is c.self.invariant.0 c.args.seat c.args.replica
+    c.index.result.now c.requires.may c.index.ensures in
     board_holds _ _ c.self.inside.board c.args.seat c.args.replica c.in-Some.generation
-    c.self.invariant.0 may.0 is
+    c.self.invariant.0 a.0.0 (a.1 ∙ c.in-Some.is)
 
 pub invariant_of-self : goal.invariant_of-self
 invariant_of-self g c =
-    let may = subst (λ (x : RolloutState). MayServe x c.args.seat (event.Adopt c.args.replica))
-    (sym c.self.view_is) c.requires.may in
-    let is : number_at c.self.inside.current.items c.args.replica ≡ Some c.in-Some.generation =
-    read_number c.self.inside.current.items c.args.replica c.index.result.now
-    (omega (arith, may.0, c.self.invariant.0.replicas)) c.index.ensures ∙ c.in-Some.is in
-    let l = subst (λ (x : RolloutState). c.args.seat < length x.opening.reloads)
-    (sym c.self.view_is) c.requires.seat_in in (
+    let a = read_adopted c.self.view_is c.self.invariant.0 c.args.seat c.args.replica
+    c.index.result.now c.requires.may c.index.ensures in
+    let l = seat_before c.self.view_is c.args.seat c.requires.seat_in in (
       rollout_taken _ c.self.inside.store c.self.inside.board c.hold.new.self
           c.self.inside.generations.0 c.self.inside.current.items c.self.inside.held.items
           c.self.invariant.0
-          c.args.seat c.args.replica c.in-Some.generation c.hold.ensures l may.1 is,
+          c.args.seat c.args.replica c.in-Some.generation c.hold.ensures l a.0.1 (a.1 ∙ c.in-Some.is),
       c.self.invariant.1,
       c.self.invariant.2,
       c.self.invariant.3,
@@ -51,16 +38,13 @@ invariant_of-self g c =
 
 pub returns-in-Ok : goal.returns-in-Ok
 returns-in-Ok g c =
-    let may = subst (λ (x : RolloutState). MayServe x c.args.seat (event.Adopt c.args.replica))
-    (sym c.self.view_is) c.requires.may in
-    let is : number_at c.self.inside.current.items c.args.replica ≡ Some c.in-Some.generation =
-    read_number c.self.inside.current.items c.args.replica c.index.result.now
-    (omega (arith, may.0, c.self.invariant.0.replicas)) c.index.ensures ∙ c.in-Some.is in
+    let a = read_adopted c.self.view_is c.self.invariant.0 c.args.seat c.args.replica
+    c.index.result.now c.requires.may c.index.ensures in
     adopted_at _ c.self.inside.store c.self.inside.board c.hold.new.self
     c.self.inside.generations.0 c.self.inside.current.items c.self.inside.held.items
     c.args.self.now c.line-line-in-Ok.result
     c.args.seat c.args.replica c.in-Some.generation c.in-Ok.published c.self.invariant.0
-    c.self.view_is c.hold.ensures c.requires.seat_in c.requires.may is
+    c.self.view_is c.hold.ensures c.requires.seat_in c.requires.may (a.1 ∙ c.in-Some.is)
     (ap (λ (l : List Generation). published_at l (Some c.in-Some.generation))
     (sym c.as_slice.ensures) ∙ c.published_generation.ensures ∙ ap Some (sym c.in-Ok.ensures))
     c.line-line-in-Ok.ensures

@@ -1,11 +1,11 @@
-use Rattle.std.proofs.Common.{sym, ap, ◌∙◌}
-use Rattle.kr_store.specs.declared.rows.Row.{Row}
-use Rattle.kr_rollout.proofs.Serving.{found_at}
+use Rattle.kr_rollout.specs.declared.event.Event.TheVariants as event
+use Rattle.kr_rollout.proofs.Serving.{fetch_serves}
+use Rattle.kr_rollout.proofs.Storing.{seen}
+use Rattle.std.proofs.Common.{refl}
 use Rattle.kr_rollout.proofs.rollout.Rollout.fetch.Goals as goal
 
-pub returns-in-Ok-Some : goal.returns-in-Ok-Some
-returns-in-Ok-Some g c =
-    found_at _ c.args.self.now c.self.inside.board c.args.seat c.get.result.now.revision c.args.path
-    c.as_str.result.now c.in-Ok-Some.row c.line-line.result c.self.invariant.0 c.self.view_is
-    c.requires.seat_in c.as_str.ensures (ap (λ (r : Row). r.revision) c.get.ensures) c.requires.may
-    (sym c.in-Ok-Some.ensures.live ∙ c.in-Ok-Some.field-0-is) c.line-line.ensures
+pub returns : goal.returns
+returns g c =
+    seen (event.Fetch c.args.path) refl c.tell_found.ensures.answer c.tell_found.ensures.line
+    (fetch_serves c.args.seat c.self.invariant.0 c.self.view_is c.requires.seat_in c.as_str.ensures
+    c.get-found.result c.requires.may c.get-found.ensures.live)

@@ -1,13 +1,11 @@
-use Rattle.std.proofs.Common.{ap, subst}
-use Rattle.kr_store.specs.declared.rows.Row.{Row}
-use Rattle.kr_store.specs.Stores.{IsNext}
-use Rattle.kr_rollout.proofs.Serving.{next_at}
+use Rattle.std.proofs.Common.{refl}
+use Rattle.kr_rollout.specs.declared.event.Event.TheVariants as event
+use Rattle.kr_rollout.proofs.Serving.{next_serves}
+use Rattle.kr_rollout.proofs.Storing.{seen}
 use Rattle.kr_rollout.proofs.rollout.Rollout.find_next.Goals as goal
 
-pub returns-in-Ok-Some : goal.returns-in-Ok-Some
-returns-in-Ok-Some g c =
-    next_at _ c.args.self.now c.self.inside.board c.args.seat c.get.result.now.revision c.args.path
-    c.as_str.result.now c.in-Ok-Some.row c.line-line.result c.self.invariant.0 c.self.view_is
-    c.requires.seat_in c.as_str.ensures (ap (λ (r : Row). r.revision) c.get.ensures) c.requires.may
-    (subst (λ o. IsNext c.self.inside.store.rows c.as_str.result.now o) c.in-Ok-Some.field-0-is
-    c.in-Ok-Some.ensures.next) c.line-line.ensures
+pub returns : goal.returns
+returns g c =
+    seen (event.After c.args.path) refl c.tell_found.ensures.answer c.tell_found.ensures.line
+    (next_serves c.args.seat c.self.invariant.0 c.self.view_is c.requires.seat_in c.as_str.ensures
+    c.successor-found.result c.requires.may c.successor-found.ensures.next)

@@ -6,23 +6,11 @@ use Rattle.kr_provider.specs.Names.{names_of}
 use Rattle.kr_history.specs.declared.call.CallNo.{CallNo}
 use Rattle.kr_rewrite.specs.declared.outcome.Report.{Report}
 use Rattle.test_fleet_calls.specs.Desks.{is_spent}
-use Rattle.test_fleet_calls.proofs.Calling.{bench_asked, caller_after, drive_few, idle_at_end, served}
+use Rattle.test_fleet_calls.proofs.Calling.{bench_asked, caller_after, drive_few, idle_at_end, links_serve}
 use Rattle.test_fleet_calls.proofs.desk.Desk.drive.Goals as goal
 
-pub drive-driven-requires-clause-replica : goal.drive-driven-requires-clause-replica
-drive-driven-requires-clause-replica g c = omega
-    (arith, (c.may_above.ensures c.if-not-may_above.false).1, c.self.invariant.0.replicas_are)
-
-pub drive-driven-requires-clause-idle : goal.drive-driven-requires-clause-idle
-drive-driven-requires-clause-idle g c = c.self.invariant.0.idle (c.may_above.ensures c.if-not-may_above.false).0
-
 pub drive-driven-requires-clause-links : goal.drive-driven-requires-clause-links
-drive-driven-requires-clause-links g c = served (g.A.Acts.caller c.self.inside.acts).opening.names
-    (names_of g.L.Kms.link c.self.inside.bench.links) c.self.invariant.0.names
-    c.self.invariant.1.linked_is
-
-pub drive-driven-requires-clause-pages : goal.drive-driven-requires-clause-pages
-drive-driven-requires-clause-pages g c = c.self.invariant.1.pages_are
+drive-driven-requires-clause-links g c = links_serve c.self.invariant
 
 pub invariant_of-self : goal.invariant_of-self
 invariant_of-self g c = let few = drive_few g.L.Kms.link

@@ -1,39 +1,18 @@
 -- `join`: the call may be made, and what is kept holds behind it.
 use Rattle.std.proofs.Common.{arith, [], ◌-◌}
 use Rattle.kr_config.specs.Kept.{plugins_in, rows_of}
-use Rattle.kr_provider.specs.Names.{names_of}
-use Rattle.test_fleet_calls.proofs.Calling.{among, bench_kept, caller_after, served}
+use Rattle.test_fleet_calls.proofs.Calling.{brought, links_serve, names_kept}
 use Rattle.test_fleet_calls.proofs.desk.Desk.join.Goals as goal
 
-pub join-done-requires-clause-replica : goal.join-done-requires-clause-replica
-join-done-requires-clause-replica g c = omega
-    (arith, (c.may_bring.ensures c.if-not-may_bring.false).1, c.self.invariant.0.replicas_are)
-
-pub join-done-requires-clause-idle : goal.join-done-requires-clause-idle
-join-done-requires-clause-idle g c = c.self.invariant.0.idle (c.may_bring.ensures c.if-not-may_bring.false).0
-
 pub join-done-requires-clause-names : goal.join-done-requires-clause-names
-join-done-requires-clause-names g c = among (g.A.Acts.caller c.self.inside.acts).opening.names
-    (rows_of c.in_ok-settings.settings.entries.0) c.self.invariant.0.names
-    c.in_ok-settings.ensures
-
-pub join-done-requires-clause-room : goal.join-done-requires-clause-room
-join-done-requires-clause-room g c = omega
-    (arith, c.self.invariant.0.room, (c.may_bring.ensures c.if-not-may_bring.false).2)
+join-done-requires-clause-names g c = names_kept c.self.invariant
+    (rows_of c.in_ok-settings.settings.entries.0) c.in_ok-settings.ensures
 
 pub join-done-requires-clause-links : goal.join-done-requires-clause-links
-join-done-requires-clause-links g c = served (g.A.Acts.caller c.self.inside.acts).opening.names
-    (names_of g.L.Kms.link c.self.inside.bench.links) c.self.invariant.0.names
-    c.self.invariant.1.linked_is
+join-done-requires-clause-links g c = links_serve c.self.invariant
 
 pub invariant_of-self : goal.invariant_of-self
-invariant_of-self g c = (
-  caller_after (g.A.Acts.caller c.self.inside.acts)
-      (g.A.Acts.caller c.join-done.new.acts) c.self.inside.replicas c.self.inside.left
-      (c.self.inside.left - 1) 1 1 [] c.self.inside.ended c.self.inside.ended c.self.invariant.0
-      c.join-done.ensures.adds (omega (arith, (c.may_bring.ensures c.if-not-may_bring.false).2))
-      (λ e. c.join-done.ensures.idle),
-  bench_kept g.L.Kms.link (plugins_in (rows_of c.in_ok-settings.settings.entries.0)) c.self.inside.bench
-      c.join-done.new.bench
-      c.self.invariant.1 c.join-done.ensures.asked c.join-done.ensures.kept,
-)
+invariant_of-self g c = brought g.L.Kms.link c.self.inside.bench c.join-done.new.bench
+    (plugins_in (rows_of c.in_ok-settings.settings.entries.0)) c.self.invariant
+    c.join-done.ensures.adds (omega (arith, c.in_ok-may_bring.ensures.2)) c.join-done.ensures.idle
+    c.join-done.ensures.asked c.join-done.ensures.kept

@@ -3,13 +3,6 @@ use Rattle.std.proofs.Common.{arith, []}
 use Rattle.test_fleet_calls.proofs.Calling.{caller_after}
 use Rattle.test_fleet_calls.proofs.desk.Desk.leave.Goals as goal
 
-pub leave-done-requires-clause-replica : goal.leave-done-requires-clause-replica
-leave-done-requires-clause-replica g c = omega
-    (arith, (c.may.ensures c.if-not-may.false).1, c.self.invariant.0.replicas_are)
-
-pub leave-done-requires-clause-idle : goal.leave-done-requires-clause-idle
-leave-done-requires-clause-idle g c = c.self.invariant.0.idle (c.may.ensures c.if-not-may.false).0
-
 pub invariant_of-self : goal.invariant_of-self
 invariant_of-self g c = (
   caller_after (g.A.Acts.caller c.self.inside.acts)

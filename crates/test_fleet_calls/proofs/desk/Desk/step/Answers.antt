@@ -1,36 +1,16 @@
 -- `step`: the call may be made, and what is kept holds behind it.
 use Rattle.std.proofs.Common.{arith, []}
 use Rattle.kr_provider.specs.Names.{names_of}
-use Rattle.test_fleet_calls.proofs.Calling.{bench_asked, caller_after, idle_after, served}
+use Rattle.test_fleet_calls.proofs.Calling.{bench_asked, called, links_serve}
 use Rattle.test_fleet_calls.proofs.desk.Desk.step.Goals as goal
 
-pub rewrite_next-done-requires-clause-replica : goal.rewrite_next-done-requires-clause-replica
-rewrite_next-done-requires-clause-replica g c = omega
-    (arith, (c.may_above.ensures c.if-not-may_above.false).1, c.self.invariant.0.replicas_are)
-
-pub rewrite_next-done-requires-clause-idle : goal.rewrite_next-done-requires-clause-idle
-rewrite_next-done-requires-clause-idle g c = c.self.invariant.0.idle
-    (c.may_above.ensures c.if-not-may_above.false).0
-
 pub rewrite_next-done-requires-clause-links : goal.rewrite_next-done-requires-clause-links
-rewrite_next-done-requires-clause-links g c = served
-    (g.A.Acts.caller c.self.inside.acts).opening.names
-    (names_of g.L.Kms.link c.self.inside.bench.links) c.self.invariant.0.names
-    c.self.invariant.1.linked_is
-
-pub rewrite_next-done-requires-clause-pages : goal.rewrite_next-done-requires-clause-pages
-rewrite_next-done-requires-clause-pages g c = c.self.invariant.1.pages_are
+rewrite_next-done-requires-clause-links g c = links_serve c.self.invariant
 
 pub invariant_of-self : goal.invariant_of-self
-invariant_of-self g c = (
-  caller_after (g.A.Acts.caller c.self.inside.acts)
-      (g.A.Acts.caller c.rewrite_next-done.new.acts) c.self.inside.replicas c.self.inside.left
-      c.self.inside.left 4 0 [] c.self.inside.ended c.is_spent-self-inside.result c.self.invariant.0
-      c.rewrite_next-done.ensures.adds (omega arith)
-      (idle_after c.rewrite_next-done.result (g.A.Acts.caller c.rewrite_next-done.new.acts)
-      c.is_spent-self-inside.result c.rewrite_next-done.ensures.idle
-      c.is_spent-self-inside.ensures),
-  bench_asked g.L.Kms.link (names_of g.L.Kms.link c.self.inside.bench.links) c.self.inside.bench
-      c.rewrite_next-done.new.bench
-      c.self.invariant.1 c.rewrite_next-done.ensures.asked c.rewrite_next-done.ensures.pages,
-)
+invariant_of-self g c = called g.L.Kms.link c.self.inside.bench c.rewrite_next-done.new.bench 4 0 []
+    c.rewrite_next-done.result c.self.invariant c.rewrite_next-done.ensures.adds (omega arith)
+    c.rewrite_next-done.ensures.idle c.is_spent-self-inside.ensures
+    (bench_asked g.L.Kms.link (names_of g.L.Kms.link c.self.inside.bench.links)
+    c.self.inside.bench c.rewrite_next-done.new.bench c.self.invariant.1 c.rewrite_next-done.ensures.asked
+    c.rewrite_next-done.ensures.pages)
