@@ -1,5 +1,5 @@
 -- What a cipher gives is a block.
-use Rattle.std.proofs.Common.{◌≡◌, ℕ, zero, suc, length, inl, inr, ◌-◌, ◌+◌, ◌*◌, ◌/◌, ◌%◌, ◌<◌, List, bit_xor, slice_index, refl, arith, mod-lt}
+use Rattle.std.proofs.Common.{◌≡◌, ℕ, suc, length, inl, inr, ◌-◌, ◌+◌, ◌*◌, ◌/◌, ◌%◌, ◌<◌, List, bit_xor, slice_index, refl, arith, mod-lt}
 use Rattle.std.specs.Int.{bit_at}
 use Rattle.std.proofs.lemmas.Nat.{xor_of_8}
 use Rattle.std.proofs.lemmas.List.{get_or_past}
@@ -51,11 +51,8 @@ unfolding sbox
 sbox-lt b = affine-lt (inverse b)
 
 pub word_byte-lt : (word r : ℕ) → word_byte word r < 256
-word_byte-lt word zero = mod-lt _ (omega arith)
-word_byte-lt word (suc zero) = mod-lt _ (omega arith)
-word_byte-lt word (suc (suc zero)) = mod-lt _ (omega arith)
-word_byte-lt word (suc (suc (suc zero))) = mod-lt _ (omega arith)
 word_byte-lt word (suc (suc (suc (suc r)))) = omega arith
+word_byte-lt word other = mod-lt _ (omega arith)
 
 pub IsBlock-sub_bytes : (state : List ℕ) → IsBlock (sub_bytes state)
 unfolding sub_bytes

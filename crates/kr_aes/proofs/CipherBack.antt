@@ -12,7 +12,7 @@ use Rattle.kr_aes.proofs.RoundCounts.{one_round}
 use Rattle.kr_aes.proofs.Powers.{times_squares, times_squares-inverse}
 use Rattle.kr_aes.proofs.TableCells.{inverse-inverse_affine}
 use Rattle.kr_aes.proofs.Undone.{add_round_key_twice, cell_state-cell}
-use Rattle.kr_aes.proofs.MixedBack.{IsBlock-inverse_mix_columns, mix_columns-inverse_mix_columns}
+use Rattle.kr_aes.proofs.MixedColumns.{IsBlock-inverse_mix_columns, mix_columns-inverse_mix_columns}
 
 -- ---- each transformation undoes its inverse
 

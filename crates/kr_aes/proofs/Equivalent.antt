@@ -10,7 +10,7 @@ use Rattle.kr_aes.specs.EquivalentInverse.{after_equivalent_rounds, equivalent_i
 use Rattle.kr_aes.proofs.Blocks.{word_byte-lt}
 use Rattle.kr_aes.proofs.ColumnWords.{word_byte-from_be_bytes}
 use Rattle.kr_aes.proofs.Linear.{product-xor}
-use Rattle.kr_aes.proofs.MixedBack.{inverse_sum, inverse_sum-lt}
+use Rattle.kr_aes.proofs.MixedColumns.{inverse_sum, inverse_sum-lt}
 use Rattle.kr_aes.proofs.Rows.{same16}
 use Rattle.kr_aes.proofs.RoundCounts.{few_rounds, some_rounds}
 use Rattle.kr_aes.proofs.Sums.{sum4, sum4-same, sum4-xor}

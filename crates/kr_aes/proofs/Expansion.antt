@@ -3,7 +3,7 @@ use Rattle.std.proofs.Common.{◌≡◌, ℕ, zero, suc, ◌+◌, ◌-◌, ◌*�
 use Rattle.std.proofs.lemmas.List.{get_or-take, get_or_append_left, get_or_push, length_push, take-append-le, take_more_set, take_all, replicate_more, append_assoc}
 use Rattle.std.proofs.lemmas.Bool.{cases_lt}
 use Rattle.kr_aes.specs.declared.Rounds.{Rounds}
-use Rattle.kr_aes.specs.declared.Rounds.TheVariants.{Ten, Twelve, Fourteen}
+use Rattle.kr_aes.specs.declared.Rounds.TheVariants.{Ten}
 use Rattle.kr_aes.specs.Cipher.{round_count}
 use Rattle.kr_aes.specs.KeyExpansion.{IsKeyLength, IsKeyOf, first_words, key_schedule, next_word, padded_schedule}
 
@@ -78,8 +78,7 @@ pub record KeyRounds (size rounds : ℕ) : Type 0 where
 
 pub KeyRounds-of : (size : ℕ) (rounds : Rounds) → IsKeyOf size rounds → KeyRounds size (round_count rounds)
 KeyRounds-of size Ten e = record { some = omega arith; count = omega arith; within = omega arith }
-KeyRounds-of size Twelve e = record { some = omega arith; count = omega arith; within = omega arith }
-KeyRounds-of size Fourteen e = record { some = omega arith; count = omega arith; within = omega arith }
+KeyRounds-of size other e = record { some = omega arith; count = omega arith; within = omega arith }
 
 -- one more zero behind the schedule
 pub zeros_more : (front words : List ℕ) (i count : ℕ) → i < length words → count ≤ i → take i words ≡ front ++ replicate (i - count) 0

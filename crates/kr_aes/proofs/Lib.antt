@@ -14,7 +14,6 @@ pub mod Undone
 pub mod MixedColumns
 pub mod InverseRounds
 pub mod InverseBlocks
-pub mod MixedBack
 pub mod CipherBack
 pub mod ColumnWords
 pub mod Rows

@@ -1,30 +1,26 @@
 -- Each number of rounds has a last round.
 use Rattle.std.proofs.Common.{◌≡◌, ℕ, suc, List, ◌+◌, ◌-◌, ◌≤◌, refl, ap, arith}
 use Rattle.kr_aes.specs.declared.Rounds.{Rounds}
-use Rattle.kr_aes.specs.declared.Rounds.TheVariants.{Ten, Twelve, Fourteen}
+use Rattle.kr_aes.specs.declared.Rounds.TheVariants.{Ten}
 use Rattle.kr_aes.specs.EquivalentInverse.{after_equivalent_rounds}
 use Rattle.kr_aes.specs.InverseCipher.{inverse_mix_columns, inverse_shift_rows, inverse_sub_bytes}
 use Rattle.kr_aes.specs.Cipher.{add_round_key, after_rounds, mix_columns, round_count, shift_rows, sub_bytes}
 
 pub some_rounds : (rounds : Rounds) → 1 ≤ round_count rounds
 some_rounds Ten = omega arith
-some_rounds Twelve = omega arith
-some_rounds Fourteen = omega arith
+some_rounds other = omega arith
 
 pub more_rounds : (rounds : Rounds) → 3 ≤ round_count rounds
 more_rounds Ten = omega arith
-more_rounds Twelve = omega arith
-more_rounds Fourteen = omega arith
+more_rounds other = omega arith
 
 pub one_round : (rounds : Rounds) → round_count rounds - 1 + 0 + 1 ≡ round_count rounds
 one_round Ten = refl
-one_round Twelve = refl
-one_round Fourteen = refl
+one_round other = refl
 
 pub few_rounds : (rounds : Rounds) → round_count rounds ≤ 14
 few_rounds Ten = omega arith
-few_rounds Twelve = omega arith
-few_rounds Fourteen = omega arith
+few_rounds other = omega arith
 
 -- one more round
 pub after_rounds_next : (words block : List ℕ) (n : ℕ) → 1 ≤ n

@@ -1,10 +1,10 @@
--- Sums of four, and the product by a column's factors and back.
-use Rattle.std.proofs.Common.{◌≡◌, ℕ, ◌<◌, bit_xor, refl, sym, ap, ◌∙◌}
+-- Sums of four, and the products by a column's factors, which others undo.
+use Rattle.std.proofs.Common.{◌≡◌, ℕ, ◌<◌, ◌%◌, bit_xor, true, sym, ap, ◌∙◌, refl}
 use Rattle.std.proofs.lemmas.Nat.{xor_comm, xor_of_8}
 use lib.Bits.{xor_assoc}
 use Rattle.std.specs.Int.Bits.{xor_zero_r}
-use Rattle.kr_aes.specs.Field.{polynomial_product, remainder, product}
-use Rattle.kr_aes.proofs.Cases.{bytes_below, same_below}
+use Rattle.kr_aes.specs.Field.{product}
+use Rattle.kr_aes.proofs.Cases.{agree_below, bytes_below, same_below}
 use Rattle.kr_aes.proofs.Linear.{product-xor, xor_interchange}
 
 unfoldable pub sum4 : ℕ → ℕ → ℕ → ℕ → ℕ
@@ -43,42 +43,37 @@ unfolding sum4
 product-sum4 k a b c d =
     rw (product-xor k (bit_xor (bit_xor a b) c) d, product-xor k (bit_xor a b) c, product-xor k a b) refl
 
--- a byte times the factors and then the inverse factors, in its own row and in the three others
-own_row : (b : ℕ) → b < 256 → sum4 (product 14 (product 2 b)) (product 11 (product 1 b)) (product 13 (product 1 b)) (product 9 (product 3 b)) ≡ b
-unfolding sum4 product polynomial_product remainder
-own_row = same_below 256 (λ b. sum4 (product 14 (product 2 b)) (product 11 (product 1 b)) (product 13 (product 1 b)) (product 9 (product 3 b))) (λ b. b) refl
+-- a column's bytes, each times its factor
+abbrev pub factored : ℕ → ℕ → ℕ → ℕ → ℕ → ℕ → ℕ → ℕ → ℕ
+factored f g h k x y z w = sum4 (product f x) (product g y) (product h z) (product k w)
 
-next_row : (b : ℕ) → b < 256 → sum4 (product 14 (product 3 b)) (product 11 (product 2 b)) (product 13 (product 1 b)) (product 9 (product 1 b)) ≡ 0
-unfolding sum4 product polynomial_product remainder
-next_row = same_below 256 (λ b. sum4 (product 14 (product 3 b)) (product 11 (product 2 b)) (product 13 (product 1 b)) (product 9 (product 1 b))) (λ b. 0) refl
+-- a byte times four factors, each behind another
+abbrev pub twice : ℕ → ℕ → ℕ → ℕ → ℕ → ℕ → ℕ → ℕ → ℕ → ℕ
+twice p q r s f g h k b = factored p q r s (product f b) (product g b) (product h b) (product k b)
 
-second_row : (b : ℕ) → b < 256 → sum4 (product 14 (product 1 b)) (product 11 (product 3 b)) (product 13 (product 2 b)) (product 9 (product 1 b)) ≡ 0
-unfolding sum4 product polynomial_product remainder
-second_row = same_below 256 (λ b. sum4 (product 14 (product 1 b)) (product 11 (product 3 b)) (product 13 (product 2 b)) (product 9 (product 1 b))) (λ b. 0) refl
+-- the sums with the second factors, each from one row further down, give the first byte by the first
+abbrev pub Undoes : ℕ → ℕ → ℕ → ℕ → ℕ → ℕ → ℕ → ℕ → Type 0
+Undoes p q r s f g h k = (x y z w : ℕ) → x < 256 → y < 256 → z < 256 → w < 256
+    → factored p q r s (factored f g h k x y z w) (factored f g h k y z w x) (factored f g h k z w x y) (factored f g h k w x y z) ≡ x
 
-third_row : (b : ℕ) → b < 256 → sum4 (product 14 (product 1 b)) (product 11 (product 1 b)) (product 13 (product 3 b)) (product 9 (product 2 b)) ≡ 0
-unfolding sum4 product polynomial_product remainder
-third_row = same_below 256 (λ b. sum4 (product 14 (product 1 b)) (product 11 (product 1 b)) (product 13 (product 3 b)) (product 9 (product 2 b))) (λ b. 0) refl
-
--- the sum with the factors
-abbrev pub mixed_sum : ℕ → ℕ → ℕ → ℕ → ℕ
-mixed_sum x y z w = sum4 (product 2 x) (product 3 y) (product 1 z) (product 1 w)
-
--- the sum with the inverse factors of the sums with the factors, each from one row further down
-pub unmixed_sum : (x y z w : ℕ) → x < 256 → y < 256 → z < 256 → w < 256
-    → sum4 (product 14 (mixed_sum x y z w)) (product 11 (mixed_sum y z w x)) (product 13 (mixed_sum z w x y)) (product 9 (mixed_sum w x y z)) ≡ x
-unmixed_sum x y z w hx hy hz hw =
-    let e0 : product 14 (mixed_sum x y z w) ≡ sum4 (product 14 (product 2 x)) (product 14 (product 3 y)) (product 14 (product 1 z)) (product 14 (product 1 w)) =
-    product-sum4 14 (product 2 x) (product 3 y) (product 1 z) (product 1 w) in
-    let e1 : product 11 (mixed_sum y z w x) ≡ sum4 (product 11 (product 1 x)) (product 11 (product 2 y)) (product 11 (product 3 z)) (product 11 (product 1 w)) =
-    product-sum4 11 (product 2 y) (product 3 z) (product 1 w) (product 1 x) ∙ sum4-turned _ _ _ _ in
-    let e2 : product 13 (mixed_sum z w x y) ≡ sum4 (product 13 (product 1 x)) (product 13 (product 1 y)) (product 13 (product 2 z)) (product 13 (product 3 w)) =
-    product-sum4 13 (product 2 z) (product 3 w) (product 1 x) (product 1 y) ∙ sum4-turned _ _ _ _ ∙ sum4-turned _ _ _ _ in
-    let e3 : product 9 (mixed_sum w x y z) ≡ sum4 (product 9 (product 3 x)) (product 9 (product 1 y)) (product 9 (product 1 z)) (product 9 (product 2 w)) =
-    product-sum4 9 (product 2 w) (product 3 x) (product 1 y) (product 1 z) ∙ sum4-turned _ _ _ _ ∙ sum4-turned _ _ _ _ ∙ sum4-turned _ _ _ _ in
+-- they do where they give each byte in its own row, and nothing of it in the three others
+pub undoes_by : (p q r s f g h k : ℕ)
+    → agree_below (twice p q r s f k h g) (λ b. b) 256 ≡ true → agree_below (twice p q r s g f k h) (λ b. 0) 256 ≡ true
+    → agree_below (twice p q r s h g f k) (λ b. 0) 256 ≡ true → agree_below (twice p q r s k h g f) (λ b. 0) 256 ≡ true
+    → Undoes p q r s f g h k
+undoes_by p q r s f g h k own next second third x y z w hx hy hz hw =
+    let e0 : product p (factored f g h k x y z w) ≡ factored p p p p (product f x) (product g y) (product h z) (product k w) =
+    product-sum4 p (product f x) (product g y) (product h z) (product k w) in
+    let e1 : product q (factored f g h k y z w x) ≡ factored q q q q (product k x) (product f y) (product g z) (product h w) =
+    product-sum4 q (product f y) (product g z) (product h w) (product k x) ∙ sum4-turned _ _ _ _ in
+    let e2 : product r (factored f g h k z w x y) ≡ factored r r r r (product h x) (product k y) (product f z) (product g w) =
+    product-sum4 r (product f z) (product g w) (product h x) (product k y) ∙ sum4-turned _ _ _ _ ∙ sum4-turned _ _ _ _ in
+    let e3 : product s (factored f g h k w x y z) ≡ factored s s s s (product g x) (product h y) (product k z) (product f w) =
+    product-sum4 s (product f w) (product g x) (product h y) (product k z) ∙ sum4-turned _ _ _ _ ∙ sum4-turned _ _ _ _ ∙ sum4-turned _ _ _ _ in
     sum4-same e0 e1 e2 e3
     ∙ sum4-sum4 _ _ _ _ _ _ _ _ _ _ _ _ _ _ _ _
-    ∙ sum4-same (own_row x hx) (next_row y hy) (second_row z hz) (third_row w hw)
+    ∙ sum4-same (same_below 256 (twice p q r s f k h g) (λ b. b) own x hx) (same_below 256 (twice p q r s g f k h) (λ b. 0) next y hy)
+    (same_below 256 (twice p q r s h g f k) (λ b. 0) second z hz) (same_below 256 (twice p q r s k h g f) (λ b. 0) third w hw)
     ∙ sum4_alone x
 
 -- the first goes to the end, and the halves change places
@@ -93,20 +88,12 @@ pub sum4-lt : (a b c d : ℕ) → a < 256 → b < 256 → c < 256 → d < 256 �
 unfolding sum4
 sum4-lt a b c d ha hb hc hd = xor_of_8 _ _ (xor_of_8 _ _ (xor_of_8 _ _ ha hb) hc) hd
 
--- a byte times a factor is a byte
-product_one-lt : (b : ℕ) → b < 256 → product 1 b < 256
-unfolding product polynomial_product remainder
-product_one-lt = bytes_below 256 (product 1) refl
+-- where a byte times each factor is a byte, so is the sum
+abbrev pub GivesBytes : ℕ → Type 0
+GivesBytes f = agree_below (λ b. product f b % 256) (product f) 256 ≡ true
 
-product_two-lt : (b : ℕ) → b < 256 → product 2 b < 256
-unfolding product polynomial_product remainder
-product_two-lt = bytes_below 256 (product 2) refl
-
-product_three-lt : (b : ℕ) → b < 256 → product 3 b < 256
-unfolding product polynomial_product remainder
-product_three-lt = bytes_below 256 (product 3) refl
-
-pub mixed_sum-lt : (x y z w : ℕ) → x < 256 → y < 256 → z < 256 → w < 256 → mixed_sum x y z w < 256
-unfolding sum4
-mixed_sum-lt x y z w hx hy hz hw =
-    xor_of_8 _ _ (xor_of_8 _ _ (xor_of_8 _ _ (product_two-lt x hx) (product_three-lt y hy)) (product_one-lt z hz)) (product_one-lt w hw)
+pub factored-lt : (f g h k : ℕ) → GivesBytes f → GivesBytes g → GivesBytes h → GivesBytes k
+    → (x y z w : ℕ) → x < 256 → y < 256 → z < 256 → w < 256 → factored f g h k x y z w < 256
+factored-lt f g h k pf pg ph pk x y z w hx hy hz hw =
+    sum4-lt _ _ _ _ (bytes_below 256 (product f) pf x hx) (bytes_below 256 (product g) pg y hy)
+    (bytes_below 256 (product h) ph z hz) (bytes_below 256 (product k) pk w hw)

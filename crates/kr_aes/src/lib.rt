@@ -120,19 +120,20 @@ pub fn decrypt_block_by_inverse(inverse: &[u32; 60], rounds: Rounds, block: &mut
 {
     let last = rounds.count();
     let state = columns::first(inverse, last, block);
-    let state = unrolled::three_inverse(inverse, last, 0, state);
-    let state = unrolled::three_inverse(inverse, last, 3, state);
-    let nine = unrolled::three_inverse(inverse, last, 6, state);
+    let state = unrolled::two_inverse(inverse, last, 0, state);
+    let state = unrolled::two_inverse(inverse, last, 2, state);
+    let state = unrolled::two_inverse(inverse, last, 4, state);
+    let eight = unrolled::two_inverse(inverse, last, 6, state);
     *block = match rounds {
-        Rounds::Ten => unrolled::last_inverse(inverse, nine),
+        Rounds::Ten => unrolled::last_two_inverse(inverse, rounds, eight),
         Rounds::Twelve => {
-            let eleven = unrolled::two_inverse(inverse, last, 9, nine);
-            unrolled::last_inverse(inverse, eleven)
+            let ten = unrolled::two_inverse(inverse, last, 8, eight);
+            unrolled::last_two_inverse(inverse, rounds, ten)
         }
         Rounds::Fourteen => {
-            let eleven = unrolled::two_inverse(inverse, last, 9, nine);
-            let thirteen = unrolled::two_inverse(inverse, last, 11, eleven);
-            unrolled::last_inverse(inverse, thirteen)
+            let ten = unrolled::two_inverse(inverse, last, 8, eight);
+            let twelve = unrolled::two_inverse(inverse, last, 10, ten);
+            unrolled::last_two_inverse(inverse, rounds, twelve)
         }
     };
 }

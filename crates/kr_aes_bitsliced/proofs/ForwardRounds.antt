@@ -9,21 +9,15 @@ use Rattle.kr_aes_bitsliced.proofs.SlicedBlocks.{sliced_boxed}
 abbrev pub substituted : List ℕ → List ℕ
 substituted block = shift_rows (sub_bytes block)
 
--- where each byte is the S-box of one, the block is SubBytes of the other
-sliced_sub_bytes : (b : ℕ) (planes boxed : Planes)
-    → ((p : ℕ) → p < 16 → sliced_byte boxed b p ≡ sbox (sliced_byte planes b p))
-    → sliced_block boxed b ≡ sub_bytes (sliced_block planes b)
-unfolding sub_bytes
-sliced_sub_bytes b planes boxed is = sliced_boxed sbox planes boxed b is
-
 -- planes that are shifted ones of S-boxes
 pub sliced_substituted : (b : ℕ) (block : List ℕ) (planes boxed shifted : Planes)
     → sliced_block planes b ≡ block
     → ((p : ℕ) → p < 16 → sliced_byte boxed b p ≡ sbox (sliced_byte planes b p))
     → sliced_block shifted b ≡ shift_rows (sliced_block boxed b)
     → sliced_block shifted b ≡ substituted block
+unfolding sub_bytes
 sliced_substituted b block planes boxed shifted from is shift =
-    shift ∙ ap shift_rows (sliced_sub_bytes b planes boxed is ∙ ap sub_bytes from)
+    shift ∙ ap shift_rows (sliced_boxed sbox planes boxed b is ∙ ap sub_bytes from)
 
 -- one more round
 pub rounds_more : (words : List ℕ) (round : ℕ) (block : List ℕ) → 1 ≤ round

@@ -13,7 +13,7 @@ use Rattle.kr_aes_bitsliced.specs.inner.Nibbles.{bit_in, byte_of_pair, embedded,
 
 pub nibble_at-lt : (a : Nibbles) (b p : ℕ) → nibble_at a b p < 16
 unfolding nibble_at
-nibble_at-lt a b p = omega (arith, below a.n0, below a.n1, below a.n2, below a.n3)
+nibble_at-lt a b p = omega (arith, below a.0, below a.1, below a.2, below a.3)
   where
     below : (plane : List ℕ) → bit_in plane b p < 2
     below plane = bit_at-lt (slice_index plane p) b

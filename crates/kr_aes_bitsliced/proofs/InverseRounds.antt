@@ -10,21 +10,15 @@ use Rattle.kr_aes_bitsliced.proofs.SlicedBlocks.{sliced_boxed}
 abbrev pub opened : List ℕ → List ℕ
 opened block = inverse_sub_bytes (inverse_shift_rows block)
 
--- where each byte is the inverse S-box of one, the block is InvSubBytes of the other
-sliced_inverse_sub : (b : ℕ) (planes boxed : Planes)
-    → ((p : ℕ) → p < 16 → sliced_byte boxed b p ≡ inverse_sbox (sliced_byte planes b p))
-    → sliced_block boxed b ≡ inverse_sub_bytes (sliced_block planes b)
-unfolding inverse_sub_bytes
-sliced_inverse_sub b planes boxed is = sliced_boxed inverse_sbox planes boxed b is
-
 -- planes of bytes that are the inverse S-boxes of shifted ones
 pub sliced_opened : (b : ℕ) (block : List ℕ) (planes shifted boxed : Planes)
     → sliced_block planes b ≡ block
     → sliced_block shifted b ≡ inverse_shift_rows (sliced_block planes b)
     → ((p : ℕ) → p < 16 → sliced_byte boxed b p ≡ inverse_sbox (sliced_byte shifted b p))
     → sliced_block boxed b ≡ opened block
+unfolding inverse_sub_bytes
 sliced_opened b block planes shifted boxed from shift is =
-    sliced_inverse_sub b shifted boxed is
+    sliced_boxed inverse_sbox shifted boxed b is
     ∙ ap inverse_sub_bytes (shift ∙ ap inverse_shift_rows from)
 
 -- one more inverse round

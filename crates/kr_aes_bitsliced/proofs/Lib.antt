@@ -14,6 +14,7 @@ pub mod NibbleGates
 pub mod PlaneDoubles
 pub mod PlaneMoves
 pub mod PlaneSums
+pub mod RoundLoop
 pub mod SlicedBlocks
 pub mod Transposed
 pub mod TransposedBlocks

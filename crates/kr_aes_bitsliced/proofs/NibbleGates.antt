@@ -1,10 +1,11 @@
 -- Gates of the planes of elements of the field of 16.
 use Rattle.std.proofs.Common.{◌≡◌, ℕ, ◌+◌, ◌*◌, ◌<◌, true, List, refl, ◌∙◌}
 use Rattle.std.specs.Int.{bit_at}
+use Rattle.kr_aes.specs.Cipher.{byte_of}
 use Rattle.kr_aes.proofs.Cases.{agree_below}
 use Rattle.kr_aes_bitsliced.specs.declared.nibbles.Nibbles.{Nibbles}
 use Rattle.kr_aes_bitsliced.specs.declared.planes.Planes.{Planes}
-use Rattle.kr_aes_bitsliced.specs.inner.Nibbles.{bit_in, nibble_at}
+use Rattle.kr_aes_bitsliced.specs.inner.Nibbles.{bit_in, byte_of_pair, nibble_at}
 use Rattle.kr_aes_bitsliced.specs.inner.Planes.{plane}
 use Rattle.kr_aes_bitsliced.proofs.ByteBits.{each_of_eight}
 use Rattle.kr_aes_bitsliced.proofs.Gates.{Gate, bit_by, bit_in-by, bits, eight, inputs, inputs_are, plane_by, same_at_bits}
@@ -14,21 +15,21 @@ use Rattle.kr_aes_bitsliced.proofs.PlaneSums.{ArePlanes, IsPlane, planes_from}
 
 -- each plane has 16 bytes
 pub record AreNibbles (nibbles : Nibbles) : Type 0 where
-  pub n0 : IsPlane nibbles.n0
-  pub n1 : IsPlane nibbles.n1
-  pub n2 : IsPlane nibbles.n2
-  pub n3 : IsPlane nibbles.n3
+  pub n0 : IsPlane nibbles.0
+  pub n1 : IsPlane nibbles.1
+  pub n2 : IsPlane nibbles.2
+  pub n3 : IsPlane nibbles.3
 
 abbrev pub pair : Nibbles → Nibbles → Planes
 pair a b = record {
-  p0 = a.n0;
-  p1 = a.n1;
-  p2 = a.n2;
-  p3 = a.n3;
-  p4 = b.n0;
-  p5 = b.n1;
-  p6 = b.n2;
-  p7 = b.n3;
+  p0 = a.0;
+  p1 = a.1;
+  p2 = a.2;
+  p3 = a.3;
+  p4 = b.0;
+  p5 = b.1;
+  p6 = b.2;
+  p7 = b.3;
 }
 
 pub ArePlanes-pair : (a b : Nibbles) → AreNibbles a → AreNibbles b → ArePlanes (pair a b)
@@ -52,10 +53,10 @@ second x = number (x 4) (x 5) (x 6) (x 7)
 
 abbrev pub nibbles_by : (ℕ → List ℕ) → (ℕ → Gate) → Nibbles
 nibbles_by v g = record {
-  n0 = plane_by v (g 0);
-  n1 = plane_by v (g 1);
-  n2 = plane_by v (g 2);
-  n3 = plane_by v (g 3);
+  0 = plane_by v (g 0);
+  1 = plane_by v (g 1);
+  2 = plane_by v (g 2);
+  3 = plane_by v (g 3);
 }
 
 abbrev pub number_by : (ℕ → ℕ) → (ℕ → Gate) → ℕ
@@ -73,6 +74,15 @@ nibble_at-by v x b p h at small lt g =
 pub output_number : (q : Planes) (b p : ℕ) → ArePlanes q → b < 8 → p < 16 → (g : ℕ → Gate)
     → nibble_at (nibbles_by (inputs q) g) b p ≡ number_by (bits q b p) g
 output_number q b p h = nibble_at-by (inputs q) (bits q b p) b p (inputs_are q h) (λ k. refl)
+
+-- a byte that two elements which gates make give
+pub byte_by_gates : (f : ℕ → ℕ) (high low : ℕ → Gate)
+    → agree_below (λ n. f (byte_of_pair (number_by (eight (bit_at n)) high) (number_by (eight (bit_at n)) low))) (λ n. byte_of (eight (bit_at n))) 256 ≡ true
+    → (q : Planes) (b p : ℕ) → ArePlanes q → b < 8 → p < 16
+    → f (byte_of_pair (nibble_at (nibbles_by (inputs q) high) b p) (nibble_at (nibbles_by (inputs q) low) b p)) ≡ byte_of (bits q b p)
+byte_by_gates f high low all q b p are small lt =
+    (λ i. f (byte_of_pair (output_number q b p are small lt high i) (output_number q b p are small lt low i)))
+    ∙ same_at_bits (λ x. f (byte_of_pair (number_by x high) (number_by x low))) byte_of all q b p
 
 pub number_by_gates : (g : ℕ → Gate) (f : (ℕ → ℕ) → ℕ)
     → agree_below (λ n. number_by (eight (bit_at n)) g) (λ n. f (eight (bit_at n))) 256 ≡ true

@@ -5,7 +5,7 @@ use Rattle.std.proofs.lemmas.List.{get_or_append_left}
 use Rattle.kr_aes.specs.Cipher.{cell_state}
 use Rattle.kr_aes.proofs.MixedColumns.{cell-cell_state}
 use Rattle.kr_aes_bitsliced.specs.declared.planes.Planes.{Planes}
-use Rattle.kr_aes_bitsliced.specs.inner.Planes.{place_of, plane, sliced_byte}
+use Rattle.kr_aes_bitsliced.specs.inner.Planes.{HasMoved, place_of, plane, sliced_byte}
 use Rattle.kr_aes_bitsliced.proofs.ByteBits.{same_bits}
 
 -- where the cell in a row and a column comes from, when each row goes up by one or by two, and when
@@ -54,10 +54,6 @@ pub on_the_right_cell : (plane : List ℕ) → length plane ≡ 16 → (row colu
 on_the_right_cell plane size row column hr hc = picked_cell on_the_right plane row column hr hc (omega arith)
 
 -- ---- bytes of which each plane has gone
-
-abbrev pub HasMoved : (ℕ → ℕ → ℕ) → List ℕ → List ℕ → Type 0
-HasMoved from plane moved = (row column : ℕ) → row < 4 → column < 4
-    → slice_index moved (place_of row column) ≡ slice_index plane (from row column)
 
 pub moved_bytes : (from : ℕ → ℕ → ℕ) (planes moved : Planes) → ((k : ℕ) → k < 8 → HasMoved from (plane planes k) (plane moved k))
     → (b row column : ℕ) → row < 4 → column < 4 → sliced_byte moved b (place_of row column) ≡ sliced_byte planes b (from row column)

@@ -9,7 +9,6 @@ use Rattle.kr_aes.proofs.Rows.{same16}
 use Rattle.kr_aes_bitsliced.specs.declared.planes.Planes.{Planes}
 use Rattle.kr_aes_bitsliced.specs.inner.Planes.{place_of, plane, sliced_block, sliced_byte}
 use Rattle.kr_aes_bitsliced.proofs.ByteBits.{byte_of-lt}
-use Rattle.kr_aes_bitsliced.proofs.PlaneMoves.{HasMoved, moved_bytes}
 
 pub same_cells : (s t : ℕ → ℕ → ℕ) → ((row column : ℕ) → row < 4 → column < 4 → s row column ≡ t row column) → cell_state s ≡ cell_state t
 same_cells s t h =
@@ -46,16 +45,16 @@ sliced_boxed box planes boxed b is =
 
 -- planes whose rows have turned, each by the column that a cell comes from
 pub sliced_turned : (from : ℕ → ℕ → ℕ) (planes turned : Planes)
-    → ((row column : ℕ) → from row column < 4)
-    → ((k : ℕ) → k < 8
-    → HasMoved (λ row column. place_of row (from row column)) (plane planes k) (plane turned k))
-    → (b : ℕ) → sliced_block turned b
+    → ((row column : ℕ) → from row column < 4) → (b : ℕ)
+    → ((row column : ℕ) → row < 4 → column < 4
+    → sliced_byte turned b (place_of row column) ≡ sliced_byte planes b (place_of row (from row column)))
+    → sliced_block turned b
     ≡ cell_state (λ row column. cell (sliced_block planes b) row (from row column))
-sliced_turned from planes turned within moves b =
+sliced_turned from planes turned within b moved =
     sliced_block-cell_state turned b
     (λ row column. cell (sliced_block planes b) row (from row column))
     (λ row column hr hc.
-    moved_bytes (λ row column. place_of row (from row column)) planes turned moves b row column hr hc
+    moved row column hr hc
     ∙ sym (cell-sliced_block planes b row (from row column) hr (within row column)))
 
 -- the sum of a column's cells with the factors, by the block's bytes

@@ -108,32 +108,31 @@ module _ (s m : ℕ) (f g : ℕ → List ℕ) (k p place : ℕ) where
       once : (n : ℕ) → n + s * 1 ≡ n + s
       once n = omega arith
 
+-- the planes and the places are those of an exchange and of its digits x and u
+exchanged_at : (f g : ℕ → List ℕ) (p : ℕ) → p < 16 → (s m plane place : ℕ) (x u : Bool) {k l b c : ℕ}
+    → Pair s m f g plane → bit_at m place ≡ 1 → k ≡ plane + s * digit x → b ≡ place + s * digit u
+    → plane + s * digit u ≡ l → place + s * digit x ≡ c → seen g k p b ≡ seen f l p c
+exchanged_at f g p lt s m plane place x u pair has old_plane old_place new_plane new_place =
+    seen-same g p old_plane old_place
+    ∙ digits_exchanged s m f g plane p place pair lt has x u
+    ∙ seen-same f p new_plane new_place
+
 -- x, y, z are the digits of a plane's number, and u, v, w those of a place
 module _ (f g : ℕ → List ℕ) (p : ℕ) (lt : p < 16) (x y z u v w : Bool) where
   by_one : Pair 1 85 f g (2 * digit y + 4 * digit z)
       → seen g (number x y z) p (number u v w) ≡ seen f (number u y z) p (number x v w)
-  by_one pair =
-      let plane : ℕ = 2 * digit y + 4 * digit z in
-      let place : ℕ = 2 * digit v + 4 * digit w in
-      seen-same g p (omega arith) (omega arith)
-      ∙ digits_exchanged 1 85 f g plane p place pair lt (in_mask_of_one v w) x u
-      ∙ seen-same f p (omega arith) (omega arith)
+  by_one pair = exchanged_at f g p lt 1 85 (2 * digit y + 4 * digit z) (2 * digit v + 4 * digit w) x u pair
+      (in_mask_of_one v w) (omega arith) (omega arith) (omega arith) (omega arith)
 
   by_two : Pair 2 51 f g (digit x + 4 * digit z)
       → seen g (number x y z) p (number u v w) ≡ seen f (number x v z) p (number u y w)
-  by_two pair =
-      let plane : ℕ = digit x + 4 * digit z in
-      let place : ℕ = digit u + 4 * digit w in
-      seen-same g p (omega arith) (omega arith)
-      ∙ digits_exchanged 2 51 f g plane p place pair lt (in_mask_of_two u w) y v
-      ∙ seen-same f p (omega arith) (omega arith)
+  by_two pair = exchanged_at f g p lt 2 51 (digit x + 4 * digit z) (digit u + 4 * digit w) y v pair
+      (in_mask_of_two u w) (omega arith) (omega arith) (omega arith) (omega arith)
 
   by_four : Pair 4 15 f g (digit x + 2 * digit y)
       → seen g (number x y z) p (number u v w) ≡ seen f (number x y w) p (number u v z)
-  by_four pair =
-      let plane : ℕ = digit x + 2 * digit y in
-      let place : ℕ = digit u + 2 * digit v in
-      digits_exchanged 4 15 f g plane p place pair lt (in_mask_of_four u v) z w
+  by_four pair = exchanged_at f g p lt 4 15 (digit x + 2 * digit y) (digit u + 2 * digit v) z w pair
+      (in_mask_of_four u v) (omega arith) (omega arith) (omega arith) (omega arith)
 
 -- ---- all three
 

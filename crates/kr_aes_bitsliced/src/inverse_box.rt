@@ -28,40 +28,20 @@ fn parted(planes: Planes) -> (Nibbles, Nibbles)
         → affine (byte_of_pair (nibble_at result.0 b p) (nibble_at result.1 b p))
         ≡ sliced_byte planes b p }
 {
-    let Planes {
-        p0: x0,
-        p1: x1,
-        p2: x2,
-        p3: x3,
-        p4: x4,
-        p5: x5,
-        p6: x6,
-        p7: x7,
-    } = planes;
-    let x8 = x2 ^ x7;
-    let x9 = x1 ^ x8;
-    let x10 = x4 ^ x6;
-    let x11 = x4 ^ x9;
-    let x12 = x5 ^ x11;
-    let x13 = x0 ^ x10;
-    let x14 = x5 ^ x13;
-    let x15 = x3 ^ x8;
-    let x16 = x3 ^ x12;
-    let x17 = x7 ^ x13;
-    let x18 = x6 ^ x9;
-    let x19 = x1 ^ x10;
-    let high = Nibbles {
-        n0: !x9,
-        n1: !x14,
-        n2: x16,
-        n3: x18,
-    };
-    let low = Nibbles {
-        n0: x12,
-        n1: x19,
-        n2: x15,
-        n3: x17,
-    };
+    let x8 = planes.p2 ^ planes.p7;
+    let x9 = planes.p1 ^ x8;
+    let x10 = planes.p4 ^ planes.p6;
+    let x11 = planes.p4 ^ x9;
+    let x12 = planes.p5 ^ x11;
+    let x13 = planes.p0 ^ x10;
+    let x14 = planes.p5 ^ x13;
+    let x15 = planes.p3 ^ x8;
+    let x16 = planes.p3 ^ x12;
+    let x17 = planes.p7 ^ x13;
+    let x18 = planes.p6 ^ x9;
+    let x19 = planes.p1 ^ x10;
+    let high = Nibbles(!x9, !x14, x16, x18);
+    let low = Nibbles(x12, x19, x15, x17);
     (high, low)
 }
 
@@ -71,18 +51,8 @@ fn joined(high: Nibbles, low: Nibbles) -> Planes
     ensures { (b p : ℕ) → b < 8 → p < 16
         → sliced_byte result b p ≡ byte_of_pair (nibble_at high b p) (nibble_at low b p) }
 {
-    let Nibbles {
-        n0: y0,
-        n1: y1,
-        n2: y2,
-        n3: y3,
-    } = low;
-    let Nibbles {
-        n0: y4,
-        n1: y5,
-        n2: y6,
-        n3: y7,
-    } = high;
+    let Nibbles(y0, y1, y2, y3) = low;
+    let Nibbles(y4, y5, y6, y7) = high;
     let y8 = y1 ^ y7;
     let y9 = y2 ^ y7;
     let y10 = y4 ^ y8;

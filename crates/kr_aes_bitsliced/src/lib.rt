@@ -17,6 +17,7 @@ mod nibbles;
 mod pairs;
 mod planes;
 mod rounds;
+mod shuffle;
 mod sub_bytes;
 
 pub use keys::{KeyPlanes, slice_keys};

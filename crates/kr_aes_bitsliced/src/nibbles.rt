@@ -7,12 +7,12 @@ use std::simd::prelude::*;
 
 /// Elements of the field of 16: plane k has bit k of each.
 #[derive(Clone, Copy)]
-pub(crate) struct Nibbles {
-    pub(crate) n0: u8x16,
-    pub(crate) n1: u8x16,
-    pub(crate) n2: u8x16,
-    pub(crate) n3: u8x16,
-}
+pub(crate) struct Nibbles(
+    pub(crate) u8x16,
+    pub(crate) u8x16,
+    pub(crate) u8x16,
+    pub(crate) u8x16,
+);
 
 /// The sum of each two elements.
 #[inline(always)]
@@ -20,24 +20,7 @@ pub(crate) fn sum(a: Nibbles, b: Nibbles) -> Nibbles
     ensures { (block p : ℕ) → block < 8 → p < 16
         → nibble_at result block p ≡ bit_xor (nibble_at a block p) (nibble_at b block p) }
 {
-    let Nibbles {
-        n0: a0,
-        n1: a1,
-        n2: a2,
-        n3: a3,
-    } = a;
-    let Nibbles {
-        n0: b0,
-        n1: b1,
-        n2: b2,
-        n3: b3,
-    } = b;
-    Nibbles {
-        n0: a0 ^ b0,
-        n1: a1 ^ b1,
-        n2: a2 ^ b2,
-        n3: a3 ^ b3,
-    }
+    Nibbles(a.0 ^ b.0, a.1 ^ b.1, a.2 ^ b.2, a.3 ^ b.3)
 }
 
 /// The product of each two elements, by three products of their halves, each of which is three.
@@ -46,28 +29,18 @@ pub(crate) fn product(a: Nibbles, b: Nibbles) -> Nibbles
     ensures { (block p : ℕ) → block < 8 → p < 16
         → nibble_at result block p ≡ nibble_product (nibble_at a block p) (nibble_at b block p) }
 {
-    let Nibbles {
-        n0: a0,
-        n1: a1,
-        n2: a2,
-        n3: a3,
-    } = a;
-    let Nibbles {
-        n0: b0,
-        n1: b1,
-        n2: b2,
-        n3: b3,
-    } = b;
+    let Nibbles(a0, a1, a2, a3) = a;
+    let Nibbles(b0, b1, b2, b3) = b;
     let (l0, l1, l2) = half_product(a0, a1, b0, b1);
     let (h0, h1, h2) = half_product(a2, a3, b2, b3);
     let (m0, m1, m2) = half_product(a0 ^ a2, a1 ^ a3, b0 ^ b2, b1 ^ b3);
     let x4 = h0 ^ m2 ^ l2 ^ h2;
-    Nibbles {
-        n0: l0 ^ x4,
-        n1: l1 ^ x4 ^ h1,
-        n2: l2 ^ m0 ^ l0 ^ h0 ^ h1 ^ h2,
-        n3: m1 ^ l1 ^ h1 ^ h2,
-    }
+    Nibbles(
+        l0 ^ x4,
+        l1 ^ x4 ^ h1,
+        l2 ^ m0 ^ l0 ^ h0 ^ h1 ^ h2,
+        m1 ^ l1 ^ h1 ^ h2,
+    )
 }
 
 /// The coefficients of the product of two polynomials of degree 1.
@@ -91,22 +64,17 @@ pub(crate) fn inverse(a: Nibbles) -> Nibbles
     ensures { (block p : ℕ) → block < 8 → p < 16
         → nibble_at result block p ≡ nibble_inverse (nibble_at a block p) }
 {
-    let Nibbles {
-        n0: a0,
-        n1: a1,
-        n2: a2,
-        n3: a3,
-    } = a;
+    let Nibbles(a0, a1, a2, a3) = a;
     let a01 = a0 & a1;
     let a02 = a0 & a2;
     let a12 = a1 & a2;
     let a03 = a0 & a3;
     let a13 = a1 & a3;
     let a23 = a2 & a3;
-    Nibbles {
-        n0: a0 ^ a1 ^ a2 ^ a02 ^ a12 ^ (a01 & a2) ^ a3 ^ (a12 & a3),
-        n1: a01 ^ a02 ^ a12 ^ a3 ^ a13 ^ (a01 & a3),
-        n2: a01 ^ a2 ^ a02 ^ a3 ^ a03 ^ (a02 & a3),
-        n3: a1 ^ a2 ^ a3 ^ a03 ^ a13 ^ a23 ^ (a12 & a3),
-    }
+    Nibbles(
+        a0 ^ a1 ^ a2 ^ a02 ^ a12 ^ (a01 & a2) ^ a3 ^ (a12 & a3),
+        a01 ^ a02 ^ a12 ^ a3 ^ a13 ^ (a01 & a3),
+        a01 ^ a2 ^ a02 ^ a3 ^ a03 ^ (a02 & a3),
+        a1 ^ a2 ^ a3 ^ a03 ^ a13 ^ a23 ^ (a12 & a3),
+    )
 }

@@ -28,23 +28,13 @@ fn squares(high: Nibbles, low: Nibbles) -> Nibbles
         (nibble_product 10 (nibble_product (nibble_at high b p) (nibble_at high b p)))
         (nibble_product (nibble_at low b p) (nibble_at low b p)) }
 {
-    let Nibbles {
-        n0: h0,
-        n1: h1,
-        n2: h2,
-        n3: h3,
-    } = high;
-    let Nibbles {
-        n0: l0,
-        n1: l1,
-        n2: l2,
-        n3: l3,
-    } = low;
+    let Nibbles(h0, h1, h2, h3) = high;
+    let Nibbles(l0, l1, l2, l3) = low;
     let h01 = h0 ^ h1;
-    Nibbles {
-        n0: (h2 ^ h3) ^ (l0 ^ l2),
-        n1: h01 ^ l2,
-        n2: (h1 ^ h2) ^ (l1 ^ l3),
-        n3: (h01 ^ h2) ^ l3,
-    }
+    Nibbles(
+        (h2 ^ h3) ^ (l0 ^ l2),
+        h01 ^ l2,
+        (h1 ^ h2) ^ (l1 ^ l3),
+        (h01 ^ h2) ^ l3,
+    )
 }

@@ -78,49 +78,30 @@ pub(crate) fn to_blocks(planes: Planes) -> [[u8; 16]; 8]
 fn rows_to_blocks(rows: Planes) -> [[u8; 16]; 8]
     ensures { (b : ℕ) → b < 8 → get_or result b [] ≡ block_of_rows (plane rows b) }
 {
-    let Planes {
-        p0: a,
-        p1: b,
-        p2: c,
-        p3: d,
-        p4: e,
-        p5: f,
-        p6: g,
-        p7: h,
-    } = rows;
     [
-        rows_to_block(a),
-        rows_to_block(b),
-        rows_to_block(c),
-        rows_to_block(d),
-        rows_to_block(e),
-        rows_to_block(f),
-        rows_to_block(g),
-        rows_to_block(h),
+        rows_to_block(rows.p0),
+        rows_to_block(rows.p1),
+        rows_to_block(rows.p2),
+        rows_to_block(rows.p3),
+        rows_to_block(rows.p4),
+        rows_to_block(rows.p5),
+        rows_to_block(rows.p6),
+        rows_to_block(rows.p7),
     ]
 }
 
 /// Exchanges bits and places: at each byte, the eight bytes of the planes are rows of bits, which
 /// become columns.
+#[tactic(auto, using(crate::proofs::Transposed::apart_by_one, crate::proofs::Transposed::apart_by_two, crate::proofs::Transposed::apart_by_four))]
 #[inline(always)]
 fn transposed(planes: Planes) -> Planes
     ensures { (p k b : ℕ) → p < 16 → k < 8 → b < 8
         → bit_at (slice_index (plane result k) p) b ≡ bit_at (slice_index (plane planes b) p) k }
 {
-    let Planes {
-        p0: a,
-        p1: b,
-        p2: c,
-        p3: d,
-        p4: e,
-        p5: f,
-        p6: g,
-        p7: h,
-    } = planes;
-    let (a, b) = exchanged::<1>(a, b, 0x55);
-    let (c, d) = exchanged::<1>(c, d, 0x55);
-    let (e, f) = exchanged::<1>(e, f, 0x55);
-    let (g, h) = exchanged::<1>(g, h, 0x55);
+    let (a, b) = exchanged::<1>(planes.p0, planes.p1, 0x55);
+    let (c, d) = exchanged::<1>(planes.p2, planes.p3, 0x55);
+    let (e, f) = exchanged::<1>(planes.p4, planes.p5, 0x55);
+    let (g, h) = exchanged::<1>(planes.p6, planes.p7, 0x55);
     let (a, c) = exchanged::<2>(a, c, 0x33);
     let (b, d) = exchanged::<2>(b, d, 0x33);
     let (e, g) = exchanged::<2>(e, g, 0x33);

@@ -27,40 +27,20 @@ fn parted(planes: Planes) -> (Nibbles, Nibbles)
         → byte_of_pair (nibble_at result.0 b p) (nibble_at result.1 b p)
         ≡ sliced_byte planes b p }
 {
-    let Planes {
-        p0: x0,
-        p1: x1,
-        p2: x2,
-        p3: x3,
-        p4: x4,
-        p5: x5,
-        p6: x6,
-        p7: x7,
-    } = planes;
-    let x8 = x5 ^ x7;
-    let x9 = x4 ^ x8;
-    let x10 = x5 ^ x6;
-    let x11 = x2 ^ x3;
+    let x8 = planes.p5 ^ planes.p7;
+    let x9 = planes.p4 ^ x8;
+    let x10 = planes.p5 ^ planes.p6;
+    let x11 = planes.p2 ^ planes.p3;
     let x12 = x8 ^ x11;
-    let x13 = x4 ^ x10;
-    let x14 = x1 ^ x13;
+    let x13 = planes.p4 ^ x10;
+    let x14 = planes.p1 ^ x13;
     let x15 = x12 ^ x13;
-    let x16 = x1 ^ x3;
+    let x16 = planes.p1 ^ planes.p3;
     let x17 = x10 ^ x16;
-    let x18 = x0 ^ x5;
+    let x18 = planes.p0 ^ planes.p5;
     let x19 = x15 ^ x18;
-    let high = Nibbles {
-        n0: x15,
-        n1: x12,
-        n2: x14,
-        n3: x8,
-    };
-    let low = Nibbles {
-        n0: x19,
-        n1: x7,
-        n2: x9,
-        n3: x17,
-    };
+    let high = Nibbles(x15, x12, x14, x8);
+    let low = Nibbles(x19, planes.p7, x9, x17);
     (high, low)
 }
 
@@ -70,18 +50,8 @@ fn joined(high: Nibbles, low: Nibbles) -> Planes
     ensures { (b p : ℕ) → b < 8 → p < 16
         → sliced_byte result b p ≡ affine (byte_of_pair (nibble_at high b p) (nibble_at low b p)) }
 {
-    let Nibbles {
-        n0: y0,
-        n1: y1,
-        n2: y2,
-        n3: y3,
-    } = low;
-    let Nibbles {
-        n0: y4,
-        n1: y5,
-        n2: y6,
-        n3: y7,
-    } = high;
+    let Nibbles(y0, y1, y2, y3) = low;
+    let Nibbles(y4, y5, y6, y7) = high;
     let y8 = y4 ^ y7;
     let y9 = y0 ^ y6;
     let y10 = y2 ^ y9;

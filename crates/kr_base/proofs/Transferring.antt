@@ -1,9 +1,9 @@
 -- How far a whole content was read or written.
-use Rattle.std.proofs.Common.{◌≡◌, ℕ, ◌+◌, ◌-◌, ◌<◌, ◌≤◌, List, ◌++◌, length, take, drop, sym, ◌∙◌, ap, subst, arith, length-append, length-drop, Option}
-use Rattle.std.proofs.lemmas.List.{take_all, length-take-le, take-append-le}
-use Rattle.std.proofs.Math.Seq.{take-add}
-use Rattle.std.specs.Io.KnownBytes.{Appends, Consumes, Keeps}
-use Rattle.std.proofs.KnownBytes.{Appends-trans, Appends-kept, Consumes-trans}
+use Rattle.std.proofs.Common.{◌≡◌, ℕ, ◌+◌, ◌-◌, ◌<◌, ◌≤◌, List, ◌++◌, length, take, drop, sym, ◌∙◌, ap, subst, append-nil, arith, length-append, length-drop, Option}
+use Rattle.std.proofs.lemmas.List.{take_all, length-take, length-take-le, take-append-le}
+use Rattle.std.proofs.Math.Seq.{take-add, take-append_seam}
+use Rattle.std.specs.Io.KnownBytes.{Appends, Consumes, IsAtEnd, Keeps}
+use Rattle.std.proofs.KnownBytes.{Appends-trans, Appends-kept, Consumes-trans, Consumes-kept}
 use Rattle.kr_base.specs.Streams.{TakesCount, TakesAtMost, AppendsFront}
 
 -- a sink has taken the first bytes
@@ -62,3 +62,38 @@ pub took-at-most : {a b : Option (List ℕ)} {taken : List ℕ} {turns limit fau
     → Consumes b c (take n into) → n ≤ length into → n ≤ limit - length taken → TakesAtMost a c limit
 took-at-most {a} {b} {taken} {turns} {limit} c into n t p k rest =
     (taken ++ take n into, Consumes-trans a b c _ _ t.consumed p, omega (arith, t.within, length-append taken (take n into), length-take-le n into k))
+
+-- a read that failed took nothing more
+pub took-kept : {a b : Option (List ℕ)} {taken : List ℕ} {turns limit faults count : ℕ}
+    (c : Option (List ℕ)) → Took a b taken turns limit faults count → Keeps b c
+    → TakesAtMost a c limit
+took-kept {a} {b} {taken} c t k = (taken, Consumes-kept a b c taken t.consumed k, t.within)
+
+-- a read that gave nothing told the end
+pub took-all : {a b : Option (List ℕ)} {taken : List ℕ} {turns limit faults count : ℕ}
+    (c : Option (List ℕ)) (into : List ℕ) (n : ℕ) → Took a b taken turns limit faults count
+    → Consumes b c (take n into) × (n ≡ 0 → 0 < length into → IsAtEnd c) → n ≡ 0 → 0 < length into
+    → Consumes a c taken × IsAtEnd c × (length taken ≤ limit)
+took-all {a} {b} {taken} c into n t told none pos = (
+  subst (Consumes a c) (ap (λ m. taken ++ take m into) none ∙ append-nil taken)
+      (Consumes-trans a b c taken (take n into) t.consumed told.0),
+  told.1 none pos,
+  t.within,
+)
+
+-- what was given stands at the front of the buffer
+pub given-front : {n : ℕ} (given rest : List ℕ) → n ≡ length given
+    → (n ≤ length (given ++ rest)) × (n ≡ length (take n (given ++ rest)))
+given-front {n} given rest is = (
+  omega (arith, is, length-append given rest),
+  omega (arith, is, length-append given rest, length-take n (given ++ rest)),
+)
+
+-- and what was given of the bytes behind a place are the first of them
+pub given-at : {n : ℕ} (at : ℕ) {held lent given : List ℕ} (rest : List ℕ) → lent ≡ held
+    → given ≡ take n (take (length lent - at) (drop at lent)) → n ≡ length given
+    → take n (given ++ rest) ≡ take n (drop at held)
+given-at {n} at {held} {lent} {given} rest lends gives is =
+    let all = take_all (length lent - at) (drop at lent) (omega (arith, length-drop at lent)) in
+    ap (λ m. take m (given ++ rest)) is ∙ take-append_seam given rest ∙ gives ∙ ap (take n) all
+    ∙ ap (λ l. take n (drop at l)) lends

@@ -1,5 +1,5 @@
 -- Walks go on, and what is said of their steps.
-use Rattle.std.proofs.Common.{◌≡◌, ℕ, List, [], ◌∷◌, ◌++◌, refl, subst}
+use Rattle.std.proofs.Common.{List, [], ◌∷◌, ◌++◌, refl, subst}
 use Rattle.kr_base.specs.Walks.{Walk, Talk}
 
 module _ {S E : Type 0} (step : S → E → S → Type 0) where

@@ -1,12 +1,12 @@
 -- Pairs of a key and a value, each key once.
 use Rattle.std.specs.Prelude.{◌≡◌, ℕ, ◌&&◌, ◌++◌, Bool, true, nat_eq, refl, List}
 use Rattle.std.specs.Ordering.{nat_cmp}
-use Rattle.std.specs.Cmp.Lexicographic.{slice_cmp, pointwise, pointwise_decides, bytes_decides}
+use Rattle.std.specs.Cmp.Lexicographic.{slice_cmp, pointwise, pointwise_decides, bytes_decides, lists_equiv, nat_list_eq_equiv}
 use Rattle.std.specs.Bool.{Decides}
 use Rattle.std.specs.Hash as fed
 use Rattle.std.specs.Hash.{HashWrites}
 use Rattle.std.proofs.Common.{subst}
-use Rattle.std.specs.Cmp.{first_so, second_so}
+use Rattle.std.specs.Cmp.{IsEquivalence, and_equiv, on_equiv, first_so, second_so}
 use Rattle.std.specs.List.Sorted.{IsStrictlySortedBy}
 use Rattle.std.specs.Map.{keys_of}
 use Rattle.std.specs.BTreeMap.{insert_entry}
@@ -42,6 +42,10 @@ pair_decides a b = (
 
 pub pairs_decide : (a b : Pairs) → Decides (pairs_eq a b) (a ≡ b)
 pairs_decide = pointwise_decides pair_decides
+
+pub pairs_equiv : IsEquivalence pairs_eq
+pairs_equiv = lists_equiv (and_equiv (on_equiv (λ pair. pair.0) nat_list_eq_equiv)
+    (on_equiv (λ pair. pair.1) nat_list_eq_equiv))
 
 -- what a hasher is fed of them
 abbrev pub fed_by : Pairs → HashWrites

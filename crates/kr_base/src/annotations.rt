@@ -1,9 +1,8 @@
 //! Annotations: values under texts.
 ghost use Rattle.std.specs.Prelude.{◌≡◌, ◌++◌, [], IfOk, OnOk, OnErr};
-ghost use Rattle.std.specs.Cmp.Rules.{comparing};
+ghost use Rattle.std.specs.Cmp.{partial_equiv_from_equiv};
 ghost use Rattle.std.specs.Hash.{same_Alike};
-ghost use Rattle.std.proofs.Common.{rules};
-ghost use Rattle.kr_base.specs.Pairs.{IsSortedByKey, with_pair, pairs_eq, pairs_decide, fed_by};
+ghost use Rattle.kr_base.specs.Pairs.{IsSortedByKey, with_pair, pairs_eq, pairs_equiv, pairs_decide, fed_by};
 ghost use Rattle.kr_base.specs.inner.Places.{IsPlaceOf};
 
 use crate::bytes::Bytes;
@@ -77,7 +76,7 @@ impl Annotations {
 impl PartialEq for Annotations {
     ghost eq = { pairs_eq };
 
-    ghost laws = { Prim.search (comparing, rules) };
+    ghost laws = { partial_equiv_from_equiv pairs_equiv };
 
     fn eq(&self, other: &Annotations) -> bool {
         self.pairs() == other.pairs()
@@ -85,7 +84,7 @@ impl PartialEq for Annotations {
 }
 
 impl Eq for Annotations {
-    ghost laws = { Prim.search (comparing, rules) };
+    ghost laws = { pairs_equiv };
 }
 
 impl Hash for Annotations {

@@ -11,7 +11,7 @@ use std::marker::Model;
 
 /// Which calls of an object in memory fail: those whose numbers are listed, and those that it can't
 /// serve.
-#[derive(Debug, Drop)]
+#[derive(Drop)]
 pub struct CallLog {
     fails: List<u64>,
     made: u64,

@@ -6,7 +6,7 @@ ghost use Rattle.kr_base.specs.Numbering.{next_number};
 use std::marker::Model;
 
 /// How often something failed, up to the greatest number.
-#[derive(Debug, Drop)]
+#[derive(Drop)]
 pub struct FaultCount {
     faults: u64,
 }

@@ -11,7 +11,7 @@ use crate::list::List;
 use std::marker::Model;
 
 /// The bytes that are left of a content, and the calls that gave it out.
-#[derive(Debug, Drop)]
+#[derive(Drop)]
 pub struct InputBytes {
     content: Bytes,
     at: usize,

@@ -13,7 +13,7 @@ use std::marker::Model;
 
 /// Random bytes that were written down before. Its draws fail by their numbers, the first being 1,
 /// and where fewer bytes are left than were asked.
-#[derive(Debug, Drop)]
+#[derive(Drop)]
 pub struct MemDice {
     input: InputBytes,
 }

@@ -14,7 +14,7 @@ use std::marker::Model;
 
 /// A sink in memory. Its writes fail by their numbers, the first being 1, and where they would
 /// bring it above its room.
-#[derive(Debug, Drop)]
+#[derive(Drop)]
 pub struct MemSink {
     bytes: Vec<u8>,
     room: usize,

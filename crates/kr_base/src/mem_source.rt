@@ -13,7 +13,7 @@ use crate::traits::Source;
 use std::marker::Model;
 
 /// A source in memory. Its reads fail by their numbers, the first being 1.
-#[derive(Debug, Drop)]
+#[derive(Drop)]
 pub struct MemSource {
     input: InputBytes,
 }

@@ -16,7 +16,7 @@ use std::marker::Model;
 /// counted from 1, and where a write would bring it above its room. A `put_at` that fails by its
 /// number leaves half of its bytes at their place, as a write that was broken off; a `cut` that
 /// fails leaves all as before.
-#[derive(Debug, Drop)]
+#[derive(Drop)]
 pub struct MemTape {
     bytes: Vec<u8>,
     room: usize,

@@ -10,7 +10,7 @@ use rand_core::Rng;
 
 /// A dice that draws from a generator and never fails. It tells no content, since a generator has
 /// no end.
-#[derive(Debug, Drop)]
+#[derive(Drop)]
 pub struct SeededDice<R> {
     pub rng: R,
 }

@@ -9,9 +9,7 @@ pub fn push_visible(bytes: &mut Vec<u8>, foreign: &str) -> Result<(), NoMemory>
     ensures { IfOk result (λ done. bytes.new.items ≡ bytes.old.items ++ visible foreign.now) }
 {
     for byte in foreign.as_bytes() {
-        if bytes.push(visible_byte(*byte)).is_err() {
-            return Err(NoMemory);
-        }
+        bytes.push(visible_byte(*byte))?;
     }
     Ok(())
 }

@@ -260,12 +260,11 @@ module _ {T L D : Type 0} (link : L → Link) (count : D → ℕ) where
       → IsLater link count (outfit_of (get_or olds i d)) (outfit_of (get_or news i d)))
       → AreLater link count (outfits_of olds) (outfits_of news)
   later_each [] [] same each = tt
-  later_each [] (new ∷ news) same each = absurd (omega (arith, same))
-  later_each (old ∷ olds) [] same each = absurd (omega (arith, same))
   later_each (old ∷ olds) (new ∷ news) same each = (
     each 0 old (omega arith),
     later_each olds news (omega (arith, same)) (λ i d l. each (suc i) d (omega (arith, l))),
   )
+  later_each other another same each = absurd (omega (arith, same))
 
 module _ {T L D : Type 0} (link : L → Link) (step : L → Exchange → L → Type 0)
     (left : D → Option (List ℕ))

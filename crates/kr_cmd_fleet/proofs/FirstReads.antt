@@ -147,6 +147,12 @@ pub first_back : {X : Type 0} (back front now : List X) (y : X) → now ≡ fron
 first_back back front now y e b =
     b ∙ ap reverse e ∙ reverse-append front (y ∷ [])
 
+-- a watch begins with the rows as they were read
+abbrev pub IsReadAs : Result (List Item × ℕ) Stop → Result WatchStart Stop → Type 0
+IsReadAs made (Ok start) =
+    (items : List Item × ℕ) × (made ≡ Ok items) × (start.items.0 ≡ items.0)
+IsReadAs made (Err stop) = made ≡ Err stop
+
 module _ {L D : Type 0} (link : L → Link) (step : L → Exchange → L → Type 0)
     (left : D → Option (List ℕ)) (count : D → ℕ) where
   abbrev With : List (Outfit L D) → Around → Around
@@ -274,7 +280,7 @@ module _ {L D : Type 0} (link : L → Link) (step : L → Exchange → L → Typ
             (talk : Talk (Among step) first.links new.links
             (Leaves link step p listing first.links (left first.dice) (count first.dice) new.links
             made)) where
-          pub reads_ok : (items : List Item × ℕ) → made ≡ Ok items → (start : WatchStart)
+          reads_ok : (items : List Item × ℕ) → made ≡ Ok items → (start : WatchStart)
               → start.items.0 ≡ items.0 → ReadsLive watched rows replicas outfits back (Ok start)
           reads_ok items e start same_items = (
             talk.steps,
@@ -290,7 +296,7 @@ module _ {L D : Type 0} (link : L → Link) (step : L → Exchange → L → Typ
                 talk.are.1)),
           )
 
-          pub reads_err : (stop : Stop) → made ≡ Err stop
+          reads_err : (stop : Stop) → made ≡ Err stop
               → ReadsLive watched rows replicas outfits back (Err stop)
           reads_err stop e = (
             talk.steps,
@@ -300,6 +306,11 @@ module _ {L D : Type 0} (link : L → Link) (step : L → Exchange → L → Typ
                 (items_in m)) e (talk.are.0 b)),
             tt,
           )
+
+          pub reads_so : (result : Result WatchStart Stop) → IsReadAs made result
+              → ReadsLive watched rows replicas outfits back result
+          reads_so (Ok start) (items, e, same) = reads_ok items e start same
+          reads_so (Err stop) e = reads_err stop e
 
 -- what was asked before is among what was asked
 pub knows_behind : (watched : Bool) (es fs : List Exchange) (rows : List LogRow)

@@ -44,7 +44,7 @@ use Rattle.kr_cmd_fleet.specs.inner.CrewRuns.{KeepsStore, RunsCrew, WorkersRan}
 use Rattle.kr_cmd_fleet.specs.inner.Plans.{IsWholePlan, named, plan_of}
 use Rattle.kr_cmd_fleet.specs.inner.FleetOutcomes.{ArePublished, LacksWorkers, RunsBy}
 use Rattle.kr_cmd_fleet.specs.inner.Readings.{KnowsItems}
-use Rattle.kr_cmd_steps.specs.inner.Lent.{Tapes, lent_links, with_lent_tape}
+use Rattle.kr_cmd_steps.specs.inner.Lent.{lent_links, with_lent_tape}
 use Rattle.kr_cmd_fleet.specs.StartExchanges.{AsksFirst, OpenBy}
 use Rattle.kr_cmd_fleet.specs.inner.Outfits.{AreLater, AreNamed, links_of, with_outfits}
 use Rattle.kr_cmd_steps.specs.inner.ProgramNames.{names_in}
@@ -53,7 +53,7 @@ use Rattle.kr_cmd_steps.specs.inner.Tapes.{stored_of}
 use Rattle.kr_cmd_fleet.specs.inner.Workings.{StaysIdle, TakesOutfits}
 use Rattle.kr_cmd_steps.proofs.Goes.{files_same, home_trans}
 use Rattle.kr_cmd_steps.proofs.Lending.{by_key, home_behind, home_same}
-use Rattle.kr_cmd_fleet.proofs.Outfits.{LinksOf, later_named, later_refl, later_trans, names_differ, outfits_asked, outfits_equipped, outfits_file, outfits_heard, outfits_home, outfits_input, outfits_said, outfits_tapes, told_apart, outfits_faults, later_many}
+use Rattle.kr_cmd_fleet.proofs.Outfits.{IsBeside, LinksOf, later_named, later_refl, later_trans, names_differ, outfits_equipped, outfits_home, outfits_keep, told_apart, later_many}
 use Rattle.kr_cmd_fleet.proofs.Publishings.{published_settings}
 use Rattle.kr_cmd_fleet.proofs.StartExchanges.{workers_links}
 use Rattle.kr_cmd_steps.proofs.Tapes.{own_name}
@@ -284,9 +284,15 @@ module _ {L D : Type 0} (link : L → Link) (step : L → Exchange → L → Typ
     abbrev Over_now : Kept → Around
     Over_now kept = with_lent_tape name kept.told kept.count a
 
+    -- what neither links nor a random source change is as without the outfits
+    beside : {A : Type 0} (part : Around → A) → IsBeside link left count part
+        → (outfits : List (Outfit L D)) (kept : Kept)
+        → part (With outfits kept) ≡ part (Over_now kept)
+    beside part same outfits kept =
+        outfits_keep link left count part same 0 outfits (Over_now kept)
+
     count_is : store.count ≡ Mid.world.tapes.faults name
-    count_is = sym (ap (λ (t : Tapes). t.faults name)
-        (outfits_tapes link left count 0 outs (Over_now store))
+    count_is = sym (beside (λ b. b.world.tapes.faults name) (λ seat outfit b. refl) outs store
         ∙ over_count name a store.told store.count)
 
     reloads_are : reloads ≡ all_reloads (parts_of (plan_of plan).fleet)
@@ -318,9 +324,15 @@ module _ {L D : Type 0} (link : L → Link) (step : L → Exchange → L → Typ
             (omega (arith, rises, ap (λ (p : Opening). p.count) opens))))
 
         count_now : (With back kept).world.tapes.faults name ≡ kept.count
-        count_now = ap (λ (t : Tapes). t.faults name)
-            (outfits_tapes link left count 0 back (Over_now kept))
+        count_now = beside (λ b. b.world.tapes.faults name) (λ seat outfit b. refl) back kept
             ∙ over_count name a kept.told kept.count
+
+        -- what doesn't depend on the store's tape either is as before
+        stays : {A : Type 0} (part : Around → A) → IsBeside link left count part
+            → part (Over_now kept) ≡ part (Over_now store)
+            → part (With back kept) ≡ part Mid
+        stays part same over =
+            beside part same back kept ∙ over ∙ sym (beside part same outs store)
 
         outs_many : length outs ≡ length (plan_of plan).fleet.workers
         outs_many = later_many link left count olds outs later ∙ seats
@@ -331,14 +343,9 @@ module _ {L D : Type 0} (link : L → Link) (step : L → Exchange → L → Typ
 
         rest : LeavesRest name (length (plan_of plan).fleet.workers) Mid (With back kept)
         rest = record {
-          file = outfits_file link left count 0 back (Over_now kept)
-              ∙ sym (outfits_file link left count 0 outs (Over_now store));
-          tapes = λ other apart.
-              ap (λ (t : Tapes). t.told other)
-              (outfits_tapes link left count 0 back (Over_now kept))
-              ∙ over_other name a store.told kept.told store.count kept.count other apart
-              ∙ sym (ap (λ (t : Tapes). t.told other)
-              (outfits_tapes link left count 0 outs (Over_now store)));
+          file = stays (λ b. b.world.file) (λ seat outfit b. refl) refl;
+          tapes = λ other apart. stays (λ b. b.world.tapes.told other) (λ seat outfit b. refl)
+              (over_other name a store.told kept.told store.count kept.count other apart);
           dice = λ seat past.
               dice_beyond link left count 0 back (Over_now kept) seat
               (omega (arith, past, back_many))
@@ -349,14 +356,10 @@ module _ {L D : Type 0} (link : L → Link) (step : L → Exchange → L → Typ
               (omega (arith, past, back_many))
               ∙ sym (links_beyond link left count 0 outs (Over_now store) seat plugin
               (omega (arith, past, outs_many)));
-          faults = outfits_faults link left count 0 back (Over_now kept)
-              ∙ sym (outfits_faults link left count 0 outs (Over_now store));
-          asked = outfits_asked link left count 0 back (Over_now kept)
-              ∙ sym (outfits_asked link left count 0 outs (Over_now store));
-          input = outfits_input link left count 0 back (Over_now kept)
-              ∙ sym (outfits_input link left count 0 outs (Over_now store));
-          said = outfits_said link left count 0 back (Over_now kept)
-              ∙ sym (outfits_said link left count 0 outs (Over_now store));
+          faults = stays (λ b. b.world.faults) (λ seat outfit b. refl) refl;
+          asked = stays (λ b. b.world.asked) (λ seat outfit b. refl) refl;
+          input = stays (λ b. b.input) (λ seat outfit b. refl) refl;
+          said = stays (λ b. b.said) (λ seat outfit b. refl) refl;
         }
 
         stored : (rows : List LogRow) → KeepsStore o rows kept
@@ -370,8 +373,7 @@ module _ {L D : Type 0} (link : L → Link) (step : L → Exchange → L → Typ
             subst (λ n. HasRows told begun rows (Mid.world.tapes.faults name) n) (sym count_now)
             (subst (λ m. HasRows told begun rows m kept.count) before
             (subst (λ t. HasRows t begun rows o.count kept.count)
-            (sym (ap (λ (t : Tapes). t.told name)
-            (outfits_tapes link left count 0 back (Over_now kept))
+            (sym (beside (λ b. b.world.tapes.told name) (λ seat outfit b. refl) back kept
             ∙ over_told name a kept.told kept.count))
             (has_rows begun o rows kept (ap (λ (p : Opening). p.format) opens) whole k)))
 
@@ -466,7 +468,7 @@ module _ {L D : Type 0} (link : L → Link) (step : L → Exchange → L → Typ
         ended = r.ended;
         runs = runs made r;
         begins = (
-          outfits_heard link left count 0 outs (Over_now store),
+          beside (λ b. b.heard) (λ seat outfit b. refl) outs store,
           refl,
           are,
           sym r.outfits_are,

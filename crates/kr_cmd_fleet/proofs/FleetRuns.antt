@@ -1,7 +1,6 @@
 -- How a fleet goes on from its plan, and how a call ends that a fleet was asked of.
-use Rattle.kr_cmd_messages.specs.Message.{line_of, status_of as stop_status}
-use Rattle.std.proofs.Common.{◌≡◌, ℕ, ◌+◌, ◌<◌, ◌≤◌, ◌⊎◌, List, [], ◌∷◌, map, codes, Option, Some, Result, Ok, Err, refl, sym, ◌∙◌, ap, subst, inl, inr, arith}
-use Rattle.std.specs.Prelude.{Bool, false, true, sum, count_by}
+use Rattle.std.proofs.Common.{◌≡◌, ℕ, ◌+◌, ◌<◌, ◌≤◌, List, [], ◌∷◌, map, codes, Option, Some, Result, Ok, Err, refl, sym, ◌∙◌, ap, subst, inl, inr, arith}
+use Rattle.std.specs.Prelude.{Bool, false, sum, count_by}
 use Rattle.std.proofs.lemmas.List.Sums.{sum_by-cons}
 use Rattle.kr_kms.specs.Calls.{Link}
 use Rattle.kr_kms.specs.Exchanges.{Exchange}
@@ -22,176 +21,123 @@ use Rattle.kr_workers.specs.declared.budget.BudgetNo.TheVariants as budget
 use Rattle.kr_workers.specs.declared.ending.Ending.{Ending}
 use Rattle.kr_workers.specs.declared.worker.Worker as fleet_worker
 use Rattle.kr_workers.proofs.Summing.{parts_fit}
-use Rattle.kr_cmd_steps.specs.Around.{Around, left_of}
-use Rattle.kr_cmd_messages.specs.FleetAsked.{AskAlone, AsksFleet}
-use Rattle.kr_cmd_fleet.specs.FleetFiles.{FleetPlan, planning}
-use Rattle.kr_cmd_fleet.specs.Fleets.{Begun, DidFleet, RanFleet, WritesFleet, budgeting, over_store, parts_of}
-use Rattle.kr_cmd_steps.specs.Ran.{WroteNothing, StopsAtOnce}
-use Rattle.kr_cmd_messages.specs.Receipts.{Receipt, Tells}
+use Rattle.kr_cmd_steps.specs.Around.{Around, IsHome, left_of}
+use Rattle.kr_cmd_messages.specs.FleetAsked.{AsksFleet}
+use Rattle.kr_cmd_fleet.specs.FleetFiles.{FleetPlan}
+use Rattle.kr_cmd_fleet.specs.Fleets.{Begun, DidFleet, RunsFleet, WritesFleet, budgeting, parts_of}
+use Rattle.kr_cmd_messages.specs.Receipts.{Receipt}
 use Rattle.kr_cmd_steps.specs.Steps.{Steps, and_then, hearing}
 use Rattle.kr_cmd_fleet.specs.declared.fleet.Record.{Record}
 use Rattle.kr_cmd_messages.specs.declared.fleet_words.FleetWords.{FleetWords}
 use Rattle.kr_cmd_messages.specs.declared.refusal.Limit.TheVariants as limit
 use Rattle.kr_cmd_messages.specs.declared.refusal.Refusal.TheVariants.{Limit}
 use Rattle.kr_cmd_messages.specs.declared.refusal.Stop.{Stop}
-use Rattle.kr_cmd_messages.specs.declared.refusal.Stop.TheVariants.{Words, Refused, Fault, NoMemory}
-use Rattle.kr_cmd_messages.specs.inner.FleetAnswers.{IsFleetAsked}
-use Rattle.kr_cmd_fleet.specs.inner.FleetOutcomes.{Beginning, LacksSettling, LacksWorkers, LeavesRecord, RunsBy, budget_stop}
+use Rattle.kr_cmd_messages.specs.declared.refusal.Stop.TheVariants.{NoMemory}
+use Rattle.kr_cmd_fleet.specs.inner.FleetOutcomes.{Beginning, LeavesRecord, RunsBy, budget_stop, settled_if}
+use Rattle.kr_cmd_fleet.specs.inner.Readings.{KnowsItems}
 use Rattle.kr_cmd_steps.specs.inner.Lent.{with_lent_tape}
 use Rattle.kr_cmd_steps.specs.inner.Phases.{Does}
-use Rattle.kr_cmd_fleet.specs.inner.Workings.{BeginsLent}
 use Rattle.kr_cmd_fleet.specs.StartExchanges.{WereAsked}
-use Rattle.kr_cmd_fleet.proofs.StartExchanges.{none_were}
-use Rattle.kr_cmd_steps.proofs.Hearing.{heard_none}
+use Rattle.kr_cmd_fleet.proofs.CallEnds.{IsPlanned, Leaves, Stopped, by_plan, from_plan, leaves_so}
 use Rattle.kr_cmd_steps.proofs.Goes.{goes_on, home_refl, home_trans, reach, stays_refl, stops}
 
-module _ (T : Type 0) {L D : Type 0} (link : L → Link)
-    (step : L → Exchange → L → Type 0) (lent took : ℕ → L → Type 0)
-    (left : D → Option (List ℕ)) (count : D → ℕ) (words : FleetWords) where
-  -- the plan wasn't made
-  pub unplanned : (old new : Around) (file : List ℕ) → file ≡ words.file → (stop : Stop)
-      (output : Receipt) → Does (planning file words.options) old new (Err stop)
-      → WroteNothing output → new.heard ≡ old.heard → new.world.links ≡ old.world.links
-      → DidFleet T link step lent took left count words old new output (Err stop)
-  unplanned old new file is stop output d idle same links =
-      let all = stops (planning words.file words.options) (over_store false words.store) stop
-      (subst (λ f. Does (planning f words.options) old new (Err stop)) is d) in
+-- the call stopped
+pub fleet_stopped : {T L D : Type 0} {link : L → Link} {step : L → Exchange → L → Type 0}
+    {lent took : ℕ → L → Type 0} {left : D → Option (List ℕ)} {count : D → ℕ}
+    {words : FleetWords} {old new : Around} {output : Receipt} {stop : Stop}
+    → Stopped T link step lent took left count words false old new output stop
+    → DidFleet T link step lent took left count words old new output (Err stop)
+fleet_stopped s = record {
+  home = s.home;
+  exchanges = s.exchanges;
+  heard = s.heard;
+  asked = s.asked;
+  did = inl s.before;
+  came = s.came;
+}
+
+module _ {T L D : Type 0} {link : L → Link} {step : L → Exchange → L → Type 0}
+    {lent took : ℕ → L → Type 0} {left : D → Option (List ℕ)} {count : D → ℕ}
+    {words : FleetWords} {plan : FleetPlan} {old now new : Around} {file store : List ℕ}
+    {exchanges : List Exchange} (made : IsPlanned words plan old now file store)
+    (heard : new.heard ≡ hearing exchanges old.heard)
+    (asked : WereAsked link lent took step exchanges old.world new.world) where
+  -- the workers ran
+  pub fleet_ran : (ran : Record) {output : Receipt} {result : Result Ending Stop}
+      → Leaves T link step lent took left count false made new exchanges asked store ran
+      → WritesFleet (fleet_output plan.fleet ran.lines.0 ran.replies.0)
+      (gravest_ending ran.replies.0) output result
+      → DidFleet T link step lent took left count words old new output result
+  fleet_ran ran {output} {result} left_so w =
+      let l = leaves_so T link step lent took left count false made new exchanges asked ran
+      left_so in
+      let all = from_plan T link step lent took left count false made new exchanges asked l.does
+      in
+      let journal = map (λ (e : Entry). e.line) l.history in
+      let told = map (λ (worker : fleet_worker.Worker T L D). worker.told) l.ended in
+      let by_lines = subst (λ lines. WritesFleet (fleet_output plan.fleet lines ran.replies.0)
+      (gravest_ending ran.replies.0) output result) l.lines w in
+      let by_replies = subst (λ replies. WritesFleet (fleet_output plan.fleet journal replies)
+      (gravest_ending replies) output result) l.replies by_lines in
       record {
-        home = all.home;
-        exchanges = [];
-        heard = same ∙ sym (heard_none old.heard);
-        asked = none_were link lent took step links;
-        did = inl (inl (all.ends (left_of old) (stays_refl old)), idle);
-        came = refl;
+        home = home_trans
+            (by_plan T link step lent took left count false made new exchanges asked).home
+            l.home;
+        exchanges = exchanges;
+        heard = heard;
+        asked = asked;
+        did = inr (
+          record {
+            begun = l.begun;
+            mid = l.mid;
+            reaches = all.ends (left_of old) (stays_refl old);
+            since = all.home;
+            exchanges = exchanges;
+            heard = l.begins.0;
+            began = l.begins.2;
+            made = l.begins.1;
+            history = l.history;
+            ended = l.ended;
+            runs = l.runs;
+            writes = subst (λ p. WritesFleet (fleet_output p.fleet journal told)
+                (gravest_ending told) output result) (sym l.plan_is) by_replies;
+          },
+          refl,
+        );
+        came = (l.begins.3, l.begins.4);
       }
 
-  module _ (plan : FleetPlan) (old now new : Around) (file : List ℕ) (is : file ≡ words.file)
-      (planned : Does (planning file words.options) old now (Ok plan)) (store : List ℕ)
-      (is_store : store ≡ words.store) (exchanges : List Exchange)
-      (heard : new.heard ≡ hearing exchanges old.heard)
-      (asked : WereAsked link lent took step exchanges old.world new.world) where
-    abbrev Lent : Beginning T L D
-    Lent =
-        BeginsLent (hearing exchanges old.heard) exchanges step lent took asked.begun asked.back
-
-    d : Does (planning words.file words.options) old now (Ok plan)
-    d = subst (λ f. Does (planning f words.options) old now (Ok plan)) is planned
-
-    -- the steps behind it ended the command, or want of memory did, or the store couldn't be
-    -- settled
-    pub stopped : (stop : Stop) (output : Receipt)
-        → ((asked.back ≡ asked.begun) × (Does (over_store false store plan) now new (Err stop)
-        ⊎ LacksWorkers T link step left count (over_store false store plan) store now new
-        stop))
-        ⊎ LacksSettling T link step left count Lent
-        (over_store false store plan) store now new stop
-        → WroteNothing output
-        → DidFleet T link step lent took left count words old new output (Err stop)
-    stopped stop output (inl (unasked, inl e)) idle =
-        let all = goes_on (planning words.file words.options) (over_store false words.store) plan
-        d
-        (subst (λ s. Does (over_store false s plan) now new (Err stop)) is_store e) in
-        record {
-          home = all.home;
-          exchanges = exchanges;
-          heard = heard;
-          asked = asked;
-          did = inl (inl (all.ends (left_of old) (stays_refl old)), idle);
-          came = unasked;
-        }
-    stopped stop output (inl (unasked, inr lacking)) idle =
-        let l = subst (λ s. LacksWorkers T link step left count (over_store false s plan) s
-        now new
-        stop) is_store lacking in
-        let all =
-        goes_on (planning words.file words.options) (over_store false words.store) plan d l.does
-        in
-        record {
-          home = home_trans d.home l.home;
-          exchanges = exchanges;
-          heard = heard;
-          asked = asked;
-          did = inl (
-            inr (inl (
-              l.stops,
-              (l.mid, l.begun, all.ends (left_of old) (stays_refl old), l.none, all.home),
-            )),
-            idle,
-          );
-          came = unasked;
-        }
-    stopped stop output (inr lacking) idle =
-        let l = subst (λ s. LacksSettling T link step left count Lent (over_store false s plan) s
-        now new
-        stop) is_store lacking in
-        let all =
-        goes_on (planning words.file words.options) (over_store false words.store) plan d l.does
-        in
-        record {
-          home = home_trans d.home l.home;
-          exchanges = exchanges;
-          heard = heard;
-          asked = asked;
-          did = inl (
-            inr (inr (
-              l.mid,
-              l.begun,
-              all.ends (left_of old) (stays_refl old),
-              l.fails,
-              all.home,
-            )),
-            idle,
-          );
-          came = (l.begins.3, l.begins.4, l.begins.1);
-        }
-
-    -- the workers ran
-    pub ran : (made : Record) (output : Receipt) (result : Result Ending Stop)
-        → LeavesRecord T link step left count Lent true false
-        (over_store false store plan) store plan now new made
-        → WritesFleet (fleet_output plan.fleet made.lines.0 made.replies.0)
-        (gravest_ending made.replies.0) output result
-        → DidFleet T link step lent took left count words old new output result
-    ran made output result left_so w =
-        let l = subst (λ s. LeavesRecord T link step left count Lent true false
-        (over_store false s plan) s plan now
-        new made) is_store left_so in
-        let all =
-        goes_on (planning words.file words.options) (over_store false words.store) plan d l.does
-        in
-        let journal = map (λ (e : Entry). e.line) l.history in
-        let told = map (λ (worker : fleet_worker.Worker T L D). worker.told) l.ended in
-        let by_lines = subst (λ lines. WritesFleet (fleet_output plan.fleet lines made.replies.0)
-        (gravest_ending made.replies.0) output result) l.lines w in
-        let by_replies = subst (λ replies. WritesFleet (fleet_output plan.fleet journal replies)
-        (gravest_ending replies) output result) l.replies by_lines in
-        record {
-          home = home_trans d.home l.home;
-          exchanges = exchanges;
-          heard = heard;
-          asked = asked;
-          did = inr (
-            record {
-              begun = l.begun;
-              mid = l.mid;
-              reaches = all.ends (left_of old) (stays_refl old);
-              since = all.home;
-              exchanges = exchanges;
-              heard = l.begins.0;
-              began = l.begins.2;
-              made = l.begins.1;
-              history = l.history;
-              ended = l.ended;
-              runs = l.runs;
-              writes = subst (λ p. WritesFleet (fleet_output p.fleet journal told)
-                  (gravest_ending told) output result) (sym l.plan_is) by_replies;
-            },
-            refl,
-          );
-          came = (l.begins.3, l.begins.4);
-        }
-
 -- ---- phases up to the workers
+
+-- the workers ran so, and left this record, by other steps
+abbrev pub leaves_by : {T L D : Type 0} {link : L → Link} {step : L → Exchange → L → Type 0}
+    {left : D → Option (List ℕ)} {count : D → ℕ} {Begins Others : Beginning T L D}
+    {settled behind watched : Bool} {steps others : Steps Begun} {store : List ℕ}
+    {plan : FleetPlan} {old new from to : Around} {made : Record}
+    (l : LeavesRecord T link step left count Begins settled watched steps store plan old new made)
+    → Does others from l.mid (Ok l.begun)
+    → (runs : RunsFleet link step left count store l.begun (settled_if behind store l.mid) to
+    l.history l.ended)
+    → Others l.mid.heard runs.made.exchanges runs.workers l.ended
+    → KnowsItems watched runs.made.exchanges l.begun.stored.rows l.begun.replicas l.begun.items
+    → IsHome from to
+    → LeavesRecord T link step left count Others behind watched others store plan from to made
+leaves_by l does runs begins known home = record {
+  begun = l.begun;
+  plan_is = l.plan_is;
+  mid = l.mid;
+  does = does;
+  history = l.history;
+  ended = l.ended;
+  runs = runs;
+  begins = begins;
+  lines = l.lines;
+  replies = l.replies;
+  items_are = l.items_are;
+  revision_is = l.revision_is;
+  known = known;
+  home = home;
+}
 
 module _ (T : Type 0) {L D : Type 0} (link : L → Link)
     (step : L → Exchange → L → Type 0)
@@ -206,22 +152,8 @@ module _ (T : Type 0) {L D : Type 0} (link : L → Link)
     unfoldable pub before : (x : A) (new : Around) {old mid : Around} → Does first old mid (Ok x)
         → (result : Result Record Stop) → Runs (others x) mid new result
         → Runs (and_then first others) old new result
-    before x new d (Ok made) l = record {
-      begun = l.begun;
-      plan_is = l.plan_is;
-      mid = l.mid;
-      does = goes_on first others x d l.does;
-      history = l.history;
-      ended = l.ended;
-      runs = l.runs;
-      begins = l.begins;
-      lines = l.lines;
-      replies = l.replies;
-      items_are = l.items_are;
-      revision_is = l.revision_is;
-      known = l.known;
-      home = home_trans d.home l.home;
-    }
+    before x new d (Ok made) l = leaves_by l (goes_on first others x d l.does) l.runs l.begins
+        l.known (home_trans d.home l.home)
     before x new d (Err stop) (inl e) = inl (goes_on first others x d e)
     before x new d (Err stop) (inr l) = inr (record {
       stops = l.stops;
@@ -258,22 +190,8 @@ pub runs_so : (T : Type 0) {L D : Type 0} (link : L → Link)
     → RunsBy T link step left count Begins watched steps store plan old new result
     → RunsBy T link step left count Others watched steps store plan old new result
 runs_so T link step left count Begins Others so watched steps store plan old new (Ok made) l =
-    record {
-      begun = l.begun;
-      plan_is = l.plan_is;
-      mid = l.mid;
-      does = l.does;
-      history = l.history;
-      ended = l.ended;
-      runs = l.runs;
-      begins = so l.mid.heard l.runs.made.exchanges l.runs.workers l.ended l.begins;
-      lines = l.lines;
-      replies = l.replies;
-      items_are = l.items_are;
-      revision_is = l.revision_is;
-      known = l.known;
-      home = l.home;
-    }
+    leaves_by l l.does l.runs
+    (so l.mid.heard l.runs.made.exchanges l.runs.workers l.ended l.begins) l.known l.home
 runs_so T link step left count Begins Others so watched steps store plan old new (Err stop) r
     =
     r
@@ -364,52 +282,3 @@ one_fleet words a b p q =
     ap (λ f. fleet_words f a.store a.options) (inside file)
     ∙ ap (λ s. fleet_words b.file s a.options) (inside store)
     ∙ ap (fleet_words b.file b.store) same
-
-pub for_asked : {T L D : Type 0} {link : L → Link}
-    {step : L → Exchange → L → Type 0} {lent took : ℕ → L → Type 0}
-    {left : D → Option (List ℕ)} {count : D → ℕ} {a b : FleetWords} {old new : Around}
-    {output errors : Receipt} {status : ℕ}
-    → a ≡ b → RanFleet T link step lent took left count a old new output errors status
-    → RanFleet T link step lent took left count b old new output errors status
-for_asked {T} {link = link} {step = step} {lent = lent} {took = took} {left = left}
-    {count = count} {old = old} {new = new} {output = output} {errors = errors} {status = status} e
-    r =
-    subst (λ w. RanFleet T link step lent took left count w old new output errors status) e r
-
--- ---- the words stop the call
-
-pub at_once : (words : List (List ℕ)) (stop : Stop) → IsFleetAsked words (Err stop)
-    → StopsAtOnce words (Err stop)
-at_once words (Words why) h = h.0
-at_once words (Refused why) h = absurd h
-at_once words (Fault object count) h = absurd h
-at_once words NoMemory h = tt
-
--- they ask for no fleet, but where memory lacked
-pub alone_or_memory : (words : List (List ℕ)) (stop : Stop) → IsFleetAsked words (Err stop)
-    → (errors : Receipt) (status : ℕ)
-    → Tells (line_of (Err stop)) (stop_status (Err stop)) errors status → AskAlone words
-    ⊎ Tells (line_of (Err NoMemory)) (stop_status (Err NoMemory)) errors status
-alone_or_memory words (Words why) h errors status t = inl (h.1, h.2, h.3)
-alone_or_memory words (Refused why) h errors status t = absurd h
-alone_or_memory words (Fault object count) h errors status t = absurd h
-alone_or_memory words NoMemory h errors status t = inr t
-
-module _ (T : Type 0) {L D : Type 0} (link : L → Link)
-    (step : L → Exchange → L → Type 0) (lent took : ℕ → L → Type 0)
-    (left : D → Option (List ℕ)) (count : D → ℕ) where
-  pub unread : (words : List (List ℕ)) (asked : FleetWords) → AsksFleet words asked
-      → (stop : Stop) → IsFleetAsked words (Err stop) → (a : Around) (output : Receipt)
-      → WroteNothing output
-      → DidFleet T link step lent took left count asked a a output (Err stop)
-  unread words asked asks (Words why) h a output idle = absurd (h.1 asked asks)
-  unread words asked asks (Refused why) h a output idle = absurd h
-  unread words asked asks (Fault object n) h a output idle = absurd h
-  unread words asked asks NoMemory h a output idle = record {
-    home = home_refl a;
-    exchanges = [];
-    heard = sym (heard_none a.heard);
-    asked = none_were link lent took step refl;
-    did = inl (inl (inr (reach (left_of a) (inl (refl, refl)) (stays_refl a))), idle);
-    came = refl;
-  }

@@ -38,12 +38,6 @@ module _ {L : Type 0} (link : L → Link) where
   keys_end seat (first ∷ links) last =
       ap (λ keys. (seat, (link first).name) ∷ keys) (keys_end seat links last)
 
-  pub keys_both : (seat : ℕ) (links more : List L)
-      → keys_at link seat (links ++ more) ≡ keys_at link seat links ++ keys_at link seat more
-  keys_both seat [] more = refl
-  keys_both seat (first ∷ links) more =
-      ap (λ keys. (seat, (link first).name) ∷ keys) (keys_both seat links more)
-
   -- one more seat is the last
   pub keys_push : (seat at : ℕ) (front : List (List L)) (last : List L)
       → at ≡ seat + length front

@@ -1,5 +1,6 @@
 -- The lemmas that the answers cite.
 pub mod Beginnings
+pub mod CallEnds
 pub mod ClosedCores
 pub mod Crews
 pub mod FirstReads

@@ -58,21 +58,24 @@ module _ {L : Type 0} (link : L → Link) (seat : ℕ) where
     skips first name x y = by_key links_decide (λ b. b ≡ y) (seat, first) (other, name) x y
         (λ e. absurd (apart (sym (ap (λ (key : ℕ × List ℕ). key.0) e)))) (λ n. refl)
 
+    -- a value that each link gives, and goes by the first of the key, is of those behind
+    skipped : {V : Type 0} (value : List L → V) (of : L → V) (name : List ℕ)
+        → ((first : L) (more : List L) → value (first ∷ more)
+        ≡ (if same_link (seat, (link first).name) (other, name) then of first else value more))
+        → (links : List L) → value links ≡ value []
+    skipped value of name goes [] = refl
+    skipped value of name goes (first ∷ more) = goes first more
+        ∙ skips (link first).name name (of first) (value more) ∙ skipped value of name goes more
+
     pub told_apart : (links : List L) (x : LinksOf) (name : List ℕ)
         → (lent_links link seat links x).told (other, name) ≡ x.told (other, name)
-    told_apart [] x name = refl
-    told_apart (first ∷ more) x name =
-        skips (link first).name name (link first).status
-        ((lent_links link seat more x).told (other, name))
-        ∙ told_apart more x name
+    told_apart links x name = skipped (λ ls. (lent_links link seat ls x).told (other, name))
+        (λ l. (link l).status) name (λ first more. refl) links
 
-    pub count_apart : (links : List L) (x : LinksOf) (name : List ℕ)
+    count_apart : (links : List L) (x : LinksOf) (name : List ℕ)
         → (lent_links link seat links x).faults (other, name) ≡ x.faults (other, name)
-    count_apart [] x name = refl
-    count_apart (first ∷ more) x name =
-        skips (link first).name name (link first).count
-        ((lent_links link seat more x).faults (other, name))
-        ∙ count_apart more x name
+    count_apart links x name = skipped (λ ls. (lent_links link seat ls x).faults (other, name))
+        (λ l. (link l).count) name (λ first more. refl) links
 
     pub out_apart : (links : List L) (x : LinksOf) (name : List ℕ)
         → (lent_links link seat links x).out (other, name) ≡ x.out (other, name)
@@ -109,18 +112,16 @@ module _ {L D : Type 0} (link : L → Link) (left : D → Option (List ℕ)) (co
       → AreLater link count a c
   later_trans [] [] [] p q = tt
   later_trans [] [] (z ∷ c) p q = q
-  later_trans [] (y ∷ b) c p q = absurd p
-  later_trans (x ∷ a) [] c p q = absurd p
   later_trans (x ∷ a) (y ∷ b) [] p q = absurd q
   later_trans (x ∷ a) (y ∷ b) (z ∷ c) p q =
       (one_later x y z p.0 q.0, later_trans a b c p.1 q.1)
+  later_trans other another c p q = absurd p
 
   pub later_many : (olds news : List (Outfit L D)) → AreLater link count olds news
       → length news ≡ length olds
   later_many [] [] p = refl
-  later_many [] (new ∷ news) p = absurd p
-  later_many (old ∷ olds) [] p = absurd p
   later_many (old ∷ olds) (new ∷ news) p = omega (arith, later_many olds news p.1)
+  later_many other another p = absurd p
 
   named_rest : (names : List (List ℕ)) (outfit : Outfit L D) (outfits : List (Outfit L D))
       → AreNamed link names (outfit ∷ outfits) → AreNamed link names outfits
@@ -135,19 +136,28 @@ module _ {L D : Type 0} (link : L → Link) (left : D → Option (List ℕ)) (co
   pub later_named : (names : List (List ℕ)) (olds news : List (Outfit L D))
       → AreLater link count olds news → AreNamed link names olds → AreNamed link names news
   later_named names [] [] p n = n
-  later_named names [] (new ∷ news) p n = absurd p
-  later_named names (old ∷ olds) [] p n = absurd p
   later_named names (old ∷ olds) (new ∷ news) p n = named_both names new news
       (names_stay link (names_of link old.links) old.links new.links p.0.links
       ∙ n zero old (omega arith))
       (later_named names olds news p.1 (named_rest names old olds n))
+  later_named names other another p n = absurd p
 
   -- ---- what is around them
 
-  pub outfits_heard : (seat : ℕ) (outfits : List (Outfit L D)) (a : Around)
-      → (with_outfits link left count seat outfits a).heard ≡ a.heard
-  outfits_heard seat [] a = refl
-  outfits_heard seat (outfit ∷ outfits) a = outfits_heard (seat + 1) outfits a
+  -- neither links nor a random source change this part of what is around
+  abbrev pub IsBeside : {A : Type 0} → (Around → A) → Type 0
+  IsBeside part = (seat : ℕ) (outfit : Outfit L D) (b : Around)
+      → part (with_lent_links link seat outfit.links
+      (with_lent_dice seat (left outfit.dice) (count outfit.dice) b)) ≡ part b
+
+  -- nor do the workers' outfits
+  pub outfits_keep : {A : Type 0} (part : Around → A) → IsBeside part → (seat : ℕ)
+      (outfits : List (Outfit L D)) (a : Around)
+      → part (with_outfits link left count seat outfits a) ≡ part a
+  outfits_keep part same seat [] a = refl
+  outfits_keep part same seat (outfit ∷ outfits) a =
+      same seat outfit (with_outfits link left count (seat + 1) outfits a)
+      ∙ outfits_keep part same (seat + 1) outfits a
 
   pub outfits_exchanges : (es : List Exchange) (seat : ℕ) (outfits : List (Outfit L D))
       (a : Around)
@@ -159,43 +169,11 @@ module _ {L D : Type 0} (link : L → Link) (left : D → Option (List ℕ)) (co
       (with_lent_dice seat (left outfit.dice) (count outfit.dice) b))
       (outfits_exchanges es (seat + 1) outfits a)
 
-  pub outfits_file : (seat : ℕ) (outfits : List (Outfit L D)) (a : Around)
-      → (with_outfits link left count seat outfits a).world.file ≡ a.world.file
-  outfits_file seat [] a = refl
-  outfits_file seat (outfit ∷ outfits) a = outfits_file (seat + 1) outfits a
-
-  pub outfits_tapes : (seat : ℕ) (outfits : List (Outfit L D)) (a : Around)
-      → (with_outfits link left count seat outfits a).world.tapes ≡ a.world.tapes
-  outfits_tapes seat [] a = refl
-  outfits_tapes seat (outfit ∷ outfits) a = outfits_tapes (seat + 1) outfits a
-
-  pub outfits_asked : (seat : ℕ) (outfits : List (Outfit L D)) (a : Around)
-      → (with_outfits link left count seat outfits a).world.asked ≡ a.world.asked
-  outfits_asked seat [] a = refl
-  outfits_asked seat (outfit ∷ outfits) a = outfits_asked (seat + 1) outfits a
-
-  pub outfits_faults : (seat : ℕ) (outfits : List (Outfit L D)) (a : Around)
-      → (with_outfits link left count seat outfits a).world.faults ≡ a.world.faults
-  outfits_faults seat [] a = refl
-  outfits_faults seat (outfit ∷ outfits) a = outfits_faults (seat + 1) outfits a
-
-  pub outfits_input : (seat : ℕ) (outfits : List (Outfit L D)) (a : Around)
-      → (with_outfits link left count seat outfits a).input ≡ a.input
-  outfits_input seat [] a = refl
-  outfits_input seat (outfit ∷ outfits) a = outfits_input (seat + 1) outfits a
-
-  pub outfits_said : (seat : ℕ) (outfits : List (Outfit L D)) (a : Around)
-      → (with_outfits link left count seat outfits a).said ≡ a.said
-  outfits_said seat [] a = refl
-  outfits_said seat (outfit ∷ outfits) a = outfits_said (seat + 1) outfits a
-
   -- where the workers' outfits are out before and after, all else is at home
   pub outfits_home : (seat : ℕ) (olds news : List (Outfit L D)) → AreLater link count olds news
       → {a b : Around} → IsHome a b → IsHome (with_outfits link left count seat olds a)
       (with_outfits link left count seat news b)
   outfits_home seat [] [] p h = h
-  outfits_home seat [] (new ∷ news) p h = absurd p
-  outfits_home seat (old ∷ olds) [] p h = absurd p
   outfits_home seat (old ∷ olds) (new ∷ news) p h =
       let rest = outfits_home (seat + 1) olds news p.1 h in record {
         files = record { file = rest.files.file; later = rest.files.later };
@@ -205,71 +183,66 @@ module _ {L D : Type 0} (link : L → Link) (left : D → Option (List ℕ)) (co
             rest.links;
         input = rest.input;
       }
+  outfits_home seat other another p h = absurd p
 
   -- ---- what each worker has
 
   module _ (a : Around) where
+    -- a value that each outfit gives, and goes by the seat, is that of the seat's outfit
+    of_seat : {V : Type 0} (value : ℕ → List (Outfit L D) → ℕ → V) (of : Outfit L D → V)
+        → ((seat : ℕ) (first : Outfit L D) (more : List (Outfit L D)) (key : ℕ)
+        → value seat (first ∷ more) key
+        ≡ (if same_seat seat key then of first else value (seat + 1) more key))
+        → (seat at key : ℕ) (outfits : List (Outfit L D)) (o : Outfit L D) → key ≡ seat + at
+        → at < length outfits → value seat outfits key ≡ of (get_or outfits at o)
+    of_seat value of goes seat at key [] o e lt = absurd (omega (arith, lt))
+    of_seat value of goes seat zero key (first ∷ more) o e lt = goes seat first more key
+        ∙ by_key seats_decide (λ b. b ≡ of first) seat key (of first) (value (seat + 1) more key)
+        (λ same. refl) (λ n. absurd (n (omega (arith, e))))
+    of_seat value of goes seat (suc at) key (first ∷ more) o e lt = goes seat first more key
+        ∙ by_key seats_decide (λ b. b ≡ of (get_or more at o)) seat key (of first)
+        (value (seat + 1) more key) (λ same. absurd (omega (arith, same, e)))
+        (λ n. of_seat value of goes (seat + 1) at key more o (omega (arith, e)) (omega (arith, lt)))
+
     pub dice_told : (seat at key : ℕ) (outfits : List (Outfit L D)) (o : Outfit L D)
         → key ≡ seat + at → at < length outfits
         → (with_outfits link left count seat outfits a).world.dice.told key
         ≡ left (get_or outfits at o).dice
-    dice_told seat at key [] o e lt = absurd (omega (arith, lt))
-    dice_told seat zero key (first ∷ more) o e lt = by_key seats_decide
-        (λ b. b ≡ left first.dice) seat key (left first.dice)
-        ((with_outfits link left count (seat + 1) more a).world.dice.told key) (λ same. refl)
-        (λ n. absurd (n (omega (arith, e))))
-    dice_told seat (suc at) key (first ∷ more) o e lt = by_key seats_decide
-        (λ b. b ≡ left (get_or more at o).dice) seat key (left first.dice)
-        ((with_outfits link left count (seat + 1) more a).world.dice.told key)
-        (λ same. absurd (omega (arith, same, e)))
-        (λ n. dice_told (seat + 1) at key more o (omega (arith, e)) (omega (arith, lt)))
+    dice_told = of_seat (λ seat outfits key.
+        (with_outfits link left count seat outfits a).world.dice.told key) (λ o. left o.dice)
+        (λ seat first more key. refl)
 
     pub dice_count : (seat at key : ℕ) (outfits : List (Outfit L D)) (o : Outfit L D)
         → key ≡ seat + at → at < length outfits
         → (with_outfits link left count seat outfits a).world.dice.faults key
         ≡ count (get_or outfits at o).dice
-    dice_count seat at key [] o e lt = absurd (omega (arith, lt))
-    dice_count seat zero key (first ∷ more) o e lt = by_key seats_decide
-        (λ b. b ≡ count first.dice) seat key (count first.dice)
-        ((with_outfits link left count (seat + 1) more a).world.dice.faults key) (λ same. refl)
-        (λ n. absurd (n (omega (arith, e))))
-    dice_count seat (suc at) key (first ∷ more) o e lt = by_key seats_decide
-        (λ b. b ≡ count (get_or more at o).dice) seat key (count first.dice)
-        ((with_outfits link left count (seat + 1) more a).world.dice.faults key)
-        (λ same. absurd (omega (arith, same, e)))
-        (λ n. dice_count (seat + 1) at key more o (omega (arith, e)) (omega (arith, lt)))
+    dice_count = of_seat (λ seat outfits key.
+        (with_outfits link left count seat outfits a).world.dice.faults key) (λ o. count o.dice)
+        (λ seat first more key. refl)
 
-    pub link_told : (seat at key : ℕ) (outfits : List (Outfit L D)) (o : Outfit L D) (it : L)
+    -- what is told of the link of a seat, and its count of faults
+    abbrev Tells : LinksOf → (key : ℕ) → Link → Type 0
+    Tells links key it = (links.told (key, it.name) ≡ it.status)
+        × (links.faults (key, it.name) ≡ it.count)
+
+    link_there : (seat at key : ℕ) (outfits : List (Outfit L D)) (o : Outfit L D) (it : L)
         → key ≡ seat + at → at < length outfits
         → AreDistinct link (get_or outfits at o).links → Contains (get_or outfits at o).links it
-        → (with_outfits link left count seat outfits a).world.links.told (key, (link it).name)
-        ≡ (link it).status
-    link_told seat at key [] o it e lt d c = absurd (omega (arith, lt))
-    link_told seat zero key (first ∷ more) o it e lt d c =
+        → Tells (with_outfits link left count seat outfits a).world.links key (link it)
+    link_there seat at key [] o it e lt d c = absurd (omega (arith, lt))
+    link_there seat zero key (first ∷ more) o it e lt d c =
         let here : seat ≡ key = omega (arith, e) in
         let there = (with_outfits link left count (seat + 1) more a).world.links in
-        subst (λ k. (lent_links link seat first.links there).told (k, (link it).name)
-        ≡ (link it).status) here (told_of link seat there first.links it d c)
-    link_told seat (suc at) key (first ∷ more) o it e lt d c =
-        told_apart link seat key (λ same. omega (arith, same, e)) first.links
-        (with_outfits link left count (seat + 1) more a).world.links (link it).name
-        ∙ link_told (seat + 1) at key more o it (omega (arith, e)) (omega (arith, lt)) d c
-
-    pub link_count : (seat at key : ℕ) (outfits : List (Outfit L D)) (o : Outfit L D) (it : L)
-        → key ≡ seat + at → at < length outfits
-        → AreDistinct link (get_or outfits at o).links → Contains (get_or outfits at o).links it
-        → (with_outfits link left count seat outfits a).world.links.faults (key, (link it).name)
-        ≡ (link it).count
-    link_count seat at key [] o it e lt d c = absurd (omega (arith, lt))
-    link_count seat zero key (first ∷ more) o it e lt d c =
-        let here : seat ≡ key = omega (arith, e) in
+        subst (λ k. Tells (lent_links link seat first.links there) k (link it)) here
+        (told_of link seat there first.links it d c, count_of link seat there first.links it d c)
+    link_there seat (suc at) key (first ∷ more) o it e lt d c =
         let there = (with_outfits link left count (seat + 1) more a).world.links in
-        subst (λ k. (lent_links link seat first.links there).faults (k, (link it).name)
-        ≡ (link it).count) here (count_of link seat there first.links it d c)
-    link_count seat (suc at) key (first ∷ more) o it e lt d c =
-        count_apart link seat key (λ same. omega (arith, same, e)) first.links
-        (with_outfits link left count (seat + 1) more a).world.links (link it).name
-        ∙ link_count (seat + 1) at key more o it (omega (arith, e)) (omega (arith, lt)) d c
+        let apart : key ≢ seat = λ same. omega (arith, same, e) in
+        let behind = link_there (seat + 1) at key more o it (omega (arith, e)) (omega (arith, lt))
+        d c in (
+          told_apart link seat key apart first.links there (link it).name ∙ behind.0,
+          count_apart link seat key apart first.links there (link it).name ∙ behind.1,
+        )
 
   -- each worker has its seat's random source and links
   pub outfits_equipped : (programs : List Program) (outfits : List (Outfit L D)) (a : Around)
@@ -284,11 +257,12 @@ module _ {L D : Type 0} (link : L → Link) (left : D → Option (List ℕ)) (co
       subst (IsDistinct bytes_eq) (sym (named at o lt)) distinct in record {
         names = named at o lt;
         links_are = λ k d less. let it = get_or its.links k d in
-            let c = Contains-get_or its.links k d less in
+            let told = link_there a 0 at at outfits o it here lt apart
+            (Contains-get_or its.links k d less) in
             λ i. record {
               name = (link it).name;
-              count = sym (link_count a 0 at at outfits o it here lt apart c) i;
-              status = sym (link_told a 0 at at outfits o it here lt apart c) i;
+              count = sym told.1 i;
+              status = sym told.0 i;
             };
         left_is = sym (dice_told a 0 at at outfits o here lt);
         count_is = sym (dice_count a 0 at at outfits o here lt);

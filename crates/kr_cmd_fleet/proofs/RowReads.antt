@@ -1,6 +1,6 @@
 -- Rows that a bench reads for a watch, one behind another.
 use Rattle.std.proofs.Common.{◌≡◌, ℕ, zero, suc, ◌+◌, ◌<◌, ◌≤◌, List, [], ◌∷◌, ◌++◌, length, take, drop, get_or, drop-cons, add-one, Option, None, Some, Result, Ok, Err, refl, sym, ◌∙◌, ap, subst, inl, inr, arith, Contains}
-use Rattle.std.specs.Prelude.{IfOk, IfSome, IsSome, false, true, ⊤}
+use Rattle.std.specs.Prelude.{IfOk, IfSome, true, ⊤}
 use Rattle.std.proofs.lemmas.List.{drop_all, take_all, take_more}
 use Rattle.kr_base.specs.Walks.{Talk}
 use Rattle.kr_base.proofs.Walks.{talk_none, talk_so, talk_then}
@@ -52,14 +52,13 @@ pub asked_any : {L : Type 0} (link : L → Link) (names all : List (List ℕ)) (
     → ((x : L) → Contains olds x → Contains all (link x).name) → AskedOnly link names olds news
     → AskedOnly link all olds news
 asked_any link names all [] [] has a = tt
-asked_any link names all [] (y ∷ news) has a = absurd a
-asked_any link names all (x ∷ olds) [] has a = absurd a
 asked_any link names all (x ∷ olds) (y ∷ news) has a = (
   a.0,
   λ n. absurd (n (has x (0, omega arith, refl))),
   asked_any link names all olds news
       (λ z c. has z (suc c.0, omega (arith, c.1), c.2)) a.2,
 )
+asked_any link names all other another has a = absurd a
 
 name_there : {L : Type 0} (link : L → Link) (links : List L) (x : L) → Contains links x
     → Contains (names_of link links) (link x).name
@@ -91,9 +90,8 @@ module _ (es fs : List Exchange) (so : (opens : Opens) → AgreeAll opens fs →
   reads_so : (rows : List Row) (items : List Item) → AreReadOf es p rows items
       → AreReadOf fs p rows items
   reads_so [] [] all = tt
-  reads_so [] (i ∷ items) all = absurd all
-  reads_so (r ∷ rows) [] all = absurd all
   reads_so (r ∷ rows) (i ∷ items) all = (read_so r i all.0, reads_so rows items all.1)
+  reads_so other another all = absurd all
 
 reads_on : (es fs : List Exchange) (p : Publication) (rows : List Row) (items : List Item)
     → AreReadOf es p rows items → AreReadOf (es ++ fs) p rows items
@@ -109,10 +107,9 @@ reads_more : (es : List Exchange) (p : Publication) (rows : List Row) (items : L
     (item : Item) → AreReadOf es p rows items → IsReadOf es p row item
     → AreReadOf es p (rows ++ row ∷ []) (items ++ item ∷ [])
 reads_more es p [] [] row item all is = (is, tt)
-reads_more es p [] (i ∷ items) row item all is = absurd all
-reads_more es p (r ∷ rows) [] row item all is = absurd all
 reads_more es p (r ∷ rows) (i ∷ items) row item all is =
     (all.0, reads_more es p rows items row item all.1 is)
+reads_more es p other another row item all is = absurd all
 
 -- what the value's steps give
 abbrev value_of : Result Opened UnsealNo → Result Opened ValueNo
@@ -190,9 +187,7 @@ module _ (p : Publication) (row : Row) where
     agreed = λ opens agree all. let a = so opens agree all in (a.0, a.1, a.2);
     item_is = is;
   }
-  is_read link olds news es (Err (unseal.PluginFailed name)) item u so answered is =
-      absurd answered
-  is_read link olds news es (Err unseal.NoMemory) item u so answered is = absurd answered
+  is_read link olds news es (Err other) item u so answered is = absurd answered
 
   abbrev Value : CacheState → Steps (Result Opened ValueNo × CacheState)
   Value kept = value_read p.seeds (list_at p row.resource) row.path row.stored kept
@@ -208,8 +203,7 @@ module _ (p : Publication) (row : Row) where
       → plain_read (value_of result) ≡ plain_of result
   same_plain (Ok opened) answered = refl
   same_plain (Err (unseal.Refused why)) answered = refl
-  same_plain (Err (unseal.PluginFailed name)) answered = absurd answered
-  same_plain (Err unseal.NoMemory) answered = absurd answered
+  same_plain (Err other) answered = absurd answered
 
   module _ {L : Type 0} (link : L → Link) (olds news : List L) (distinct : AreDistinct link olds)
       (kept after : CacheState) (es : List Exchange) (left : Option (List ℕ)) (count : ℕ)
@@ -237,8 +231,7 @@ module _ (p : Publication) (row : Row) where
     valued (Ok opened) u answered = value_so (Ok opened) (Ok (Ok opened)) u refl
     valued (Err (unseal.Refused why)) u answered =
         value_so (Err (unseal.Refused why)) (Ok (Err why)) u refl
-    valued (Err (unseal.PluginFailed name)) u answered = absurd answered
-    valued (Err unseal.NoMemory) u answered = absurd answered
+    valued (Err other) u answered = absurd answered
 
     -- the row was read, and then the others
     row_then : (rows : List Row) (items : List Item) (result : Result Opened UnsealNo)
@@ -286,8 +279,7 @@ module _ (p : Publication) (row : Row) where
 none_failed : (r : Result Opened UnsealNo) → Answered r → NoneFailed r
 none_failed (Ok opened) so = tt
 none_failed (Err (unseal.Refused why)) so = tt
-none_failed (Err (unseal.PluginFailed name)) so = absurd so
-none_failed (Err unseal.NoMemory) so = absurd so
+none_failed (Err other) so = absurd so
 
 -- ---- all rows
 
@@ -484,6 +476,17 @@ WalksTo link step None rows number items olds mids kept = ⊤
 WalksTo link step (Some p) rows number items olds mids kept =
     IsWalk link step p rows number items olds mids kept
 
+-- one more row was read: kept it is the last, and memory may lack to keep it; or it ended the walk
+abbrev pub WalksOn : {L : Type 0} → (L → Link) → (step : L → Exchange → L → Type 0)
+    → List Row → ℕ → List Item → (olds news : List L) → CacheState → Option Publication
+    → Result Item RowReadNo → Type 0
+WalksOn link step rows number items olds news after o (Ok item) =
+    ((all : List Item) → all ≡ items ++ item ∷ []
+    → WalksTo link step o rows (number + 1) all olds news after)
+    × IfSome o (λ p. ReadsAll link step p rows olds (Err no.NoMemory) news)
+WalksOn link step rows number items olds news after o (Err why) =
+    IfSome o (λ p. ReadsAll link step p rows olds (Err why) news)
+
 module _ {L : Type 0} (link : L → Link) (step : L → Exchange → L → Type 0) where
   pub walks_none : (o : Option Publication) (rows : List Row) (links : List L) (kept : CacheState)
       → kept ≡ none_kept → WalksTo link step o rows 0 [] links links kept
@@ -492,37 +495,20 @@ module _ {L : Type 0} (link : L → Link) (step : L → Exchange → L → Type 
 
   module _ (rows : List Row) (number : ℕ) (items : List Item) (olds mids : List L)
       (kept : CacheState) (distinct : AreDistinct link olds) where
-    pub walks_distinct : (o : Option Publication) → IsSome o
-        → WalksTo link step o rows number items olds mids kept → AreDistinct link mids
-    walks_distinct None some w = absurd (let f : false ≡ true = some in cc)
-    walks_distinct (Some p) some w =
-        distinct_stay link (names_of link olds) olds mids w.asked distinct
-
     module _ (row : Row) (below : number < length rows) (is : row ≡ get_or rows number row)
         (news : List L) (after : CacheState) where
-      pub walks_more : (o : Option Publication)
-          → WalksTo link step o rows number items olds mids kept → (item : Item)
-          → IfSome o (λ p. ReadsRow link step p row mids news kept after (Ok item))
-          → (all : List Item) → all ≡ items ++ item ∷ []
-          → WalksTo link step o rows (number + 1) all olds news after
-      walks_more None w item r all e = tt
-      walks_more (Some p) w item r all e =
-          walk_more link step p rows w distinct row below is news after item r all e
-
-      pub walks_unkept : (o : Option Publication)
-          → WalksTo link step o rows number items olds mids kept → (item : Item)
-          → IfSome o (λ p. ReadsRow link step p row mids news kept after (Ok item))
-          → IfSome o (λ p. ReadsAll link step p rows olds (Err no.NoMemory) news)
-      walks_unkept None w item r = tt
-      walks_unkept (Some p) w item r =
-          walk_unkept link step p rows w distinct row below is news after item r
-
-      pub walks_stop : (o : Option Publication)
-          → WalksTo link step o rows number items olds mids kept → (why : RowReadNo)
-          → IfSome o (λ p. ReadsRow link step p row mids news kept after (Err why))
-          → IfSome o (λ p. ReadsAll link step p rows olds (Err why) news)
-      walks_stop None w why r = tt
-      walks_stop (Some p) w why r =
+      pub walks_on : (o : Option Publication)
+          → WalksTo link step o rows number items olds mids kept
+          → (result : Result Item RowReadNo)
+          → IfSome o (λ p. ReadsRow link step p row mids news kept after result)
+          → WalksOn link step rows number items olds news after o result
+      walks_on None w (Ok item) r = (λ all e. tt, tt)
+      walks_on None w (Err why) r = tt
+      walks_on (Some p) w (Ok item) r = (
+        walk_more link step p rows w distinct row below is news after item r,
+        walk_unkept link step p rows w distinct row below is news after item r,
+      )
+      walks_on (Some p) w (Err why) r =
           walk_stops link step p rows w distinct row below is news after why r
 
     pub walks_all : (o : Option Publication)

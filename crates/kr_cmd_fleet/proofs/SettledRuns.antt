@@ -15,6 +15,7 @@ use Rattle.kr_cmd_steps.specs.Phases.{tape_for}
 use Rattle.kr_cmd_steps.specs.Steps.{Steps}
 use Rattle.kr_cmd_steps.specs.declared.programs.Program.{Program}
 use Rattle.kr_cmd_fleet.specs.FleetFiles.{FleetPlan}
+use Rattle.kr_cmd_fleet.proofs.FleetRuns.{leaves_by}
 use Rattle.kr_cmd_fleet.specs.Fleets.{AreEquipped, Begun, FailsToSettle, RunsFleet, opening_of, settled_behind}
 use Rattle.kr_cmd_fleet.specs.declared.fleet.Record.{Record}
 use Rattle.kr_cmd_messages.specs.declared.refusal.Object.TheVariants.{Store}
@@ -113,22 +114,9 @@ module _ (T : Type 0) {L D : Type 0} (link : L → Link)
       → LeavesRecord T link step left count Begins true watched steps store plan old
       (settled_behind store new) made
   unfolding settled_run
-  settled_record old new made l = record {
-    begun = l.begun;
-    plan_is = l.plan_is;
-    mid = l.mid;
-    does = l.does;
-    history = l.history;
-    ended = l.ended;
-    runs = settled_run link step left count store l.begun l.mid new l.history l.ended l.runs;
-    begins = l.begins;
-    lines = l.lines;
-    replies = l.replies;
-    items_are = l.items_are;
-    revision_is = l.revision_is;
-    known = l.known;
-    home = home_settled store l.home;
-  }
+  settled_record old new made l = leaves_by l l.does
+      (settled_run link step left count store l.begun l.mid new l.history l.ended l.runs) l.begins
+      l.known (home_settled store l.home)
 
   -- or it couldn't be
   unsettled : (old a : Around) (told : Option (List ℕ)) (n later : ℕ) (made : Record) (stop : Stop)
@@ -206,22 +194,9 @@ module _ (T : Type 0) {L D : Type 0} (link : L → Link)
       (result : Result Record Stop)
       → SettlesBy T link step left count Begins watched steps store plan Began end result
       → Settles end result
-  borrowed h end (Ok made) l = let d = lent store ToMake _ h a in record {
-    begun = l.begun;
-    plan_is = l.plan_is;
-    mid = l.mid;
-    does = goes_on (tape_for store ToMake nothing) (λ u. steps) tt d l.does;
-    history = l.history;
-    ended = l.ended;
-    runs = l.runs;
-    begins = l.begins;
-    lines = l.lines;
-    replies = l.replies;
-    items_are = l.items_are;
-    revision_is = l.revision_is;
-    known = l.known;
-    home = home_trans d.home l.home;
-  }
+  borrowed h end (Ok made) l = let d = lent store ToMake _ h a in
+      leaves_by l (goes_on (tape_for store ToMake nothing) (λ u. steps) tt d l.does) l.runs
+      l.begins l.known (home_trans d.home l.home)
   borrowed h end (Err stop) (inl e) =
       inl (goes_on (tape_for store ToMake nothing) (λ u. steps) tt (lent store ToMake _ h a) e)
   borrowed h end (Err stop) (inr (inl l)) = let d = lent store ToMake _ h a in inr (inl (record {

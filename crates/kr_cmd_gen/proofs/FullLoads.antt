@@ -53,7 +53,7 @@ use Rattle.kr_cmd_steps.specs.Judgements.{start_refusal}
 use Rattle.kr_cmd_messages.specs.Message.{status_of as stop_status}
 use Rattle.kr_cmd_steps.specs.Ran.{WroteNothing}
 use Rattle.kr_cmd_messages.specs.Receipts.{Receipt}
-use Rattle.kr_cmd_steps.specs.Steps.{Left, and_then, give, gives, or_empty, awaits, refuses, tapes_with, Call, asking, drawing, lending, linking, loading, opening, reading, scanning, writing, settling}
+use Rattle.kr_cmd_steps.specs.Steps.{Left, and_then, give, gives, or_empty, awaits, refuses, tapes_with, Call, drawing, scanning, settling}
 use Rattle.kr_cmd_steps.specs.StoreFiles.{IsStored, Stored}
 use Rattle.kr_cmd_messages.specs.declared.load_words.LoadWords.{LoadWords}
 use Rattle.kr_cmd_steps.specs.declared.programs.Program.{Program}
@@ -322,16 +322,8 @@ module _ (T : Type 0) {L : Type 0} (link : L → Link)
 
   -- so none rose with the workers' sources among the world's, but perhaps theirs
   calls : (call : Call) → IsNoDraw call → Rose (faults_at call Began) (faults_at call Ended) → ⊥
-  calls (loading name) free rose = none.calls (loading name) rose
-  calls reading free rose = none.calls reading rose
-  calls (opening seat) free rose = none.calls (opening seat) rose
-  calls (lending name) free rose = none.calls (lending name) rose
-  calls (scanning object name) free rose = none.calls (scanning object name) rose
-  calls (settling object name) free rose = none.calls (settling object name) rose
-  calls (writing object name) free rose = none.calls (writing object name) rose
   calls (drawing seat) free rose = absurd free
-  calls (linking seat plugin) free rose = none.calls (linking seat plugin) rose
-  calls (asking seat plugin) free rose = none.calls (asking seat plugin) rose
+  calls other free rose = none.calls other rose
 
   module _ (result : Result Ending Stop)
       (s : StartsLoad T link step words sources old new output result) where
@@ -417,27 +409,22 @@ module _ (T : Type 0) {L : Type 0} (link : L → Link)
       → StopsBefore T link step left_in link_faults (load_steps words) words.store Began Ended output (Err stop)
       ⊎ StartsLoad T link step words sources old new output (Err stop) → Ends status
   stopped_so status (Words why) is (inl (inl ends, idle)) = absurd ends
-  stopped_so status (Words why) is (inl (inr (inl (e, lacking)), idle)) = absurd cc
-  stopped_so status (Words why) is (inl (inr (inr (mid, begun, reaches, fails, home)), idle)) =
-      absurd (let e : Words why ≡ Fault Store _ = fails.stops in cc)
-  stopped_so status (Words why) is (inr s) = absurd s.writes
   stopped_so status (Refused why) is (inl (inl ends, idle)) =
       absurd (allowed BeginsBlank (refuses why) ends.end (load_steps words)
       (left_of (with_streams words.seed old)) (walks_blank words small old blank) ends.goes)
-  stopped_so status (Refused why) is (inl (inr (inl (e, lacking)), idle)) = absurd cc
-  stopped_so status (Refused why) is (inl (inr (inr (mid, begun, reaches, fails, home)), idle)) =
-      absurd (let e : Refused why ≡ Fault Store _ = fails.stops in cc)
-  stopped_so status (Refused why) is (inr s) = absurd s.writes
   stopped_so status (Fault object n) is (inl (inl (call, reaches, fault), idle)) =
       absurd (calls call (load_undrawn words (awaits call) reaches.end (left_of Began)
       reaches.goes).0 fault.1)
-  stopped_so status (Fault object n) is (inl (inr (inl (e, lacking)), idle)) = absurd cc
   stopped_so status (Fault object n) is
       (inl (inr (inr (mid, begun, reaches, fails, home)), idle)) =
       absurd (calls (settling Store words.store) tt
       (Rose-later _ _ _ (home.tapes.later words.store) (rose_unsettled fails)))
   stopped_so status (Fault object n) is (inr s) = absurd (none.written s.writes.2)
   stopped_so status NoMemory is did = inr is
+  stopped_so status other is (inl (inr (inl (e, lacking)), idle)) = absurd cc
+  stopped_so status other is (inl (inr (inr (mid, begun, reaches, fails, home)), idle)) =
+      absurd (let e : other ≡ Fault Store _ = fails.stops in cc)
+  stopped_so status other is (inr s) = absurd s.writes
 
   by_result_so : (status : ℕ) (result : Result Ending Stop)
       → StopsBefore T link step left_in link_faults (load_steps words) words.store Began Ended output result

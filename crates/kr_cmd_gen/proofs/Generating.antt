@@ -25,7 +25,7 @@ use Rattle.kr_cmd_fleet.specs.declared.fleet.Record.{Record}
 use Rattle.kr_cmd_fleet.specs.declared.outfit.Outfit.{Outfit}
 use Rattle.kr_cmd_messages.specs.declared.refusal.Object.TheVariants.{Store}
 use Rattle.kr_cmd_messages.specs.declared.refusal.Stop.{Stop}
-use Rattle.kr_cmd_messages.specs.declared.refusal.Stop.TheVariants.{Words, Refused, Fault, NoMemory}
+use Rattle.kr_cmd_messages.specs.declared.refusal.Stop.TheVariants.{Words, NoMemory}
 use Rattle.kr_cmd_fleet.specs.inner.FleetOutcomes.{Anyhow, RunsBy}
 use Rattle.kr_cmd_gen.specs.inner.LoadOutcomes.{AreBare, SettlesLoad, sources_in}
 use Rattle.kr_cmd_steps.specs.inner.Lent.{with_lent_dice, with_lent_links, with_lent_tape}
@@ -136,9 +136,7 @@ no_tape_seeded : (sources : List StreamState) (old new : Outside) (name : List �
     (access : Access) (stop : Stop) → NoTape old new name access stop
     → NoTape (seeded_world sources old) (seeded_world sources new) name access stop
 no_tape_seeded sources old new name access (Words why) n = n
-no_tape_seeded sources old new name access (Refused why) n = n
-no_tape_seeded sources old new name access (Fault object count) n = n
-no_tape_seeded sources old new name access NoMemory n = n
+no_tape_seeded sources old new name access other n = n
 
 module _ (sources : List StreamState) {old new : Outside} where
   lent_seeded : {name : List ℕ} {access : Access} {told : Option (List ℕ)} {count : ℕ}

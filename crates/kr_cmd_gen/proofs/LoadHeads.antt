@@ -12,7 +12,7 @@ use Rattle.kr_workload.specs.Summaries.{Replies}
 use Rattle.kr_cmd_messages.specs.Receipts.{Receipt}
 use Rattle.kr_cmd_messages.specs.declared.load_words.LoadWords.{LoadWords}
 use Rattle.kr_cmd_messages.specs.declared.refusal.Stop.{Stop}
-use Rattle.kr_cmd_messages.specs.declared.refusal.Stop.TheVariants.{Words, Refused, Fault, NoMemory}
+use Rattle.kr_cmd_messages.specs.declared.refusal.Stop.TheVariants.{Fault, NoMemory}
 use Rattle.kr_cmd_steps.specs.Around.{Around}
 use Rattle.kr_cmd_fleet.specs.Fleets.{StopsBefore, TellsFleet, settled_behind}
 use Rattle.kr_cmd_laws.specs.RunHeadlines.{StartsNobody}
@@ -37,8 +37,7 @@ prints words workers replies output errors status (Err (Fault object n)) w t = i
   inr (w.0.2, w.2, tells_output object n errors status output.new_faults w.1 w.3 t),
 )
 prints words workers replies output errors status (Err NoMemory) w t = inr (w, t)
-prints words workers replies output errors status (Err (Words why)) w t = absurd w
-prints words workers replies output errors status (Err (Refused why)) w t = absurd w
+prints words workers replies output errors status (Err other) w t = absurd w
 
 module _ (T : Type 0) {L : Type 0} (link : L → Link)
     (step : L → Exchange → L → Type 0) (words : LoadWords) (sources : List StreamState)

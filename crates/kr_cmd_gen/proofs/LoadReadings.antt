@@ -10,7 +10,7 @@ use Rattle.kr_cmd_gen.specs.LoadReadings.{HasStarted, LoadReadings, TellsTape}
 use Rattle.kr_cmd_messages.specs.Receipts.{Receipt}
 use Rattle.kr_cmd_messages.specs.declared.load_words.LoadWords.{LoadWords}
 use Rattle.kr_cmd_messages.specs.declared.refusal.Stop.{Stop}
-use Rattle.kr_cmd_messages.specs.declared.refusal.Stop.TheVariants.{Words, Refused, Fault, NoMemory}
+use Rattle.kr_cmd_messages.specs.declared.refusal.Stop.TheVariants.{Fault, NoMemory}
 use Rattle.kr_cmd_laws.proofs.Causes.{BreaksOff, causes}
 use Rattle.kr_cmd_gen.proofs.FullLoads.{full_load, keeps_puts}
 use Rattle.kr_cmd_gen.proofs.LoadSettled.{settled_load}
@@ -23,10 +23,9 @@ module _ (T : Type 0) {L : Type 0} (link : L → Link)
 
   breaks : (sources : List StreamState) (stop : Stop) → Began sources (Err stop)
       → BreaksOff output stop
-  breaks sources (Words why) s = absurd s.writes
-  breaks sources (Refused why) s = absurd s.writes
   breaks sources (Fault object n) s = s.writes.2
   breaks sources NoMemory s = tt
+  breaks sources other s = absurd s.writes
 
   pub load_readings : (status : ℕ) → words.size ≤ 10000
       → RanLoad T link step words old new output errors status

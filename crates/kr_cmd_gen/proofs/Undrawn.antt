@@ -6,7 +6,7 @@ use Rattle.kr_workload.specs.Streams.{stream_key}
 use Rattle.kr_workload.proofs.Streaming.{rest_long}
 use Rattle.kr_cmd_steps.specs.Around.{Around, left_of}
 use Rattle.kr_cmd_steps.specs.Phases.{by_result, with_memory}
-use Rattle.kr_cmd_steps.specs.Steps.{Steps, load, take_input, borrow_dice, borrow_tape, read_tape, write_row, keep_rows, settle, give_back, draw, borrow_link, ask_status, wrap, unwrap, note, find, refuse, give, and_then, Call, lending, scanning, drawing, Point, awaits, amid, refuses, gives, Left, Goes}
+use Rattle.kr_cmd_steps.specs.Steps.{Steps, borrow_tape, read_tape, find, refuse, give, and_then, Call, lending, scanning, drawing, Point, awaits, amid, refuses, gives, Left, Goes}
 use Rattle.kr_cmd_steps.specs.StoreFiles.{Stored}
 use Rattle.kr_cmd_fleet.specs.Fleets.{Begun, IsStart, Replicas, launching, starting_with}
 use Rattle.kr_cmd_gen.specs.GeneratedLoads.{load_beginning, load_plan, load_steps, with_streams}
@@ -46,9 +46,6 @@ module _ {A : Type 0} (point : Point A) (end : Left) where
 
   undrawn : (s : Steps A) (left : Left) → UseTapes s → Goes point end s left
       → IsUndrawn point end left
-  undrawn (load name next) left uses goes = absurd uses
-  undrawn (take_input limit long next) left uses goes = absurd uses
-  undrawn (borrow_dice seat next) left uses goes = absurd uses
   undrawn (borrow_tape name access absent next) left uses (inl e) = at amid _ tt e
   undrawn (borrow_tape name access absent next) left uses (inr (inl e)) =
       at (awaits (lending name)) _ tt e
@@ -60,20 +57,11 @@ module _ {A : Type 0} (point : Point A) (end : Left) where
       at (awaits (scanning object name)) _ tt e
   undrawn (read_tape object name next) left uses (inr (bytes, agrees, goes)) =
       undrawn (next bytes) left (uses bytes) goes
-  undrawn (write_row object name store row next) left uses goes = absurd uses
-  undrawn (keep_rows name store next) left uses goes = absurd uses
-  undrawn (settle object name next) left uses goes = absurd uses
-  undrawn (give_back name next) left uses goes = absurd uses
-  undrawn (draw seat size next) left uses goes = absurd uses
-  undrawn (borrow_link seat plugin program next) left uses goes = absurd uses
-  undrawn (ask_status seat plugin next) left uses goes = absurd uses
-  undrawn (wrap seat plugin plain next) left uses goes = absurd uses
-  undrawn (unwrap seat key next) left uses goes = absurd uses
-  undrawn (note text next) left uses goes = absurd uses
   undrawn (find B P next) left uses (inl e) = at amid left tt e
   undrawn (find B P next) left uses (inr (b, is, goes)) = undrawn (next b) left (uses b is) goes
   undrawn (refuse why) left uses e = at (refuses why) left tt e
   undrawn (give x) left uses e = at (gives x) left tt e
+  undrawn other left uses goes = absurd uses
 
 -- ---- those of a load
 

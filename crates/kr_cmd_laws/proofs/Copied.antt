@@ -14,7 +14,7 @@ use Rattle.kr_store.specs.declared.format.Format.TheVariants.{Two}
 use Rattle.kr_store.specs.declared.rows.LogRow.{LogRow}
 use Rattle.kr_cmd_steps.specs.Afterwards.{IsUngrown, OthersStay, ToldTape, new_store}
 use Rattle.kr_cmd_steps.specs.Phases.{by_result, silently}
-use Rattle.kr_cmd_steps.specs.StoreSteps.{copied_into, copying, migrated_line, migrated_row, migrating_into, target_on}
+use Rattle.kr_cmd_steps.specs.StoreSteps.{copied_into, copying, migrated_line, migrated_row, migrating_into, source_on, target_on}
 use Rattle.kr_cmd_steps.specs.Commands.{migrating}
 use Rattle.kr_cmd_steps.specs.Configuration.{IsConfiguration}
 use Rattle.kr_cmd_steps.specs.Steps.{Steps, write_row, give, settle, and_then, or_empty, tapes_with, with_asked, with_tape, with_told, Point, awaits, amid, refuses, gives, Left, IsAt, Goes}
@@ -33,18 +33,23 @@ use Rattle.kr_cmd_steps.proofs.Tapes.{own_name}
 
 -- ---- rows that are copied
 
--- how the tape is left, by where the steps come to: of all rows so many were copied
-pub record IsLeft (name : List ℕ) (all : List LogRow) (p : Point Outcome)
-    (old new : List ℕ → ToldTape) : Type 0 where
+-- of all rows so many were copied
+pub record IsCopied (name : List ℕ) (all : List LogRow) (old new : List ℕ → ToldTape)
+    : Type 0 where
   pub copied : List LogRow
   pub rest : List LogRow
   pub told : Option (List ℕ)
   pub others : OthersStay name old new
   pub parts : copied ++ rest ≡ all
   pub is_told : new name ≡ option_map Some told
-  pub holds : (IsTorn Target name p × (rest ≢ []) × BeginsWith (new_store copied) told)
-      ⊎ (IsThrough Target name p × (rest ≡ []) × HoldsRows (new_store copied) told)
-      ⊎ (IsAmidRows p × (rest ≢ []) × HoldsRows (new_store copied) told)
+
+-- how the tape is left, by where the steps come to
+abbrev pub IsLeft : (name : List ℕ) (all : List LogRow) (p : Point Outcome)
+    (old new : List ℕ → ToldTape) → Type 0
+IsLeft name all p old new = (c : IsCopied name all old new)
+    × ((IsTorn Target name p × (c.rest ≢ []) × BeginsWith (new_store c.copied) c.told)
+    ⊎ (IsThrough Target name p × (c.rest ≡ []) × HoldsRows (new_store c.copied) c.told)
+    ⊎ (IsAmidRows p × (c.rest ≢ []) × HoldsRows (new_store c.copied) c.told))
 
 -- where a tape tells this
 abbrev telling : (name : List ℕ) → Option (List ℕ) → (List ℕ → ToldTape) → List ℕ → ToldTape
@@ -71,6 +76,19 @@ module _ (name : List ℕ) (all : List LogRow) (line : List ℕ) (p : Point Outc
       → OthersStay name old last.tapes → OthersStay name old end.tapes
   ended {old} at h = subst (λ (l : Left). OthersStay name old l.tapes) (sym at.1) h
 
+  so_many : (copied rest : List LogRow) (told : Option (List ℕ)) (old : List ℕ → ToldTape)
+      {here : Point Outcome} {last : Left} → IsAt p end here last → copied ++ rest ≡ all
+      → OthersStay name old last.tapes → last.tapes name ≡ option_map Some told
+      → IsCopied name all old end.tapes
+  so_many copied rest told old at parts others is_told = record {
+    copied = copied;
+    rest = rest;
+    told = told;
+    others = ended at others;
+    parts = parts;
+    is_told = ap (λ (l : Left). l.tapes name) at.1 ∙ is_told;
+  }
+
   -- so many rows are there, and these are still to come
   pub copies_left : (copied rest : List LogRow) (told : Option (List ℕ))
       (old : List ℕ → ToldTape) (left : Left) → copied ++ rest ≡ all
@@ -79,24 +97,15 @@ module _ (name : List ℕ) (all : List LogRow) (line : List ℕ) (p : Point Outc
       → Goes p end (and_then (copying name (new_store copied) rest)
       (λ copied. give (silently line))) left
       → IsLeft name all p old end.tapes
-  copies_left copied [] told old left parts others is_told holds at = record {
-    copied = copied;
-    rest = [];
-    told = told;
-    others = ended at others;
-    parts = parts;
-    is_told = ap (λ (l : Left). l.tapes name) at.1 ∙ is_told;
-    holds = inr (inl (subst (IsThrough Target name) (sym at.0) refl, refl, holds));
-  }
-  copies_left copied (row ∷ rest) told old left parts others is_told holds (inl at) = record {
-    copied = copied;
-    rest = row ∷ rest;
-    told = told;
-    others = ended at others;
-    parts = parts;
-    is_told = ap (λ (l : Left). l.tapes name) at.1 ∙ is_told;
-    holds = inr (inr (subst IsAmidRows (sym at.0) tt, (λ none. absurd cc), holds));
-  }
+  unfolding so_many
+  copies_left copied [] told old left parts others is_told holds at = (
+    so_many copied [] told old at parts others is_told,
+    inr (inl (subst (IsThrough Target name) (sym at.0) refl, refl, holds)),
+  )
+  copies_left copied (row ∷ rest) told old left parts others is_told holds (inl at) = (
+    so_many copied (row ∷ rest) told old at parts others is_told,
+    inr (inr (subst IsAmidRows (sym at.0) tt, (λ none. absurd cc), holds)),
+  )
   copies_left copied (row ∷ rest) told old left parts others is_told holds (inr (u, v, goes)) =
       by_limit (nat_lt store_limit (length (file_bytes Two (copied ++ row ∷ []))))
       (λ now grown goes. copies_left (copied ++ row ∷ []) rest now old (with_told name now left)
@@ -116,28 +125,19 @@ module _ (name : List ℕ) (all : List LogRow) (line : List ℕ) (p : Point Outc
           (λ grown. copying name grown rest))
           (λ copied. give (silently line))) left
           → IsLeft name all p old end.tapes
-      by_limit true further at = record {
-        copied = copied;
-        rest = row ∷ rest;
-        told = told;
-        others = ended at others;
-        parts = parts;
-        is_told = ap (λ (l : Left). l.tapes name) at.1 ∙ is_told;
-        holds = inr (inr (
+      by_limit true further at = (
+        so_many copied (row ∷ rest) told old at parts others is_told,
+        inr (inr (
           subst IsAmidRows (sym at.0) (limit.Store, refl),
           (λ none. absurd cc),
           holds,
-        ));
-      }
-      by_limit false further (inl (now, begins, at)) = record {
-        copied = copied;
-        rest = row ∷ rest;
-        told = now;
-        others = ended at (others_since others (told_there now left.tapes));
-        parts = parts;
-        is_told = ap (λ (l : Left). l.tapes name) at.1 ∙ told_here now left.tapes;
-        holds = inl (subst (IsTorn Target name) (sym at.0) refl, (λ none. absurd cc), begins);
-      }
+        )),
+      )
+      by_limit false further (inl (now, begins, at)) = (
+        so_many copied (row ∷ rest) now old at parts
+            (others_since others (told_there now left.tapes)) (told_here now left.tapes),
+        inl (subst (IsTorn Target name) (sym at.0) refl, (λ none. absurd cc), begins),
+      )
       by_limit false further (inr (now, grown, goes)) = further now grown goes
 
 -- ---- the phases before
@@ -285,21 +285,16 @@ module _ (words : Migration) (p : Point Outcome) (end left : Left) where
   through new q whole short torn amid_rows (inl none) = inl (short none.0, none.1, none.2)
   through new q whole short torn amid_rows (inr m) = inr (record {
     from = m.from;
-    is_left = record {
-      copied = m.is_left.copied;
-      rest = m.is_left.rest;
-      told = m.is_left.told;
-      others = m.is_left.others;
-      parts = m.is_left.parts;
-      is_told = m.is_left.is_told;
-      holds = elim m.is_left.holds [
+    is_left = (
+      m.is_left.0,
+      elim m.is_left.1 [
         | inl t ↦ inl (torn t.0, t.1, t.2)
         | inr more ↦ elim more [
           | inl w ↦ inr (inl (whole w.0, w.1, w.2))
           | inr s ↦ inr (inr (amid_rows s.0, s.1, s.2))
         ]
-      ];
-    };
+      ],
+    );
   })
 
   ended_so : (q : Point Outcome) (mid : Left) → (p ≡ q) × (end ≡ mid)
@@ -345,6 +340,23 @@ module _ (words : Migration) (p : Point Outcome) (end left : Left) where
       → last.tapes ≡ left.tapes → Leaves words p end left
   unchanged at short e = same words p end left at short e
 
+  -- the store's tape is lent
+  abbrev lent : Left
+  lent = with_tape false words.store (with_asked (Tape words.store ToRead)
+      (with_asked (File words.config) left))
+
+  at_source : (file : Option (List ℕ)) (rows : List ConfigEntry)
+      → Agrees (left.file words.config) file → IsConfiguration words.config file (Ok rows)
+      → Goes p end (and_then (source_on words.store) (migrating_into words.to rows)) lent
+      → Leaves words p end left
+  at_source file rows agrees is (inl at) = unchanged at tt refl
+  at_source file rows agrees is (inr (bytes, held, inl at)) = unchanged at tt refl
+  at_source file rows agrees is (inr (bytes, held, inr (Err why, read, at))) =
+      unchanged at tt refl
+  at_source file rows agrees is (inr (bytes, held, inr (Ok source, read, goes))) =
+      at_tape file rows bytes source agrees is held
+      (old_of bytes source read.0 read.1 read.2) lent refl goes
+
   pub migrate_leaves : Goes p end (migrating words) left → Leaves words p end left
   migrate_leaves (inl at) = unchanged at tt refl
   migrate_leaves (inr (inl at)) = unchanged at tt refl
@@ -354,42 +366,5 @@ module _ (words : Migration) (p : Point Outcome) (end left : Left) where
   migrate_leaves (inr (inr (file, agrees, inr (Ok rows, is, inr (inl at))))) = unchanged at tt refl
   migrate_leaves (inr (inr (file, agrees, inr (Ok rows, is, inr (inr (inl (f, none, at))))))) =
       unchanged at tt refl
-  migrate_leaves
-      (inr (inr (file, agrees, inr (Ok rows, is, inr (inr (inr (may, inl at))))))) =
-      unchanged at tt refl
-  migrate_leaves (inr (inr (
-    file,
-    agrees,
-    inr (
-      Ok rows,
-      is,
-      inr (inr (inr
-          (may, inr (bytes, held, inl at)))),
-    ),
-  ))) =
-      unchanged at tt refl
-  migrate_leaves (inr (inr (
-    file,
-    agrees,
-    inr (
-      Ok rows,
-      is,
-      inr (inr (inr
-          (may, inr (bytes, held, inr (Err why, read, at))))),
-    ),
-  ))) =
-      unchanged at tt refl
-  migrate_leaves (inr (inr (
-    file,
-    agrees,
-    inr (
-      Ok rows,
-      is,
-      inr (inr (inr
-          (may, inr (bytes, held, inr (Ok source, read, goes))))),
-    ),
-  ))) =
-      at_tape file rows bytes source agrees is held
-      (old_of bytes source read.0 read.1 read.2)
-      (with_tape false words.store (with_asked (Tape words.store ToRead)
-      (with_asked (File words.config) left))) refl goes
+  migrate_leaves (inr (inr (file, agrees, inr (Ok rows, is, inr (inr (inr (may, goes))))))) =
+      at_source file rows agrees is goes

@@ -126,18 +126,18 @@ module _ (words : Migration) (old new : Around) (status : ℕ) where
   -- so many rows are copied
   copied_so : {p : Point Outcome} (m : IsMigrated words p (left_of old) new.world.tapes.told)
       → ((status ≡ 4) × Rose (old.world.tapes.faults words.to) (new.world.tapes.faults words.to)
-      × (m.is_left.rest ≢ []) × BeginsWith (new_store m.is_left.copied) m.is_left.told)
-      ⊎ (((status ≡ 0) ⊎ (status ≡ 4)) × (m.is_left.rest ≡ [])
-      × HoldsRows (new_store m.is_left.copied) m.is_left.told)
-      ⊎ (MayEndAmidRows status × (m.is_left.rest ≢ [])
-      × HoldsRows (new_store m.is_left.copied) m.is_left.told)
+      × (m.is_left.0.rest ≢ []) × BeginsWith (new_store m.is_left.0.copied) m.is_left.0.told)
+      ⊎ (((status ≡ 0) ⊎ (status ≡ 4)) × (m.is_left.0.rest ≡ [])
+      × HoldsRows (new_store m.is_left.0.copied) m.is_left.0.told)
+      ⊎ (MayEndAmidRows status × (m.is_left.0.rest ≢ [])
+      × HoldsRows (new_store m.is_left.0.copied) m.is_left.0.told)
       → After
   copied_so m holds = (
-    m.is_left.others,
+    m.is_left.0.others,
     inr (record {
-      copied = m.is_left.copied;
-      rest = m.is_left.rest;
-      told = m.is_left.told;
+      copied = m.is_left.0.copied;
+      rest = m.is_left.0.rest;
+      told = m.is_left.0.told;
       copies = record {
         file = m.from.file;
         rows = m.from.rows;
@@ -147,10 +147,10 @@ module _ (words : Migration) (old new : Around) (status : ℕ) where
         means = m.from.means;
         held = m.from.held;
         read = m.from.read;
-        all = m.is_left.parts;
+        all = m.is_left.0.parts;
       };
       empty = m.from.empty;
-      is_told = m.is_left.is_told;
+      is_told = m.is_left.0.is_told;
       holds = holds;
     }),
   )
@@ -163,14 +163,14 @@ module _ (words : Migration) (old new : Around) (status : ℕ) where
   given_so : (x : Outcome) → Comes (gives x)
       → (status ≡ status_of_done x.done) ⊎ (status ≡ 4) → After
   given_so x (inl none) s = absurd none.0
-  given_so x (inr m) s = by_holds m.is_left.holds s
+  given_so x (inr m) s = by_holds m.is_left.1 s
     where
-      by_holds : (IsTorn Target words.to (gives x) × (m.is_left.rest ≢ [])
-          × BeginsWith (new_store m.is_left.copied) m.is_left.told)
-          ⊎ (IsThrough Target words.to (gives x) × (m.is_left.rest ≡ [])
-          × HoldsRows (new_store m.is_left.copied) m.is_left.told)
-          ⊎ (IsAmidRows (gives x) × (m.is_left.rest ≢ [])
-          × HoldsRows (new_store m.is_left.copied) m.is_left.told)
+      by_holds : (IsTorn Target words.to (gives x) × (m.is_left.0.rest ≢ [])
+          × BeginsWith (new_store m.is_left.0.copied) m.is_left.0.told)
+          ⊎ (IsThrough Target words.to (gives x) × (m.is_left.0.rest ≡ [])
+          × HoldsRows (new_store m.is_left.0.copied) m.is_left.0.told)
+          ⊎ (IsAmidRows (gives x) × (m.is_left.0.rest ≢ [])
+          × HoldsRows (new_store m.is_left.0.copied) m.is_left.0.told)
           → (status ≡ status_of_done x.done) ⊎ (status ≡ 4) → After
       by_holds (inl (torn, more, begins)) s = absurd torn
       by_holds (inr (inl (silent, none, holds))) (inl e) =
@@ -185,14 +185,14 @@ module _ (words : Migration) (old new : Around) (status : ℕ) where
       × Rose (old.world.tapes.faults words.to) (new.world.tapes.faults words.to))
       → (IsAmidRows p → MayEndAmidRows status) → status ≢ 0 → After
   short_so p (inl none) unsettled torn amid_rows some = none_copied p some none
-  short_so p (inr m) unsettled torn amid_rows some = by_holds m.is_left.holds
+  short_so p (inr m) unsettled torn amid_rows some = by_holds m.is_left.1
     where
-      by_holds : (IsTorn Target words.to p × (m.is_left.rest ≢ [])
-          × BeginsWith (new_store m.is_left.copied) m.is_left.told)
-          ⊎ (IsThrough Target words.to p × (m.is_left.rest ≡ [])
-          × HoldsRows (new_store m.is_left.copied) m.is_left.told)
-          ⊎ (IsAmidRows p × (m.is_left.rest ≢ [])
-          × HoldsRows (new_store m.is_left.copied) m.is_left.told)
+      by_holds : (IsTorn Target words.to p × (m.is_left.0.rest ≢ [])
+          × BeginsWith (new_store m.is_left.0.copied) m.is_left.0.told)
+          ⊎ (IsThrough Target words.to p × (m.is_left.0.rest ≡ [])
+          × HoldsRows (new_store m.is_left.0.copied) m.is_left.0.told)
+          ⊎ (IsAmidRows p × (m.is_left.0.rest ≢ [])
+          × HoldsRows (new_store m.is_left.0.copied) m.is_left.0.told)
           → After
       by_holds (inl (is, more, begins)) =
           let t = torn is in copied_so m (inl (t.0, t.1, more, begins))

@@ -13,20 +13,16 @@ use Rattle.kr_kms.specs.declared.seeds.SeedRow.{SeedRow}
 use Rattle.kr_provider.specs.Exchanges.{MakesSeedsBy, PublishesBy, all_made, no_room, refused, went_on}
 use Rattle.kr_provider.specs.Publication.{Publication}
 use Rattle.kr_provider.specs.declared.refusal.PublishNo.{PublishNo}
-use Rattle.kr_rollout.specs.declared.event.Event.{Event}
-use Rattle.kr_rollout.specs.declared.event.Event.TheVariants as event
 use Rattle.kr_history.specs.Acting.{Caller}
 use Rattle.kr_history.specs.declared.call.CallNo.{CallNo}
-use Rattle.kr_history.specs.declared.call.CallNo.TheVariants as refusal
 use Rattle.kr_fleet.specs.CallExchanges.{ComparesKeysBy, IsRefreshBy, RefreshesBy, RenewsAfter, StopsBy, all_same, changed, told_none, went_on as compared_on}
-use Rattle.kr_fleet.specs.CallForms.{CutShortWhere, JoinsWhere, ReloadsWhere}
-use Rattle.kr_history.specs.declared.outcome.Joining.{Joining}
-use Rattle.kr_history.specs.declared.outcome.Joining.TheVariants as joining
+use Rattle.kr_fleet.specs.CallForms.{reload_of}
 use Rattle.kr_fleet.specs.declared.outcome.Loaded.{Loaded}
 use Rattle.kr_fleet.specs.declared.outcome.Loaded.TheVariants as loaded
 use Rattle.kr_workers.specs.LineExchanges.{DoesJoinBy, DoesReloadBy}
 use Rattle.kr_workers.specs.Replies.{Reply}
 use Rattle.kr_workers.specs.ScriptLines.{Workplace}
+use Rattle.kr_headline.proofs.Published.{cut_gives, join_gives, reload_gives}
 use Rattle.kr_cmd_laws.specs.LineQuestions.{wrapped_in}
 use Rattle.kr_cmd_laws.specs.PluginLaws.{IsQuestion}
 
@@ -240,51 +236,6 @@ module _ {D : Type 0} (left : D → Option (List ℕ)) (count : D → ℕ) where
     publish_loads (Ok p) by = seeds_load (plugins_in rows) [] dice (Ok p.seeds) after es by.1
     publish_loads (Err why) by = seeds_load (plugins_in rows) [] dice (Err why) after es by
 
-    cut_loads : (brings : Publication → Event) (replica : ℕ) (old new : Caller) (why : CallNo)
-        → CutShortWhere (λ made. PublishesBy left count rows dice made after es) brings replica
-        old why new → Loads dice es after
-    cut_loads brings replica old new (refusal.PluginFailed name) c = publish_loads (Err _) c.0
-    cut_loads brings replica old new refusal.DiceFailed c = publish_loads (Err _) c.0
-    cut_loads brings replica old new (refusal.Unhealthy name field text) c =
-        publish_loads (Err _) c.0
-    cut_loads brings replica old new refusal.Gone c = publish_loads (Ok c.p) c.publishes
-    cut_loads brings replica old new refusal.Spent c = publish_loads (Ok c.0.0) c.0.1
-    cut_loads brings replica old new refusal.NoMemory (inl c) = publish_loads (Err _) c.0
-    cut_loads brings replica old new refusal.NoMemory (inr (inl c)) =
-        publish_loads (Ok c.0.0) c.0.1
-    cut_loads brings replica old new refusal.NoMemory (inr (inr c)) =
-        publish_loads (Ok c.p) c.publishes
-    cut_loads brings replica old new other c = absurd c
-
-    reload_loads : (replica : ℕ) (old new : Caller) (result : Result Loaded CallNo)
-        → ReloadsWhere (λ made. PublishesBy left count rows dice made after es) replica old result
-        new → Loads dice es after
-    reload_loads replica old new (Ok (loaded.Generation number)) w =
-        publish_loads (Ok w.p) w.publishes
-    reload_loads replica old new (Ok (loaded.Refused verdict)) w =
-        publish_loads (Ok w.p) w.publishes
-    reload_loads replica old new (Err why) w =
-        cut_loads (λ p. event.Reload replica p None) replica old new why w
-    reload_loads replica old new (Ok other) w = absurd w
-
-    join_loads : (replica : ℕ) (old new : Caller) (result : Result Joining CallNo)
-        → JoinsWhere (λ made. PublishesBy left count rows dice made after es) replica old result
-        new → Loads dice es after
-    join_loads replica old new (Ok (joining.Generation number)) w =
-        publish_loads (Ok w.p) w.publishes
-    join_loads replica old new (Err (refusal.PluginFailed name)) w =
-        cut_loads (event.Join replica) replica old new (refusal.PluginFailed name) w
-    join_loads replica old new (Err refusal.DiceFailed) w =
-        cut_loads (event.Join replica) replica old new refusal.DiceFailed w
-    join_loads replica old new (Err (refusal.Unhealthy name field text)) w =
-        cut_loads (event.Join replica) replica old new (refusal.Unhealthy name field text) w
-    join_loads replica old new (Err refusal.Spent) w =
-        cut_loads (event.Join replica) replica old new refusal.Spent w
-    join_loads replica old new (Err refusal.NoMemory) w =
-        cut_loads (event.Join replica) replica old new refusal.NoMemory w
-    join_loads replica old new (Err other) w = absurd w
-    join_loads replica old new (Ok other) w = publish_loads (Ok w.p) w.publishes
-
   -- ---- a refresh
 
   module _ (replica : ℕ) (dice after : D) (es : List Exchange) where
@@ -302,8 +253,9 @@ module _ {D : Type 0} (left : D → Option (List ℕ)) (count : D → ℕ) where
     stops_load number p old new why (inr (inl c)) =
         same_loads dice after es (keys_statuses p.seeds (Ok true) es c.0) c.3
     stops_load number p old new why (inr (inr r)) = renews_load p.seeds _ (λ others c.
-        cut_loads p.rows dice after others (λ q. event.Reload replica q (Some number)) replica old
-        new why c) r
+        cut_gives (λ made. PublishesBy left count p.rows dice made after others)
+        (Loads dice others after) (publish_loads p.rows dice after others)
+        (reload_of replica (Some number)) replica old new why c) r
 
     refreshes_load : (number : ℕ) (p : Publication) (old new : Caller)
         (result : Result Loaded CallNo)
@@ -311,11 +263,9 @@ module _ {D : Type 0} (left : D → Option (List ℕ)) (count : D → ℕ) where
         → Loads dice es after
     refreshes_load number p old new (Ok (loaded.Unchanged same)) r =
         same_loads dice after es (keys_statuses p.seeds (Ok false) es r.1) r.3
-    refreshes_load number p old new (Ok (loaded.Generation number_made)) r = renews_load p.seeds _
-        (λ others b. publish_loads p.rows dice after others (Ok b.p) b.publishes) r
-    refreshes_load number p old new (Ok (loaded.Moved current)) r = renews_load p.seeds _
-        (λ others b. publish_loads p.rows dice after others (Ok b.p) b.publishes) r
     refreshes_load number p old new (Ok (loaded.Refused verdict)) r = absurd r
+    refreshes_load number p old new (Ok other) r = renews_load p.seeds _
+        (λ others b. publish_loads p.rows dice after others (Ok b.p) b.publishes) r
     refreshes_load number p old new (Err why) r = stops_load number p old new why r
 
     pub refresh_loads : (old new : Caller) (result : Result Loaded CallNo)
@@ -337,10 +287,14 @@ module _ {L D : Type 0} (left : D → Option (List ℕ)) (count : D → ℕ) (ol
       → Loads left count old.dice es new.dice
   reloaded_loads rows (inl d) = lacks_loads d.0.1 d.1
   reloaded_loads rows (inr d) =
-      reload_loads left count rows old.dice new.dice es named old.caller new.caller d.0 d.2
+      reload_gives (λ made. PublishesBy left count rows old.dice made new.dice es)
+      (Loads left count old.dice es new.dice) (publish_loads left count rows old.dice new.dice es) named
+      old.caller new.caller d.0 d.2
 
   pub joined_loads : (rows : List setting) → DoesJoinBy left count named rows old reply new es
       → Loads left count old.dice es new.dice
   joined_loads rows (inl d) = lacks_loads d.0.1 d.1
   joined_loads rows (inr d) =
-      join_loads left count rows old.dice new.dice es named old.caller new.caller d.0 d.2
+      join_gives (λ made. PublishesBy left count rows old.dice made new.dice es)
+      (Loads left count old.dice es new.dice) (publish_loads left count rows old.dice new.dice es) named
+      old.caller new.caller d.0 d.2

@@ -1,11 +1,11 @@
 -- Over told files and a told input the steps of a command come to one point, but for what is drawn
 -- and for what cuts them short.
 use Rattle.std.proofs.Common.{◌≡◌, ℕ, ◌≤◌, List, ◌++◌, length, Option, None, Some, Result, Ok, Err, refl, sym, ◌∙◌, ap, subst, inl, inr, append-nil, length-append, arith}
-use Rattle.std.specs.Prelude.{Bool, true, false, IsSome}
+use Rattle.std.specs.Prelude.{◌⊎◌, Bool, true, false, IsSome}
 use Rattle.std.specs.Io.KnownBytes.{Consumes, IsAtEnd}
 use Rattle.kr_base.specs.Told.{Agrees}
 use Rattle.kr_kms.specs.declared.world.WorldCall.TheVariants.{File, Tape, RandomSource, Link, Settled, Returned}
-use Rattle.kr_cmd_steps.specs.Steps.{Steps, load, take_input, borrow_dice, borrow_tape, read_tape, write_row, keep_rows, settle, give_back, draw, note, find, refuse, give, Point, refuses, gives, Left, with_input, with_dice, with_tape, with_told, with_asked, with_heard, with_said, Goes, borrow_link, ask_status, wrap, unwrap}
+use Rattle.kr_cmd_steps.specs.Steps.{Steps, load, take_input, borrow_dice, borrow_tape, read_tape, write_row, keep_rows, settle, give_back, draw, note, find, refuse, give, Call, Point, amid, awaits, refuses, gives, IsAt, Left, with_input, with_dice, with_tape, with_told, with_asked, with_heard, with_said, Goes, borrow_link, ask_status, wrap, unwrap}
 use Rattle.kr_kms.specs.Exchanges.{Exchange, StatusCall}
 use Rattle.kr_kms.specs.Limits.{IsWithinLimits}
 use Rattle.kr_kms.specs.declared.plugin.Status.{Status}
@@ -133,21 +133,24 @@ whole a b (Some x) None rb told c d e f = absurd c
 whole a b (Some x) (Some r) None told c d e f = absurd d
 
 module _ (p q : Point Outcome) (end last : Left) where
+  -- where steps stop before a call or at it they end nothing, so what follows it decides
+  past_two : {G K : Type 0} {x y : Call} {before at under there : Left}
+      → IsAt p end amid before ⊎ IsAt p end (awaits x) at ⊎ G
+      → IsAt q last amid under ⊎ IsAt q last (awaits y) there ⊎ K
+      → (G → K → Alike p q) → Alike p q
+  past_two (inl e) k both = no_first p q _ refl e.0
+  past_two (inr (inl e)) k both = no_first p q _ refl e.0
+  past_two (inr (inr g)) (inl f) both = no_second p q _ refl f.0
+  past_two (inr (inr g)) (inr (inl f)) both = no_second p q _ refl f.0
+  past_two (inr (inr g)) (inr (inr k)) both = both g k
+
   pub one_point : (first second : Steps Outcome) (left right : Left)
       → IsSettled first second left right → Goes p end first left → Goes q last second right
       → Alike p q
-  one_point (load name next) (load other more) left right s (inl e) k = no_first p q _ refl e.0
-  one_point (load name next) (load other more) left right s (inr (inl e)) k =
-      no_first p q _ refl e.0
-  one_point (load name next) (load other more) left right s (inr (inr g)) (inl f) =
-      no_second p q _ refl f.0
-  one_point (load name next) (load other more) left right s (inr (inr g)) (inr (inl f)) =
-      no_second p q _ refl f.0
-  one_point (load name next) (load other more) left right s (inr (inr (a, x, g)))
-      (inr (inr (b, y, k))) =
-      one_point (next a) (more a) _ _ (s.2 a x) g
+  one_point (load name next) (load other more) left right s g k = past_two g k (λ g k.
+      one_point (next g.0) (more g.0) _ _ (s.2 g.0 g.1) g.2
       (subst (λ c. Goes q last (more c) (with_asked (File other) right))
-      (one_file (left.file name) a b s.0 x (subst (λ t. Agrees t b) s.1 y)) k)
+      (one_file (left.file name) g.0 k.0 s.0 g.1 (subst (λ t. Agrees t k.0) s.1 k.1)) k.2))
   one_point (take_input limit long next) (take_input most much more) left right s
       (a, ra, ca, inl (x, e)) k =
       no_first p q _ refl e.0
@@ -171,18 +174,8 @@ module _ (p q : Point Outcome) (end last : Left) where
       one_point (next a) (more a) _ _ (s.4 a ra) g
       (subst (λ r. Goes q last (more a) (with_input r right)) h.1
       (subst (λ c. Goes q last (more c) (with_input rb right)) h.0 k))
-  one_point (borrow_dice seat next) (borrow_dice other more) left right s (inl e) k =
-      no_first p q _ refl e.0
-  one_point (borrow_dice seat next) (borrow_dice other more) left right s (inr (inl e)) k =
-      no_first p q _ refl e.0
-  one_point (borrow_dice seat next) (borrow_dice other more) left right s (inr (inr g)) (inl f) =
-      no_second p q _ refl f.0
-  one_point (borrow_dice seat next) (borrow_dice other more) left right s (inr (inr g))
-      (inr (inl f)) =
-      no_second p q _ refl f.0
-  one_point (borrow_dice seat next) (borrow_dice other more) left right s (inr (inr g))
-      (inr (inr k)) =
-      one_point next more _ _ s g k
+  one_point (borrow_dice seat next) (borrow_dice other more) left right s g k =
+      past_two g k (λ g k. one_point next more _ _ s g k)
   one_point (borrow_tape name access absent next) (borrow_tape other also cause more) left right s
       (inl e) k =
       no_first p q _ refl e.0
@@ -245,20 +238,8 @@ module _ (p q : Point Outcome) (end last : Left) where
       (inr (b, rb, cb, y, k)) =
       one_point (next a) (more b) _ _ (s a b ra rb x y) g k
   one_point (borrow_link seat plugin program next) (borrow_link other name file more) left right s
-      (inl e) k =
-      no_first p q _ refl e.0
-  one_point (borrow_link seat plugin program next) (borrow_link other name file more) left right s
-      (inr (inl e)) k =
-      no_first p q _ refl e.0
-  one_point (borrow_link seat plugin program next) (borrow_link other name file more) left right s
-      (inr (inr g)) (inl f) =
-      no_second p q _ refl f.0
-  one_point (borrow_link seat plugin program next) (borrow_link other name file more) left right s
-      (inr (inr g)) (inr (inl f)) =
-      no_second p q _ refl f.0
-  one_point (borrow_link seat plugin program next) (borrow_link other name file more) left right s
-      (inr (inr g)) (inr (inr k)) =
-      one_point next more _ _ s g k
+      g k =
+      past_two g k (λ g k. one_point next more _ _ s g k)
   one_point (ask_status seat plugin next) (ask_status other name more) left right s (inl e) k =
       no_first p q _ refl e.0
   one_point (ask_status seat plugin next) (ask_status other name more) left right s

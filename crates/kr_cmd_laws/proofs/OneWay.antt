@@ -208,6 +208,35 @@ module _ {A : Type 0} (exchanges : Option (List Exchange)) (p q : Point A) (end 
       × (right.said ≡ left.said)
       × AskedAlike exchanges left.heard right.heard
 
+  -- they are so with other exchanges that were asked alike
+  heard_so : (told left right : Left) (first second : Option (List Exchange))
+      → AreAbreast told left right → AskedAlike exchanges first second
+      → AreAbreast told (record left { heard = first }) (record right { heard = second })
+  heard_so told left right first second s asked = (s.0, s.1, s.2, s.3, s.4, s.5, asked)
+
+  -- what both ask next is one question with one answer, behind which they are abreast still
+  one_answer : (x y : Exchange) (told left right : Left) (first second : Steps A)
+      → ((es : List Exchange) → asking (x ∷ es) ≡ x ∷ asking es)
+      → ((es : List Exchange) → asking (y ∷ es) ≡ y ∷ asking es) → IsSome exchanges
+      → AreAbreast told left right → Goes p end first (with_heard x left)
+      → Goes q last second (with_heard y right)
+      → (x ≡ y) × IsAmong exchanges x × AreAbreast told (with_heard x left) (with_heard x right)
+  one_answer x y told left right first second is_x is_y some s g k =
+      let es = those exchanges some in
+      let h = s.6 some in
+      let now = ap (hearing (x ∷ [])) h.2 in
+      let too = ap (hearing (y ∷ [])) h.3 in
+      let m = grown p end p_last first (with_heard x left) g in
+      let n = grown q last q_last second (with_heard y right) k in
+      let c = in_front exchanges p end p_last heard es.0 es.1 (h.0 ++ x ∷ []) (with_heard x left)
+      now m in
+      let d = in_front exchanges q last q_last heard_too es.0 es.1 (h.1 ++ y ∷ [])
+      (with_heard y right) too n in (
+        next_asked x y h.0 h.1 c.0 d.0 is_x is_y h.4 (sym c.1 ∙ d.1),
+        was_heard exchanges p end p_last heard es.0 es.1 x h.0 (with_heard x left) now m,
+        (s.0, s.1, s.2, s.3, s.4, s.5, asked_more x exchanges left.heard right.heard s.6),
+      )
+
   -- they come to one point, said the same, and left the same rows
   abbrev pub Meet : Type 0
   Meet = (p ≡ q) × (last.said ≡ end.said)
@@ -440,77 +469,37 @@ module _ {A : Type 0} (exchanges : Option (List Exchange)) (p q : Point A) (end 
       let b = past_status q last q_last seat plugin more right k in
       let x = StatusCall plugin (Ok a.0) in
       let y = StatusCall plugin (Ok b.0) in
-      let es = those exchanges t.0 in
-      let h = s.6 t.0 in
-      let now = ap (hearing (x ∷ [])) h.2 in
-      let too = ap (hearing (y ∷ [])) h.3 in
-      let m = grown p end p_last (next a.0) (with_heard x left) a.1 in
-      let n = grown q last q_last (more b.0) (with_heard y right) b.1 in
-      let c = in_front exchanges p end p_last heard es.0 es.1 (h.0 ++ x ∷ []) (with_heard x left)
-      now m in
-      let d = in_front exchanges q last q_last heard_too es.0 es.1 (h.1 ++ y ∷ [])
-      (with_heard y right) too n in
-      let e : x ≡ y = next_asked x y h.0 h.1 c.0 d.0 (λ es. refl) (λ es. refl) h.4
-      (sym c.1 ∙ d.1) in
-      let same : b.0 ≡ a.0 = cc in
-      let among = was_heard exchanges p end p_last heard es.0 es.1 x h.0 (with_heard x left) now m in
+      let one = one_answer x y told left right (next a.0) (more b.0) (λ es. refl) (λ es. refl) t.0
+      s a.1 b.1 in
+      let same : b.0 ≡ a.0 = (let e : x ≡ y = one.0 in cc) in
       one_way (next a.0) (more a.0) (each a.0) told (with_heard x left) (with_heard x right)
-      (t.1 a.0 among) (w.1 a.0 among)
-      (s.0, s.1, s.2, s.3, s.4, s.5, asked_more x exchanges left.heard right.heard s.6) a.1
+      (t.1 a.0 one.1) (w.1 a.0 one.1) one.2 a.1
       (subst (λ v. Goes q last (more v) (with_heard (StatusCall plugin (Ok v)) right)) same b.1)
   one_way _ _ (wraps seat plugin plain next more each) told left right t w s g k =
       let a = past_wrap p end p_last seat plugin plain next left g in
       let b = past_wrap q last q_last seat plugin plain more right k in
       let x = WrapCall plugin plain (Ok a.0) in
       let y = WrapCall plugin plain (Ok b.0) in
-      let es = those exchanges t.0 in
-      let h = s.6 t.0 in
-      let now = ap (hearing (x ∷ [])) h.2 in
-      let too = ap (hearing (y ∷ [])) h.3 in
-      let m = grown p end p_last (next a.0) (with_heard x left) a.1 in
-      let n = grown q last q_last (more b.0) (with_heard y right) b.1 in
-      let c = in_front exchanges p end p_last heard es.0 es.1 (h.0 ++ x ∷ []) (with_heard x left)
-      now m in
-      let d = in_front exchanges q last q_last heard_too es.0 es.1 (h.1 ++ y ∷ [])
-      (with_heard y right) too n in
-      let e : x ≡ y = next_asked x y h.0 h.1 c.0 d.0 (λ es. refl) (λ es. refl) h.4
-      (sym c.1 ∙ d.1) in
-      let same : b.0 ≡ a.0 = cc in
-      let among = was_heard exchanges p end p_last heard es.0 es.1 x h.0 (with_heard x left) now m in
+      let one = one_answer x y told left right (next a.0) (more b.0) (λ es. refl) (λ es. refl) t.0
+      s a.1 b.1 in
+      let same : b.0 ≡ a.0 = (let e : x ≡ y = one.0 in cc) in
       one_way (next a.0) (more a.0) (each a.0) told (with_heard x left) (with_heard x right)
-      (t.1 a.0 among) (w.1 a.0 among)
-      (s.0, s.1, s.2, s.3, s.4, s.5, asked_more x exchanges left.heard right.heard s.6) a.1
+      (t.1 a.0 one.1) (w.1 a.0 one.1) one.2 a.1
       (subst (λ v. Goes q last (more v) (with_heard (WrapCall plugin plain (Ok v)) right)) same b.1)
   one_way _ _ (first_unwraps seat key next other each) told left right t w s g k =
       let es = those exchanges t.0 in
       let h = s.6 t.0 in
       let a = unwrapped exchanges p end p_last heard es.0 es.1 seat key next left h.0 h.2 g in
       one_way (next a.0) other (each a.0 a.1) told (record left { heard = Some a.2 }) right
-      (t.1 a.0 a.1) w (
-        s.0,
-        s.1,
-        s.2,
-        s.3,
-        s.4,
-        s.5,
-        λ some. (a.2, h.1, refl, h.3, a.3 ∙ h.4),
-      )
-      a.4 k
+      (t.1 a.0 a.1) w (heard_so told left right (Some a.2) right.heard s
+      (λ some. (a.2, h.1, refl, h.3, a.3 ∙ h.4))) a.4 k
   one_way _ _ (second_unwraps seat key other more each) told left right t w s g k =
       let es = those exchanges w.0 in
       let h = s.6 w.0 in
       let b = unwrapped exchanges q last q_last heard_too es.0 es.1 seat key more right h.1 h.3 k in
       one_way other (more b.0) (each b.0 b.1) told left (record right { heard = Some b.2 }) t
-      (w.1 b.0 b.1) (
-        s.0,
-        s.1,
-        s.2,
-        s.3,
-        s.4,
-        s.5,
-        λ some. (h.0, b.2, h.2, refl, h.4 ∙ sym b.3),
-      )
-      g b.4
+      (w.1 b.0 b.1) (heard_so told left right left.heard (Some b.2) s
+      (λ some. (h.0, b.2, h.2, refl, h.4 ∙ sym b.3))) g b.4
   one_way _ _ (notes text next more each) told left right t w s g k =
       one_way next more each told (with_said text left) (with_said text right) t w
       (s.0, s.1, s.2, s.3, s.4, refl, s.6) g k

@@ -344,158 +344,153 @@ module _ (opens : Opens) (words : Verification) (old : Around) (made : Outcome)
     (file_told : IsSome (old.world.file words.config))
     (tape_told : IsSome (old.world.tapes.told words.store))
     (sealable : AreSealable opens words old)
-    (silent : made.done ≡ Silent) (done : Outcome) (end : Left)
-    (told : AllTold (AgreesWith opens) end.heard) where
-  abbrev IsNoneLeft : Type 0
-  IsNoneLeft = (counts : RewriteCounts) × (done ≡ report_outcome counts) × (counts.left ≡ 0)
+    (silent : made.done ≡ Silent) where
+  module _ (done : Outcome) (end : Left) (told : AllTold (AgreesWith opens) end.heard) where
+    abbrev IsNoneLeft : Type 0
+    IsNoneLeft = (counts : RewriteCounts) × (done ≡ report_outcome counts) × (counts.left ≡ 0)
 
-  no_refusal : count_by is_refused f.findings ≡ 0
-  no_refusal = none_refused (count_by is_refused f.findings)
-      (ap (λ (m : Outcome). m.done) (sym f.made_is) ∙ silent)
+    no_refusal : count_by is_refused f.findings ≡ 0
+    no_refusal = none_refused (count_by is_refused f.findings)
+        (ap (λ (m : Outcome). m.done) (sym f.made_is) ∙ silent)
 
-  module _ (programs : List Program) (base : Stored) where
-    abbrev behind_seeds : List SeedRow → Steps Outcome
-    behind_seeds seeds = and_then (starting base.rows f.rows) (λ u.
-        driving words.store (record { rows = f.rows; seeds = seeds }) f.live none_kept
-        (nothing_done base))
+    module _ (programs : List Program) (base : Stored) where
+      abbrev behind_seeds : List SeedRow → Steps Outcome
+      behind_seeds seeds = and_then (starting base.rows f.rows) (λ u.
+          driving words.store (record { rows = f.rows; seeds = seeds }) f.live none_kept
+          (nothing_done base))
 
-    at_start : (seeds : List SeedRow) (mid : Left)
-        → map (λ row. row.name) seeds ≡ plugin_order f.rows → OpenAll opens seeds
-        → Goes (gives done) end (behind_seeds seeds) mid → IsNoneLeft
-    at_start seeds mid names all (inl e) = absurd (no_value e refl)
-    at_start seeds mid names all (inr (Err why, none, e)) = absurd (no_value e refl)
-    at_start seeds mid names all (inr (Ok u, may, goes)) = drive_leaves opens words.store
-        (record { rows = f.rows; seeds = seeds }) all
-        (λ resource. has_seeds f.rows seeds (list_of f.rows resource) names
-        (list_named f.rows resource)) f.live
-        (all_kept opens words old made f sealable seeds f.live f.findings (λ row c. c) no_refusal
-        f.comes) none_kept (nothing_done base) done end mid
-        (none_held (λ key seed. AgreesWith opens (UnwrapCall key (Ok seed)))) told goes
+      at_start : (seeds : List SeedRow) (mid : Left)
+          → map (λ row. row.name) seeds ≡ plugin_order f.rows → OpenAll opens seeds
+          → Goes (gives done) end (behind_seeds seeds) mid → IsNoneLeft
+      at_start seeds mid names all (inl e) = absurd (no_value e refl)
+      at_start seeds mid names all (inr (Err why, none, e)) = absurd (no_value e refl)
+      at_start seeds mid names all (inr (Ok u, may, goes)) = drive_leaves opens words.store
+          (record { rows = f.rows; seeds = seeds }) all
+          (λ resource. has_seeds f.rows seeds (list_of f.rows resource) names
+          (list_named f.rows resource)) f.live
+          (all_kept opens words old made f sealable seeds f.live f.findings (λ row c. c) no_refusal
+          f.comes) none_kept (nothing_done base) done end mid
+          (none_held (λ key seed. AgreesWith opens (UnwrapCall key (Ok seed)))) told goes
 
-    at_seeds : (left : Left)
-        → Goes (gives done) end (rewriting_by words.store f.rows base f.live) left → IsNoneLeft
-    at_seeds left (inl e) = absurd (no_value e refl)
-    at_seeds left (inr (u, v, goes)) =
-        let j = joint behind_seeds done end (make_seeds (plugin_order f.rows)) left goes in
-        at_start j.0 j.1 (seeds_named (plugin_order f.rows) j.0 j.1 left j.2)
-        (seeds_open (AgreesWith opens) opens (λ e agrees. agrees) (plugin_order f.rows) j.0 j.1 left
-        (told_before (AgreesWith opens) (gives done) end told (behind_seeds j.0) j.1 j.3) j.2) j.3
+      at_seeds : (left : Left)
+          → Goes (gives done) end (rewriting_by words.store f.rows base f.live) left → IsNoneLeft
+      at_seeds left (inl e) = absurd (no_value e refl)
+      at_seeds left (inr (u, v, goes)) =
+          let j = joint behind_seeds done end (make_seeds (plugin_order f.rows)) left goes in
+          at_start j.0 j.1 (seeds_named (plugin_order f.rows) j.0 j.1 left j.2)
+          (seeds_open (AgreesWith opens) opens (λ e agrees. agrees) (plugin_order f.rows) j.0 j.1
+          left (told_before (AgreesWith opens) (gives done) end told (behind_seeds j.0) j.1 j.3) j.2) j.3
 
-    at_links : (links : List Program) (left : Left)
-        → Goes (gives done) end (borrow_links links (rewriting_by words.store f.rows base f.live))
-        left
-        → IsNoneLeft
-    at_links [] left goes = at_seeds left goes
-    at_links (program ∷ links) left (inl e) = absurd (no_value e refl)
-    at_links (program ∷ links) left (inr (inl e)) = absurd (no_value e refl)
-    at_links (program ∷ links) left (inr (inr goes)) = at_links links _ goes
+      at_links : (links : List Program) (left : Left)
+          → Goes (gives done) end (borrow_links links (rewriting_by words.store f.rows base f.live))
+          left
+          → IsNoneLeft
+      at_links [] left goes = at_seeds left goes
+      at_links (program ∷ links) left (inl e) = absurd (no_value e refl)
+      at_links (program ∷ links) left (inr (inl e)) = absurd (no_value e refl)
+      at_links (program ∷ links) left (inr (inr goes)) = at_links links _ goes
 
-    at_room : (room : Result ⊤ Refusal) (left : Left)
-        → Goes (gives done) end (and_then (by_result room) (λ u.
-        borrow_dice 0 (borrow_links programs (rewriting_by words.store f.rows base f.live)))) left
-        → IsNoneLeft
-    at_room (Err why) left e = absurd (no_value e refl)
-    at_room (Ok u) left (inl e) = absurd (no_value e refl)
-    at_room (Ok u) left (inr (inl e)) = absurd (no_value e refl)
-    at_room (Ok u) left (inr (inr goes)) = at_links programs _ goes
+      at_room : (room : Result ⊤ Refusal) (left : Left)
+          → Goes (gives done) end (and_then (by_result room) (λ u.
+          borrow_dice 0 (borrow_links programs (rewriting_by words.store f.rows base f.live)))) left
+          → IsNoneLeft
+      at_room (Err why) left e = absurd (no_value e refl)
+      at_room (Ok u) left (inl e) = absurd (no_value e refl)
+      at_room (Ok u) left (inr (inl e)) = absurd (no_value e refl)
+      at_room (Ok u) left (inr (inr goes)) = at_links programs _ goes
 
-  -- the live rows are those that were verified
-  same_rows : (bytes : List ℕ) (base : Stored) (listing : List stored.Row)
-      → Agrees (old.world.tapes.told words.store) (Some bytes) → IsStored bytes (Ok base)
-      → IsListing base.rows listing → listing ≡ f.live
-  same_rows bytes base listing agrees is are =
-      let l = f.are_live in
-      let bytes_are : l.bytes ≡ bytes = one_tape (old.world.tapes.told words.store) bytes l.bytes
-      tape_told agrees l.held in
-      let same : Ok base ≡ Ok l.store = one_stored bytes (Ok base) (Ok l.store) is
-      (subst (λ b. IsStored b (Ok l.store)) bytes_are l.read) in
-      let base_is : base ≡ l.store = cc in
-      listing_once l.store.rows listing f.live
-      (subst (λ (s : Stored). IsListing s.rows listing) base_is are) l.listing
+    -- the live rows are those that were verified
+    same_rows : (bytes : List ℕ) (base : Stored) (listing : List stored.Row)
+        → Agrees (old.world.tapes.told words.store) (Some bytes) → IsStored bytes (Ok base)
+        → IsListing base.rows listing → listing ≡ f.live
+    same_rows bytes base listing agrees is are =
+        let l = f.are_live in
+        let bytes_are : l.bytes ≡ bytes = one_tape (old.world.tapes.told words.store) bytes l.bytes
+        tape_told agrees l.held in
+        let same : Ok base ≡ Ok l.store = one_stored bytes (Ok base) (Ok l.store) is
+        (subst (λ b. IsStored b (Ok l.store)) bytes_are l.read) in
+        let base_is : base ≡ l.store = cc in
+        listing_once l.store.rows listing f.live
+        (subst (λ (s : Stored). IsListing s.rows listing) base_is are) l.listing
 
-  on_tape : (programs : List Program) (lent : Left) → lent.tapes ≡ old.world.tapes.told
-      → Goes (gives done) end (rewriting_on words.store f.rows programs) lent → IsNoneLeft
-  on_tape programs lent tapes (inl e) = absurd (no_value e refl)
-  on_tape programs lent tapes (inr (bytes, agrees, inl e)) = absurd (no_value e refl)
-  on_tape programs lent tapes (inr (bytes, agrees, inr (Err why, is, e))) =
-      absurd (no_value e refl)
-  on_tape programs lent tapes (inr (bytes, agrees, inr (Ok base, is, inl e))) =
-      absurd (no_value e refl)
-  on_tape programs lent tapes
-      (inr (bytes, agrees, inr (Ok base, is, inr (listing, are, goes)))) =
-      at_room programs base (within_journal f.live) lent
-      (subst (λ l. Goes (gives done) end (rewriting_live words.store f.rows programs base l) lent)
-      (same_rows bytes base listing
-      (subst (λ (t : List ℕ → Option (Option (List ℕ))). Agrees (t words.store) (Some bytes)) tapes
-      agrees) is are) goes)
+    on_tape : (programs : List Program) (lent : Left) → lent.tapes ≡ old.world.tapes.told
+        → Goes (gives done) end (rewriting_on words.store f.rows programs) lent → IsNoneLeft
+    on_tape programs lent tapes (inl e) = absurd (no_value e refl)
+    on_tape programs lent tapes (inr (bytes, agrees, inl e)) = absurd (no_value e refl)
+    on_tape programs lent tapes (inr (bytes, agrees, inr (Err why, is, e))) =
+        absurd (no_value e refl)
+    on_tape programs lent tapes (inr (bytes, agrees, inr (Ok base, is, inl e))) =
+        absurd (no_value e refl)
+    on_tape programs lent tapes
+        (inr (bytes, agrees, inr (Ok base, is, inr (listing, are, goes)))) =
+        at_room programs base (within_journal f.live) lent
+        (subst (λ l. Goes (gives done) end (rewriting_live words.store f.rows programs base l) lent)
+        (same_rows bytes base listing
+        (subst (λ (t : List ℕ → Option (Option (List ℕ))). Agrees (t words.store) (Some bytes))
+        tapes agrees) is are) goes)
 
-module _ (opens : Opens) (words : Verification) (old : Around) (made : Outcome)
-    (f : Found (AgreesWith opens) words old made)
-    (file_told : IsSome (old.world.file words.config))
-    (tape_told : IsSome (old.world.tapes.told words.store))
-    (sealable : AreSealable opens words old)
-    (silent : made.done ≡ Silent) (done : Outcome) (end : Left)
-    (told : AllTold (AgreesWith opens) end.heard) where
-  abbrev LeftNone : Outcome → Type 0
-  LeftNone x = (counts : RewriteCounts) × (x ≡ report_outcome counts) × (counts.left ≡ 0)
+  module _ (done : Outcome) (end : Left) (told : AllTold (AgreesWith opens) end.heard) where
+    abbrev LeftNone : Outcome → Type 0
+    LeftNone x = (counts : RewriteCounts) × (x ≡ report_outcome counts) × (counts.left ≡ 0)
 
-  -- the tape is settled behind it
-  settled_so : (programs : List Program) (lent : Left) → lent.tapes ≡ old.world.tapes.told
-      → (x : Outcome) × (mid : Left)
-      × Goes (gives x) mid (rewriting_on words.store f.rows programs) lent
-      × Goes (gives done) end (settle Store words.store (give x)) mid
-      → LeftNone done
-  settled_so programs lent tapes (x, mid, goes, inl e) = absurd (no_value e refl)
-  settled_so programs lent tapes (x, mid, goes, inr e) = subst LeftNone (sym (one_value e))
-      (on_tape opens words old made f file_told tape_told sealable silent x mid
-      (subst (λ (l : Left). AllTold (AgreesWith opens) l.heard) e.1 told) programs lent tapes goes)
+    -- the tape is settled behind it
+    settled_so : (programs : List Program) (lent : Left) → lent.tapes ≡ old.world.tapes.told
+        → (x : Outcome) × (mid : Left)
+        × Goes (gives x) mid (rewriting_on words.store f.rows programs) lent
+        × Goes (gives done) end (settle Store words.store (give x)) mid
+        → LeftNone done
+    settled_so programs lent tapes (x, mid, goes, inl e) = absurd (no_value e refl)
+    settled_so programs lent tapes (x, mid, goes, inr e) = subst LeftNone (sym (one_value e))
+        (on_tape x mid
+        (subst (λ (l : Left). AllTold (AgreesWith opens) l.heard) e.1 told) programs
+        lent tapes goes)
 
-  at_tape : (programs : List Program) (mid : Left) → mid.tapes ≡ old.world.tapes.told
-      → Goes (gives done) end
-      (settled_for Store words.store ToWrite (rewriting_on words.store f.rows programs)) mid
-      → LeftNone done
-  at_tape programs mid tapes (inl e) = absurd (no_value e refl)
-  at_tape programs mid tapes (inr (inl e)) = absurd (no_value e refl)
-  at_tape programs mid tapes (inr (inr (inl (never, agrees, e)))) = absurd (no_value e refl)
-  at_tape programs mid tapes (inr (inr (inr (may, goes)))) =
-      let lent : Left = with_tape false words.store (with_asked (Tape words.store ToWrite) mid) in
-      settled_so programs lent tapes
-      (joint (λ x. settle Store words.store (give x)) done end
-      (rewriting_on words.store f.rows programs) lent goes)
+    at_tape : (programs : List Program) (mid : Left) → mid.tapes ≡ old.world.tapes.told
+        → Goes (gives done) end
+        (settled_for Store words.store ToWrite (rewriting_on words.store f.rows programs)) mid
+        → LeftNone done
+    at_tape programs mid tapes (inl e) = absurd (no_value e refl)
+    at_tape programs mid tapes (inr (inl e)) = absurd (no_value e refl)
+    at_tape programs mid tapes (inr (inr (inl (never, agrees, e)))) = absurd (no_value e refl)
+    at_tape programs mid tapes (inr (inr (inr (may, goes)))) =
+        let lent : Left = with_tape false words.store (with_asked (Tape words.store ToWrite) mid) in
+        settled_so programs lent tapes
+        (joint (λ x. settle Store words.store (give x)) done end
+        (rewriting_on words.store f.rows programs) lent goes)
 
-  abbrev behind_files : List ConfigEntry → List Program → Steps Outcome
-  behind_files rows programs =
-      settled_for Store words.store ToWrite (rewriting_on words.store rows programs)
+    abbrev behind_files : List ConfigEntry → List Program → Steps Outcome
+    behind_files rows programs =
+        settled_for Store words.store ToWrite (rewriting_on words.store rows programs)
 
-  with_programs : (rows : List ConfigEntry) (first : Left) → IsConfigured words old rows first
-      → (programs : List Program) × (second : Left)
-      × Goes (gives programs) second (linking_programs words.options rows) first
-      × Goes (gives done) end (behind_files rows programs) second
-      → LeftNone done
-  with_programs rows first read (programs, second, is_linked, goes) =
-      let file_is : f.file ≡ read.file = one_file (old.world.file words.config) read.file f.file
-      file_told read.told f.told in
-      let one : Ok rows ≡ Ok f.rows = one_configuration words.config read.file (Ok rows) (Ok f.rows)
-      read.means (subst (λ x. IsConfiguration words.config x (Ok f.rows)) file_is f.means) in
-      let rows_are : rows ≡ f.rows = cc in
-      let same : second ≡ first = linked words old rows programs first second is_linked in
-      at_tape programs second
-      (ap (λ (l : Left). l.tapes) same ∙ read.tapes)
-      (subst (λ r. Goes (gives done) end (behind_files r programs) second) rows_are goes)
+    with_programs : (rows : List ConfigEntry) (first : Left) → IsConfigured words old rows first
+        → (programs : List Program) × (second : Left)
+        × Goes (gives programs) second (linking_programs words.options rows) first
+        × Goes (gives done) end (behind_files rows programs) second
+        → LeftNone done
+    with_programs rows first read (programs, second, is_linked, goes) =
+        let file_is : f.file ≡ read.file = one_file (old.world.file words.config) read.file f.file
+        file_told read.told f.told in
+        let one : Ok rows ≡ Ok f.rows = one_configuration words.config read.file (Ok rows)
+        (Ok f.rows) read.means (subst (λ x. IsConfiguration words.config x (Ok f.rows)) file_is f.means) in
+        let rows_are : rows ≡ f.rows = cc in
+        let same : second ≡ first = linked words old rows programs first second is_linked in
+        at_tape programs second
+        (ap (λ (l : Left). l.tapes) same ∙ read.tapes)
+        (subst (λ r. Goes (gives done) end (behind_files r programs) second) rows_are goes)
 
-  with_rows : (rows : List ConfigEntry) × (first : Left)
-      × Goes (gives rows) first (configuration words.config) (left_of (listening old))
-      × Goes (gives done) end (and_then (linking_programs words.options rows) (behind_files rows))
-      first
-      → LeftNone done
-  with_rows (rows, first, is_read, goes) = with_programs rows first
-      (configured words old rows first is_read)
-      (joint (behind_files rows) done end (linking_programs words.options rows) first goes)
+    with_rows : (rows : List ConfigEntry) × (first : Left)
+        × Goes (gives rows) first (configuration words.config) (left_of (listening old))
+        × Goes (gives done) end (and_then (linking_programs words.options rows) (behind_files rows))
+        first
+        → LeftNone done
+    with_rows (rows, first, is_read, goes) = with_programs rows first
+        (configured words old rows first is_read)
+        (joint (behind_files rows) done end (linking_programs words.options rows) first goes)
 
-  pub leaves_none : Goes (gives done) end (rewriting (rewriting_as words)) (left_of (listening old))
-      → LeftNone done
-  leaves_none goes = with_rows (joint (λ rows. and_then (linking_programs words.options rows)
-      (behind_files rows)) done end (configuration words.config) (left_of (listening old)) goes)
+    pub leaves_none : Goes (gives done) end (rewriting (rewriting_as words))
+        (left_of (listening old)) → LeftNone done
+    leaves_none goes = with_rows (joint (λ rows. and_then (linking_programs words.options rows)
+        (behind_files rows)) done end (configuration words.config) (left_of (listening old)) goes)
 
 pub none_left : RewriteLeavesNone
 none_left words old made (gives done) opens file tape sealable (es, all, verify) silent

@@ -6,17 +6,15 @@ use Rattle.kr_words.specs.declared.command.Verb.TheVariants as verbs
 use Rattle.kr_words.specs.declared.command.CommandWords.{CommandWords}
 use Rattle.kr_cmd_messages.specs.declared.fleet_words.FleetWords.{FleetWords}
 use Rattle.kr_cmd_messages.specs.inner.FleetAnswers.{IsFleetAsked, IsFleetOf}
-use Rattle.kr_cmd_messages.proofs.NoneAsked.{lacks, other_verb}
+use Rattle.kr_cmd_messages.proofs.NoneAsked.{names_none, other_verb}
 
 -- the fleet that was read is the one that is asked for
 pub asked_so : {words : List (List ℕ)} (command : CommandWords) → ReadsWords words (Ok command)
     → (asked : Option FleetWords) → IsFleetOf command.verb command.options.0 asked
     → IsFleetAsked words (Ok asked)
 asked_so command reads None (inl other) = λ asked h. other_verb reads.0 h.means other
-asked_so command reads None (inr (inl none)) =
-    λ asked h. lacks reads.0 h.means (codes "file") none h.file
-asked_so command reads None (inr (inr none)) =
-    λ asked h. lacks reads.0 h.means (codes "store") none h.store
+asked_so command reads None (inr none) =
+    λ asked h. names_none reads.0 h.means none h.file h.store
 asked_so {words} command reads (Some asked) (verb, (file, store, options)) = record {
   means = subst (λ o. Means words verbs.Fleet o) (sym options)
       (subst (λ v. Means words v command.options.0) verb reads.0);

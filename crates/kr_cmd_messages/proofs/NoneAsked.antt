@@ -1,5 +1,5 @@
 -- What words ask for that are refused, are another command's or lack an option: nothing.
-use Rattle.std.proofs.Common.{◌≡◌, ℕ, List, [], ◌∷◌, Option, None, Some, Ok, Err, sym, ◌∙◌, ap, subst}
+use Rattle.std.proofs.Common.{◌≡◌, ℕ, List, [], ◌∷◌, codes, Option, None, Some, Ok, Err, inl, inr, sym, ◌∙◌, ap, subst}
 use Rattle.std.specs.Prelude.{slice_get}
 use Rattle.std.specs.String.{string_bytes}
 use Rattle.std.specs.declared.alloc.Global.{Global}
@@ -19,7 +19,7 @@ use Rattle.kr_cmd_messages.specs.declared.refusal.BadWords.TheVariants.{Usage, R
 use Rattle.kr_cmd_messages.specs.declared.refusal.Stop.{Stop}
 use Rattle.kr_cmd_messages.specs.declared.refusal.Stop.TheVariants.{Words, NoMemory}
 use Rattle.kr_cmd_messages.specs.inner.Asking.{IsReadAs}
-use Rattle.kr_cmd_messages.specs.inner.FleetAnswers.{IsFleetAsked}
+use Rattle.kr_cmd_messages.specs.inner.FleetAnswers.{IsFleetAsked, NamesFleet}
 use Rattle.kr_cmd_messages.specs.inner.LoadAnswers.{IsLoadAsked}
 use Rattle.kr_cmd_messages.specs.inner.Reading.{AreRead, AreReadBehind, refusal_of}
 use Rattle.kr_cmd_messages.specs.inner.WatchAnswers.{IsWatchAsked}
@@ -75,6 +75,12 @@ module _ {words : List (List ℕ)} {verb : Verb} {options : List (List ℕ × Li
       let same = (mean_one words verb asked options given means so).1 in
       absurd (let e = sym none ∙ ap (λ o. value_of o name) same ∙ some in cc)
 
+  -- nor for a fleet where they name none
+  pub names_none : NamesFleet options None → {file store : List ℕ}
+      → value_of given (codes "file") ≡ Some file → value_of given (codes "store") ≡ Some store → ⊥
+  names_none (inl none) file store = lacks (codes "file") none file
+  names_none (inr none) file store = lacks (codes "store") none store
+
 -- ---- the first word
 
 pub first_text : (words : List (String Global)) (first : String Global) (name : List ℕ)
@@ -84,10 +90,11 @@ first_text [] first name rest is e = absurd (let none : Some first ≡ None = is
 first_text (word ∷ words) first name rest is e =
     let same : first ≡ word = cc in ap string_bytes same ∙ cc
 
-module _ (name : List ℕ) (words : List (List ℕ)) (read : Option CommandWords)
-    (are : AreReadBehind name words (Ok read)) where
-  pub read_so : {command : CommandWords} → read ≡ Some command → ReadsWords words (Ok command)
-  read_so is = subst (λ o. AreReadBehind name words (Ok o)) is are
+module _ {words : List (List ℕ)} {read : Option CommandWords} where
+  pub read_so : (name : List ℕ) → AreReadBehind name words (Ok read) → {command : CommandWords}
+      → read ≡ Some command → ReadsWords words (Ok command)
+  read_so name are is = subst (λ o. AreReadBehind name words (Ok o)) is are
 
-  pub unread : read ≡ None → (rest : List (List ℕ)) → words ≡ name ∷ rest → ⊥
-  unread is = subst (λ o. AreReadBehind name words (Ok o)) is are
+  pub unread : {name : List ℕ} → AreReadBehind name words (Ok read) → read ≡ None
+      → (rest : List (List ℕ)) → words ≡ name ∷ rest → ⊥
+  unread {name} are is = subst (λ o. AreReadBehind name words (Ok o)) is are

@@ -15,7 +15,7 @@ use Rattle.kr_cmd_messages.specs.declared.fleet_words.FleetWords.{FleetWords}
 use Rattle.kr_cmd_messages.specs.declared.load_words.LoadWords.{LoadWords}
 use Rattle.kr_cmd_messages.specs.declared.watch_words.WatchWords.{WatchWords}
 use Rattle.kr_cmd_messages.specs.inner.WatchAnswers.{IsWatchAsked, IsWatchOf}
-use Rattle.kr_cmd_messages.proofs.NoneAsked.{lacks, other_verb}
+use Rattle.kr_cmd_messages.proofs.NoneAsked.{lacks, names_none, other_verb}
 use Rattle.kr_cmd_messages.proofs.OneCommand.{one_number, one_value}
 
 -- the watch that was read is the one that is asked for
@@ -25,10 +25,8 @@ pub watch_asked_so : {words : List (List ℕ)} (command : CommandWords) → Read
 watch_asked_so command reads None (inl other) = λ asked h. other_verb reads.0 h.means other
 watch_asked_so command reads None (inr (inl none)) =
     λ asked h. lacks reads.0 h.means (codes "resource") none h.resource
-watch_asked_so command reads None (inr (inr (inl none))) =
-    λ asked h. lacks reads.0 h.means (codes "file") none h.file
-watch_asked_so command reads None (inr (inr (inr none))) =
-    λ asked h. lacks reads.0 h.means (codes "store") none h.store
+watch_asked_so command reads None (inr (inr none)) =
+    λ asked h. names_none reads.0 h.means none h.file h.store
 watch_asked_so {words} command reads (Some asked)
     (verb, (file, store, options), resource, limit, since) =
     let back = sym options in

@@ -28,7 +28,7 @@ pub enum Direction {
 }
 
 /// What is to be done with an object.
-#[derive(Debug, Drop)]
+#[derive(Drop)]
 pub struct Conversion {
     /// Which way it goes.
     pub direction: Direction,
@@ -43,7 +43,7 @@ pub struct Conversion {
 }
 
 /// Which value of a store is to be read.
-#[derive(Debug, Drop)]
+#[derive(Drop)]
 pub struct Lookup {
     /// The name of the configuration file.
     pub config: Text,
@@ -56,7 +56,7 @@ pub struct Lookup {
 }
 
 /// Which store is to be read through.
-#[derive(Debug, Drop)]
+#[derive(Drop)]
 pub struct Verification {
     /// The name of the configuration file.
     pub config: Text,
@@ -67,7 +67,7 @@ pub struct Verification {
 }
 
 /// Which store is to be migrated.
-#[derive(Debug, Drop)]
+#[derive(Drop)]
 pub struct Migration {
     /// The name of the configuration file, of whose providers the checks are.
     pub config: Text,
@@ -78,7 +78,7 @@ pub struct Migration {
 }
 
 /// Which reload is to be judged.
-#[derive(Debug, Drop)]
+#[derive(Drop)]
 pub struct JudgeWords {
     /// The name of the store's file.
     pub store: Text,
@@ -96,7 +96,7 @@ pub enum ShownSettings {
 }
 
 /// Which rollout is to be planned.
-#[derive(Debug, Drop)]
+#[derive(Drop)]
 pub struct Planning {
     /// The name of the file of the configuration that it begins with.
     pub from: Text,
@@ -109,7 +109,7 @@ pub struct Planning {
 }
 
 /// Which store is to be rewritten.
-#[derive(Debug, Drop)]
+#[derive(Drop)]
 pub struct Rewriting {
     /// The name of the configuration file.
     pub config: Text,
@@ -120,7 +120,7 @@ pub struct Rewriting {
 }
 
 /// A command with what its words say.
-#[derive(Debug, Drop)]
+#[derive(Drop)]
 pub enum Command {
     /// Encrypts or decrypts the input.
     Convert(Conversion),

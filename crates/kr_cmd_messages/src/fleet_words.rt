@@ -11,7 +11,7 @@ use kr_words::{CommandWords, Verb};
 use std::alloc::Global;
 
 /// Which fleet is to be run.
-#[derive(Debug, Drop)]
+#[derive(Drop)]
 pub struct FleetWords {
     /// The name of the fleet file.
     pub file: Text,
@@ -22,6 +22,7 @@ pub struct FleetWords {
 }
 
 /// The fleet that the words ask for, if they ask for one.
+#[tactic(auto, using(crate::proofs::NoneAsked::stops_fleet))]
 pub fn read_fleet(alloc: Global, words: &[String]) -> Result<Option<FleetWords>, Stop>
     ensures { IsFleetAsked (texts words.now) result }
 {

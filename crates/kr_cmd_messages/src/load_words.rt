@@ -13,7 +13,7 @@ use kr_words::{CommandWords, Verb};
 use std::alloc::Global;
 
 /// Which load is to be generated.
-#[derive(Debug, Drop)]
+#[derive(Drop)]
 pub struct LoadWords {
     /// What all its random bytes come of.
     pub seed: u64,
@@ -24,6 +24,7 @@ pub struct LoadWords {
 }
 
 /// The load that the words ask for, if they ask for one.
+#[tactic(auto, using(crate::proofs::NoneAsked::stops_load))]
 pub fn read_load(alloc: Global, words: &[String]) -> Result<Option<LoadWords>, Stop>
     ensures { IsLoadAsked (texts words.now) result }
 {

@@ -10,7 +10,7 @@ use kr_words::CommandWords;
 use std::marker::Model;
 
 /// The options of words, in their order. Contracts see the pairs of a name and a value.
-#[derive(Debug, Drop)]
+#[derive(Drop)]
 pub struct Options {
     words: CommandWords,
 }

@@ -15,7 +15,7 @@ use kr_words::{CommandWords, Verb};
 use std::alloc::Global;
 
 /// Which fleet is to be run, and what of it is to be shown.
-#[derive(Debug, Drop)]
+#[derive(Drop)]
 pub struct WatchWords {
     /// The fleet.
     pub fleet: FleetWords,
@@ -28,6 +28,7 @@ pub struct WatchWords {
 }
 
 /// The watch that the words ask for, if they ask for one.
+#[tactic(auto, using(crate::proofs::NoneAsked::stops_watch))]
 pub fn read_watch(alloc: Global, words: &[String]) -> Result<Option<WatchWords>, Stop>
     ensures { IsWatchAsked (texts words.now) result }
 {

@@ -28,6 +28,11 @@ use Rattle.kr_cmd_steps.proofs.Loading.{count_here}
 use Rattle.kr_cmd_steps.proofs.Settling.{is_settled, lends_settled_to, not_settled, rose_later}
 use Rattle.kr_cmd_steps.proofs.Tapes.{came_back, lent, nothing}
 
+-- what the command ends with, once its tape is back
+abbrev pub ended_of : Result Ended Stop → Ended
+ended_of (Ok ended) = ended
+ended_of (Err stop) = record { made = Err stop; said = None }
+
 -- the tape is lent for what follows, and the command goes on to here by that; then this is around
 module _ (command : Command) (name : List ℕ) (is : ReportsOf command name) (access : Access)
     (next : Steps Outcome) {old : Around} {opened out : Outside} {given : Option (List ℕ)}
@@ -58,7 +63,7 @@ module _ (command : Command) (name : List ℕ) (is : ReportsOf command name) (ac
   was_less e w d =
       omega (arith, d.home.tapes.later name, count_here name told count (with_world w e) count)
 
-  pub closed_ok : (said : Option RewriteCounts) (made : Result Outcome Stop) (ended : Ended)
+  closed_ok : (said : Option RewriteCounts) (made : Result Outcome Stop) (ended : Ended)
       → ReturnsSettled name Store mid new told count (to_settle made said) (Ok ended)
       → Works said made → DoesAll command old (saying ended.said (with_world new b)) ended.made
   closed_ok said (Ok x) ended (same, back) works =
@@ -76,7 +81,7 @@ module _ (command : Command) (name : List ℕ) (is : ReportsOf command name) (ac
       (report_settled command name is told count mid (saying (Some counts) b) stop
       (behind (stops next settling_it stop works))))
 
-  pub closed_err : (said : Option RewriteCounts) (made : Result Outcome Stop) (stop : Stop)
+  closed_err : (said : Option RewriteCounts) (made : Result Outcome Stop) (stop : Stop)
       → ReturnsSettled name Store mid new told count (to_settle made said) (Err stop)
       → Works said made → DoesAll command old (with_world new b) (Err stop)
   closed_err said (Ok x) stop (later, rose, same, back) works =
@@ -100,3 +105,18 @@ module _ (command : Command) (name : List ℕ) (is : ReportsOf command name) (ac
       (report_lost command name is told count mid b silent later (rose_later count later rose)
       (Some counts) why
       (Rose-later _ _ _ (was_less (saying (Some counts) b) mid stopped) rose) stopped))
+
+  pub closed : (said : Option RewriteCounts) (made : Result Outcome Stop)
+      (settled : Result Ended Stop) (ended : Ended) → ended ≡ ended_of settled
+      → ReturnsSettled name Store mid new told count (to_settle made said) settled
+      → Works said made → DoesAll command old (saying ended.said (with_world new b)) ended.made
+  closed said made settled ended e back works =
+      subst (λ (x : Ended). DoesAll command old (saying x.said (with_world new b)) x.made) (sym e)
+      (by settled back)
+    where
+      by : (settled : Result Ended Stop)
+          → ReturnsSettled name Store mid new told count (to_settle made said) settled
+          → DoesAll command old (saying (ended_of settled).said (with_world new b))
+          (ended_of settled).made
+      by (Ok x) back = closed_ok said made x back works
+      by (Err stop) back = closed_err said made stop back works

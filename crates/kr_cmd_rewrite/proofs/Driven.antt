@@ -430,15 +430,19 @@ module _ {L D : Type 0} (link : L → Link) (first last : List L)
       module _ (above : List ℕ) (then : Progress) (rest : List Row) (mid : Caller)
           (mids : Ahead) (between : D) (there : IsDriven all o p above rest then mid mids)
           (enough : 4 * length rest + 3 ≤ mid.left) where
-        cut_at_row : (said : List ℕ) (last_told : Option (List ℕ))
-            → BeginsWith then.store store.told → Unfailed why (HoldsRows then.store store.told)
-            → CutsRow all left count o p one above rest then mid new mids news between after
-            there enough why
-            → Does (driving name p rest mids.cache then)
+        -- what is left of the walk stops there
+        abbrev StopsAt : (said : List ℕ) (last_told : Option (List ℕ)) → List Row → Type 0
+        StopsAt said last_told rows = Does (driving name p rows mids.cache then)
             (At said (links_by first last why) mids between (drawn_by (count between) (count after) why)
             last_told o.count)
             (At (report_text then.counts) last news after (count after) store.told store.count)
             (Err stop)
+
+        cut_at_row : (said : List ℕ) (last_told : Option (List ℕ))
+            → BeginsWith then.store store.told → Unfailed why (HoldsRows then.store store.told)
+            → CutsRow all left count o p one above rest then mid new mids news between after
+            there enough why
+            → StopsAt said last_told rest
         cut_at_row said last_told begun holds r =
             let text = report_text then.counts in
             let so = acts_so left count p r.row r.found r.acted mids news between after
@@ -453,10 +457,7 @@ module _ {L D : Type 0} (link : L → Link) (first last : List L)
             store o.count (since_opening o p r.found r.lone) (omega (arith, further, count_is))
             bounded begun r.unspent why stop
             stops_so fails r.rewrites in
-            subst (λ l. Does (driving name p l mids.cache then)
-            (At said (links_by first last why) mids between (drawn_by (count between) (count after) why)
-            last_told o.count)
-            (At text last news after (count after) store.told store.count) (Err stop)) (sym r.rows_are)
+            subst (StopsAt said last_told) (sym r.rows_are)
             (reported link (links_by first last why) (left between)
             (drawn_by (count between) (count after) why) name then last_told
             (told_by store.told why) o.count (tape_by o.count store.count why) h.0 h.1
@@ -467,11 +468,7 @@ module _ {L D : Type 0} (link : L → Link) (first last : List L)
         cut_at : (said : List ℕ) (last_told : Option (List ℕ))
             → Cuts all left count o p one above rest then mid new mids news between after
             there enough why
-            → Does (driving name p rest mids.cache then)
-            (At said (links_by first last why) mids between (drawn_by (count between) (count after) why)
-            last_told o.count)
-            (At (report_text then.counts) last news after (count after) store.told store.count)
-            (Err stop)
+            → StopsAt said last_told rest
         cut_at said last_told (inl n) = cut_amid then rest mids between said last_told n.why_is
             n.news_are n.after_is
             (holds_now then n.rows_stay there.format_is n.count_stays)

@@ -317,6 +317,17 @@ module _ {L D : Type 0} (link : L → Link) (first last : List L)
         (links_by first last why) now (distinct why) (left dice) n (with_lent_tape name told m a)
         p row olds opened news follows u made (names_of link first) same fails e
 
+    -- a row whose value wasn't made stops there
+    unmade : (links : List L) (stop : Stop) → after ≡ dice
+        → Does Value (Around_at links olds dice drawn store.told store.count)
+        (Around_at last news dice drawn store.told store.count) (Err stop)
+        → Does Row_steps (Around_at links olds dice drawn store.told store.count)
+        (Around_at last news after drawn store.told store.count) (Err stop)
+    unmade links stop kept d = subst (λ x. Does Row_steps
+        (Around_at links olds dice drawn store.told store.count)
+        (Around_at last news x drawn store.told store.count) (Err stop)) (sym kept)
+        (stops Value Rest stop d)
+
     unread_cut : (reason : UnsealNo) (why : CallNo) (stop : Stop) → Stops why stop
         → ((plugin : List ℕ) → why ≡ no.PluginFailed plugin → FaultRose link plugin first last)
         → ReadsRow p row olds (Err reason) news
@@ -327,10 +338,7 @@ module _ {L D : Type 0} (link : L → Link) (first last : List L)
         let is = same_why why (no.PluginFailed n) e in
         let at_stop = subst (λ w. Stops w stop) (sym is) h in
         subst (λ w. Cut Row_steps olds dice w stop) is
-        (subst (λ d. Does Row_steps
-        (Around_at first olds dice drawn store.told store.count)
-        (Around_at last news d drawn store.told store.count) (Err stop)) (sym kept)
-        (stops Value Rest stop
+        (unmade first stop kept
         (value_at (no.PluginFailed n) last store.told store.count drawn
         (Err (unseal.PluginFailed n)) (Err stop) u asked
         (λ plugin f. fails plugin
@@ -339,18 +347,15 @@ module _ {L D : Type 0} (link : L → Link) (first last : List L)
           there = at_stop.there;
           named = at_stop.named;
           has = ap (λ x. Err x) at_stop.has;
-        }))))
+        })))
     unread_cut unseal.NoMemory why stop h fails u kept e =
         let is = same_why why no.NoMemory e in
         let at_stop = subst (λ w. Stops w stop) (sym is) h in
         subst (λ w. Cut Row_steps olds dice w stop) is
-        (subst (λ d. Does Row_steps
-        (Around_at last olds dice drawn store.told store.count)
-        (Around_at last news d drawn store.told store.count) (Err stop)) (sym kept)
-        (stops Value Rest stop
+        (unmade last stop kept
         (value_at no.NoMemory last store.told store.count drawn (Err unseal.NoMemory) (Err stop) u
         (asked_none link (names_of link first) last) (λ plugin f. absurd (cc))
-        (ap (λ x. Err x) at_stop))))
+        (ap (λ x. Err x) at_stop)))
 
     pub row_cut : (why : CallNo) (stop : Stop) → Stops why stop
         → ((plugin : List ℕ) → why ≡ no.PluginFailed plugin → FaultRose link plugin first last)

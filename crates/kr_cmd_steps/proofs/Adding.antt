@@ -1,5 +1,5 @@
 -- A row that is added to a store, whose tape is out.
-use Rattle.std.proofs.Common.{◌≡◌, ℕ, ◌+◌, ◌<◌, ◌≤◌, List, [], ◌∷◌, ◌++◌, length, Bool, false, Option, None, Some, Result, Ok, Err, refl, sym, ◌∙◌, ap, subst, inl, inr, append-nil, length-append, arith}
+use Rattle.std.proofs.Common.{◌≡◌, ◌≢◌, ℕ, ◌+◌, ◌<◌, ◌≤◌, List, [], ◌∷◌, ◌++◌, length, Bool, false, Option, None, Some, Result, Ok, Err, refl, sym, ◌∙◌, ap, subst, inl, inr, append-nil, length-append, arith}
 use Rattle.std.specs.Prelude.{IfOk, IfSome, IsSome, is_some, codes, decimal, true}
 use Rattle.kr_base.specs.Limits.{store_limit}
 use Rattle.kr_store.specs.File.{IsFile, magic, row_bytes, rows_bytes}
@@ -17,7 +17,7 @@ use Rattle.kr_cmd_steps.specs.Steps.{Steps, give, and_then}
 use Rattle.kr_cmd_steps.specs.StoreFiles.{Stored, with_row, HoldsRows, BeginsWith}
 use Rattle.kr_cmd_steps.specs.inner.Lent.{with_lent_tape}
 use Rattle.kr_cmd_steps.specs.inner.Phases.{Does}
-use Rattle.kr_cmd_steps.specs.inner.Tapes.{HasOneMore, answered, grown_by, stored_of}
+use Rattle.kr_cmd_steps.specs.inner.Tapes.{HasOneMore, IsWriteStop, answered, grown_by, stored_of}
 use Rattle.kr_cmd_messages.specs.declared.refusal.Limit.TheVariants as limit
 use Rattle.kr_cmd_messages.specs.declared.refusal.Object.{Object}
 use Rattle.kr_cmd_messages.specs.declared.refusal.Refusal.TheVariants.{Limit}
@@ -97,13 +97,34 @@ module _ (object : Object) (name : List ℕ) (row : LogRow) (old new : Kept)
       (row_is_lacking object name (stored_of old) row old.told old.told old.count old.count
       (omega arith) a)
 
+  -- whatever it was refused for
+  pub row_refused : (why : PutNo) {count : ℕ} (stop : Stop) → refusal.Refusal old new row why
+      → Holds new → count ≡ new.count → IsWriteStop object count why stop → Adds new (Err stop)
+  row_refused refused.Failed stop f holds same is =
+      subst (λ s. Adds new (Err s)) (sym is) (row_torn f holds same)
+  row_refused (refused.Full needed) stop (kept, long, above) holds same is =
+      subst (λ s. Adds new (Err s)) (sym is) (row_above kept (omega (arith, long, above)))
+  row_refused (refused.Changed revision) stop f holds same is = absurd f
+  row_refused refused.NoMemory stop kept holds same is =
+      subst (λ s. Adds new (Err s)) (sym is) (row_lacking kept)
+
 -- ---- what the store answered
 
 pub refused_so : (old new : Kept) (row : LogRow) {result : Result ℕ PutNo} {why : PutNo}
-    (known : PutNo) → Puts old new row result → result ≡ Err why → why ≡ known
-    → refusal.Refusal old new row known
-refused_so old new row known put is same =
-    subst (λ w. refusal.Refusal old new row w) same (subst (λ r. Puts old new row r) is put)
+    → Puts old new row result → result ≡ Err why → refusal.Refusal old new row why
+refused_so old new row put is = subst (λ r. Puts old new row r) is put
+
+-- it is refused for no row that changed, and its rows stay
+pub unchanged : (old new : Kept) (row : LogRow) (why : PutNo) → refusal.Refusal old new row why
+    → (revision : ℕ) → why ≢ refused.Changed revision
+unchanged old new row why r revision is = subst (λ w. refusal.Refusal old new row w) is r
+
+pub rows_kept : (old new : Kept) (row : LogRow) (why : PutNo) → refusal.Refusal old new row why
+    → new.rows ≡ old.rows
+rows_kept old new row refused.Failed f = f.rows
+rows_kept old new row (refused.Full needed) (kept, long, above) = ap (λ s. s.rows) kept
+rows_kept old new row (refused.Changed revision) f = absurd f
+rows_kept old new row refused.NoMemory kept = ap (λ s. s.rows) kept
 
 -- what a delete comes to: its row was written, or why it wasn't, where the path has a live row
 pub deleted_so : (old new : Kept) (path : List ℕ) (revision : ℕ)
@@ -122,18 +143,16 @@ gone old new path {result} {found} there deletes is same =
     absurd (let t : true ≡ false = sym there ∙ ap is_some none in cc)
 
 pub undeleted_so : (old new : Kept) (path : List ℕ) {result : Result (Option ℕ) PutNo}
-    {why : PutNo} (known : PutNo) → Deletes old new path result → result ≡ Err why
-    → why ≡ known → refusal.Refusal old new (delete_of path) known
-undeleted_so old new path known deletes is same =
-    by_why known (subst (λ w. Deletes old new path (Err w)) same
-    (subst (λ r. Deletes old new path r) is deletes))
+    (why : PutNo) → Deletes old new path result → result ≡ Err why
+    → refusal.Refusal old new (delete_of path) why
+undeleted_so old new path why deletes is =
+    by_why why (subst (λ r. Deletes old new path r) is deletes)
   where
     by_why : (why : PutNo) → Deletes old new path (Err why)
         → refusal.Refusal old new (delete_of path) why
-    by_why refused.Failed d = d.1
-    by_why (refused.Full needed) d = d.1
     by_why (refused.Changed revision) d = absurd d
     by_why refused.NoMemory d = d
+    by_why other d = d.1
 
 -- a store that wrote a row has one more
 pub one_more : {old new : Kept} {row : LogRow} {revision : ℕ} → Wrote old new row revision

@@ -1,13 +1,12 @@
 -- A command as a whole: what its steps said is settled, or isn't said.
 use Rattle.std.proofs.Common.{◌≡◌, ℕ, ◌≤◌, List, [], Option, None, Some, Result, Ok, Err, refl, sym, ◌∙◌, ap, subst, inl, inr, arith}
-use Rattle.std.specs.Prelude.{◌⊎◌}
 use Rattle.kr_base.specs.Faults.{Rose}
 use Rattle.kr_kms.specs.Outside.{Outside, same_name, with_call}
 use Rattle.kr_kms.specs.declared.world.WorldCall.TheVariants.{Settled}
-use Rattle.kr_cmd_steps.specs.Around.{Around, with_world, left_of, Stays, Reaches, IsHome, Ends, IsFault, MayLack}
+use Rattle.kr_cmd_steps.specs.Around.{Around, with_world, left_of, Stays, Reaches, IsHome, Ends, IsFault}
 use Rattle.kr_cmd_steps.specs.Commands.{steps}
 use Rattle.kr_cmd_steps.specs.Ran.{Closes, EndsAll, IsStop, ReachesEnd, ReportsOf, SaysNothing, end_at}
-use Rattle.kr_cmd_steps.specs.Steps.{Call, loading, reading, opening, lending, scanning, writing, settling, drawing, linking, asking, Point, awaits, amid, refuses, gives, Left, Goes, with_asked, with_said}
+use Rattle.kr_cmd_steps.specs.Steps.{Call, loading, settling, Point, awaits, amid, refuses, gives, Left, Goes, with_asked, with_said}
 use Rattle.kr_cmd_steps.specs.inner.Lent.{with_lent_tape}
 use Rattle.kr_cmd_steps.specs.inner.Phases.{Does}
 use Rattle.kr_cmd_steps.specs.inner.Reporting.{DoesAll, saying}
@@ -20,7 +19,7 @@ use Rattle.kr_cmd_messages.specs.declared.refusal.Outcome.{Outcome}
 use Rattle.kr_cmd_messages.specs.declared.refusal.Stop.{Stop}
 use Rattle.kr_cmd_messages.specs.declared.refusal.Stop.TheVariants.{Words, Refused, Fault, NoMemory}
 use Rattle.kr_cmd_messages.specs.declared.report.RewriteCounts.{RewriteCounts}
-use Rattle.kr_cmd_steps.proofs.Goes.{stays_refl}
+use Rattle.kr_cmd_steps.proofs.Goes.{home_as, stays_as, stays_refl}
 use Rattle.kr_cmd_steps.proofs.Lending.{no_less, no_more}
 use Rattle.kr_cmd_steps.proofs.Loading.{count_here}
 
@@ -154,16 +153,8 @@ module _ (command : Command) (name : List ℕ) (is : ReportsOf command name)
     IsBack = with_lent_tape name told count (with_world (with_settled name mid) b)
 
     stays_settled : {l : Left} → Stays l Unsettled → Stays (with_asked (Settled name) l) IsBack
-    stays_settled s = record {
-      file = s.file;
-      tapes = s.tapes;
-      links = s.links;
-      input = s.input;
-      dice = s.dice;
-      asked = ap (with_call (Settled name)) s.asked;
-      heard = s.heard;
-      said = s.said;
-    }
+    stays_settled s =
+        stays_as s refl refl s.tapes (ap (with_call (Settled name)) s.asked) s.heard s.said
 
     same_fault : (old : Around) (call : Call) (object : Object) (n : ℕ) → IsFault call object n old Unsettled
         → IsFault call object n old IsBack
@@ -211,62 +202,33 @@ module _ (command : Command) (name : List ℕ) (is : ReportsOf command name)
     stays_lost : (said : Option RewriteCounts) {l : Left}
         → Stays l (with_lent_tape name told count (with_world mid (saying said a)))
         → Stays (with_said [] l) Lost
-    stays_lost None {l} s = record {
-      file = s.file;
-      tapes = s.tapes;
-      links = s.links;
-      input = s.input;
-      dice = s.dice;
-      asked = s.asked;
-      heard = s.heard;
-      said = silent;
-    }
-    stays_lost (Some counts) {l} s = record {
-      file = s.file;
-      tapes = s.tapes;
-      links = s.links;
-      input = s.input;
-      dice = s.dice;
-      asked = s.asked;
-      heard = s.heard;
-      said = silent;
+    stays_lost None s = stays_as s refl refl s.tapes s.asked s.heard silent
+    stays_lost (Some counts) s = stays_as s refl refl s.tapes s.asked s.heard silent
+
+    home_on : (old : Around) → IsHome old (with_lent_tape name told count (with_world mid a))
+        → IsHome old Lost
+    home_on old h = record {
+      files = record { file = h.files.file; later = h.files.later };
+      dice = h.dice;
+      tapes = record {
+        out = h.tapes.out;
+        later = λ key. omega (
+          arith,
+          h.tapes.later key,
+          no_less (same_name name key)
+              (mid.tapes.faults key) (mid.tapes.faults key) count later
+              (no_more (mid.tapes.faults key)) more,
+        );
+      };
+      links = h.links;
+      input = h.input;
     }
 
     home_lost : (old : Around) (said : Option RewriteCounts)
         → IsHome old (with_lent_tape name told count (with_world mid (saying said a)))
         → IsHome old Lost
-    home_lost old None h = record {
-      files = record { file = h.files.file; later = h.files.later };
-      dice = h.dice;
-      tapes = record {
-        out = h.tapes.out;
-        later = λ key. omega (
-          arith,
-          h.tapes.later key,
-          no_less (same_name name key)
-              (mid.tapes.faults key) (mid.tapes.faults key) count later
-              (no_more (mid.tapes.faults key)) more,
-        );
-      };
-      links = h.links;
-      input = h.input;
-    }
-    home_lost old (Some counts) h = record {
-      files = record { file = h.files.file; later = h.files.later };
-      dice = h.dice;
-      tapes = record {
-        out = h.tapes.out;
-        later = λ key. omega (
-          arith,
-          h.tapes.later key,
-          no_less (same_name name key)
-              (mid.tapes.faults key) (mid.tapes.faults key) count later
-              (no_more (mid.tapes.faults key)) more,
-        );
-      };
-      links = h.links;
-      input = h.input;
-    }
+    home_lost old None h = home_on old h
+    home_lost old (Some counts) h = home_on old (home_as refl refl h)
 
     pub report_lost : {old : Around} (said : Option RewriteCounts) (stop : Stop)
         → Rose (old.world.tapes.faults name) later

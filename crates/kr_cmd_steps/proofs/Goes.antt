@@ -41,6 +41,33 @@ stays_refl a = record {
   said = refl;
 }
 
+-- what is left, but for these parts of another
+abbrev beside : Left → Left → Left
+beside other left = record left {
+  tapes = other.tapes;
+  asked = other.asked;
+  heard = other.heard;
+  said = other.said;
+}
+
+-- nothing was consumed where the other parts are as they were
+pub stays_as : {left last : Left} {old new : Around} → Stays left old → beside left last ≡ left
+    → beside (left_of old) (left_of new) ≡ left_of old → new.world.tapes.told ≡ last.tapes
+    → new.world.asked ≡ last.asked → new.heard ≡ last.heard → new.said ≡ last.said
+    → Stays last new
+stays_as {left} {last} {old} {new} s given kept tapes asked heard said = record {
+  file = ap (λ (l : Left). l.file) kept ∙ s.file ∙ sym (ap (λ (l : Left). l.file) given);
+  tapes = tapes;
+  links = ap (λ (l : Left). l.links) kept ∙ s.links ∙ sym (ap (λ (l : Left). l.links) given);
+  input = subst (λ (l : Left). Keeps l.input new.input) (sym given)
+      (subst (λ (l : Left). Keeps left.input l.input) (sym kept) s.input);
+  dice = λ seat. subst (λ (l : Left). Keeps (l.dice seat) (new.world.dice.told seat)) (sym given)
+      (subst (λ (l : Left). Keeps (left.dice seat) (l.dice seat)) (sym kept) (s.dice seat));
+  asked = asked;
+  heard = heard;
+  said = said;
+}
+
 -- steps that give nothing
 abbrev pub nothing : Steps (Unit {0})
 nothing = give tt
@@ -259,6 +286,34 @@ home_refl a = record {
   tapes = home_same refl;
   links = home_same refl;
   input = omega arith;
+}
+
+-- where the world and the faults of the input are as they were, all is home
+pub home_as : {old mid new : Around} → new.world ≡ mid.world → new.faults ≡ mid.faults
+    → IsHome old mid → IsHome old new
+home_as {old} same faults h = record {
+  files = subst (λ w. KeepsFiles old.world w) (sym same) h.files;
+  dice = subst (λ (w : Outside). AreHome old.world.dice w.dice) (sym same) h.dice;
+  tapes = subst (λ (w : Outside). AreHome old.world.tapes w.tapes) (sym same) h.tapes;
+  links = subst (λ (w : Outside). AreHome old.world.links w.links) (sym same) h.links;
+  input = subst (λ n. old.faults ≤ n) (sym faults) h.input;
+}
+
+-- one more call was asked of the world, and nothing else done
+pub asks_alone : {A : Type 0} {next : Steps A} {made : A} (call : WorldCall)
+    → ((left : Left) → Goes (gives made) (with_asked call left) next left) → (a : Around)
+    → Does next a (with_world (record a.world { asked = with_call call a.world.asked }) a)
+    (Ok made)
+asks_alone call goes a = let same = home_refl a in record {
+  home = record {
+    files = record { file = refl; later = same.files.later };
+    dice = same.dice;
+    tapes = same.tapes;
+    links = same.links;
+    input = same.input;
+  };
+  ends = λ left s. reach (with_asked call left) (goes left)
+      (stays_as s refl refl s.tapes (ap (with_call call) s.asked) s.heard s.said);
 }
 
 shows_at : (Is : Result (List ℕ) Refusal → Type 0) {left : Left} {a : Around}
@@ -571,11 +626,3 @@ lends_to seat {old} a b {next = next} {result} lent returned works =
     (dice_back seat returned)
     (goes_on (borrow_dice seat nothing) (λ u. next) tt
     (borrowed (lent_dice seat lent) a (λ l. inr (inr (refl, refl)))) works)
-
-pub lends : (seat : ℕ) {old out mid new : Outside} {given back : Option (List ℕ)}
-    {first count : ℕ} (a : Around) {B : Type 0} {next : Steps B} {result : Result B Stop}
-    → DiceLoan seat old out given first → DiceReturn seat mid new back count
-    → Does next (with_lent_dice seat given first (with_world out a))
-    (with_lent_dice seat back count (with_world mid a)) result
-    → Does (borrow_dice seat next) (with_world old a) (with_world new a) result
-lends seat a lent returned works = lends_to seat a a lent returned works

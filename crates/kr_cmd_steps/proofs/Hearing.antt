@@ -6,6 +6,7 @@ use Rattle.kr_cmd_steps.specs.Around.{Around, IsHome, Stays, with_exchanges}
 use Rattle.kr_cmd_steps.specs.Steps.{Left, Steps, hearing}
 use Rattle.kr_cmd_steps.specs.inner.Phases.{Does}
 use Rattle.kr_cmd_messages.specs.declared.refusal.Stop.{Stop}
+use Rattle.kr_cmd_steps.proofs.Goes.{home_as, stays_as}
 
 pub heard_none : (heard : Option (List Exchange)) → hearing [] heard ≡ heard
 heard_none None = refl
@@ -30,26 +31,12 @@ around_untold es a is = λ i. record a { heard = (ap (hearing es) is ∙ sym is)
 pub stays_heard : {left : Left} {a : Around} (es : List Exchange) (heard : Option (List Exchange))
     → hearing es left.heard ≡ heard → Stays left a
     → Stays (record left { heard = heard }) (with_exchanges es a)
-stays_heard es heard is s = record {
-  file = s.file;
-  tapes = s.tapes;
-  links = s.links;
-  input = s.input;
-  dice = s.dice;
-  asked = s.asked;
-  heard = ap (hearing es) s.heard ∙ is;
-  said = s.said;
-}
+stays_heard es heard is s =
+    stays_as s refl refl s.tapes s.asked (ap (hearing es) s.heard ∙ is) s.said
 
 pub home_heard : {old new : Around} (es : List Exchange) → IsHome old new
     → IsHome old (with_exchanges es new)
-home_heard es h = record {
-  files = h.files;
-  dice = h.dice;
-  tapes = h.tapes;
-  links = h.links;
-  input = h.input;
-}
+home_heard es h = home_as refl refl h
 
 pub none_heard : {A : Type 0} {next : Steps A} {old : Around} (new : Around)
     {result : Result A Stop} → Does next old new result

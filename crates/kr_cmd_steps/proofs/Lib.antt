@@ -3,6 +3,7 @@ pub mod AddedRows
 pub mod Adding
 pub mod Apart
 pub mod BenchTalks
+pub mod Configured
 pub mod EmptyFiles
 pub mod Ends
 pub mod Frames

@@ -79,6 +79,18 @@ module _ {L : Type 0} (link : L → Link) where
         ∙ ap (λ n. names_of link links ++ n ∷ []) named)
         ∙ moved (names_of link links) program.plugin (names_in more) ∙ order
 
+  -- a link that was handed out for the first of the programs is that of a new name
+  pub added_new : (rows : List ConfigEntry) (links : List L) {opened : L}
+      {plugin file : List ℕ} {first out : Outside} {programs more : List Program}
+      {program : Program} → LinkLoan 0 plugin file first out (link opened)
+      → plugin ≡ program.plugin → programs ≡ program ∷ more
+      → names_of link links ++ names_in programs ≡ plugin_order rows
+      → Contains (names_of link links) (link opened).name → ⊥
+  added_new rows links {opened} {more = more} {program} loan named split order =
+      is_new rows links program more
+      (subst (λ p. names_of link links ++ names_in p ≡ plugin_order rows) split order) opened
+      (ap (λ l. l.name) loan.link_is ∙ named)
+
   -- there is a link to each plugin
   pub all_linked : (rows : List ConfigEntry) (links : List L) → names_of link links ≡ plugin_order rows
       → HasLinks (names_of link links) rows
@@ -122,6 +134,28 @@ module _ {first out : Objects (ℕ × List ℕ) (Option Status)} {plugin : List 
     back.out key,
     ap (λ n. at_key same_link (0, n) 1 key) e,
   )
+
+-- the last of the links that are there in the end is the one that was added
+module _ {L : Type 0} (link : L → Link) {plugin program : List ℕ} {first out : Outside}
+    (olds news : List L) {old new : L} {with_old with_new : List L}
+    (loan : LinkLoan 0 plugin program first out (link old)) (added : with_old ≡ olds ++ old ∷ [])
+    (taken : with_new ≡ news ++ new ∷ []) (names : names_of link with_new ≡ names_of link with_old)
+  where
+    pub last_named : (names_of link news ≡ names_of link olds) × ((link new).name ≡ plugin)
+    last_named =
+        let last = same_last link news olds new old
+        (ap (names_of link) (sym taken) ∙ names ∙ ap (names_of link) added) in
+        (last.0, last.1 ∙ ap (λ l. l.name) loan.link_is)
+
+    module _ (mid : Outside)
+        (same : (key : ℕ × List ℕ) → mid.links.out key ≡ out.links.out key) where
+      pub last_out : 0 < mid.links.out (0, (link new).name)
+      last_out = is_out loan.out mid.links (link new).name same last_named.1
+
+      pub last_back : (last : Outside) → LinkReturn 0 mid last (link new) → (key : ℕ × List ℕ)
+          → last.links.out key ≡ first.links.out key
+      last_back last back =
+          all_back loan.out mid.links last.links (link new).name same back.home last_named.1
 
 -- ---- steps
 
@@ -206,20 +240,6 @@ module _ {L : Type 0} (link : L → Link) {plugin program : List ℕ} (a : Aroun
       (subst (λ l. Does next (Seen link (with_world out a) with_old left before)
       (Seen link (with_world mid b) l back count) result) new_is works))
 
-  pub borrows : {A : Type 0} {next : Steps A} {result : Result A Stop}
-      (olds with_old news with_new : List L) (old new : L) (left back : Option (List ℕ))
-      (before count : ℕ) {first out mid last : Outside}
-      → LinkLoan 0 plugin program first out (link old) → LinkReturn 0 mid last (link new)
-      → with_old ≡ olds ++ old ∷ [] → with_new ≡ news ++ new ∷ []
-      → Does next (Seen link (with_world out a) with_old left before)
-      (Seen link (with_world mid a) with_new back count) result
-      → Does (borrow_link 0 plugin program next) (Seen link (with_world first a) olds left before)
-      (Seen link (with_world last a) news back count) result
-  borrows olds with_old news with_new old new left back before count loan return old_is new_is
-      works =
-      borrows_to a olds with_old news with_new old new left back before count loan return old_is
-      new_is works
-
   -- a link wasn't handed out
   pub none_borrowed : {A : Type 0} {next : Steps A} (links : List L) (left : Option (List ℕ))
       (count : ℕ) {old new : Outside} → KeepsFiles old new → KeepsObjects old new → (stop : Stop)
@@ -251,7 +271,7 @@ module _ {L : Type 0} (link : L → Link) {plugin program : List ℕ} (a : Aroun
       let steps = borrow_link 0 plugin program (borrow_links programs (with_memory next)) in
       subst (λ l. Does steps (Seen link (with_world first a) links left count)
       (Seen link (with_world last a) l left count) (Err NoMemory)) (sym same)
-      (borrows links (links ++ given ∷ []) links (links ++ given ∷ []) given given left left count
-      count loan (subst (λ l. LinkReturn 0 out last (link l)) is return) refl refl
+      (borrows_to a links (links ++ given ∷ []) links (links ++ given ∷ []) given given left left
+      count count loan (subst (λ l. LinkReturn 0 out last (link l)) is return) refl refl
       (lacks_links programs next
       (Seen link (with_world out a) (links ++ given ∷ []) left count)))

@@ -24,7 +24,7 @@ use Rattle.kr_cmd_messages.specs.declared.refusal.Object.{Object}
 use Rattle.kr_cmd_messages.specs.declared.refusal.Refusal.{Refusal}
 use Rattle.kr_cmd_messages.specs.declared.refusal.Refusal.TheVariants.{Limit, Broken}
 use Rattle.kr_cmd_messages.specs.declared.refusal.Stop.{Stop}
-use Rattle.kr_cmd_steps.proofs.Goes.{reach, by_point, by_goes, files_same}
+use Rattle.kr_cmd_steps.proofs.Goes.{reach, by_point, by_goes, files_same, stays_as}
 use Rattle.kr_cmd_steps.proofs.Lending.{home_same}
 use Rattle.kr_cmd_steps.proofs.Tapes.{one_of, own_name}
 use Rattle.std.proofs.Math.Nat.{eq-or-lt_of_le}
@@ -71,31 +71,14 @@ module _ (name : List ℕ) (told : Option (List ℕ)) (before : ℕ) (a : Around
 
   pub counted_tape : {left : Left} (count : ℕ) → before ≤ count → Stays left (Lent before)
       → Stays left (Lent count)
-  counted_tape count later s = record {
-    file = s.file;
-    tapes = s.tapes;
-    links = s.links;
-    input = s.input;
-    dice = s.dice;
-    asked = s.asked;
-    heard = s.heard;
-    said = s.said;
-  }
+  counted_tape count later s = stays_as s refl refl s.tapes s.asked s.heard s.said
 
   -- it tells something else
   pub retold : {left : Left} (now : Option (List ℕ)) (count : ℕ) → before ≤ count
       → Stays left (Lent before)
       → Stays (with_told name now left) (with_lent_tape name now count a)
-  retold {left} now count later s = record {
-    file = s.file;
-    tapes = told_so name told now a.world.tapes.told left.tapes s.tapes;
-    links = s.links;
-    input = s.input;
-    dice = s.dice;
-    asked = s.asked;
-    heard = s.heard;
-    said = s.said;
-  }
+  retold {left} now count later s = stays_as s refl refl
+      (told_so name told now a.world.tapes.told left.tapes s.tapes) s.asked s.heard s.said
 
   pub home_retold : (now : Option (List ℕ)) (count : ℕ) → before ≤ count
       → IsHome (Lent before) (with_lent_tape name now count a)

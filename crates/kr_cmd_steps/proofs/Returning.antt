@@ -1,42 +1,24 @@
 -- A tape that was only read, and is back before anything else is asked.
-use Rattle.std.proofs.Common.{◌≡◌, ℕ, ◌+◌, List, Option, Result, Ok, Err, refl, ap}
-use Rattle.kr_kms.specs.Outside.{Outside, at_key, same_name, with_call}
+use Rattle.std.proofs.Common.{◌≡◌, ℕ, List, Option, Result, Ok, Err, refl}
+use Rattle.kr_kms.specs.Outside.{Outside}
 use Rattle.kr_kms.specs.declared.world.WorldCall.TheVariants.{Returned}
 use Rattle.kr_kms.specs.declared.world.Access.TheVariants.{ToRead}
 use Rattle.kr_cmd_steps.specs.Around.{Around, with_world}
 use Rattle.kr_cmd_steps.specs.Phases.{read_for}
-use Rattle.kr_cmd_steps.specs.Steps.{Steps, and_then, give, give_back, with_asked}
+use Rattle.kr_cmd_steps.specs.Steps.{Steps, and_then, give, give_back}
 use Rattle.kr_cmd_steps.specs.inner.Lent.{with_lent_tape}
 use Rattle.kr_cmd_steps.specs.inner.Phases.{Does}
 use Rattle.kr_cmd_steps.specs.inner.Tapes.{LentTape, ReturnsRead, with_returned}
 use Rattle.kr_cmd_messages.specs.declared.refusal.Stop.{Stop}
-use Rattle.kr_cmd_steps.proofs.Goes.{goes_on, home_refl, reach, stops}
+use Rattle.kr_cmd_steps.proofs.Goes.{asks_alone, goes_on, stops}
 use Rattle.kr_cmd_steps.proofs.Tapes.{lends_tape_to}
 
 is_returned : (name : List ℕ) (told : Option (List ℕ)) (count : ℕ) {A : Type 0} (made : A)
     (world : Outside) (a : Around) → Does (give_back name (give made))
     (with_lent_tape name told count (with_world world a))
     (with_lent_tape name told count (with_world (with_returned name world) a)) (Ok made)
-is_returned name told count made world a =
-    let same = home_refl (with_lent_tape name told count (with_world world a)) in record {
-      home = record {
-        files = record { file = refl; later = same.files.later };
-        dice = same.dice;
-        tapes = same.tapes;
-        links = same.links;
-        input = same.input;
-      };
-      ends = λ left s. reach (with_asked (Returned name) left) (refl, refl) (record {
-        file = s.file;
-        tapes = s.tapes;
-        links = s.links;
-        input = s.input;
-        dice = s.dice;
-        asked = ap (with_call (Returned name)) s.asked;
-        heard = s.heard;
-        said = s.said;
-      });
-    }
+is_returned name told count made world a = asks_alone (Returned name) (λ left. (refl, refl))
+    (with_lent_tape name told count (with_world world a))
 
 -- it is borrowed for what follows, and is back then
 module _ (name : List ℕ) {old out : Outside} {given : Option (List ℕ)} {first : ℕ}
@@ -55,14 +37,7 @@ module _ (name : List ℕ) {old out : Outside} {given : Option (List ℕ)} {firs
       {next = and_then next (λ made. give_back name (give made))} h returned
       (stops next (λ made. give_back name (give made)) why works)
 
--- however it ended, one tape of the name less is out
-pub read_out : (name : List ℕ) (old new : Outside) (told : Option (List ℕ)) (count : ℕ)
-    {A : Type 0} (read : Result A Stop) → ReturnsRead name old new told count read
-    → (key : List ℕ) → new.tapes.out key + at_key same_name name 1 key ≡ old.tapes.out key
-read_out name old new told count (Ok x) h key = h.home.out key
-read_out name old new told count (Err stop) h key = h.home.out key
-
--- and the links stay
+-- however it ended, the links stay
 pub read_links : (name : List ℕ) (old new : Outside) (told : Option (List ℕ)) (count : ℕ)
     {A : Type 0} (read : Result A Stop) → ReturnsRead name old new told count read
     → new.links ≡ old.links

@@ -1,19 +1,19 @@
 -- A tape that is settled before it is back.
-use Rattle.std.proofs.Common.{◌≡◌, ℕ, ◌+◌, ◌≤◌, List, Option, Result, Ok, Err, refl, sym, ap, subst, inl, inr, arith}
+use Rattle.std.proofs.Common.{◌≡◌, ℕ, ◌+◌, ◌≤◌, List, Option, Result, Ok, Err, refl, sym, subst, inl, inr, arith}
 use Rattle.kr_base.specs.Faults.{Rose}
-use Rattle.kr_kms.specs.Outside.{Outside, at_key, same_name, with_call}
+use Rattle.kr_kms.specs.Outside.{Outside, at_key, same_name}
 use Rattle.kr_kms.specs.declared.world.WorldCall.TheVariants.{Settled}
 use Rattle.kr_kms.specs.declared.world.Access.{Access}
 use Rattle.kr_cmd_steps.specs.Around.{Around, with_world}
 use Rattle.kr_cmd_steps.specs.Phases.{settled_for}
-use Rattle.kr_cmd_steps.specs.Steps.{Steps, and_then, give, settle, settling, with_asked}
+use Rattle.kr_cmd_steps.specs.Steps.{Steps, and_then, give, settle, settling}
 use Rattle.kr_cmd_steps.specs.inner.Lent.{with_lent_tape}
 use Rattle.kr_cmd_steps.specs.inner.Phases.{Does}
 use Rattle.kr_cmd_steps.specs.inner.Tapes.{LentTape, ReturnsSettled, with_settled}
 use Rattle.kr_cmd_messages.specs.declared.refusal.Object.{Object}
 use Rattle.kr_cmd_messages.specs.declared.refusal.Stop.{Stop}
 use Rattle.kr_cmd_messages.specs.declared.refusal.Stop.TheVariants.{Fault}
-use Rattle.kr_cmd_steps.proofs.Goes.{goes_on, home_refl, reach, stops}
+use Rattle.kr_cmd_steps.proofs.Goes.{asks_alone, goes_on, reach, stops}
 use Rattle.kr_cmd_steps.proofs.Loading.{count_here, counted_tape, tape_home, tape_rose}
 use Rattle.kr_cmd_steps.proofs.Tapes.{lends_tape_to}
 
@@ -26,26 +26,8 @@ module _ (object : Object) (name : List ℕ) (told : Option (List ℕ)) (count :
   pub is_settled : (world : Outside) (a : Around) → Does (settle object name (give made))
       (with_lent_tape name told count (with_world world a))
       (with_lent_tape name told count (with_world (with_settled name world) a)) (Ok made)
-  is_settled world a = let same = home_refl (with_lent_tape name told count (with_world world a)) in
-      record {
-        home = record {
-          files = record { file = refl; later = same.files.later };
-          dice = same.dice;
-          tapes = same.tapes;
-          links = same.links;
-          input = same.input;
-        };
-        ends = λ left s. reach (with_asked (Settled name) left) (inr (refl, refl)) (record {
-          file = s.file;
-          tapes = s.tapes;
-          links = s.links;
-          input = s.input;
-          dice = s.dice;
-          asked = ap (with_call (Settled name)) s.asked;
-          heard = s.heard;
-          said = s.said;
-        });
-      }
+  is_settled world a = asks_alone (Settled name) (λ left. inr (refl, refl))
+      (with_lent_tape name told count (with_world world a))
 
   pub not_settled : (a : Around) (later : ℕ) → Rose count later
       → Does (settle object name (give made)) (with_lent_tape name told count a)

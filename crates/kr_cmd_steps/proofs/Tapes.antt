@@ -186,25 +186,24 @@ module _ (name : List ℕ) (access : Access) {old out mid new : Outside}
   lends_tape a h returned works = lends_tape_to a a h returned works
 
 -- what leaves the tapes, done while this one is out
-pub behind_tape_to : (name : List ℕ) (told : Option (List ℕ)) (count : ℕ) {old new : Outside}
-    (a c : Around) {B : Type 0} {next : Steps B} {result : Result B Stop} → new.tapes ≡ old.tapes
-    → Does next
-    (with_world (with_tapes (with_lent same_name name (option_map Some told) count old.tapes) old) a)
-    (with_world (with_tapes (with_lent same_name name (option_map Some told) count old.tapes) new) c)
-    result
-    → Does next (with_lent_tape name told count (with_world old a))
-    (with_lent_tape name told count (with_world new c)) result
-behind_tape_to name told count {old} {new} a c {next = next} {result} same d =
-    subst (λ t. Does next (with_lent_tape name told count (with_world old a))
-    (with_world (with_tapes (with_lent same_name name (option_map Some told) count t) new) c)
-    result) (sym same) d
+module _ (name : List ℕ) (told : Option (List ℕ)) (count : ℕ) where
+  -- around with this world, with the tape out of these
+  abbrev Behind : Objects (List ℕ) (Option (Option (List ℕ))) → Outside → Around → Around
+  Behind tapes world a =
+      with_world (with_tapes (with_lent same_name name (option_map Some told) count tapes) world) a
 
-pub behind_tape : (name : List ℕ) (told : Option (List ℕ)) (count : ℕ) {old new : Outside}
-    (a : Around) {B : Type 0} {next : Steps B} {result : Result B Stop} → new.tapes ≡ old.tapes
-    → Does next
-    (with_world (with_tapes (with_lent same_name name (option_map Some told) count old.tapes) old) a)
-    (with_world (with_tapes (with_lent same_name name (option_map Some told) count old.tapes) new) a)
-    result
-    → Does next (with_lent_tape name told count (with_world old a))
-    (with_lent_tape name told count (with_world new a)) result
-behind_tape name told count a same d = behind_tape_to name told count a a same d
+  pub behind_tape_to : {old new : Outside} (a c : Around) {B : Type 0} {next : Steps B}
+      {result : Result B Stop} → new.tapes ≡ old.tapes
+      → Does next (Behind old.tapes old a) (Behind old.tapes new c) result
+      → Does next (with_lent_tape name told count (with_world old a))
+      (with_lent_tape name told count (with_world new c)) result
+  behind_tape_to {old} {new} a c {next = next} {result} same d =
+      subst (λ t. Does next (with_lent_tape name told count (with_world old a)) (Behind t new c)
+      result) (sym same) d
+
+  pub behind_tape : {old new : Outside} (a : Around) {B : Type 0} {next : Steps B}
+      {result : Result B Stop} → new.tapes ≡ old.tapes
+      → Does next (Behind old.tapes old a) (Behind old.tapes new a) result
+      → Does next (with_lent_tape name told count (with_world old a))
+      (with_lent_tape name told count (with_world new a)) result
+  behind_tape a same d = behind_tape_to a a same d

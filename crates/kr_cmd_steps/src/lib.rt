@@ -16,10 +16,12 @@ pub use phases::{
     close_dice, close_link, configure, load_settings, open_dice, open_link, show, take_input,
     write_output,
 };
-pub use programs::{Program, Programs, program_plugins, settings_programs, without_program};
+pub use programs::{
+    Program, Programs, linked_settings, program_plugins, settings_programs, without_program,
+};
 pub use publication::publish_settings;
 pub use starts::start_stop;
 pub use stores::{
-    add_delete, add_put, close_tape, load_store, open_tape, return_tape, settle_tape,
+    add_delete, add_put, close_tape, load_store, open_tape, return_tape, settle_tape, write_stop,
 };
 pub use work::{Task, make, split_first_program, take_last};

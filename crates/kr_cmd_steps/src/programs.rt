@@ -7,11 +7,13 @@ ghost use Rattle.kr_cmd_steps.specs.Phases.{linking_programs};
 ghost use Rattle.kr_cmd_messages.specs.declared.refusal.Refusal.{Refusal};
 ghost use Rattle.kr_cmd_messages.specs.declared.refusal.Stop.{Stop};
 ghost use Rattle.kr_cmd_steps.specs.inner.ProgramNames.{names_in};
-ghost use Rattle.kr_cmd_steps.specs.inner.Phases.{Does};
+ghost use Rattle.kr_cmd_steps.specs.inner.Phases.{Does, HasPrograms};
 
+use crate::phases::configure;
 use kr_base::{List, NoMemory, Text, tell_text};
 use kr_cmd_messages::{Options, Refusal, Stop};
 use kr_config::Settings;
+use kr_kms::World;
 use std::alloc::Global;
 use std::marker::Model;
 
@@ -101,6 +103,30 @@ pub fn settings_programs(
         after = plugin;
     }
     Ok(programs)
+}
+
+/// The configuration in a file, and the programs of its plugins.
+pub fn linked_settings<W: World>(
+    alloc: Global,
+    world: &mut W,
+    config: &Text,
+    options: &Options,
+) -> Result<(Settings, Programs), Stop>
+    ensures does { HasPrograms (W.told world.old) (W.told world.new) config.now options.now
+        result }
+    ensures names { IfOk result (λ read. map (λ program. program.plugin) read.1
+        ≡ plugin_order (rows_of read.0.entries.0)) }
+    ensures links { (W.told world.new).links ≡ (W.told world.old).links }
+{
+    let settings = match configure(alloc, world, config.as_str()) {
+        Ok(settings) => settings,
+        Err(stop) => return Err(stop),
+    };
+    let programs = match settings_programs(alloc, options, &settings) {
+        Ok(programs) => programs,
+        Err(stop) => return Err(stop),
+    };
+    Ok((settings, programs))
 }
 
 /// The refusal of a plugin without a program, or that there is no memory for it.

@@ -1,15 +1,16 @@
 //! The phases over tapes and the stores that they hold.
-ghost use Rattle.std.specs.Prelude.{◌≡◌, ◌<◌, ◌≤◌, List, ℕ, Ok, Err, IfOk, IfErr, OnErr, IsSome, false, length};
+ghost use Rattle.std.specs.Prelude.{◌≡◌, ◌≢◌, ◌<◌, ◌≤◌, List, ℕ, Ok, Err, IfOk, IfErr, OnErr, IsSome, false, length};
 ghost use Rattle.kr_base.specs.Limits.{store_limit, value_limit};
 ghost use Rattle.kr_base.specs.Rules.{IsPath, IsResource};
 ghost use Rattle.kr_store.specs.Rows.{check_in, delete_of, live, put_of};
+ghost use Rattle.kr_store.specs.declared.answers.PutNo.{PutNo};
 ghost use Rattle.kr_kms.specs.Outside.{KeepsFiles, KeepsObjects};
 ghost use Rattle.kr_kms.specs.declared.world.WorldCall.{WorldCall};
 ghost use Rattle.kr_cmd_steps.specs.Around.{Around};
 ghost use Rattle.kr_cmd_steps.specs.Phases.{adding, stored_on};
 ghost use Rattle.kr_cmd_steps.specs.inner.Lent.{with_lent_tape};
 ghost use Rattle.kr_cmd_steps.specs.inner.Phases.{Does, AskedFor};
-ghost use Rattle.kr_cmd_steps.specs.inner.Tapes.{HasOneMore, IsLoaded, LentTape, ReturnedTape, ReturnsRead, ReturnsSettled, NoTape, grown_by, load_stop, stored_of};
+ghost use Rattle.kr_cmd_steps.specs.inner.Tapes.{HasOneMore, IsLoaded, IsWriteStop, LentTape, ReturnedTape, ReturnsRead, ReturnsSettled, NoTape, grown_by, load_stop, stored_of};
 
 use kr_base::{Bytes, Failed, STORE_LIMIT, Tape};
 use kr_cmd_messages::{Breach, Limit, Object, Refusal, Stop, visible};
@@ -64,7 +65,7 @@ pub fn return_tape<W: World, A>(world: &mut W, name: &str, tape: W::Tap, read: &
 {
     match read {
         Ok(_) => world.back_read(name, tape),
-        Err(_) => world.back_tape(name, tape),
+        Err(_) => close_tape(world, name, tape),
     }
 }
 
@@ -151,14 +152,7 @@ pub fn add_put<T: Tape>(
     store.known();
     match written {
         Ok(_revision) => Ok(()),
-        Err(PutNo::Failed) => Err(Stop::Fault(object, store.faults())),
-        Err(PutNo::Full { needed: _needed }) => Err(Stop::Refused(Refusal::Limit(Limit::Store))),
-        Err(
-            PutNo::Changed {
-                revision: _revision,
-            },
-        ) => unreachable!(),
-        Err(PutNo::NoMemory) => Err(Stop::NoMemory),
+        Err(why) => Err(write_stop(object, store.faults(), why)),
     }
 }
 
@@ -181,14 +175,22 @@ pub fn add_delete<T: Tape>(store: &mut Store<T>, object: Object, path: &str) -> 
     match written {
         Ok(Some(_revision)) => Ok(()),
         Ok(None) => unreachable!(),
-        Err(PutNo::Failed) => Err(Stop::Fault(object, store.faults())),
-        Err(PutNo::Full { needed: _length }) => Err(Stop::Refused(Refusal::Limit(Limit::Store))),
-        Err(
-            PutNo::Changed {
-                revision: _revision,
-            },
-        ) => unreachable!(),
-        Err(PutNo::NoMemory) => Err(Stop::NoMemory),
+        Err(why) => Err(write_stop(object, store.faults(), why)),
+    }
+}
+
+/// Why a store didn't write a row, as a command says it.
+pub fn write_stop(object: Object, faults: u64, why: PutNo) -> Stop
+    requires { (revision : ℕ) → why ≢ PutNo.Changed revision }
+    ensures { IsWriteStop object faults why result }
+{
+    match why {
+        PutNo::Failed => Stop::Fault(object, faults),
+        PutNo::Full { needed: _needed } => Stop::Refused(Refusal::Limit(Limit::Store)),
+        PutNo::Changed {
+            revision: _revision,
+        } => unreachable!(),
+        PutNo::NoMemory => Stop::NoMemory,
     }
 }
 

@@ -4,7 +4,6 @@ use Rattle.std.specs.Prelude.{IsSome, slice_get, if◌then◌else◌}
 use Rattle.std.specs.Option.{option_map}
 use Rattle.std.specs.Str.{bytes_eq}
 use Rattle.std.proofs.lemmas.List.{append_assoc}
-use Rattle.std.proofs.lemmas.List.Quantifiers.{position-Some}
 use Rattle.kr_config.specs.Kept.{ConfigEntry}
 use Rattle.kr_config.specs.declared.who.Who.{Who}
 use Rattle.kr_kms.proofs.Lent.{found_at, no_place}
@@ -24,10 +23,6 @@ pub reader_found : (list : List Who) (bytes : List ℕ) (place : ℕ) (who : Who
     → reader_place list bytes ≡ Some place → who ≡ get_or list place who
     → reader_in list bytes ≡ Some who
 reader_found list bytes place who e is = found_at (is_reader bytes) list place who e is
-
-pub reader_within : (list : List Who) (bytes : List ℕ) (place : ℕ) (who : Who)
-    → reader_place list bytes ≡ Some place → place < length list
-reader_within list bytes place who e = (position-Some (is_reader bytes) list place who e).0
 
 pub unread : (list : List Who) (bytes : List ℕ) → reader_place list bytes ≡ None
     → reader_in list bytes ≡ None

@@ -477,7 +477,3 @@ module _ {L D : Type 0} (link : L → Link) (left : D → Option (List ℕ))
             (completes_lacking p rows initial.cache row at next_row findings bench.cache c finding
             after.cache d))
             (so a) (found_so finding is (with_exchanges es a) fs one))))
-
-        pub names_back : names_of link after.links ≡ names_of link bench.links
-            → names_of link back ≡ names_of link initial.links
-        names_back names = ap (names_of link) links_are ∙ names ∙ so_far.names

@@ -15,7 +15,7 @@ ghost use Rattle.kr_cmd_steps.specs.inner.Tapes.{IsLookedUp};
 
 use kr_base::{Bytes, Shared, Tape, Text};
 use kr_cmd_messages::{Direction, Lookup, Object, Outcome, Refusal, Stop};
-use kr_cmd_steps::{Task, configure, load_store, make, open_tape, return_tape, settings_programs};
+use kr_cmd_steps::{Task, linked_settings, load_store, make, open_tape, return_tape};
 use kr_kms::{Access, World};
 use kr_store::{Row, Store};
 use std::alloc::Global;
@@ -30,12 +30,8 @@ pub fn get<W: World>(alloc: Global, words: &Lookup, world: &mut W) -> Result<Out
         (with_world (W.told world.old) a)
         (with_world (W.told world.new) (with_exchanges es a)) result) }
 {
-    let settings = match configure(alloc, world, words.config.as_str()) {
-        Ok(settings) => settings,
-        Err(stop) => return Err(stop),
-    };
-    let programs = match settings_programs(alloc, &words.options, &settings) {
-        Ok(programs) => programs,
+    let (settings, programs) = match linked_settings(alloc, world, &words.config, &words.options) {
+        Ok(read) => read,
         Err(stop) => return Err(stop),
     };
     let row = match find_row(alloc, world, &words.store, &words.path) {

@@ -22,12 +22,14 @@ ghost use Rattle.kr_cmd_steps.specs.inner.Tapes.{HasOneMore, grown_by, stored_of
 use crate::storing::{answer_once_added, store_check};
 use itoa::Buffer;
 use kr_base::{Bytes, Failed, NoMemory, Tape, Text};
-use kr_cmd_messages::{Limit, Migration, Object, Outcome, Refusal, Stop, add};
-use kr_cmd_steps::{add_delete, close_tape, configure, load_store, open_tape, settle_tape};
+use kr_cmd_messages::{Migration, Object, Outcome, Refusal, Stop, add};
+use kr_cmd_steps::{
+    add_delete, close_tape, configure, load_store, open_tape, settle_tape, write_stop,
+};
 use kr_config::{Settings, Who};
 use kr_kms::{Access, World};
 use kr_provider::find_reader;
-use kr_store::{Check, Format, PutNo, Row, RowRef, Store};
+use kr_store::{Check, Format, Row, RowRef, Store};
 use std::alloc::Global;
 
 /// Copies a store of the first format into a new one of the second.
@@ -294,14 +296,7 @@ fn add_row<T: Tape>(target: &mut Store<T>, row: &Row, check: Check) -> Result<()
     target.known();
     match written {
         Ok(_revision) => Ok(()),
-        Err(PutNo::Failed) => Err(Stop::Fault(Object::Target, target.faults())),
-        Err(PutNo::Full { needed: _needed }) => Err(Stop::Refused(Refusal::Limit(Limit::Store))),
-        Err(
-            PutNo::Changed {
-                revision: _revision,
-            },
-        ) => unreachable!(),
-        Err(PutNo::NoMemory) => Err(Stop::NoMemory),
+        Err(why) => Err(write_stop(Object::Target, target.faults(), why)),
     }
 }
 

@@ -1,5 +1,5 @@
 //! The configurations of several replicas, in their order.
-ghost use Rattle.std.specs.Prelude.{[], IfOk};
+ghost use Rattle.std.specs.Prelude.{◌≡◌, ◌++◌, ◌∷◌, [], IfOk, Some};
 ghost use Rattle.kr_words.specs.Grammar.{replicas_of};
 ghost use Rattle.kr_kms.specs.Outside.{KeepsObjects};
 ghost use Rattle.kr_cmd_steps.specs.Around.{Around, with_world};
@@ -9,7 +9,7 @@ ghost use Rattle.kr_cmd_steps.specs.inner.Lent.{Tapes, with_tapes};
 ghost use Rattle.kr_cmd_steps.specs.inner.Phases.{Does};
 ghost use Rattle.kr_cmd_store.specs.inner.Judging.{replica_rows, AreIn};
 
-use kr_base::{List, Shared};
+use kr_base::{List, NoMemory, Shared};
 use kr_cmd_messages::{Options, Stop};
 use kr_cmd_steps::load_settings;
 use kr_config::Settings;
@@ -38,14 +38,28 @@ pub fn load_replicas<W: World>(
             Ok(settings) => settings,
             Err(stop) => return Err(stop),
         };
-        let settings = match Shared::new(alloc, settings) {
-            Ok(settings) => settings,
-            Err(_) => return Err(Stop::NoMemory),
-        };
-        match replicas.push(Some(settings)) {
+        match add_replica(alloc, &mut replicas, settings) {
             Ok(()) => {}
-            Err(_) => return Err(Stop::NoMemory),
+            Err(NoMemory) => return Err(Stop::NoMemory),
         }
     }
     Ok(replicas)
+}
+
+/// Puts the settings of one more replica behind the others.
+fn add_replica(
+    alloc: Global,
+    replicas: &mut List<Option<Shared<Settings>>>,
+    settings: Settings,
+) -> Result<(), NoMemory>
+    ensures { IfOk result (λ done. replicas.new.0 ≡ replicas.old.0 ++ Some settings ∷ []) }
+{
+    let shared = match Shared::new(alloc, settings) {
+        Ok(shared) => shared,
+        Err(_) => return Err(NoMemory),
+    };
+    match replicas.push(Some(shared)) {
+        Ok(()) => Ok(()),
+        Err(_) => Err(NoMemory),
+    }
 }

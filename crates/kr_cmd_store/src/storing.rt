@@ -24,8 +24,7 @@ use itoa::Buffer;
 use kr_base::{Bytes, NoMemory, Source, Tape, Text};
 use kr_cmd_messages::{Conversion, Direction, Done, Object, Outcome, Stop, add};
 use kr_cmd_steps::{
-    Program, Task, add_put, configure, load_store, make, open_tape, settings_programs, settle_tape,
-    take_input,
+    Program, Task, add_put, linked_settings, load_store, make, open_tape, settle_tape, take_input,
 };
 use kr_config::{Settings, Who};
 use kr_kms::{Access, World};
@@ -50,12 +49,8 @@ pub fn put<W: World, I: Source>(
         (with_told_input (I.left input.new) (I.count input.new)
         (with_world (W.told world.new) (with_exchanges es a))) result) }
 {
-    let settings = match configure(alloc, world, words.config.as_str()) {
-        Ok(settings) => settings,
-        Err(stop) => return Err(stop),
-    };
-    let programs = match settings_programs(alloc, &words.options, &settings) {
-        Ok(programs) => programs,
+    let (settings, programs) = match linked_settings(alloc, world, &words.config, &words.options) {
+        Ok(read) => read,
         Err(stop) => return Err(stop),
     };
     let bytes = match take_input(alloc, input, Direction::Encrypt) {

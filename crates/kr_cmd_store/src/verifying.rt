@@ -15,7 +15,7 @@ ghost use Rattle.kr_cmd_store.specs.inner.Verifying.{IsWithin, ListsRows, rows_l
 use crate::reading::read_by_links;
 use kr_base::{List, Shared, Tape};
 use kr_cmd_messages::{Object, Outcome, Stop, Verification};
-use kr_cmd_steps::{configure, load_store, open_tape, return_tape, settings_programs};
+use kr_cmd_steps::{linked_settings, load_store, open_tape, return_tape};
 use kr_kms::{Access, World};
 use kr_store::{Row, Store};
 use std::alloc::Global;
@@ -29,12 +29,8 @@ pub fn verify<W: World>(alloc: Global, words: &Verification, world: &mut W) -> R
         (with_world (W.told world.old) a)
         (with_world (W.told world.new) (with_exchanges es a)) result) }
 {
-    let settings = match configure(alloc, world, words.config.as_str()) {
-        Ok(settings) => settings,
-        Err(stop) => return Err(stop),
-    };
-    let programs = match settings_programs(alloc, &words.options, &settings) {
-        Ok(programs) => programs,
+    let (settings, programs) = match linked_settings(alloc, world, &words.config, &words.options) {
+        Ok(read) => read,
         Err(stop) => return Err(stop),
     };
     let rows = match find_rows(alloc, world, words.store.as_str()) {

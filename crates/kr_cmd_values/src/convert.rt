@@ -10,7 +10,7 @@ ghost use Rattle.kr_cmd_steps.specs.inner.Phases.{Does};
 
 use kr_base::Source;
 use kr_cmd_messages::{Conversion, Outcome, Stop};
-use kr_cmd_steps::{Task, configure, make, settings_programs, take_input};
+use kr_cmd_steps::{Task, linked_settings, make, take_input};
 use kr_kms::World;
 use std::alloc::Global;
 
@@ -28,12 +28,8 @@ pub fn convert<W: World, I: Source>(
         (with_told_input (I.left input.new) (I.count input.new)
         (with_world (W.told world.new) (with_exchanges es a))) result) }
 {
-    let settings = match configure(alloc, world, words.config.as_str()) {
-        Ok(settings) => settings,
-        Err(stop) => return Err(stop),
-    };
-    let programs = match settings_programs(alloc, &words.options, &settings) {
-        Ok(programs) => programs,
+    let (settings, programs) = match linked_settings(alloc, world, &words.config, &words.options) {
+        Ok(read) => read,
         Err(stop) => return Err(stop),
     };
     let bytes = match take_input(alloc, input, words.direction) {

@@ -1,7 +1,7 @@
 -- The items of an opening's live rows are what is shown of the opening.
-use Rattle.std.proofs.Common.{◌≡◌, ◌≢◌, ℕ, zero, suc, ◌<◌, Bool, true, false, List, [], ◌∷◌, length, get_or, map, Option, None, Some, refl, sym, ◌∙◌, ap, subst, arith, Contains}
+use Rattle.std.proofs.Common.{◌≡◌, ℕ, zero, suc, ◌<◌, Bool, true, false, List, [], ◌∷◌, length, get_or, map, Option, None, Some, refl, sym, ◌∙◌, ap, subst, arith, Contains}
 use Rattle.std.specs.Prelude.{All, if◌then◌else◌}
-use Rattle.std.specs.List.{AllByRecursion, list_any}
+use Rattle.std.specs.List.{AllByRecursion}
 use Rattle.std.specs.Option.{option_and_then}
 use Rattle.std.specs.List.Sorted.{IsStrictlySortedBy}
 use Rattle.std.specs.Cmp.Lexicographic.{slice_cmp}
@@ -9,9 +9,8 @@ use Rattle.std.specs.Ordering.{nat_cmp}
 use Rattle.std.specs.Str.{bytes_eq}
 use Rattle.std.specs.declared.cmp.Ordering.TheVariants.{Less}
 use Rattle.std.proofs.lemmas.List.Elements.{All-head, All-tail}
-use Rattle.std.proofs.lemmas.Option.{none-some, same_Some}
+use Rattle.std.proofs.lemmas.Option.{same_Some}
 use Rattle.kr_config.specs.Lists.{list_of}
-use Rattle.kr_config.specs.Providers.{is_kms}
 use Rattle.kr_kms.specs.Exchanges.{AgreeAll, Exchange}
 use Rattle.kr_kms.specs.Opens.{OpenAll, Opens}
 use Rattle.kr_provider.specs.Publication.{Publication, list_at, names_plugin}
@@ -31,7 +30,6 @@ use Rattle.kr_watch.specs.Laws.{AreApart, AreLiveItems}
 use Rattle.kr_watch.specs.Shown.{AreInOrder, IsItemFor, IsShown, item_at, plain_at, plain_in}
 use Rattle.kr_watch.specs.declared.item.Item.{Item}
 use Rattle.kr_watch.proofs.Orders.{IsBelow, Rise, below_itself, equal_paths, path_cmp, rise, same_path}
-use Rattle.kr_cmd_fleet.specs.FirstItems.{item_with}
 use Rattle.kr_cmd_fleet.specs.inner.Readings.{AreFirstItems, AreReadOf, IsReadOf}
 
 -- ---- order
@@ -44,13 +42,12 @@ at_place P (x ∷ items) h (suc j) d below = at_place P items h.1 j d (omega (ar
 
 rise_apart : (items : List Item) → Rise items → AreApart items
 rise_apart [] r i j d before below = absurd (omega (arith, below))
-rise_apart (x ∷ items) r zero zero d before below = absurd (omega (arith, before))
 rise_apart (x ∷ items) r zero (suc j) d before below = λ same.
     let l = at_place (IsBelow x) items r.0 j d (omega (arith, below)) in
     below_itself x.path (subst (λ p. path_cmp x.path p ≡ Less) (sym same) l)
-rise_apart (x ∷ items) r (suc i) zero d before below = absurd (omega (arith, before))
 rise_apart (x ∷ items) r (suc i) (suc j) d before below =
     rise_apart items r.1 i j d (omega (arith, before)) (omega (arith, below))
+rise_apart (x ∷ items) r other zero d before below = absurd (omega (arith, before))
 
 -- ---- the items
 
@@ -61,24 +58,18 @@ module _ (es : List Exchange) (p : Publication) where
   paths_are : (listing : List Row) (items : List Item) → AreReadOf es p listing items
       → map (λ (row : Row). row.path) listing ≡ map (λ (item : Item). item.path) items
   paths_are [] [] r = refl
-  paths_are [] (item ∷ items) r = absurd r
-  paths_are (row ∷ listing) [] r = absurd r
   paths_are (row ∷ listing) (item ∷ items) r =
       let own : row.path ≡ item.path = sym (ap (λ (i : Item). i.path) r.0.item_is) in
       let others = paths_are listing items r.1 in
       λ i. own i ∷ others i
+  paths_are other another r = absurd r
 
   module _ (rows : List LogRow) where
-    Lives : Row → Type 0
-    Lives row = live rows row.path ≡ Some row
-
     -- where nothing lives there is no item
     none_at : (listing : List Row) (items : List Item) → AreReadOf es p listing items
         → All (λ row. live rows row.path ≡ Some row) listing → (path : List ℕ)
         → live rows path ≡ None → item_at items path ≡ None
     none_at [] [] r all path none = refl
-    none_at [] (item ∷ items) r all path none = absurd r
-    none_at (row ∷ listing) [] r all path none = absurd r
     none_at (row ∷ listing) (item ∷ items) r all path none =
         by (bytes_eq item.path path) refl
         (none_at listing items r.1
@@ -92,6 +83,7 @@ module _ (es : List Exchange) (p : Publication) where
             let lives = All-head (λ row. live rows row.path ≡ Some row) row listing all in
             let x : None ≡ Some row = sym none ∙ ap (live rows) (sym own) ∙ lives in cc)
         by false e again = again
+    none_at other another r all path none = absurd r
 
     -- the item of a row
     pub record HasItem (items : List Item) (row : Row) : Type 0 where

@@ -3,4 +3,4 @@ pub mod FirstShown
 pub mod PageTexts
 pub mod SeededItems
 pub mod WatchEnds
-pub mod WatchRuns
+pub mod WatchPages

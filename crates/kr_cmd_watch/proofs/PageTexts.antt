@@ -1,5 +1,5 @@
 -- Pages that are taken one after another, and their text.
-use Rattle.std.proofs.Common.{◌≡◌, ℕ, ◌+◌, ◌<◌, ◌≤◌, List, [], ◌∷◌, ◌++◌, length, take, get_or, codes, append-nil, append_assoc, length-append, Option, None, Some, refl, sym, ◌∙◌, ap, subst, arith}
+use Rattle.std.proofs.Common.{◌≡◌, ℕ, ◌+◌, ◌<◌, ◌≤◌, List, [], ◌∷◌, ◌++◌, length, take, get_or, codes, append-nil, append_assoc, length-append, None, Some, refl, sym, ◌∙◌, ap, subst, arith}
 use Rattle.std.specs.Prelude.{All, decimal}
 use Rattle.std.specs.List.{flat_map}
 use Rattle.std.proofs.lemmas.Grind.{flat_map-append}
@@ -13,7 +13,7 @@ use Rattle.kr_watch.specs.declared.item.Item.{Item}
 use Rattle.kr_watch.specs.declared.page.Listing.{Listing}
 use Rattle.kr_watch.proofs.Orders.{rise}
 use Rattle.kr_watch.proofs.PagesTaken.{PageCase, full, page_case, rest_behind, whole}
-use Rattle.kr_cmd_watch.specs.WatchTexts.{ShowsPages, end_line, item_line, line, page_text, pages_text}
+use Rattle.kr_cmd_watch.specs.WatchTexts.{ShowsPages, end_line, line, page_text, pages_text}
 
 -- ---- the lines of some things
 
@@ -68,73 +68,78 @@ pub record IsTaking (resource : List ℕ) (limit : ℕ) (items : List Item)
   pub each : All (λ (taken : Taken). (taken.items ≡ items) × (taken.limit ≡ limit)) pages
   pub text_is : text ≡ pages_text pages
 
-module _ (resource : List ℕ) (limit : ℕ) (items : List Item) (in_order : AreInOrder items)
-    (some : 1 ≤ limit) where
-  pub taking_none : (after text : List ℕ) → after ≡ [] → text ≡ []
-      → IsTaking resource limit items after text
-  taking_none after text first e = record {
-    pages = [];
-    onward = λ rest t. subst (λ a. AreTaken resource (Some a) rest) first t;
-    each = All-nil (IsOne limit items);
-    text_is = e;
+pub taking_none : (resource : List ℕ) (limit : ℕ) (items : List Item) (after text : List ℕ)
+    → after ≡ [] → text ≡ [] → IsTaking resource limit items after text
+taking_none resource limit items after text first e = record {
+  pages = [];
+  onward = λ rest t. subst (λ a. AreTaken resource (Some a) rest) first t;
+  each = All-nil (IsOne limit items);
+  text_is = e;
+}
+
+-- one more page was taken, and its text was added
+pub record TakesPage (resource : List ℕ) (limit : ℕ) (items : List Item)
+    (after text new : List ℕ) (page : Listing) : Type 0 where
+  pub in_order : AreInOrder items
+  pub some : 1 ≤ limit
+  pub so_far : IsTaking resource limit items after text
+  pub is : IsPage items resource after limit page
+  pub more : new ≡ text ++ page_text page.items.0
+
+module _ {resource : List ℕ} {limit : ℕ} {items : List Item} {after text new : List ℕ}
+    {page : Listing} (turn : TakesPage resource limit items after text new page) where
+  abbrev own : Taken
+  own = record { items = items; limit = limit; page = page }
+
+  every : All (IsOne limit items) (turn.so_far.pages ++ own ∷ [])
+  every = All-append (IsOne limit items) turn.so_far.pages (own ∷ []) turn.so_far.each
+      (All-cons (IsOne limit items) own [] (refl, refl) (All-nil (IsOne limit items)))
+
+  text_now : new ≡ pages_text (turn.so_far.pages ++ own ∷ [])
+  text_now = turn.more ∙ ap (λ t. t ++ page_text page.items.0) turn.so_far.text_is
+      ∙ ap (λ l. pages_text turn.so_far.pages ++ l) (sym (append-nil (page_text page.items.0)))
+      ∙ sym (flat_map-append (λ (taken : Taken). page_text taken.page.items.0) turn.so_far.pages
+      (own ∷ []))
+
+  pub taking_more : (path : List ℕ) → page.next ≡ Some path
+      → IsTaking resource limit items path new
+  taking_more path next = record {
+    pages = turn.so_far.pages ++ own ∷ [];
+    onward = λ rest t. subst (AreTaken resource (Some []))
+        (sym (append_assoc turn.so_far.pages (own ∷ []) rest))
+        (turn.so_far.onward (own ∷ rest)
+        (turn.in_order, turn.some, turn.is, subst (λ n. AreTaken resource n rest) (sym next) t));
+    each = every;
+    text_is = text_now;
   }
 
-  module _ (after text new : List ℕ) (page : Listing)
-      (so_far : IsTaking resource limit items after text)
-      (is : IsPage items resource after limit page)
-      (e : new ≡ text ++ page_text page.items.0) where
-    abbrev own : Taken
-    own = record { items = items; limit = limit; page = page }
+  pub taking_all : page.next ≡ None → (whole_text : List ℕ) → whole_text ≡ new ++ end_line
+      → ShowsPages resource limit items whole_text
+  taking_all last whole_text f = record {
+    pages = turn.so_far.pages ++ own ∷ [];
+    taken = turn.so_far.onward (own ∷ [])
+        (turn.in_order, turn.some, turn.is, subst (λ n. AreTaken resource n []) (sym last) tt);
+    each = every;
+    text_is = f ∙ ap (λ t. t ++ end_line) text_now;
+  }
 
-    every : All (IsOne limit items) (so_far.pages ++ own ∷ [])
-    every = All-append (IsOne limit items) so_far.pages (own ∷ []) so_far.each
-        (All-cons (IsOne limit items) own [] (refl, refl) (All-nil (IsOne limit items)))
-
-    text_now : new ≡ pages_text (so_far.pages ++ own ∷ [])
-    text_now = e ∙ ap (λ t. t ++ page_text page.items.0) so_far.text_is
-        ∙ ap (λ l. pages_text so_far.pages ++ l) (sym (append-nil (page_text page.items.0)))
-        ∙ sym (flat_map-append (λ (taken : Taken). page_text taken.page.items.0) so_far.pages
-        (own ∷ []))
-
-    pub taking_more : (path : List ℕ) → page.next ≡ Some path
-        → IsTaking resource limit items path new
-    taking_more path next = record {
-      pages = so_far.pages ++ own ∷ [];
-      onward = λ rest t. subst (AreTaken resource (Some []))
-          (sym (append_assoc so_far.pages (own ∷ []) rest))
-          (so_far.onward (own ∷ rest)
-          (in_order, some, is, subst (λ n. AreTaken resource n rest) (sym next) t));
-      each = every;
-      text_is = text_now;
-    }
-
-    pub taking_all : page.next ≡ None → (whole_text : List ℕ) → whole_text ≡ new ++ end_line
-        → ShowsPages resource limit items whole_text
-    taking_all last whole_text f = record {
-      pages = so_far.pages ++ own ∷ [];
-      taken = so_far.onward (own ∷ [])
-          (in_order, some, is, subst (λ n. AreTaken resource n []) (sym last) tt);
-      each = every;
-      text_is = f ∙ ap (λ t. t ++ end_line) text_now;
-    }
-
-    -- fewer items stand behind the next page's path
-    pub fewer : (path : List ℕ) → page.next ≡ Some path
-        → length (items_above items resource path) < length (items_above items resource after)
-    fewer path next = by (page_case limit (items_above items resource after) page some is)
-      where
-        by : PageCase limit (items_above items resource after) page
-            → length (items_above items resource path)
-            < length (items_above items resource after)
-        by (whole all none) = absurd (let x : None ≡ Some path = sym none ∙ next in cc)
-        by (full front x back parts size page_is own_next) =
-            let same : x.path ≡ path = same_Some x.path path (sym own_next ∙ next) in
-            let rest : items_above items resource path ≡ back =
-            ap (items_above items resource) (sym same)
-            ∙ rest_behind items resource after front x back (rise items in_order) parts in
-            omega (
-              arith,
-              ap length rest,
-              ap length parts,
-              length-append front (x ∷ back),
-            )
+  -- fewer items stand behind the next page's path
+  pub fewer : (path : List ℕ) → page.next ≡ Some path
+      → length (items_above items resource path) < length (items_above items resource after)
+  fewer path next = by (page_case limit (items_above items resource after) page turn.some turn.is)
+    where
+      by : PageCase limit (items_above items resource after) page
+          → length (items_above items resource path)
+          < length (items_above items resource after)
+      by (whole all none) = absurd (let x : None ≡ Some path = sym none ∙ next in cc)
+      by (full front x back parts size page_is own_next) =
+          let same : x.path ≡ path = same_Some x.path path (sym own_next ∙ next) in
+          let rest : items_above items resource path ≡ back =
+          ap (items_above items resource) (sym same)
+          ∙ rest_behind items resource after front x back (rise items turn.in_order) parts in
+          omega (
+            arith,
+            ap length rest,
+            ap length parts,
+            length-append front (x ∷ back),
+          )

@@ -1,6 +1,6 @@
 -- How a call ends that a watch was asked of, from its plan on.
-use Rattle.std.specs.Prelude.{◌⊎◌, IfSome, map}
-use Rattle.std.proofs.Common.{◌≡◌, ℕ, ◌<◌, ◌≤◌, true, false, List, [], ◌∷◌, length, get_or, Option, None, Some, Result, Ok, Err, refl, sym, ◌∙◌, ap, subst, inl, inr, arith}
+use Rattle.std.specs.Prelude.{IfSome, map}
+use Rattle.std.proofs.Common.{◌≡◌, ℕ, ◌<◌, true, false, List, [], length, get_or, Option, None, Some, Result, Ok, Err, refl, sym, ◌∙◌, ap, subst, inl, inr, arith}
 use Rattle.std.proofs.lemmas.List.Elements.{All-head}
 use Rattle.std.specs.Prelude.{All}
 use Rattle.kr_kms.specs.Calls.{Link}
@@ -15,11 +15,9 @@ use Rattle.kr_rollout.specs.declared.opening.Entry.{Entry}
 use Rattle.kr_rollout.specs.declared.opening.Opening.{Opening}
 use Rattle.kr_history.specs.Honesty.{SeedsOpen}
 use Rattle.kr_history.proofs.NoNames.{no_names_no_plugin}
-use Rattle.kr_watch.specs.Changes.{changes_above, changes_in, earlier_ones, revision_after}
+use Rattle.kr_watch.specs.Changes.{changes_in, earlier_ones, revision_after}
 use Rattle.kr_watch.specs.Laws.{AreLiveItems}
-use Rattle.kr_watch.specs.Shown.{IsShown, IsShownSince}
 use Rattle.kr_watch.specs.Watches.{Follows, WatchState, newest_of}
-use Rattle.kr_watch.specs.declared.item.Item.{Item}
 use Rattle.kr_watch.proofs.ChangeLaws.{newest_is_last, none_is_missing}
 use Rattle.kr_watch.proofs.ShownLaws.{shown_since_is_shown}
 use Rattle.kr_workers.specs.Endings.{gravest_ending}
@@ -27,26 +25,21 @@ use Rattle.kr_workers.specs.declared.ending.Ending.{Ending}
 use Rattle.kr_workers.specs.declared.worker.Worker as fleet_worker
 use Rattle.kr_cmd_messages.specs.Receipts.{Receipt}
 use Rattle.kr_cmd_messages.specs.declared.refusal.Stop.{Stop}
-use Rattle.kr_cmd_messages.specs.declared.refusal.Stop.TheVariants.{Words, Refused, Fault, NoMemory}
+use Rattle.kr_cmd_messages.specs.declared.refusal.Stop.TheVariants.{Fault, NoMemory}
 use Rattle.kr_cmd_messages.specs.declared.watch_words.WatchWords.{WatchWords}
 use Rattle.kr_cmd_steps.specs.Around.{Around, left_of}
 use Rattle.kr_cmd_steps.specs.Ran.{WroteNothing}
-use Rattle.kr_cmd_steps.specs.declared.programs.Program.{Program}
-use Rattle.kr_cmd_steps.specs.inner.Phases.{Does}
 use Rattle.kr_cmd_steps.specs.inner.ProgramNames.{names_in}
 use Rattle.kr_cmd_steps.specs.Steps.{hearing}
-use Rattle.kr_cmd_steps.proofs.Goes.{goes_on, home_trans, stays_refl, stops}
-use Rattle.kr_cmd_steps.proofs.Hearing.{heard_none}
-use Rattle.kr_cmd_fleet.specs.FleetFiles.{FleetPlan, planning}
-use Rattle.kr_cmd_fleet.specs.Fleets.{Begun, opening_of, over_store}
+use Rattle.kr_cmd_steps.proofs.Goes.{home_trans, stays_refl}
+use Rattle.kr_cmd_fleet.specs.FleetFiles.{FleetPlan}
+use Rattle.kr_cmd_fleet.specs.Fleets.{Begun, opening_of}
 use Rattle.kr_cmd_fleet.specs.declared.fleet.Record.{Record}
-use Rattle.kr_cmd_fleet.specs.inner.FleetOutcomes.{Beginning, LacksSettling, LacksWorkers, LeavesRecord}
 use Rattle.kr_cmd_fleet.specs.StartExchanges.{OpenBy, WereAsked}
 use Rattle.kr_cmd_fleet.specs.inner.Readings.{AreFirstItems}
-use Rattle.kr_cmd_fleet.specs.inner.Workings.{BeginsLent}
-use Rattle.kr_cmd_fleet.proofs.StartExchanges.{none_were}
+use Rattle.kr_cmd_fleet.proofs.CallEnds.{IsPlanned, Leaves, Stopped, by_plan, from_plan, leaves_so}
 use Rattle.kr_cmd_watch.specs.WatchTexts.{ahead_text, changes_text, gone_text}
-use Rattle.kr_cmd_watch.specs.Watchings.{AreShown, DidWatch, Shows, ShowsHistory, WritesWatch, keep, refused_at_least}
+use Rattle.kr_cmd_watch.specs.Watchings.{AreShown, DidWatch, Shows, ShowsHistory, WritesWatch, keep}
 use Rattle.kr_cmd_watch.specs.inner.Followings.{AreOf, AreOfOne, IsText, ShowsState}
 use Rattle.kr_cmd_watch.proofs.FirstShown.{first_agreed, first_bare, first_live}
 use Rattle.kr_cmd_watch.proofs.SeededItems.{legal_front}
@@ -119,218 +112,147 @@ writes_so P Q output (Ok told) h (text, is, written) = (text, h text told is, wr
 writes_so P Q output (Err (Fault object n)) h ((text, told, is, front), same, rose, now) =
     ((text, told, h text told is, front), same, rose, now)
 writes_so P Q output (Err NoMemory) h w = w
-writes_so P Q output (Err (Words why)) h w = absurd w
-writes_so P Q output (Err (Refused why)) h w = absurd w
+writes_so P Q output (Err other) h w = absurd w
 
 -- ---- the call
+
+-- it stopped
+pub watch_stopped : {T L D : Type 0} {link : L → Link} {step : L → Exchange → L → Type 0}
+    {lent took : ℕ → L → Type 0} {left : D → Option (List ℕ)} {count : D → ℕ}
+    {words : WatchWords} {old new : Around} {output : Receipt} {stop : Stop}
+    → Stopped T link step lent took left count words.fleet true old new output stop
+    → DidWatch T link step lent took left count words old new output (Err stop)
+watch_stopped s = record {
+  home = s.home;
+  exchanges = s.exchanges;
+  heard = s.heard;
+  asked = s.asked;
+  did = inl s.before;
+  came = s.came;
+}
 
 module _ (T : Type 0) {L D : Type 0} (link : L → Link)
     (step : L → Exchange → L → Type 0) (lent took : ℕ → L → Type 0)
     (left : D → Option (List ℕ)) (count : D → ℕ) (words : WatchWords) where
-  -- the plan wasn't made
-  pub watch_unplanned : (old new : Around) (file : List ℕ) → file ≡ words.fleet.file
-      → (stop : Stop) (output : Receipt)
-      → Does (planning file words.fleet.options) old new (Err stop) → WroteNothing output
-      → new.heard ≡ old.heard → new.world.links ≡ old.world.links
-      → DidWatch T link step lent took left count words old new output (Err stop)
-  watch_unplanned old new file is stop output d idle same links =
-      let all = stops (planning words.fleet.file words.fleet.options)
-      (over_store true words.fleet.store) stop
-      (subst (λ f. Does (planning f words.fleet.options) old new (Err stop)) is d) in
+  -- the workers ran, and left this record
+  pub record HasLeft (old new : Around) (exchanges : List Exchange) (ran : Record) : Type 0 where
+    pub plan : FleetPlan
+    pub now : Around
+    pub file : List ℕ
+    pub store : List ℕ
+    pub made : IsPlanned words.fleet plan old now file store
+    pub heard : new.heard ≡ hearing exchanges old.heard
+    pub asked : WereAsked link lent took step exchanges old.world new.world
+    pub leaves : Leaves T link step lent took left count true made new exchanges asked store ran
+
+module _ {T L D : Type 0} {link : L → Link} {step : L → Exchange → L → Type 0}
+    {lent took : ℕ → L → Type 0} {left : D → Option (List ℕ)} {count : D → ℕ}
+    {words : WatchWords} {old new : Around} {exchanges : List Exchange} {ran : Record}
+    (went : HasLeft T link step lent took left count words old new exchanges ran) where
+  l : Leaves T link step lent took left count true went.made new exchanges went.asked
+      words.fleet.store ran
+  l = leaves_so T link step lent took left count true went.made new exchanges went.asked ran
+      went.leaves
+
+  abbrev Opened : Opening
+  Opened = opening_of words.fleet.store l.begun l.mid
+
+  first : AreFirstItems exchanges Opened.rows Opened.replicas l.begun.items
+  first = subst (λ es. AreFirstItems es Opened.rows Opened.replicas l.begun.items) l.begins.1
+      (l.known refl)
+
+  opens : OpenBy exchanges Opened.replicas
+  opens = subst (λ es. OpenBy es Opened.replicas) l.begins.1 l.runs.made.opens
+
+  are_of : AreOf ran.start.items.0 ran.start.revision ran.lines.0 Opened l.history
+  are_of = record {
+    legal = l.runs.one.legal;
+    lines_are = l.lines;
+    revision_is = l.revision_is;
+    live = subst (AreLiveItems Opened) (sym l.items_are)
+        (first_live exchanges Opened l.begun.items first);
+  }
+
+  handed : (lines : List Line) → lines ≡ ran.lines.0
+      → AreOf ran.start.items.0 ran.start.revision lines Opened l.history
+  handed lines same = subst (λ ls. AreOf ran.start.items.0 ran.start.revision ls Opened
+      l.history) (sym same) are_of
+
+  pub are_of_one : (lines : List Line) → lines ≡ ran.lines.0
+      → AreOfOne ran.start.items.0 ran.start.revision lines
+  are_of_one lines same = (Opened, l.history, handed lines same)
+
+  ended_so : gravest_ending ran.replies.0
+      ≡ gravest_ending (map (λ (w : fleet_worker.Worker T L D). w.told) l.ended)
+  ended_so = ap gravest_ending l.replies
+
+  starts : (output : Receipt) (result : Result Ending Stop)
+      → WritesWatch (ShowsHistory words exchanges l.begun Opened l.history
+      (gravest_ending (map (λ (w : fleet_worker.Worker T L D). w.told) l.ended))) output result
+      → DidWatch T link step lent took left count words old new output result
+  starts output result w =
+      let all = from_plan T link step lent took left count true went.made new exchanges went.asked
+      l.does in
       record {
-        home = all.home;
-        exchanges = [];
-        heard = same ∙ sym (heard_none old.heard);
-        asked = none_were link lent took step links;
-        did = inl (inl (all.ends (left_of old) (stays_refl old)), idle);
-        came = refl;
-      }
-
-  module _ (plan : FleetPlan) (old now new : Around) (file : List ℕ)
-      (is : file ≡ words.fleet.file)
-      (planned : Does (planning file words.fleet.options) old now (Ok plan)) (store : List ℕ)
-      (is_store : store ≡ words.fleet.store) (exchanges : List Exchange)
-      (heard : new.heard ≡ hearing exchanges old.heard)
-      (asked : WereAsked link lent took step exchanges old.world new.world) where
-    abbrev Lent : Beginning T L D
-    Lent =
-        BeginsLent (hearing exchanges old.heard) exchanges step lent took asked.begun asked.back
-
-    d : Does (planning words.fleet.file words.fleet.options) old now (Ok plan)
-    d = subst (λ f. Does (planning f words.fleet.options) old now (Ok plan)) is planned
-
-    -- the steps behind it ended the command, or want of memory did
-    pub watch_stopped : (stop : Stop) (output : Receipt)
-        → ((asked.back ≡ asked.begun) × (Does (over_store true store plan) now new (Err stop)
-        ⊎ LacksWorkers T link step left count (over_store true store plan) store now new stop))
-        ⊎ LacksSettling T link step left count Lent (over_store true store plan) store now new
-        stop
-        → WroteNothing output
-        → DidWatch T link step lent took left count words old new output (Err stop)
-    watch_stopped stop output (inl (unasked, inl e)) idle =
-        let all = goes_on (planning words.fleet.file words.fleet.options)
-        (over_store true words.fleet.store) plan d
-        (subst (λ s. Does (over_store true s plan) now new (Err stop)) is_store e) in
-        record {
-          home = all.home;
-          exchanges = exchanges;
-          heard = heard;
-          asked = asked;
-          did = inl (inl (all.ends (left_of old) (stays_refl old)), idle);
-          came = unasked;
-        }
-    watch_stopped stop output (inl (unasked, inr lacking)) idle =
-        let l = subst (λ s. LacksWorkers T link step left count (over_store true s plan) s now
-        new
-        stop) is_store lacking in
-        let all = goes_on (planning words.fleet.file words.fleet.options)
-        (over_store true words.fleet.store) plan d l.does in
-        record {
-          home = home_trans d.home l.home;
-          exchanges = exchanges;
-          heard = heard;
-          asked = asked;
-          did = inl (
-            inr (inl (
-              l.stops,
-              (l.mid, l.begun, all.ends (left_of old) (stays_refl old), l.none, all.home),
-            )),
-            idle,
-          );
-          came = unasked;
-        }
-    watch_stopped stop output (inr lacking) idle =
-        let l = subst (λ s. LacksSettling T link step left count Lent (over_store true s plan) s
-        now new
-        stop) is_store lacking in
-        let all = goes_on (planning words.fleet.file words.fleet.options)
-        (over_store true words.fleet.store) plan d l.does in
-        record {
-          home = home_trans d.home l.home;
-          exchanges = exchanges;
-          heard = heard;
-          asked = asked;
-          did = inl (
-            inr (inr (
-              l.mid,
-              l.begun,
-              all.ends (left_of old) (stays_refl old),
-              l.fails,
-              all.home,
-            )),
-            idle,
-          );
-          came = (l.begins.3, l.begins.4, l.begins.1);
-        }
-
-    -- the workers ran, and left this record
-    module _ (made : Record) (left_so : LeavesRecord T link step left count Lent true true
-        (over_store true store plan) store plan now new made) where
-      l : LeavesRecord T link step left count Lent true true
-          (over_store true words.fleet.store plan)
-          words.fleet.store plan now new made
-      l = subst (λ s. LeavesRecord T link step left count Lent true true
-          (over_store true s plan) s
-          plan
-          now new made) is_store left_so
-
-      abbrev Opened : Opening
-      Opened = opening_of words.fleet.store l.begun l.mid
-
-      first : AreFirstItems exchanges Opened.rows Opened.replicas l.begun.items
-      first = subst (λ es. AreFirstItems es Opened.rows Opened.replicas l.begun.items) l.begins.1
-          (l.known refl)
-
-      opens : OpenBy exchanges Opened.replicas
-      opens = subst (λ es. OpenBy es Opened.replicas) l.begins.1 l.runs.made.opens
-
-      are_of : AreOf made.start.items.0 made.start.revision made.lines.0 Opened l.history
-      are_of = record {
-        legal = l.runs.one.legal;
-        lines_are = l.lines;
-        revision_is = l.revision_is;
-        live = subst (AreLiveItems Opened) (sym l.items_are)
-            (first_live exchanges Opened l.begun.items first);
-      }
-
-      handed : (lines : List Line) → lines ≡ made.lines.0
-          → AreOf made.start.items.0 made.start.revision lines Opened l.history
-      handed lines same = subst (λ ls. AreOf made.start.items.0 made.start.revision ls Opened
-          l.history) (sym same) are_of
-
-      pub are_of_one : (lines : List Line) → lines ≡ made.lines.0
-          → AreOfOne made.start.items.0 made.start.revision lines
-      are_of_one lines same = (Opened, l.history, handed lines same)
-
-      ended_so : gravest_ending made.replies.0
-          ≡ gravest_ending (map (λ (w : fleet_worker.Worker T L D). w.told) l.ended)
-      ended_so = ap gravest_ending l.replies
-
-      starts : (output : Receipt) (result : Result Ending Stop)
-          → WritesWatch (ShowsHistory words exchanges l.begun Opened l.history
-          (gravest_ending (map (λ (w : fleet_worker.Worker T L D). w.told) l.ended))) output result
-          → DidWatch T link step lent took left count words old new output result
-      starts output result w =
-          let all = goes_on (planning words.fleet.file words.fleet.options)
-          (over_store true words.fleet.store) plan d l.does in
+        home = home_trans
+            (by_plan T link step lent took left count true went.made new exchanges went.asked).home
+            l.home;
+        exchanges = exchanges;
+        heard = went.heard;
+        asked = went.asked;
+        did = inr (
           record {
-            home = home_trans d.home l.home;
+            begun = l.begun;
+            mid = l.mid;
+            reaches = all.ends (left_of old) (stays_refl old);
+            since = all.home;
             exchanges = exchanges;
-            heard = heard;
-            asked = asked;
-            did = inr (
-              record {
-                begun = l.begun;
-                mid = l.mid;
-                reaches = all.ends (left_of old) (stays_refl old);
-                since = all.home;
-                exchanges = exchanges;
-                heard = l.begins.0;
-                history = l.history;
-                ended = l.ended;
-                runs = l.runs;
-                writes = w;
-                began = l.begins.2;
-                made = l.begins.1;
-              },
-              refl,
-            );
-            came = (l.begins.3, l.begins.4);
-          }
+            heard = l.begins.0;
+            history = l.history;
+            ended = l.ended;
+            runs = l.runs;
+            writes = w;
+            began = l.begins.2;
+            made = l.begins.1;
+          },
+          refl,
+        );
+        came = (l.begins.3, l.begins.4);
+      }
 
-      -- and memory lacked for what is shown
-      pub watch_lacks : (output : Receipt) → WroteNothing output
-          → DidWatch T link step lent took left count words old new output (Err NoMemory)
-      watch_lacks output idle = starts output (Err NoMemory) idle
+  -- and memory lacked for what is shown
+  pub watch_lacks : {output : Receipt} → WroteNothing output
+      → DidWatch T link step lent took left count words old new output (Err NoMemory)
+  watch_lacks {output} idle = starts output (Err NoMemory) idle
 
-      -- and what a watch showed was written
-      pub watch_wrote : (lines : List Line) → lines ≡ made.lines.0 → (watch : WatchState)
-          → watch.keep ≡ keep → ((o : Opening) (history : List Entry)
-          → AreOf made.start.items.0 made.start.revision lines o history
-          → Follows made.start.items.0 o history watch) → (ended : Ending)
-          → ended ≡ gravest_ending made.replies.0 → (text : List ℕ) (told : Ending)
-          → ShowsState words.since words watch ended text told → (output : Receipt)
-          (result : Result Ending Stop) → WritesWatch (IsText text told) output result
-          → DidWatch T link step lent took left count words old new output result
-      watch_wrote lines same watch kept follows ended end text told shows output result w =
-          let f = subst (λ items. Follows items Opened l.history watch) l.items_are
-          (follows Opened l.history (handed lines same)) in
-          let legal = l.runs.one.legal in
-          let has : ShowsHistory words exchanges l.begun Opened l.history
-          (gravest_ending (map (λ (x : fleet_worker.Worker T L D). x.told) l.ended)) text told = (
-            watch.items,
-            are_shown l.begun Opened l.history legal watch f exchanges first opens
-                (λ none. ap names_in none),
-            shows_so l.begun Opened l.history legal watch f kept words.since words
-                (gravest_ending (map (λ (x : fleet_worker.Worker T L D). x.told) l.ended)) text told
-                (subst (λ e. ShowsState words.since words watch e text told)
-                (end ∙ ended_so) shows),
-          ) in
-          starts output result (writes_so (IsText text told)
-          (ShowsHistory words exchanges l.begun Opened l.history
-          (gravest_ending (map (λ (x : fleet_worker.Worker T L D). x.told) l.ended))) output result
-          (λ other end_of same. subst (λ x. ShowsHistory words exchanges l.begun Opened l.history
-          (gravest_ending (map (λ (y : fleet_worker.Worker T L D). y.told) l.ended)) x end_of)
-          (sym same.0) (subst (λ x. ShowsHistory words exchanges l.begun Opened l.history
-          (gravest_ending (map (λ (y : fleet_worker.Worker T L D). y.told) l.ended)) text x)
-          (sym same.1) has)) w)
+  -- and what a watch showed was written
+  pub watch_wrote : (lines : List Line) → lines ≡ ran.lines.0 → (watch : WatchState)
+      → watch.keep ≡ keep → ((o : Opening) (history : List Entry)
+      → AreOf ran.start.items.0 ran.start.revision lines o history
+      → Follows ran.start.items.0 o history watch) → (ended : Ending)
+      → ended ≡ gravest_ending ran.replies.0 → (text : List ℕ) (told : Ending)
+      → ShowsState words.since words watch ended text told → {output : Receipt}
+      {result : Result Ending Stop} → WritesWatch (IsText text told) output result
+      → DidWatch T link step lent took left count words old new output result
+  watch_wrote lines same watch kept follows ended end text told shows {output} {result} w =
+      let f = subst (λ items. Follows items Opened l.history watch) l.items_are
+      (follows Opened l.history (handed lines same)) in
+      let legal = l.runs.one.legal in
+      let has : ShowsHistory words exchanges l.begun Opened l.history
+      (gravest_ending (map (λ (x : fleet_worker.Worker T L D). x.told) l.ended)) text told = (
+        watch.items,
+        are_shown l.begun Opened l.history legal watch f exchanges first opens
+            (λ none. ap names_in none),
+        shows_so l.begun Opened l.history legal watch f kept words.since words
+            (gravest_ending (map (λ (x : fleet_worker.Worker T L D). x.told) l.ended)) text told
+            (subst (λ e. ShowsState words.since words watch e text told)
+            (end ∙ ended_so) shows),
+      ) in
+      starts output result (writes_so (IsText text told)
+      (ShowsHistory words exchanges l.begun Opened l.history
+      (gravest_ending (map (λ (x : fleet_worker.Worker T L D). x.told) l.ended))) output result
+      (λ other end_of same. subst (λ x. ShowsHistory words exchanges l.begun Opened l.history
+      (gravest_ending (map (λ (y : fleet_worker.Worker T L D). y.told) l.ended)) x end_of)
+      (sym same.0) (subst (λ x. ShowsHistory words exchanges l.begun Opened l.history
+      (gravest_ending (map (λ (y : fleet_worker.Worker T L D). y.told) l.ended)) text x)
+      (sym same.1) has)) w)

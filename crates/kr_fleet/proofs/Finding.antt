@@ -6,6 +6,7 @@ use Rattle.kr_base.specs.Lines.{of_seat}
 use Rattle.kr_config.specs.Lists.{list_of}
 use Rattle.kr_kms.specs.Calls.{Link}
 use Rattle.kr_kms.specs.Opens.{Opens}
+use Rattle.kr_provider.specs.BenchState.{BenchState}
 use Rattle.kr_provider.specs.Publication.{Publication, list_at}
 use Rattle.kr_provider.specs.Reading.{Reading, data_of, refused, HasReading, HasSomeReading}
 use Rattle.kr_provider.specs.Unsealing.{UnsealsBy}
@@ -24,10 +25,12 @@ use Rattle.kr_history.specs.Contents.{IsContent}
 use Rattle.kr_rollout.specs.Entries.{seat_of}
 use Rattle.kr_rollout.specs.Histories.{state_of}
 use Rattle.kr_history.specs.Honesty.{IsHonest, IsHonestAt, SeedsOpen}
+use Rattle.kr_history.specs.TakingUp.{HasTakenUp}
 use Rattle.kr_rollout.specs.States.{IsLive}
 use Rattle.kr_history.proofs.FoundRows.{absent_is_nothing, found_reads}
 use Rattle.kr_history.proofs.HeldFacts.{held_is_named, held_opens}
 use Rattle.kr_history.proofs.HonestPaths.{honest_at_each}
+use Rattle.kr_history.proofs.Meanwhile.{held_meanwhile, of_taken}
 use Rattle.kr_history.proofs.Judging.{holding_is_live}
 use Rattle.kr_history.proofs.NeedsLive.{live_is_readable}
 use Rattle.kr_history.proofs.WithoutPlugin.{honest_without_plugin}
@@ -228,25 +231,15 @@ module _ {L : Type 0} (link : L → Link) (path : List ℕ) (old new : Caller)
       })))
 
 -- the stages of a call, one behind another
-pub reads_held : {L : Type 0} (link : L → Link) (path copy : List ℕ) (replica : ℕ)
-    (old adopted acted new : Caller) (olds lent news : List L) (held : ℕ × Publication)
-    (published : Option Publication) (done result : Result Read CallNo)
-    → copy ≡ path → lent ≡ olds → published ≡ Some held.1
-    → AddsEntry old (event.Adopt replica) (answer.Adopted held.0 held.1) adopted
-    → IfSome published (λ p. Finds link copy p adopted lent done acted news)
+pub reads_held : {L D : Type 0} {replica : ℕ} {old adopted : Caller} {before taken : BenchState L D}
+    (t : HasTakenUp replica old before adopted taken) (link : L → Link) (path copy : List ℕ)
+    (acted new : Caller) (news : List L) (done result : Result Read CallNo) → copy ≡ path
+    → IfSome taken.published (λ p. Finds link copy p adopted taken.links done acted news)
     → LetsGo acted done result new
-    → IsRead link path replica old olds result new news
-reads_held link path copy replica old adopted acted new olds lent news held published done
-    result own same is a f g =
-    inr (record {
-      number = held.0;
-      p = held.1;
-      adopted = adopted;
-      done = done;
-      acted = acted;
-      adopts = a;
-      does = subst (λ l. Finds link path held.1 adopted l done acted news) same
-          (subst (λ q. Finds link q held.1 adopted lent done acted news) own
-          (subst (λ o. IfSome o (λ p. Finds link copy p adopted lent done acted news)) is f));
-      lets_go = g;
-    })
+    → IsRead link path replica old taken.links result new news
+reads_held {L} {D} {replica} {old} {adopted} {before} {taken} t link path copy acted new news done
+    result own f g =
+    inr (held_meanwhile (λ number p from done to. Finds link path p from taken.links done to news)
+    replica (t.number, t.p) old adopted acted new done result t.adopts
+    (subst (λ q. Finds link q t.p adopted taken.links done acted news) own
+    (of_taken t (λ p. Finds link copy p adopted taken.links done acted news) f)) g)

@@ -1,17 +1,18 @@
 -- What `write` seals and puts.
 use Rattle.std.proofs.Common.{◌≡◌, inl, inr, ℕ, List, Option, None, Some, Result, Ok, Err, refl, sym, subst}
 use Rattle.std.specs.Prelude.{IfSome}
+use Rattle.kr_provider.specs.BenchState.{BenchState}
 use Rattle.kr_provider.specs.Publication.{Publication, writer_at}
 use Rattle.kr_provider.specs.Sealing.{Seals, IsSealing}
 use Rattle.kr_provider.specs.declared.refusal.SealNo.{SealNo}
 use Rattle.kr_provider.specs.declared.refusal.SealNo.TheVariants as sealing
-use Rattle.kr_rollout.specs.declared.answer.Answer.TheVariants as answer
-use Rattle.kr_rollout.specs.declared.event.Event.TheVariants as event
-use Rattle.kr_history.specs.Acting.{Caller, AddsEntry}
+use Rattle.kr_history.specs.Acting.{Caller}
 use Rattle.kr_history.specs.declared.call.CallNo.{CallNo}
 use Rattle.kr_history.specs.declared.call.CallNo.TheVariants as refusal
 use Rattle.kr_history.specs.Asking.{AsksPut}
 use Rattle.kr_history.specs.Calls.{LetsGo}
+use Rattle.kr_history.specs.TakingUp.{HasTakenUp}
+use Rattle.kr_history.proofs.Meanwhile.{held_meanwhile, of_taken}
 use Rattle.kr_fleet.specs.WriteCalls.{IsWrite, Puts}
 use Rattle.kr_fleet.specs.inner.Stages.{seal_refusal}
 
@@ -44,32 +45,24 @@ module _ {D : Type 0} (left : D → Option (List ℕ)) (count : D → ℕ)
   put_refused sealing.NoMemory s same = inl (s, same)
 
 -- the stages of a call, one behind another
-pub writes_held : {D : Type 0} (left : D → Option (List ℕ)) (count : D → ℕ)
-    (resource path own_resource own_path plain : List ℕ) (replica : ℕ)
-    (old adopted acted new : Caller) (dice lent after : D) (held : ℕ × Publication)
-    (published : Option Publication) (done result : Result ℕ CallNo)
-    → own_resource ≡ resource → own_path ≡ path → lent ≡ dice → published ≡ Some held.1
-    → AddsEntry old (event.Adopt replica) (answer.Adopted held.0 held.1) adopted
-    → IfSome published (λ p. Puts left count own_resource own_path plain p adopted lent done acted
-    after)
+pub writes_held : {L D : Type 0} {replica : ℕ} {old adopted : Caller}
+    {before taken : BenchState L D} (t : HasTakenUp replica old before adopted taken)
+    (left : D → Option (List ℕ)) (count : D → ℕ)
+    (resource path own_resource own_path plain : List ℕ) (acted new : Caller) (after : D)
+    (done result : Result ℕ CallNo) → own_resource ≡ resource → own_path ≡ path
+    → IfSome taken.published (λ p. Puts left count own_resource own_path plain p adopted taken.dice
+    done acted after)
     → LetsGo acted done result new
-    → IsWrite left count resource path plain replica old dice result new after
-writes_held left count resource path own_resource own_path plain replica old adopted acted new dice
-    lent after held published done result r_is p_is same is a f g =
-    inr (record {
-      number = held.0;
-      p = held.1;
-      adopted = adopted;
-      done = done;
-      acted = acted;
-      adopts = a;
-      does = subst (λ d. Puts left count resource path plain held.1 adopted d done acted after)
-          same (subst (λ q. Puts left count resource q plain held.1 adopted lent done acted after)
-          p_is (subst (λ q. Puts left count q own_path plain held.1 adopted lent done acted after)
-          r_is (subst (λ o. IfSome o (λ p. Puts left count own_resource own_path plain p adopted
-          lent done acted after)) is f)));
-      lets_go = g;
-    })
+    → IsWrite left count resource path plain replica old taken.dice result new after
+writes_held {L} {D} {replica} {old} {adopted} {before} {taken} t left count resource path
+    own_resource own_path plain acted new after done result r_is p_is f g =
+    inr (held_meanwhile
+    (λ number p from done to. Puts left count resource path plain p from taken.dice done to after)
+    replica (t.number, t.p) old adopted acted new done result t.adopts
+    (subst (λ q. Puts left count resource q plain t.p adopted taken.dice done acted after) p_is
+    (subst (λ q. Puts left count q own_path plain t.p adopted taken.dice done acted after) r_is
+    (of_taken t
+    (λ p. Puts left count own_resource own_path plain p adopted taken.dice done acted after) f))) g)
 
 -- by the configuration that the bench adopted
 pub put_stays : {D : Type 0} (left : D → Option (List ℕ)) (count : D → ℕ)

@@ -1,7 +1,8 @@
 -- Between its Adopt and its LetGo a call neither adopts nor lets go.
-use Rattle.std.proofs.Common.{◌≡◌, inl, inr, ℕ, List, Option, Some, Result, Ok, Err, subst}
+use Rattle.std.proofs.Common.{inl, inr, ℕ, List, Option, Result, Ok, Err}
 use Rattle.std.specs.Prelude.{IfSome}
 use Rattle.kr_kms.specs.Calls.{Link}
+use Rattle.kr_provider.specs.BenchState.{BenchState}
 use Rattle.kr_provider.specs.Publication.{Publication}
 use Rattle.kr_provider.specs.declared.refusal.Opened.{Opened}
 use Rattle.kr_provider.specs.declared.refusal.UnsealNo.{UnsealNo}
@@ -12,9 +13,11 @@ use Rattle.kr_rollout.specs.declared.answer.Answer.TheVariants as answer
 use Rattle.kr_rollout.specs.declared.event.Event.TheVariants as event
 use Rattle.kr_history.specs.Acting.{Caller}
 use Rattle.kr_history.specs.CallerLaws.{LeavesHolding}
+use Rattle.kr_history.specs.TakingUp.{HasTakenUp}
 use Rattle.kr_history.specs.declared.call.CallNo.{CallNo}
 use Rattle.kr_history.specs.declared.call.CallNo.TheVariants as refusal
 use Rattle.kr_history.proofs.KeyMoments.{AddsQuietly, quiet_none, quiet_one}
+use Rattle.kr_history.proofs.Meanwhile.{of_taken}
 use Rattle.kr_fleet.specs.ReadCalls.{Finds, FindsRow}
 use Rattle.kr_fleet.specs.WriteCalls.{Puts, PutsSealed}
 use Rattle.kr_fleet.specs.declared.outcome.Read.{Read}
@@ -41,15 +44,15 @@ module _ {L : Type 0} (link : L → Link) (path : List ℕ) (p : Publication)
   finds (Err refusal.Spent) f = quiet_none old new f.0.same
   finds (Err other) f = absurd f
 
--- by the configuration that the bench has
-pub finds_quietly : {L : Type 0} (link : L → Link) (path : List ℕ)
-    (published : Option Publication) (p : Publication) (old new : Caller) (olds news : List L)
-    (result : Result Read CallNo) → published ≡ Some p
-    → IfSome published (λ p. Finds link path p old olds result new news)
-    → AddsQuietly old new
-finds_quietly link path published p old new olds news result is f =
-    finds link path p old new olds news result
-    (subst (λ o. IfSome o (λ p. Finds link path p old olds result new news)) is f)
+-- by the configuration that the bench took up
+pub finds_quietly : {L D : Type 0} {replica : ℕ} {old adopted : Caller}
+    {before taken : BenchState L D} (t : HasTakenUp replica old before adopted taken)
+    (link : L → Link) (path : List ℕ) (new : Caller) (news : List L) (result : Result Read CallNo)
+    → IfSome taken.published (λ p. Finds link path p adopted taken.links result new news)
+    → AddsQuietly adopted new
+finds_quietly {L} {D} {replica} {old} {adopted} {before} {taken} t link path new news result f =
+    finds link path t.p adopted new taken.links news result
+    (of_taken t (λ p. Finds link path p adopted taken.links result new news) f)
 
 -- ---- a Put
 
@@ -73,13 +76,15 @@ module _ {D : Type 0} (left : D → Option (List ℕ)) (count : D → ℕ)
   puts (Err refusal.NoMemory) (inr f) = puts_sealed answer.NoMemory tt f
   puts (Err why) f = absurd f
 
--- by the configuration that the bench has
-pub puts_quietly : {D : Type 0} (left : D → Option (List ℕ)) (count : D → ℕ)
-    (resource path plain : List ℕ) (published : Option Publication) (p : Publication)
-    (old new : Caller) (dice after : D) (result : Result ℕ CallNo) → published ≡ Some p
-    → IfSome published (λ p. Puts left count resource path plain p old dice result new after)
-    → AddsQuietly old new
-puts_quietly left count resource path plain published p old new dice after result is f =
-    puts left count resource path plain p old new dice after result
-    (subst (λ o. IfSome o (λ p. Puts left count resource path plain p old dice result new after))
-    is f)
+-- by the configuration that the bench took up
+pub puts_quietly : {L D : Type 0} {replica : ℕ} {old adopted : Caller}
+    {before taken : BenchState L D} (t : HasTakenUp replica old before adopted taken)
+    (left : D → Option (List ℕ)) (count : D → ℕ) (resource path plain : List ℕ) (new : Caller)
+    (after : D) (result : Result ℕ CallNo)
+    → IfSome taken.published (λ p. Puts left count resource path plain p adopted taken.dice result
+    new after)
+    → AddsQuietly adopted new
+puts_quietly {L} {D} {replica} {old} {adopted} {before} {taken} t left count resource path plain
+    new after result f =
+    puts left count resource path plain t.p adopted new taken.dice after result (of_taken t
+    (λ p. Puts left count resource path plain p adopted taken.dice result new after) f)

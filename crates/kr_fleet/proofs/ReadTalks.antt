@@ -5,6 +5,7 @@ use Rattle.kr_base.specs.Walks.{Talk}
 use Rattle.kr_base.proofs.Walks.{talk_none, talk_so}
 use Rattle.kr_kms.specs.Cache.{CacheState}
 use Rattle.kr_kms.specs.Exchanges.{Exchange}
+use Rattle.kr_provider.specs.BenchState.{BenchState}
 use Rattle.kr_provider.specs.Exchanges.{ReadsBy}
 use Rattle.kr_provider.specs.Publication.{Publication, list_at}
 use Rattle.kr_provider.specs.declared.refusal.Opened.{Opened}
@@ -16,7 +17,9 @@ use Rattle.kr_history.specs.Acting.{Caller, AddsEntry, IsCaller}
 use Rattle.kr_history.specs.Asking.{AsksFetch}
 use Rattle.kr_history.specs.Calls.{HoldsAdopted, LetsGo}
 use Rattle.kr_history.specs.declared.call.CallNo.{CallNo}
+use Rattle.kr_history.specs.TakingUp.{HasTakenUp}
 use Rattle.kr_history.proofs.HeldFacts.{held_is_named}
+use Rattle.kr_history.proofs.Meanwhile.{held_meanwhile, of_taken}
 use Rattle.kr_fleet.specs.CallExchanges.{AsksNone, FindsBy, FindsRowBy, IsReadBy}
 use Rattle.kr_fleet.specs.declared.outcome.Read.{Read}
 use Rattle.kr_fleet.specs.declared.outcome.Read.TheVariants.{Absent}
@@ -78,30 +81,22 @@ module _ {S : Type 0} (step : S → Exchange → S → Type 0) (path : List ℕ)
       }))))
 
 -- the stages of a call, one behind another
-pub read_talk : {S : Type 0} (step : S → Exchange → S → Type 0) (path copy : List ℕ) (replica : ℕ)
-    (old adopted acted new : Caller) (links lent news : S) (cache kept after : CacheState)
-    (held : ℕ × Publication) (published : Option Publication) (done result : Result Read CallNo)
-    → copy ≡ path → lent ≡ links → kept ≡ cache → published ≡ Some held.1
-    → AddsEntry old (event.Adopt replica) (answer.Adopted held.0 held.1) adopted
-    → IfSome published (λ p. Talk step lent news (FindsBy copy p adopted kept done acted after))
+pub read_talk : {L D : Type 0} {replica : ℕ} {old adopted : Caller} {before taken : BenchState L D}
+    (t : HasTakenUp replica old before adopted taken) (step : List L → Exchange → List L → Type 0)
+    (path copy : List ℕ) (acted new : Caller) (worked : BenchState L D)
+    (done result : Result Read CallNo) → copy ≡ path
+    → IfSome taken.published (λ p. Talk step taken.links worked.links
+    (FindsBy copy p adopted taken.cache done acted worked.cache))
     → LetsGo acted done result new
-    → Talk step links news (IsReadBy path replica old cache result new after)
-read_talk step path copy replica old adopted acted new links lent news cache kept after held
-    published done result own same still is a f g =
-    let t : Talk step links news (FindsBy path held.1 adopted cache done acted after) =
-    subst (λ c. Talk step links news (FindsBy path held.1 adopted c done acted after)) still
-    (subst (λ l. Talk step l news (FindsBy path held.1 adopted kept done acted after)) same
-    (subst (λ q. Talk step lent news (FindsBy q held.1 adopted kept done acted after)) own
-    (subst (λ o. IfSome o (λ p. Talk step lent news (FindsBy copy p adopted kept done acted after)))
-    is f))) in
-    talk_so step (FindsBy path held.1 adopted cache done acted after)
-    (IsReadBy path replica old cache result new after) links news t (λ es does. inr (record {
-      number = held.0;
-      p = held.1;
-      adopted = adopted;
-      done = done;
-      acted = acted;
-      adopts = a;
-      does = does;
-      lets_go = g;
-    }))
+    → Talk step taken.links worked.links
+    (IsReadBy path replica old taken.cache result new worked.cache)
+read_talk {L} {D} {replica} {old} {adopted} {before} {taken} t step path copy acted new worked done
+    result own f g =
+    talk_so step (FindsBy copy t.p adopted taken.cache done acted worked.cache)
+    (IsReadBy path replica old taken.cache result new worked.cache) taken.links worked.links
+    (of_taken t (λ p. Talk step taken.links worked.links
+    (FindsBy copy p adopted taken.cache done acted worked.cache)) f)
+    (λ es does. inr (held_meanwhile
+    (λ number p from done to. FindsBy path p from taken.cache done to worked.cache es)
+    replica (t.number, t.p) old adopted acted new done result t.adopts
+    (subst (λ q. FindsBy q t.p adopted taken.cache done acted worked.cache es) own does) g))

@@ -19,6 +19,7 @@ use Rattle.kr_history.specs.Acting.{Caller, AddsEntry}
 use Rattle.kr_history.specs.Calls.{LetsGo}
 use Rattle.kr_history.specs.declared.call.CallNo.{CallNo}
 use Rattle.kr_history.specs.declared.call.CallNo.TheVariants as refusal
+use Rattle.kr_history.proofs.Meanwhile.{held_meanwhile}
 use Rattle.kr_fleet.specs.CallExchanges.{ComparesKeysBy, IsRefreshBy, RefreshesBy, all_same, changed, told_none, went_on}
 use Rattle.kr_fleet.specs.CallForms.{publish_refusal}
 use Rattle.kr_fleet.specs.declared.outcome.Loaded.{Loaded}
@@ -197,14 +198,8 @@ refresh_talk step left count replica old adopted acted new links news dice after
     result same a t g =
     talk_so step (RefreshesBy left count replica held.0 lent adopted dice done acted after)
     (IsRefreshBy left count replica old dice result new after) links news t
-    (λ es does. inr (record {
-      number = held.0;
-      p = held.1;
-      adopted = adopted;
-      done = done;
-      acted = acted;
-      adopts = a;
-      does = subst
-          (λ p. RefreshesBy left count replica held.0 p adopted dice done acted after es) same does;
-      lets_go = g;
-    }))
+    (λ es does. inr (held_meanwhile
+    (λ number p from done to. RefreshesBy left count replica number p from dice done to after es)
+    replica held old adopted acted new done result a
+    (subst (λ p. RefreshesBy left count replica held.0 p adopted dice done acted after es) same
+    does) g))

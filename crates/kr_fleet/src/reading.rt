@@ -16,7 +16,7 @@ ghost use Rattle.kr_fleet.specs.inner.Stages.{row_value};
 
 use crate::outcome::Read;
 use kr_base::{Dice, Text};
-use kr_history::{Acts, CallNo, adopt, adopt_configuration, fetch, hand_back, unseal};
+use kr_history::{Acts, CallNo, fetch, hand_back, take_up, unseal};
 use kr_kms::Kms;
 use kr_provider::{Bench, Opened, UnsealNo};
 use std::alloc::Global;
@@ -56,11 +56,10 @@ pub fn read<A: Acts, L: Kms, D: Dice>(
     let Ok(copy) = Text::copy(alloc, path) else {
         return Err(CallNo::NoMemory);
     };
-    let held = match adopt(acts, replica) {
-        Ok(held) => held,
+    match take_up(acts, replica, bench) {
+        Ok(()) => {}
         Err(why) => return Err(why),
-    };
-    adopt_configuration(bench, held.1);
+    }
     let found = find(alloc, acts, bench, copy);
     hand_back(acts, bench, found)
 }

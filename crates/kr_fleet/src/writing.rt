@@ -14,7 +14,7 @@ ghost use Rattle.kr_fleet.specs.WriteCalls.{IsWrite, Puts};
 ghost use Rattle.kr_fleet.specs.inner.Stages.{seal_refusal};
 
 use kr_base::{Bytes, Dice, Text};
-use kr_history::{Acts, CallNo, adopt, adopt_configuration, hand_back, seal};
+use kr_history::{Acts, CallNo, hand_back, seal, take_up};
 use kr_kms::Kms;
 use kr_provider::{Bench, SealNo, ValueNo};
 use std::alloc::Global;
@@ -58,11 +58,10 @@ pub fn write<A: Acts, L: Kms, D: Dice>(
     let Ok(path) = Text::copy(alloc, path) else {
         return Err(CallNo::NoMemory);
     };
-    let held = match adopt(acts, replica) {
-        Ok(held) => held,
+    match take_up(acts, replica, bench) {
+        Ok(()) => {}
         Err(why) => return Err(why),
-    };
-    adopt_configuration(bench, held.1);
+    }
     let written = put(alloc, acts, bench, resource, path, plain);
     hand_back(acts, bench, written)
 }

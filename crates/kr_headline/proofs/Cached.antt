@@ -29,18 +29,16 @@ use Rattle.kr_provider.specs.declared.refusal.UnsealNo.{UnsealNo}
 use Rattle.kr_provider.specs.declared.refusal.UnsealNo.TheVariants as unsealing
 use Rattle.kr_store.specs.declared.rows.Row.{Row}
 use Rattle.kr_history.specs.Acting.{Caller}
-use Rattle.kr_history.specs.Calls.{EndsEarly}
 use Rattle.kr_history.specs.declared.call.CallNo.{CallNo}
 use Rattle.kr_history.specs.declared.call.CallNo.TheVariants as refusal
 use Rattle.kr_fleet.specs.CallExchanges.{AsksNone, FindsBy, FindsRowBy, IsReadBy}
 use Rattle.kr_fleet.specs.declared.outcome.Read.{Read}
 use Rattle.kr_fleet.specs.declared.outcome.Read.TheVariants as read_finding
-use Rattle.kr_rewrite.specs.DriveExchanges.{Ahead, IsDriveBy, ReadsRow, before, behind}
-use Rattle.kr_rewrite.specs.Drives.{EndsByOver, WalksOver, last_of, path_of}
-use Rattle.kr_rewrite.specs.Rewrites.{IsStepOver, RewritesOver, StepsOver}
+use Rattle.kr_rewrite.specs.DriveExchanges.{Ahead, IsDriveBy, ReadsRow}
+use Rattle.kr_rewrite.specs.Drives.{WalksOver}
+use Rattle.kr_rewrite.specs.Rewrites.{IsStepOver}
 use Rattle.kr_rewrite.specs.declared.outcome.Report.{Report}
 use Rattle.kr_rewrite.specs.declared.outcome.Step.{Step}
-use Rattle.kr_rewrite.specs.declared.outcome.Step.TheVariants as step_variants
 use Rattle.kr_script.specs.declared.script.ScriptLine.{ScriptLine}
 use Rattle.kr_script.specs.declared.script.ScriptLine.TheVariants as line
 use Rattle.kr_workers.specs.declared.files.SettingsFile.{SettingsFile}
@@ -48,6 +46,7 @@ use Rattle.kr_workers.specs.LineExchanges.{DoesBy}
 use Rattle.kr_workers.specs.Replies.{Reply}
 use Rattle.kr_workers.specs.Runs.{DoesAll, LineDone, exchanges_in}
 use Rattle.kr_workers.specs.ScriptLines.{Workplace}
+use Rattle.kr_headline.proofs.RowByRow.{drive_keeps, step_keeps, walks_keep}
 
 -- the reading that a call's answer is, if it is one
 abbrev pub reading_by : Result Opened UnsealNo → Option Reading
@@ -271,6 +270,12 @@ module _ (Was : SeedKey → List ℕ → Type 0) where
   abbrev pub AreSo : Ahead → Type 0
   AreSo at = AreAnswers at.exchanges × AreKnown at.cache.rows
 
+  abbrev StaySo : (from to : Ahead) → Type 0
+  StaySo from to = AreSo from → AreSo to
+
+  both_so : (from mid to : Ahead) → StaySo from mid → StaySo mid to → StaySo from to
+  both_so from mid to first second so = second (first so)
+
   same_so : (from to : Ahead) → to ≡ from → AreSo from → AreSo to
   same_so from to same so = subst AreSo (sym same) so
 
@@ -286,68 +291,25 @@ module _ (Was : SeedKey → List ℕ → Type 0) where
       )
 
   module _ {D : Type 0} (left : D → Option (List ℕ)) (count : D → ℕ) where
-    rewrites_so : (p : Publication) (row : Row) (old new : Caller) (from to : Ahead)
-        (dice after : D) (result : Result Step CallNo)
-        → RewritesOver ReadsRow left count p row old from dice result new to after → AreSo from
-        → AreSo to
-    rewrites_so p row old new from to dice after result (inl o) so =
-        opens_so p row from o.opened to o.unseals so
-    rewrites_so p row old new from to dice after result (inr n) so = same_so from to n.1 so
-
-    steps_so : (p : Publication) (above : List ℕ) (old new : Caller) (from to : Ahead)
-        (dice after : D) (result : Result Step CallNo)
-        → StepsOver ReadsRow left count p above old from dice result new to after → AreSo from
-        → AreSo to
-    steps_so p above old new from to dice after result (inl n) so = same_so from to n.1 so
-    steps_so p above old new from to dice after result (inr f) so =
-        rewrites_so p f.row f.found new from to dice after result f.rewrites so
-
-    early_so : (replica : ℕ) (old new : Caller) (from to : Ahead) (dice after : D)
-        (result : Result Step CallNo)
-        → EndsEarly replica ((to ≡ from) × (after ≡ dice)) old result new → AreSo from
-        → AreSo to
-    early_so replica old new from to dice after (Ok done) a so = absurd a
-    early_so replica old new from to dice after (Err why) a so = same_so from to a.1.0 so
-
     pub step_so : (replica : ℕ) (above : List ℕ) (old new : Caller) (from to : Ahead)
         (dice after : D) (result : Result Step CallNo)
         → IsStepOver ReadsRow left count replica above old from dice result new to after
         → AreSo from → AreSo to
-    step_so replica above old new from to dice after result (inl early) so =
-        early_so replica old new from to dice after result early so
-    step_so replica above old new from to dice after result (inr h) so =
-        steps_so h.p above h.adopted h.acted from to dice after h.done h.does so
+    step_so = step_keeps StaySo same_so both_so opens_so left count
 
     pub walks_so : (replica : ℕ) (above : List ℕ) (steps : List Step) (old new : Caller)
         (from to : Ahead) (dice after : D)
         → WalksOver ReadsRow left count replica above steps old from dice new to after
         → AreSo from → AreSo to
-    walks_so replica above [] old new from to dice after w so = same_so from to w.1 so
-    walks_so replica above (taken ∷ steps) old new from to dice after w so =
-        walks_so replica (path_of above taken) steps w.middle new w.mids to w.between after
-        w.behind
-        (step_so replica above old w.middle from w.mids dice w.between (Ok taken) w.goes so)
-
-    ends_so : (replica : ℕ) (above : List ℕ) (steps : List Step) (old new : Caller)
-        (from to : Ahead) (dice after : D) (ended : Result Step CallNo) (report : Report)
-        → EndsByOver ReadsRow (λ a b. ⊤) left count replica above steps old from dice ended report
-        new to after → AreSo from → AreSo to
-    ends_so replica above steps old new from to dice after ended report e so =
-        step_so replica (last_of above steps) e.middle new e.mids to e.between after ended e.ends
-        (walks_so replica above steps old e.middle from e.mids dice e.between e.walks so)
+    walks_so = walks_keep StaySo same_so both_so opens_so left count
 
     drive_known : (replica : ℕ) (above : List ℕ) (old new : Caller) (cache stays : CacheState)
         (dice after : D) (result : Result Report (Report × CallNo)) (es : List Exchange)
         → IsDriveBy left count replica above old cache dice result new stays after es
         → AreAnswers es → AreKnown cache.rows → AreKnown stays.rows
-    drive_known replica above old new cache stays dice after (Ok report) es d answers known =
-        (ends_so replica above d.steps old new (before cache es) (behind stays) dice after
-        (Ok step_variants.End) report d.ends (answers, known)).1
-    drive_known replica above old new cache stays dice after (Err cut) es (inl d) answers known =
-        (ends_so replica above d.steps old new (before cache es) (behind stays) dice after
-        (Err cut.1) cut.0 d.ends (answers, known)).1
-    drive_known replica above old new cache stays dice after (Err cut) es (inr n) answers known =
-        (same_so (before cache es) (behind stays) n.links (answers, known)).1
+    drive_known replica above old new cache stays dice after result es d answers known =
+        (drive_keeps StaySo same_so both_so opens_so left count replica above old new cache stays
+        dice after result es d (answers, known)).1
 
   -- ---- a line, and a run
 

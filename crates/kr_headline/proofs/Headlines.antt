@@ -17,7 +17,6 @@ use Rattle.kr_provider.specs.Publication.{Publication}
 use Rattle.kr_provider.specs.Reading.{Reading, data_of, refused}
 use Rattle.kr_provider.specs.declared.refusal.ValueNo.{ValueNo}
 use Rattle.kr_store.specs.Rows.{live}
-use Rattle.kr_store.specs.declared.rows.Row.{Row}
 use Rattle.kr_rewrite.specs.Drives.{CoversLive}
 use Rattle.kr_rewrite.specs.declared.outcome.Step as met_row
 use Rattle.kr_rollout.specs.Entries.{seat_of}
@@ -43,7 +42,7 @@ use Rattle.kr_script.specs.declared.script.ScriptLine.{ScriptLine}
 use Rattle.kr_script.specs.declared.script.ScriptLine.TheVariants as line
 use Rattle.kr_script.specs.declared.told.Told.{Told}
 use Rattle.kr_script.specs.declared.told.Told.TheVariants as told
-use Rattle.kr_workers.specs.Configurations.{CannotBeSealed, IsFresh, IsFreshWith, IsLeft, IsLeftWith, IsStale, IsStaleWith, NamesPlugin, ReadBy}
+use Rattle.kr_workers.specs.Configurations.{CannotBeSealed, IsFresh, IsLeft, IsStale, NamesPlugin, ReadBy}
 use Rattle.kr_workers.specs.Files.{rows_at}
 use Rattle.kr_workers.specs.Gets.{FetchesWhere, IsHeardContent, TellsGotContent, heard_by}
 use Rattle.kr_workers.specs.Heard.{AgreesWithHeard, Heard}
@@ -67,7 +66,7 @@ use Rattle.kr_headline.specs.Ties.{IsTied}
 use Rattle.kr_headline.specs.Values.{sealed_values}
 use Rattle.kr_headline.proofs.Answering.{alike, may_answer, some_lives}
 use Rattle.kr_headline.proofs.Benches.{exchanges_of}
-use Rattle.kr_headline.specs.Sources.{HasSource, WasAnswered}
+use Rattle.kr_headline.specs.Sources.{WasAnswered}
 use Rattle.kr_headline.proofs.Cached as cached
 use Rattle.kr_headline.proofs.Contents.{content_holds, content_of, data_in}
 use Rattle.kr_headline.proofs.HeardFaults.{Bears}
@@ -78,7 +77,7 @@ use Rattle.kr_headline.proofs.Marks.{all_marks, entries_stay, mark, marks, marks
 use Rattle.kr_headline.proofs.Mono.{Begins, part_mono, rewrite_both, rewrite_mono}
 use Rattle.kr_headline.proofs.Places as place
 use Rattle.kr_headline.proofs.ReadBack.{brought_opens, fetched_row, follows, here, known_trusted, legal_front, legal_one, run_brings_seeds, sealed_anew, unwraps_trusted}
-use Rattle.kr_headline.proofs.Sourced.{FoundSo, IsSourced, SourcedTold, fetches_so}
+use Rattle.kr_headline.proofs.Sourced.{FoundSo, FreshBy, IsSourced, LeftBy, SourcedTold, StaleBy, fetches_so}
 use Rattle.kr_headline.proofs.Seats.{path_in, reading_in, revision_in, some_below, split_own}
 use Rattle.kr_headline.proofs.Standing.{faults_are, object_revision, row_revision}
 use Rattle.kr_headline.proofs.Unsealed.{part_by_sources}
@@ -537,20 +536,10 @@ module _ {T L D : Type 0} (link : L → Link) (step : L → Exchange → L → T
       l.t.before.caller l.t.after.caller l.d.done.part l.t.is.adds part.0 p part.1
       l.t.before.caller.seat asks.0 asks.2))
 
-  -- what a rewrite did is by the sources that its worker had
-  abbrev Fresh : (worker : ℕ) → Publication → Row → Type 0
-  Fresh worker = IsFreshWith (HasSource (heard worker))
-
-  abbrev Stale : (worker : ℕ) → Publication → Row → Type 0
-  Stale worker = IsStaleWith (HasSource (heard worker))
-
-  abbrev Leaves : (worker : ℕ) → Publication → Row → Type 0
-  Leaves worker = IsLeftWith (HasSource (heard worker))
-
   abbrev BySources : (worker at : ℕ) (asked : ScriptLine) (reply : Told)
       → LineAt worker at asked reply → Told → Type 0
   BySources worker at asked reply l =
-      RewritePart (Fresh worker) (Stale worker) (Leaves worker) (λ name. ⊤)
+      RewritePart (FreshBy (heard worker)) (StaleBy (heard worker)) (LeftBy (heard worker)) (λ name. ⊤)
       (Rose (count l.t.before.dice) (count l.t.after.dice))
       (λ met. CoversLive [] met l.t.before.caller l.t.after.caller) worker (replica_at worker)
       (own_entries steps worker at)
@@ -566,7 +555,7 @@ module _ {T L D : Type 0} (link : L → Link) (step : L → Exchange → L → T
       let known = cached.run_known Was link step left count files l.s.replica l.s.first
       l.d.ahead l.t.before l.t.does_ahead parts.0 l.s.known in
       let Own : ℕ → ℕ → List Entry → Told → Type 0 = λ seat own part t.
-      RewritePart (Fresh worker) (Stale worker) (Leaves worker) (λ name. ⊤)
+      RewritePart (FreshBy (heard worker)) (StaleBy (heard worker)) (LeftBy (heard worker)) (λ name. ⊤)
       (Rose (count l.t.before.dice) (count l.t.after.dice))
       (λ met. CoversLive [] met l.t.before.caller l.t.after.caller) seat own part t in
       subst (λ (part : List Entry). Own worker (replica_at worker) part reply)
@@ -634,13 +623,13 @@ module _ {T L D : Type 0} (link : L → Link) (step : L → Exchange → L → T
         other_key es p.seeds reply renews
             (keys_of worker at reply asked l refreshes p begins),
       ))
-      (λ given rewrites is did. rewrite_mono (Fresh worker) (Stale worker) (Leaves worker) Plugin
-      (run.PluginFailed worker at) Dice (run.SourceFailed worker at) Covers
+      (λ given rewrites is did. rewrite_mono (FreshBy (heard worker)) (StaleBy (heard worker))
+      (LeftBy (heard worker)) Plugin (run.PluginFailed worker at) Dice (run.SourceFailed worker at) Covers
       (MeetsAll run steps worker at) worker (replica_at worker) (own_entries steps worker at) reply
       (λ name told_is rose. failed name (subst AsksPlugins (sym rewrites) tt) told_is rose) drew
       (covers worker at asked reply l) given is
-      (rewrite_both IsFresh IsStale IsLeft (Fresh worker) (Stale worker) (Leaves worker) Plugin Dice
-      Covers worker (replica_at worker) (own_entries steps worker at) given did
+      (rewrite_both IsFresh IsStale IsLeft (FreshBy (heard worker)) (StaleBy (heard worker))
+      (LeftBy (heard worker)) Plugin Dice Covers worker (replica_at worker) (own_entries steps worker at) given did
       (subst (BySources worker at asked reply l) is
       (by_sources worker at asked reply l rewrites)))) (rows_at files) asked reply refl refl
       (subst (λ (part : List Entry). Shape worker (replica_at worker) part asked reply)

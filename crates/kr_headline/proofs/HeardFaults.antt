@@ -48,41 +48,38 @@ blame_of why = None
 
 -- ---- of some exchanges, and of more
 
-pub failed_left : (es fs : List Exchange) (name : List ℕ) → HasFailed es name
-    → HasFailed (es ++ fs) name
-failed_left es fs name f = (f.0, Contains-append_left es fs f.0 f.1, f.2, f.3)
+failed_in : (es more : List Exchange) → ((e : Exchange) → Contains es e → Contains more e)
+    → (name : List ℕ) → HasFailed es name → HasFailed more name
+failed_in es more among name f = (f.0, among f.0 f.1, f.2, f.3)
 
-pub failed_right : (es fs : List Exchange) (name : List ℕ) → HasFailed fs name
-    → HasFailed (es ++ fs) name
-failed_right es fs name f = (f.0, Contains-append_right es fs f.0 f.1, f.2, f.3)
+pub bears_in : (es more : List Exchange) → ((e : Exchange) → Contains es e → Contains more e)
+    → (blame : Option Blame) → Bears es blame → Bears more blame
+bears_in es more among None b = tt
+bears_in es more among (Some (Fails name)) b = failed_in es more among name b
+bears_in es more among (Some (Breaks name field text)) b =
+    (b.0, among (StatusCall name (Ok b.0)) b.1, b.2)
 
-pub bears_left : (es fs : List Exchange) (blame : Option Blame) → Bears es blame
-    → Bears (es ++ fs) blame
-bears_left es fs None b = tt
-bears_left es fs (Some (Fails name)) b = failed_left es fs name b
-bears_left es fs (Some (Breaks name field text)) b =
-    (b.0, Contains-append_left es fs (StatusCall name (Ok b.0)) b.1, b.2)
+key_among : (es more : List Exchange) → ((e : Exchange) → Contains es e → Contains more e)
+    → (name key_id : List ℕ) → HasKeyId es name key_id → HasKeyId more name key_id
+key_among es more among name key_id h = (h.0, among (StatusCall name (Ok h.0)) h.1, h.2, h.3)
 
 pub bears_right : (es fs : List Exchange) (blame : Option Blame) → Bears fs blame
     → Bears (es ++ fs) blame
-bears_right es fs None b = tt
-bears_right es fs (Some (Fails name)) b = failed_right es fs name b
-bears_right es fs (Some (Breaks name field text)) b =
-    (b.0, Contains-append_right es fs (StatusCall name (Ok b.0)) b.1, b.2)
-
-key_left : (es fs : List Exchange) (name key_id : List ℕ) → HasKeyId es name key_id
-    → HasKeyId (es ++ fs) name key_id
-key_left es fs name key_id h =
-    (h.0, Contains-append_left es fs (StatusCall name (Ok h.0)) h.1, h.2, h.3)
+bears_right es fs = bears_in fs (es ++ fs) (Contains-append_right es fs)
 
 key_right : (es fs : List Exchange) (name key_id : List ℕ) → HasKeyId fs name key_id
     → HasKeyId (es ++ fs) name key_id
-key_right es fs name key_id h =
-    (h.0, Contains-append_right es fs (StatusCall name (Ok h.0)) h.1, h.2, h.3)
+key_right es fs = key_among fs (es ++ fs) (Contains-append_right es fs)
 
 pub other_left : (es fs : List Exchange) (seeds : List SeedRow) → HasOtherKey es seeds
     → HasOtherKey (es ++ fs) seeds
-other_left es fs seeds o = (o.0, o.1, o.2, o.3, key_left es fs o.0.name o.2 o.4)
+other_left es fs seeds o = (
+  o.0,
+  o.1,
+  o.2,
+  o.3,
+  key_among es (es ++ fs) (Contains-append_left es fs) o.0.name o.2 o.4,
+)
 
 -- ---- a status, and a seed
 
@@ -255,7 +252,8 @@ compared_more es fs row rest (Ok true) key c =
     (c.0, there_behind row rest c.0 c.1, c.2, c.3, key_right es fs c.0.name c.2 c.4)
 compared_more es fs row rest (Ok false) key c =
     All-cons (λ (it : SeedRow). HasKeyId (es ++ fs) it.name it.key_id) row rest
-    (key_left es fs row.name row.key_id key) (keys_right es fs rest c)
+    (key_among es (es ++ fs) (Contains-append_left es fs) row.name row.key_id key)
+    (keys_right es fs rest c)
 compared_more es fs row rest (Err why) key c = (c.0, bears_right es fs (blame_of why) c.1)
 
 pub keys_compared : (seeds : List SeedRow) (result : Result Bool CallNo) (es : List Exchange)

@@ -1,8 +1,9 @@
 -- What a worker's line tells of plugins is borne out by the line's own exchanges: whom it blames,
 -- and what a refresh says of keys.
 use Rattle.std.specs.Prelude.{true, false, ⊤}
-use Rattle.std.proofs.Common.{◌≡◌, ℕ, Bool, List, [], ◌∷◌, ◌++◌, Option, None, Some, Result, Ok, Err, inl, inr, refl, ap, sym, subst, ◌∙◌}
+use Rattle.std.proofs.Common.{◌≡◌, ℕ, Bool, List, [], ◌++◌, Option, None, Some, Result, Ok, Err, inl, inr, refl, ap, sym, subst, ◌∙◌}
 use Rattle.std.proofs.lemmas.List.{append_assoc}
+use Rattle.std.proofs.lemmas.List.Elements.{Contains-append_left}
 use Rattle.kr_config.specs.Kept.{ConfigEntry as setting, plugins_in}
 use Rattle.kr_kms.specs.Cache.{CacheState}
 use Rattle.kr_kms.specs.Exchanges.{Exchange}
@@ -32,7 +33,7 @@ use Rattle.kr_fleet.specs.declared.outcome.Loaded.TheVariants as loaded
 use Rattle.kr_fleet.specs.declared.outcome.Read.{Read}
 use Rattle.kr_fleet.specs.declared.outcome.Read.TheVariants as read
 use Rattle.kr_rewrite.specs.DriveExchanges.{Ahead, IsDriveBy, ReadsRow, before, behind}
-use Rattle.kr_rewrite.specs.Drives.{EndsByOver, WalksOver, last_of, path_of}
+use Rattle.kr_rewrite.specs.Drives.{EndsByOver, last_of}
 use Rattle.kr_rewrite.specs.Rewrites.{FindsNone, IsStepOver, ReplacesBy, ResealsBy, RewritesBy, RewritesData, RewritesOver, StepsOver, unread_step, unsealed_step}
 use Rattle.kr_rewrite.specs.declared.outcome.Report.{Report}
 use Rattle.kr_rewrite.specs.declared.outcome.Step.{Step}
@@ -43,7 +44,8 @@ use Rattle.kr_workers.specs.declared.files.SettingsFile.{SettingsFile}
 use Rattle.kr_workers.specs.LineExchanges.{DoesBy}
 use Rattle.kr_workers.specs.Replies.{Reply, told_of_drive, told_of_join, told_of_read, told_of_refresh, told_of_refusal, told_of_reload}
 use Rattle.kr_workers.specs.ScriptLines.{Workplace, seat_at}
-use Rattle.kr_headline.proofs.HeardFaults.{Bears, Blame, Breaks, Fails, bears_left, bears_right, blame_of, keys_compared, reads_bear, seeds_bear, unseal_blame}
+use Rattle.kr_headline.proofs.HeardFaults.{Bears, Blame, Breaks, Fails, bears_in, bears_right, blame_of, keys_compared, reads_bear, seeds_bear, unseal_blame}
+use Rattle.kr_headline.proofs.RowByRow.{walks_keep}
 
 abbrev result_blame : {T : Type 0} → Result T CallNo → Option Blame
 result_blame (Ok x) = None
@@ -209,21 +211,30 @@ IsBehind from to = (more : List Exchange) × (from.exchanges ≡ more ++ to.exch
 same_behind : (from to : Ahead) → to ≡ from → IsBehind from to
 same_behind from to same = ([], ap (λ (a : Ahead). a.exchanges) (sym same))
 
+both_behind : (from mid to : Ahead) → IsBehind from mid → IsBehind mid to → IsBehind from to
+both_behind from mid to s r = (
+  s.0 ++ r.0,
+  s.1 ∙ ap (λ (l : List Exchange). s.0 ++ l) r.1 ∙ sym (append_assoc s.0 r.0 to.exchanges),
+)
+
+read_behind : (p : Publication) (row : Row) (from : Ahead) (opened : Result Opened UnsealNo)
+    (to : Ahead) → ReadsRow p row from opened to → IsBehind from to
+read_behind p row from opened to r = (r.first, r.are)
+
 module _ {D : Type 0} (left : D → Option (List ℕ)) (count : D → ℕ) where
   rewrites_bear : (p : Publication) (row : Row) (old new : Caller) (from to : Ahead)
       (dice after : D) (result : Result Step CallNo)
       → RewritesOver ReadsRow left count p row old from dice result new to after
-      → Bears from.exchanges (result_blame result) × IsBehind from to
-  rewrites_bear p row old new from to dice after result (inl o) = (
-    row_bears from.exchanges left count p row old new dice after o.opened result o.rewrites
-        (subst (λ (l : List Exchange). Bears l (unseal_blame o.opened)) (sym o.unseals.are)
-        (bears_left o.unseals.first to.exchanges (unseal_blame o.opened)
-        (reads_bear p.seeds (list_at p row.resource) row.path row.stored from.cache to.cache
-        o.opened o.unseals.first o.unseals.reads))),
-    (o.unseals.first, o.unseals.are),
-  )
+      → Bears from.exchanges (result_blame result)
+  rewrites_bear p row old new from to dice after result (inl o) =
+      row_bears from.exchanges left count p row old new dice after o.opened result o.rewrites
+      (subst (λ (l : List Exchange). Bears l (unseal_blame o.opened)) (sym o.unseals.are)
+      (bears_in o.unseals.first (o.unseals.first ++ to.exchanges)
+      (Contains-append_left o.unseals.first to.exchanges) (unseal_blame o.opened)
+      (reads_bear p.seeds (list_at p row.resource) row.path row.stored from.cache to.cache
+      o.opened o.unseals.first o.unseals.reads)))
   rewrites_bear p row old new from to dice after result (inr n) =
-      (unblamed from.exchanges result _ n.0.0 tt, same_behind from to n.1)
+      unblamed from.exchanges result _ n.0.0 tt
 
   none_found : (es : List Exchange) (above : List ℕ) (old new : Caller)
       (result : Result Step CallNo) → FindsNone above old result new
@@ -236,54 +247,33 @@ module _ {D : Type 0} (left : D → Option (List ℕ)) (count : D → ℕ) where
   steps_bear : (p : Publication) (above : List ℕ) (old new : Caller) (from to : Ahead)
       (dice after : D) (result : Result Step CallNo)
       → StepsOver ReadsRow left count p above old from dice result new to after
-      → Bears from.exchanges (result_blame result) × IsBehind from to
+      → Bears from.exchanges (result_blame result)
   steps_bear p above old new from to dice after result (inl n) =
-      (none_found from.exchanges above old new result n.0, same_behind from to n.1)
+      none_found from.exchanges above old new result n.0
   steps_bear p above old new from to dice after result (inr f) =
       rewrites_bear p f.row f.found new from to dice after result f.rewrites
-
-  early_behind : (replica : ℕ) (old new : Caller) (from to : Ahead) (dice after : D)
-      (result : Result Step CallNo)
-      → EndsEarly replica ((to ≡ from) × (after ≡ dice)) old result new → IsBehind from to
-  early_behind replica old new from to dice after (Ok done) e = absurd e
-  early_behind replica old new from to dice after (Err why) e = same_behind from to e.1.0
 
   step_bears : (replica : ℕ) (above : List ℕ) (old new : Caller) (from to : Ahead)
       (dice after : D) (result : Result Step CallNo)
       → IsStepOver ReadsRow left count replica above old from dice result new to after
-      → Bears from.exchanges (result_blame result) × IsBehind from to
-  step_bears replica above old new from to dice after result (inl e) = (
-    early_bears from.exchanges replica _ old new result e,
-    early_behind replica old new from to dice after result e,
-  )
+      → Bears from.exchanges (result_blame result)
+  step_bears replica above old new from to dice after result (inl e) =
+      early_bears from.exchanges replica _ old new result e
   step_bears replica above old new from to dice after result (inr h) =
-      let s = steps_bear h.p above h.adopted h.acted from to dice after h.done h.does in
-      (lets_go_bears from.exchanges h.acted new h.done result h.lets_go s.0, s.1)
-
-  walks_behind : (replica : ℕ) (above : List ℕ) (steps : List Step) (old new : Caller)
-      (from to : Ahead) (dice after : D)
-      → WalksOver ReadsRow left count replica above steps old from dice new to after
-      → IsBehind from to
-  walks_behind replica above [] old new from to dice after w = same_behind from to w.1
-  walks_behind replica above (taken ∷ steps) old new from to dice after w =
-      let s = (step_bears replica above old w.middle from w.mids dice w.between (Ok taken)
-      w.goes).1 in
-      let r = walks_behind replica (path_of above taken) steps w.middle new w.mids to w.between
-      after w.behind in (
-        s.0 ++ r.0,
-        s.1 ∙ ap (λ (l : List Exchange). s.0 ++ l) r.1 ∙ sym (append_assoc s.0 r.0 to.exchanges),
-      )
+      lets_go_bears from.exchanges h.acted new h.done result h.lets_go
+      (steps_bear h.p above h.adopted h.acted from to dice after h.done h.does)
 
   ends_bear : (replica : ℕ) (above : List ℕ) (steps : List Step) (old new : Caller)
       (from to : Ahead) (dice after : D) (ended : Result Step CallNo) (report : Report)
       → EndsByOver ReadsRow (λ a b. ⊤) left count replica above steps old from dice ended report
       new to after → Bears from.exchanges (result_blame ended)
   ends_bear replica above steps old new from to dice after ended report e =
-      let w = walks_behind replica above steps old e.middle from e.mids dice e.between e.walks in
+      let w = walks_keep IsBehind same_behind both_behind read_behind left count replica above
+      steps old e.middle from e.mids dice e.between e.walks in
       subst (λ (l : List Exchange). Bears l (result_blame ended)) (sym w.1)
       (bears_right w.0 e.mids.exchanges (result_blame ended)
       (step_bears replica (last_of above steps) e.middle new e.mids to e.between after ended
-      e.ends).0)
+      e.ends))
 
   drive_bears : (replica : ℕ) (above : List ℕ) (old new : Caller) (cache stays : CacheState)
       (dice after : D) (result : Result Report (Report × CallNo)) (es : List Exchange)

@@ -4,11 +4,13 @@ pub mod Standing
 pub mod Contents
 pub mod Answering
 pub mod Places
+mod RowByRow
 pub mod Cached
 pub mod Sourced
 pub mod Unsealed
 pub mod Marks
 pub mod Own
+pub mod Published
 pub mod LineAsks
 pub mod HeardFaults
 pub mod HeardLines

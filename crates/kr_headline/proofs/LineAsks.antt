@@ -1,6 +1,6 @@
 -- A line asks of plugins only what lines of its kind ask.
-use Rattle.std.specs.Prelude.{All, true, false, ⊤}
-use Rattle.std.proofs.Common.{◌≡◌, ℕ, ◌≤◌, Bool, List, [], ◌∷◌, length, Option, None, Some, Result, Ok, Err, inl, inr, sym, subst, arith}
+use Rattle.std.specs.Prelude.{All, true, false}
+use Rattle.std.proofs.Common.{◌≡◌, ℕ, ◌≤◌, Bool, List, [], ◌∷◌, length, Option, Some, Result, Ok, Err, inl, inr, sym, subst, arith}
 use Rattle.std.proofs.lemmas.List.Elements.{All-append, All-cons, All-nil}
 use Rattle.kr_config.specs.Kept.{ConfigEntry as setting, plugins_in}
 use Rattle.kr_config.specs.declared.who.Who.{Who}
@@ -20,26 +20,17 @@ use Rattle.kr_provider.specs.declared.refusal.PublishNo.{PublishNo}
 use Rattle.kr_provider.specs.declared.refusal.UnsealNo.{UnsealNo}
 use Rattle.kr_provider.specs.declared.refusal.UnsealNo.TheVariants as unsealing
 use Rattle.kr_store.specs.declared.rows.Row.{Row}
-use Rattle.kr_rollout.specs.declared.event.Event.{Event}
-use Rattle.kr_rollout.specs.declared.event.Event.TheVariants as event
 use Rattle.kr_history.specs.Acting.{Caller}
-use Rattle.kr_history.specs.Calls.{EndsEarly}
 use Rattle.kr_history.specs.declared.call.CallNo.{CallNo}
 use Rattle.kr_history.specs.declared.call.CallNo.TheVariants as refusal
 use Rattle.kr_fleet.specs.CallExchanges.{AsksNone, ComparesKeysBy, FindsBy, IsReadBy, IsRefreshBy, RefreshesBy, RenewsAfter, StopsBy, all_same, changed, told_none, went_on as compared_on}
-use Rattle.kr_fleet.specs.CallForms.{CutShortWhere, JoinsWhere, ReloadsWhere}
-use Rattle.kr_history.specs.declared.outcome.Joining.{Joining}
-use Rattle.kr_history.specs.declared.outcome.Joining.TheVariants as joining
+use Rattle.kr_fleet.specs.CallForms.{reload_of}
 use Rattle.kr_fleet.specs.declared.outcome.Loaded.{Loaded}
 use Rattle.kr_fleet.specs.declared.outcome.Loaded.TheVariants as loaded
 use Rattle.kr_fleet.specs.declared.outcome.Read.{Read}
 use Rattle.kr_fleet.specs.declared.outcome.Read.TheVariants as read
-use Rattle.kr_rewrite.specs.DriveExchanges.{Ahead, IsDriveBy, ReadsRow, before, behind}
-use Rattle.kr_rewrite.specs.Drives.{EndsByOver, WalksOver, last_of, path_of}
-use Rattle.kr_rewrite.specs.Rewrites.{IsStepOver, RewritesOver, StepsOver}
+use Rattle.kr_rewrite.specs.DriveExchanges.{Ahead, IsDriveBy, ReadsRow}
 use Rattle.kr_rewrite.specs.declared.outcome.Report.{Report}
-use Rattle.kr_rewrite.specs.declared.outcome.Step.{Step}
-use Rattle.kr_rewrite.specs.declared.outcome.Step.TheVariants as step_variants
 use Rattle.kr_script.specs.declared.script.ScriptLine.{ScriptLine}
 use Rattle.kr_script.specs.declared.script.ScriptLine.TheVariants as line
 use Rattle.kr_workers.specs.declared.files.SettingsFile.{SettingsFile}
@@ -47,6 +38,8 @@ use Rattle.kr_workers.specs.LineExchanges.{DoesBy}
 use Rattle.kr_workers.specs.Replies.{Reply}
 use Rattle.kr_workers.specs.ScriptLines.{Workplace}
 use Rattle.kr_headline.specs.Outside.{AsksOf, IsLoad, IsUnwrap}
+use Rattle.kr_headline.proofs.Published.{cut_gives, join_gives, reload_gives}
+use Rattle.kr_headline.proofs.RowByRow.{drive_keeps}
 
 -- ---- a value is read: its source is unwrapped once, or not at all
 
@@ -150,49 +143,6 @@ module _ {D : Type 0} (left : D → Option (List ℕ)) (count : D → ℕ) where
     publish_asks (Ok p) by = seeds_ask (plugins_in rows) [] dice (Ok p.seeds) after es by.1
     publish_asks (Err why) by = seeds_ask (plugins_in rows) [] dice (Err why) after es by
 
-    cut_asks : (brings : Publication → Event) (replica : ℕ) (old new : Caller) (why : CallNo)
-        → CutShortWhere (λ made. PublishesBy left count rows dice made after es) brings replica
-        old why new → AreLoads es
-    cut_asks brings replica old new (refusal.PluginFailed name) c = publish_asks (Err _) c.0
-    cut_asks brings replica old new refusal.DiceFailed c = publish_asks (Err _) c.0
-    cut_asks brings replica old new (refusal.Unhealthy name field text) c =
-        publish_asks (Err _) c.0
-    cut_asks brings replica old new refusal.Gone c = publish_asks (Ok c.p) c.publishes
-    cut_asks brings replica old new refusal.Spent c = publish_asks (Ok c.0.0) c.0.1
-    cut_asks brings replica old new refusal.NoMemory (inl c) = publish_asks (Err _) c.0
-    cut_asks brings replica old new refusal.NoMemory (inr (inl c)) =
-        publish_asks (Ok c.0.0) c.0.1
-    cut_asks brings replica old new refusal.NoMemory (inr (inr c)) =
-        publish_asks (Ok c.p) c.publishes
-    cut_asks brings replica old new other c = absurd c
-
-    reload_asks : (replica : ℕ) (old new : Caller) (result : Result Loaded CallNo)
-        → ReloadsWhere (λ made. PublishesBy left count rows dice made after es) replica old result
-        new → AreLoads es
-    reload_asks replica old new (Ok (loaded.Generation number)) w =
-        publish_asks (Ok w.p) w.publishes
-    reload_asks replica old new (Ok (loaded.Refused verdict)) w = publish_asks (Ok w.p) w.publishes
-    reload_asks replica old new (Err why) w =
-        cut_asks (λ p. event.Reload replica p None) replica old new why w
-    reload_asks replica old new (Ok other) w = absurd w
-
-    join_asks : (replica : ℕ) (old new : Caller) (result : Result Joining CallNo)
-        → JoinsWhere (λ made. PublishesBy left count rows dice made after es) replica old result
-        new → AreLoads es
-    join_asks replica old new (Ok (joining.Generation number)) w = publish_asks (Ok w.p) w.publishes
-    join_asks replica old new (Err (refusal.PluginFailed name)) w =
-        cut_asks (event.Join replica) replica old new (refusal.PluginFailed name) w
-    join_asks replica old new (Err refusal.DiceFailed) w =
-        cut_asks (event.Join replica) replica old new refusal.DiceFailed w
-    join_asks replica old new (Err (refusal.Unhealthy name field text)) w =
-        cut_asks (event.Join replica) replica old new (refusal.Unhealthy name field text) w
-    join_asks replica old new (Err refusal.Spent) w =
-        cut_asks (event.Join replica) replica old new refusal.Spent w
-    join_asks replica old new (Err refusal.NoMemory) w =
-        cut_asks (event.Join replica) replica old new refusal.NoMemory w
-    join_asks replica old new (Err other) w = absurd w
-    join_asks replica old new (Ok other) w = publish_asks (Ok w.p) w.publishes
-
   -- ---- a refresh
 
   key_asks : (name : List ℕ) (result : Result (List ℕ) SeedNo) (es : List Exchange)
@@ -224,19 +174,18 @@ module _ {D : Type 0} (left : D → Option (List ℕ)) (count : D → ℕ) where
     stops_ask number p old new why (inl c) = keys_ask p.seeds (Err why) es c.0
     stops_ask number p old new why (inr (inl c)) = keys_ask p.seeds (Ok true) es c.0
     stops_ask number p old new why (inr (inr r)) = renews_ask p.seeds _ (λ others c.
-        cut_asks p.rows dice after others (λ q. event.Reload replica q (Some number)) replica old
-        new why c) r
+        cut_gives (λ made. PublishesBy left count p.rows dice made after others) (AreLoads others)
+        (publish_asks p.rows dice after others) (reload_of replica (Some number)) replica old new
+        why c) r
 
     refreshes_ask : (number : ℕ) (p : Publication) (old new : Caller)
         (result : Result Loaded CallNo)
         → RefreshesBy left count replica number p old dice result new after es → AreLoads es
     refreshes_ask number p old new (Ok (loaded.Unchanged same)) r =
         keys_ask p.seeds (Ok false) es r.1
-    refreshes_ask number p old new (Ok (loaded.Generation number_made)) r = renews_ask p.seeds _
-        (λ others b. publish_asks p.rows dice after others (Ok b.p) b.publishes) r
-    refreshes_ask number p old new (Ok (loaded.Moved current)) r = renews_ask p.seeds _
-        (λ others b. publish_asks p.rows dice after others (Ok b.p) b.publishes) r
     refreshes_ask number p old new (Ok (loaded.Refused verdict)) r = absurd r
+    refreshes_ask number p old new (Ok other) r = renews_ask p.seeds _
+        (λ others b. publish_asks p.rows dice after others (Ok b.p) b.publishes) r
     refreshes_ask number p old new (Err why) r = stops_ask number p old new why r
 
     refresh_asks : (old new : Caller) (result : Result Loaded CallNo)
@@ -261,70 +210,14 @@ module _ {D : Type 0} (left : D → Option (List ℕ)) (count : D → ℕ) where
       (reads_ask p.seeds (list_at p row.resource) row.path row.stored from.cache to.cache opened
       r.first r.reads).1 all)
 
-  rewrites_ask : (p : Publication) (row : Row) (old new : Caller) (from to : Ahead)
-      (dice after : D) (result : Result Step CallNo)
-      → RewritesOver ReadsRow left count p row old from dice result new to after → Unwraps to
-      → Unwraps from
-  rewrites_ask p row old new from to dice after result (inl o) all =
-      row_unwraps p row from o.opened to o.unseals all
-  rewrites_ask p row old new from to dice after result (inr n) all =
-      same_unwraps from to n.1 all
-
-  steps_ask : (p : Publication) (above : List ℕ) (old new : Caller) (from to : Ahead)
-      (dice after : D) (result : Result Step CallNo)
-      → StepsOver ReadsRow left count p above old from dice result new to after → Unwraps to
-      → Unwraps from
-  steps_ask p above old new from to dice after result (inl n) all = same_unwraps from to n.1 all
-  steps_ask p above old new from to dice after result (inr f) all =
-      rewrites_ask p f.row f.found new from to dice after result f.rewrites all
-
-  early_asks : (replica : ℕ) (old new : Caller) (from to : Ahead) (dice after : D)
-      (result : Result Step CallNo)
-      → EndsEarly replica ((to ≡ from) × (after ≡ dice)) old result new → Unwraps to
-      → Unwraps from
-  early_asks replica old new from to dice after (Ok done) e all = absurd e
-  early_asks replica old new from to dice after (Err why) e all = same_unwraps from to e.1.0 all
-
-  step_asks : (replica : ℕ) (above : List ℕ) (old new : Caller) (from to : Ahead)
-      (dice after : D) (result : Result Step CallNo)
-      → IsStepOver ReadsRow left count replica above old from dice result new to after
-      → Unwraps to → Unwraps from
-  step_asks replica above old new from to dice after result (inl e) all =
-      early_asks replica old new from to dice after result e all
-  step_asks replica above old new from to dice after result (inr h) all =
-      steps_ask h.p above h.adopted h.acted from to dice after h.done h.does all
-
-  walks_ask : (replica : ℕ) (above : List ℕ) (steps : List Step) (old new : Caller)
-      (from to : Ahead) (dice after : D)
-      → WalksOver ReadsRow left count replica above steps old from dice new to after
-      → Unwraps to → Unwraps from
-  walks_ask replica above [] old new from to dice after w all = same_unwraps from to w.1 all
-  walks_ask replica above (taken ∷ steps) old new from to dice after w all =
-      step_asks replica above old w.middle from w.mids dice w.between (Ok taken) w.goes
-      (walks_ask replica (path_of above taken) steps w.middle new w.mids to w.between after
-      w.behind all)
-
-  ends_ask : (replica : ℕ) (above : List ℕ) (steps : List Step) (old new : Caller)
-      (from to : Ahead) (dice after : D) (ended : Result Step CallNo) (report : Report)
-      → EndsByOver ReadsRow (λ a b. ⊤) left count replica above steps old from dice ended report
-      new to after → Unwraps to → Unwraps from
-  ends_ask replica above steps old new from to dice after ended report e all =
-      walks_ask replica above steps old e.middle from e.mids dice e.between e.walks
-      (step_asks replica (last_of above steps) e.middle new e.mids to e.between after ended e.ends
-      all)
-
   drive_asks : (replica : ℕ) (above : List ℕ) (old new : Caller) (cache stays : CacheState)
       (dice after : D) (result : Result Report (Report × CallNo)) (es : List Exchange)
       → IsDriveBy left count replica above old cache dice result new stays after es
       → All IsUnwrap es
-  drive_asks replica above old new cache stays dice after (Ok report) es d =
-      ends_ask replica above d.steps old new (before cache es) (behind stays) dice after
-      (Ok step_variants.End) report d.ends (All-nil IsUnwrap)
-  drive_asks replica above old new cache stays dice after (Err cut) es (inl d) =
-      ends_ask replica above d.steps old new (before cache es) (behind stays) dice after
-      (Err cut.1) cut.0 d.ends (All-nil IsUnwrap)
-  drive_asks replica above old new cache stays dice after (Err cut) es (inr n) =
-      same_unwraps (before cache es) (behind stays) n.links (All-nil IsUnwrap)
+  drive_asks replica above old new cache stays dice after result es d =
+      drive_keeps (λ from to. Unwraps to → Unwraps from) same_unwraps
+      (λ from mid to first second all. first (second all)) row_unwraps left count replica above old
+      new cache stays dice after result es d (All-nil IsUnwrap)
 
 -- ---- a line
 
@@ -338,10 +231,12 @@ module _ {L D : Type 0} (left : D → Option (List ℕ)) (count : D → ℕ) (fi
       new.cache old.dice new.dice d.0 es d.2
   line_asks (line.Reload named file) (rows, read, inl d) = none_loads es d.1
   line_asks (line.Reload named file) (rows, read, inr d) =
-      reload_asks left count rows old.dice new.dice es named old.caller new.caller d.0 d.2
+      reload_gives (λ made. PublishesBy left count rows old.dice made new.dice es) (AreLoads es)
+      (publish_asks left count rows old.dice new.dice es) named old.caller new.caller d.0 d.2
   line_asks line.Refresh d = refresh_asks left count replica old.dice new.dice es old.caller
       new.caller d.0 d.2
   line_asks (line.Join named file) (rows, read, inl d) = none_loads es d.1
   line_asks (line.Join named file) (rows, read, inr d) =
-      join_asks left count rows old.dice new.dice es named old.caller new.caller d.0 d.2
+      join_gives (λ made. PublishesBy left count rows old.dice made new.dice es) (AreLoads es)
+      (publish_asks left count rows old.dice new.dice es) named old.caller new.caller d.0 d.2
   line_asks other d = d.0

@@ -16,7 +16,7 @@ use Rattle.kr_script.specs.declared.told.Told.{Told}
 use Rattle.kr_script.specs.declared.told.Told.TheVariants as told
 use Rattle.kr_store.specs.declared.rows.Row.{Row}
 use Rattle.kr_workers.specs.RewriteParts.{RewritePart}
-use Rattle.kr_workers.specs.Shapes.{DeletePart, GetPart, HoldsPart, IsOne, JoinPart, PartIs, PutPart, RefreshPart, ReloadPart, Renewed, RenewsNot}
+use Rattle.kr_workers.specs.Shapes.{BringsPart, DeletePart, GetPart, HoldsPart, IsOne, JoinPart, PartIs, PutPart, RefreshPart, ReloadPart, Renewed, RenewsNot}
 use Rattle.kr_headline.proofs.HeardLines.{AsksPlugins}
 use Rattle.kr_headline.proofs.RefreshKeys.{Renews, first_published}
 
@@ -99,23 +99,32 @@ module _ (P Q : (name : List ℕ) → Type 0) (D E : Type 0)
     get_mono path (told.FaultPlugin name) is x = (plugin name asks is x.0, x.1, x.2)
     get_mono path given is x = x
 
+    brings_mono : (rows : List setting) (given : Told) → reply ≡ given
+        → BringsPart P D B K G N U R W seat own part rows given
+        → BringsPart Q E C J H N U R X seat own part rows given
+    brings_mono rows (told.FaultPlugin name) is x = (plugin name asks is x.0, x.1, x.2)
+    brings_mono rows (told.FaultDice named) is x = (x.0, dice x.1, x.2)
+    brings_mono rows (told.Unhealthy name field text) is x =
+        (breaks name field text asks is x.0, x.1, x.2)
+    brings_mono rows given is x = absurd x
+
     reload_mono : (replica : ℕ) (rows : List setting) (given : Told) → reply ≡ given
         → ReloadPart P D B K G N U R W seat own part replica rows given
         → ReloadPart Q E C J H N U R X seat own part replica rows given
-    reload_mono replica rows (told.FaultPlugin name) is x = (plugin name asks is x.0, x.1, x.2)
-    reload_mono replica rows (told.FaultDice named) is x = (x.0, dice x.1, x.2)
-    reload_mono replica rows (told.Unhealthy name field text) is x =
-        (breaks name field text asks is x.0, x.1, x.2)
-    reload_mono replica rows given is x = x
+    reload_mono replica rows (told.Reloaded number) is x = x
+    reload_mono replica rows (told.Refused verdict) is x = x
+    reload_mono replica rows told.Gone is x = x
+    reload_mono replica rows told.Memory is x = x
+    reload_mono replica rows given is x = brings_mono rows given is x
 
     join_mono : (replica : ℕ) (rows : List setting) (given : Told) → reply ≡ given
         → JoinPart P D B K G N U R W seat own part replica rows given
         → JoinPart Q E C J H N U R X seat own part replica rows given
-    join_mono replica rows (told.FaultPlugin name) is x = (plugin name asks is x.0, x.1, x.2)
-    join_mono replica rows (told.FaultDice named) is x = (x.0, dice x.1, x.2)
-    join_mono replica rows (told.Unhealthy name field text) is x =
-        (breaks name field text asks is x.0, x.1, x.2)
-    join_mono replica rows given is x = x
+    join_mono replica rows (told.Joined number) is x = x
+    join_mono replica rows (told.Present number) is x = x
+    join_mono replica rows (told.Refused verdict) is x = x
+    join_mono replica rows told.Memory is x = x
+    join_mono replica rows given is x = brings_mono rows given is x
 
   delete_mono : (path : List ℕ) (given : Told)
       → DeletePart P D B K G N U R W seat own part path given

@@ -33,7 +33,7 @@ use Rattle.kr_script.specs.declared.script.Part.{Part}
 use Rattle.kr_script.specs.declared.script.ScriptLine.TheVariants as line
 use Rattle.kr_script.specs.declared.told.Told.{Told}
 use Rattle.kr_script.specs.declared.told.Told.TheVariants as told
-use Rattle.kr_workers.specs.Configurations.{RowReads}
+use Rattle.kr_workers.specs.Configurations.{IsFreshWith, IsLeftWith, IsStaleWith, RowReads}
 use Rattle.kr_workers.specs.declared.files.SettingsFile.{SettingsFile}
 use Rattle.kr_workers.specs.Gets.{FetchesWhere}
 use Rattle.kr_workers.specs.Heard.{Heard}
@@ -46,6 +46,16 @@ use Rattle.kr_workers.proofs.Shaping.{IfTold}
 use Rattle.kr_workers.proofs.Getting.{IsLineIn, call_tells, call_there, done_there, fetch_there}
 use Rattle.kr_headline.specs.Sources.{HasSource, WasAnswered}
 use Rattle.kr_headline.proofs.Cached.{AreAnswers, AreKnown, parted, reading_by, run_known, was_read}
+
+-- what a rewrite makes of a row, by the sources that its worker had
+abbrev pub FreshBy : Heard → Publication → Row → Type 0
+FreshBy heard = IsFreshWith (HasSource heard)
+
+abbrev pub StaleBy : Heard → Publication → Row → Type 0
+StaleBy heard = IsStaleWith (HasSource heard)
+
+abbrev pub LeftBy : Heard → Publication → Row → Type 0
+LeftBy heard = IsLeftWith (HasSource heard)
 
 -- the row that was fetched reads so with a source that was had; and that is the content by any
 -- truth by which what stands at the path before is honest and the source is what its key opens to

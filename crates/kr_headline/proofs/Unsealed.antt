@@ -48,7 +48,7 @@ use Rattle.kr_script.specs.declared.script.Part.{Part}
 use Rattle.kr_script.specs.declared.script.ScriptLine.{ScriptLine}
 use Rattle.kr_script.specs.declared.script.ScriptLine.TheVariants as line
 use Rattle.kr_script.specs.declared.told.Told.{Told}
-use Rattle.kr_workers.specs.Configurations.{IsFreshWith, IsLeftWith, IsStaleWith, RowReads}
+use Rattle.kr_workers.specs.Configurations.{RowReads}
 use Rattle.kr_workers.specs.Heard.{Heard}
 use Rattle.kr_workers.specs.Histories.{StandsIn}
 use Rattle.kr_workers.specs.LineExchanges.{DoesBy}
@@ -62,6 +62,7 @@ use Rattle.kr_workers.proofs.Shaping.{IfTold}
 use Rattle.kr_workers.proofs.ShapingRewrites.{MakesBy, Reader, drive_part, makes_data}
 use Rattle.kr_headline.specs.Sources.{HasSource, WasAnswered}
 use Rattle.kr_headline.proofs.Cached.{AreAnswers, AreKnown, AreSo, ReadsKnown, failed_reader, opens_so, parted, reading_by, run_known, step_so, walks_so, was_read}
+use Rattle.kr_headline.proofs.Sourced.{FreshBy, LeftBy, StaleBy}
 
 abbrev is_replace : Did → Bool
 is_replace (did.Replace path from) = true
@@ -356,8 +357,8 @@ module _ (heard : Heard) where
   module _ (p : Publication) (row : Row) (from to : Ahead) (so : AreSo (WasAnswered heard) from)
     where
       pub makes_known : (opened : Result Opened UnsealNo) → ReadsRow p row from opened to
-          → MakesBy (IsFreshWith (HasSource heard)) (IsStaleWith (HasSource heard))
-          (IsLeftWith (HasSource heard)) (λ name. ⊤) p row opened
+          → MakesBy (FreshBy heard) (StaleBy heard)
+          (LeftBy heard) (λ name. ⊤) p row opened
       makes_known (Ok opened) r =
           let w = read_known p row from to so (Ok opened) (data_of opened.plain) r refl in
           makes_data (HasSource heard) p row opened.plain opened.stale (
@@ -387,9 +388,9 @@ module _ (heard : Heard) where
     Meanwhile = λ from to. ⊤;
     Fails = λ name from to. ⊤;
     IsSo = AreSo (WasAnswered heard);
-    IsFresh = IsFreshWith (HasSource heard);
-    IsStale = IsStaleWith (HasSource heard);
-    IsLeft = IsLeftWith (HasSource heard);
+    IsFresh = FreshBy heard;
+    IsStale = StaleBy heard;
+    IsLeft = LeftBy heard;
     later = λ name from mids to stay failed. tt;
     next = λ p row from opened to reads so.
         opens_so (WasAnswered heard) p row from opened to reads so;
@@ -418,15 +419,15 @@ module _ (heard : Heard) where
         (new : Workplace L D) → IsDone link step left count files replica old done new
         → done.line ≡ line.Rewrite → AreAnswers (WasAnswered heard) done.exchanges
         → AreKnown (WasAnswered heard) old.cache.rows
-        → RewritePart (IsFreshWith (HasSource heard)) (IsStaleWith (HasSource heard))
-        (IsLeftWith (HasSource heard)) (λ name. ⊤) (Rose (count old.dice) (count new.dice))
+        → RewritePart (FreshBy heard) (StaleBy heard)
+        (LeftBy heard) (λ name. ⊤) (Rose (count old.dice) (count new.dice))
         (λ met. CoversLive [] met old.caller new.caller) old.caller.seat replica done.part
         done.reply
     part_by_sources replica old done new is asked answers known =
         let asks = subst (λ (l : ScriptLine). DoesBy left count files replica l old
         (Ok done.reply) new done.exchanges) asked is.asks in
-        subst (IfTold (λ (t : Told). RewritePart (IsFreshWith (HasSource heard))
-        (IsStaleWith (HasSource heard)) (IsLeftWith (HasSource heard)) (λ name. ⊤)
+        subst (IfTold (λ (t : Told). RewritePart (FreshBy heard)
+        (StaleBy heard) (LeftBy heard) (λ name. ⊤)
         (Rose (count old.dice) (count new.dice))
         (λ met. CoversLive [] met old.caller new.caller) old.caller.seat replica done.part t))
         (sym asks.1)

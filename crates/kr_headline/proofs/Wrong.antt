@@ -13,7 +13,7 @@ use Rattle.kr_rollout.specs.declared.line.Did.TheVariants as did
 use Rattle.kr_rollout.specs.declared.line.Gave.{Gave}
 use Rattle.kr_rollout.specs.declared.line.Gave.TheVariants as gave
 use Rattle.kr_rollout.specs.declared.opening.Entry.{Entry}
-use Rattle.kr_history.specs.Contents.{deletes, last_change, puts}
+use Rattle.kr_history.specs.Contents.{deletes, last_change}
 use Rattle.kr_script.specs.Fleets.{worker_of}
 use Rattle.kr_script.specs.declared.script.ScriptLine.{ScriptLine}
 use Rattle.kr_script.specs.declared.script.ScriptLine.TheVariants as line
@@ -172,21 +172,20 @@ module _ (run : Run) (h : Headline run) (made : All (HasLine run) h.steps) where
 
   -- ---- the sentence
 
-  never_other : (worker at revision : ℕ) (path bytes other : List ℕ) (truth : run.Truths)
-      → IsTold run worker at (line.Get path) (told.Got revision bytes)
-      → ((front : List Step) (fetch : Step) (rest : List Step)
-      → h.steps ≡ front ++ fetch ∷ rest → IsOwn worker at fetch
-      → fetch.entry.line.did ≡ did.Fetch path
-      → run.PluginsUnwrapped truth path worker at fetch.entry
-      × (option_map (λ (it : Object). it.data_put) (stands_at run path (entries_of front))
-      ≡ Some (Some other))) → other ≢ bytes → ⊥
-  never_other worker at revision path bytes other truth told_is each differ =
+  -- what is told are the data that stood there as the line fetched
+  told_data : (worker at revision : ℕ) (path bytes other : List ℕ) (truth : run.Truths)
+      (told_is : IsTold run worker at (line.Get path) (told.Got revision bytes))
+      → run.PluginsUnwrapped truth path worker at
+      (h.gets worker at path bytes revision told_is).fetch.entry
+      → option_map (λ (it : Object). it.data_put) (stands_at run path
+      (entries_of (h.gets worker at path bytes revision told_is).front)) ≡ Some (Some other)
+      → other ≡ bytes
+  told_data worker at revision path bytes other truth told_is unwrapped put_is =
       let f = h.gets worker at path bytes revision told_is in
-      let here = each f.front f.fetch f.rest f.there f.own f.fetches in
       let put : f.object.data_put ≡ Some other = same_Some f.object.data_put (Some other)
-      (ap (option_map (λ (it : Object). it.data_put)) (sym f.stands) ∙ here.1) in
-      differ (ap bytes_in (ap (λ those. reading_of those (run.read_at_start truth path)) (sym put)
-      ∙ f.is truth here.0))
+      (ap (option_map (λ (it : Object). it.data_put)) (sym f.stands) ∙ put_is) in
+      ap bytes_in (ap (λ those. reading_of those (run.read_at_start truth path)) (sym put)
+      ∙ f.is truth unwrapped)
 
   never_unwritten : (worker at revision : ℕ) (path bytes : List ℕ) (truth : run.Truths)
       → IsTold run worker at (line.Get path) (told.Got revision bytes)
@@ -205,22 +204,6 @@ module _ (run : Run) (h : Headline run) (made : All (HasLine run) h.steps) where
   begun path = option_map (λ revision. record { revision = revision; data_put = None })
       (run.stood_at_start path)
 
-  never_older : (worker at revision : ℕ) (path bytes last : List ℕ) (truth : run.Truths)
-      → IsTold run worker at (line.Get path) (told.Got revision bytes)
-      → ((front : List Step) (fetch : Step) (rest : List Step)
-      → h.steps ≡ front ++ fetch ∷ rest → IsOwn worker at fetch
-      → fetch.entry.line.did ≡ did.Fetch path
-      → run.PluginsUnwrapped truth path worker at fetch.entry
-      × (last_change (entries_of front) path ≡ Some (puts last))) → last ≢ bytes → ⊥
-  never_older worker at revision path bytes last truth told_is each differ =
-      never_other worker at revision path bytes last truth told_is
-      (λ front fetch rest there own fetches.
-      let here = each front fetch rest there own fetches in (
-        here.0,
-        data_from path (entries_of front) (begun path)
-            ∙ ap (λ c. by_change c (data_in (begun path))) here.1,
-      )) differ
-
   never_deleted : (worker at revision : ℕ) (path bytes : List ℕ)
       → IsTold run worker at (line.Get path) (told.Got revision bytes)
       → ((front : List Step) (fetch : Step) (rest : List Step)
@@ -234,9 +217,17 @@ module _ (run : Run) (h : Headline run) (made : All (HasLine run) h.steps) where
 
   pub wrong : WrongPages run h
   wrong = record {
-    got_other = never_other;
+    got_other = λ worker at revision path bytes other truth told_is each differ.
+        let f = h.gets worker at path bytes revision told_is in
+        let here = each f.front f.fetch f.rest f.there f.own f.fetches in
+        differ (told_data worker at revision path bytes other truth told_is here.0 here.1);
     got_unwritten = never_unwritten;
-    got_older = never_older;
+    got_older = λ worker at revision path bytes last truth told_is each differ.
+        let f = h.gets worker at path bytes revision told_is in
+        let here = each f.front f.fetch f.rest f.there f.own f.fetches in
+        differ (told_data worker at revision path bytes last truth told_is here.0
+        (data_from path (entries_of f.front) (begun path)
+        ∙ ap (λ c. by_change c (data_in (begun path))) here.1));
     got_deleted = never_deleted;
     found_nothing = λ front path revision s none. none-some revision
         (ap (option_map (λ (it : Object). it.revision)) (sym none)

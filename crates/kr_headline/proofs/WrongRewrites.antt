@@ -1,6 +1,7 @@
 -- What no rewrite tells, by the second page.
 use Rattle.std.specs.Prelude.{◌≢◌, All, cond, count_by}
-use Rattle.std.proofs.Common.{◌≡◌, ℕ, List, [], ◌∷◌, ◌++◌, Some, refl, subst, arith}
+use Rattle.std.proofs.Common.{◌≡◌, ℕ, Bool, true, false, List, [], ◌∷◌, ◌++◌, Some, refl, ap, subst, arith}
+use Rattle.std.proofs.lemmas.Bool.{false≢true}
 use Rattle.std.proofs.lemmas.List.Elements.{All-cons, All-head, All-nil, All-tail}
 use Rattle.std.proofs.lemmas.List.Sums.{sum_by-cons}
 use Rattle.kr_provider.specs.Envelopes.{Envelope}
@@ -16,8 +17,8 @@ use Rattle.kr_script.specs.Fleets.{Worker}
 use Rattle.kr_script.specs.declared.script.ScriptLine.TheVariants as line
 use Rattle.kr_script.specs.declared.told.Told.{Told}
 use Rattle.kr_script.specs.declared.told.Told.TheVariants as told
-use Rattle.kr_workers.specs.Configurations.{IsFresh, IsFreshWith, IsLeftWith, IsStaleWith}
-use Rattle.kr_workers.specs.RewriteParts.{FindsNone, Passes, Reseals, Walks}
+use Rattle.kr_workers.specs.Configurations.{IsFresh, IsFreshWith}
+use Rattle.kr_workers.specs.RewriteParts.{FindsNone, Meets, Passes, Reseals, Walks}
 use Rattle.kr_workers.specs.Shapes.{HoldsPart}
 use Rattle.kr_workers.specs.declared.files.SettingsFile.{SettingsFile}
 use Rattle.kr_workers.specs.Heard.{Heard}
@@ -27,6 +28,7 @@ use Rattle.kr_headline.specs.Sources.{HasSource}
 use Rattle.kr_headline.specs.WrongPages.{WrongRewrites}
 use Rattle.kr_headline.specs.WrongSeals.{FindsNone as FoundNone}
 use Rattle.kr_headline.specs.Values.{sealed_values}
+use Rattle.kr_headline.proofs.Sourced.{FreshBy, LeftBy, StaleBy}
 
 -- nothing counts as nothing
 pub none_by : (m n : ℕ) → m ≡ capped_count n → n ≡ 0 → m ≡ 0
@@ -65,25 +67,46 @@ module _ (F S O : Publication → Row → Type 0) where
       All-head Unwritten r.replace [] (All-tail Unwritten r.find (r.replace ∷ []) both) to
       r.replaces.gave_is
 
-  none_counted : (own : ℕ) (above : List ℕ) (met : List met_row.Step)
-      (Ends : (above : List ℕ) → List Entry → Type 0) (part : List Entry)
-      → Walks F S O own above met Ends part → All Unwritten part
-      → count_by is_rewritten met ≡ 0
-  none_counted own above [] Ends part w all = refl
-  none_counted own above (met.Rewritten path ∷ more) Ends part w all =
-      let first = all_front Unwritten w.0 w.1
-      (subst (λ (l : List Entry). All Unwritten l) w.2 all) in
-      absurd (no_reseal w.3.p above path w.3.is.0 w.3.mids w.3.is.1
-      (all_mids Unwritten own w.0 _ w.3 first))
-  none_counted own above (taken ∷ more) Ends part w all =
-      let rest = none_counted own (path_of above taken) more Ends w.1 w.4
-      (all_behind Unwritten w.0 w.1 (subst (λ (l : List Entry). All Unwritten l) w.2 all)) in
-      omega (arith, rest, sum_by-cons (λ x. cond (is_rewritten x) 1 0) taken more)
-
-  -- ---- what it passed by
-
   abbrev Holds : ℕ → Publication → Entry → Type 0
   Holds number p e = (e.line.held ≡ Some number) × (e.published ≡ Some p)
+
+  -- a step that passes the test needs an entry that isn't so
+  abbrev Never : (P : Entry → Type 0) (test : met_row.Step → Bool) → Type 0
+  Never P test = (number : ℕ) (p : Publication) (above : List ℕ) (taken : met_row.Step)
+      (mids : List Entry) → test taken ≡ true → All (Holds number p) mids
+      → Meets F S O p above taken mids → All P mids → ⊥
+
+  -- so none passes it where all entries are so
+  abbrev pub NoneMet : (P : Entry → Type 0) (test : met_row.Step → Bool) → Type 1
+  NoneMet P test = (own : ℕ) (above : List ℕ) (met : List met_row.Step)
+      (Ends : (above : List ℕ) → List Entry → Type 0) (part : List Entry)
+      → Walks F S O own above met Ends part → All P part → count_by test met ≡ 0
+
+  none_met : (P : Entry → Type 0) (test : met_row.Step → Bool) → Never P test → NoneMet P test
+  none_met P test never own above [] Ends part w all = refl
+  none_met P test never own above (taken ∷ more) Ends part w all =
+      let both = subst (λ (l : List Entry). All P l) w.2 all in
+      by (test taken) refl (all_front P w.0 w.1 both)
+      (none_met P test never own (path_of above taken) more Ends w.1 w.4
+      (all_behind P w.0 w.1 both))
+    where
+      by : (b : Bool) → test taken ≡ b → All P w.0 → count_by test more ≡ 0
+          → count_by test (taken ∷ more) ≡ 0
+      by true is first rest = absurd (never w.3.number w.3.p above taken w.3.mids is w.3.hold
+          w.3.is (all_mids P own w.0 _ w.3 first))
+      by false is first rest =
+          let here = ap {B = ℕ} (λ b. cond b 1 0) is in
+          omega (arith, rest, here, sum_by-cons (λ x. cond (test x) 1 0) taken more)
+
+  never_rewritten : Never Unwritten is_rewritten
+  never_rewritten number p above (met.Rewritten path) mids t = λ hold r.
+      no_reseal p above path r.0 mids r.1
+  never_rewritten number p above other mids t = λ hold r all. absurd (false≢true t)
+
+  none_counted : NoneMet Unwritten is_rewritten
+  none_counted = none_met Unwritten is_rewritten never_rewritten
+
+  -- ---- what it passed by
 
   no_pass : (Is : Publication → Row → Type 0) (number : ℕ) (p : Publication)
       (above path : List ℕ) (mids : List Entry) → All (Holds number p) mids
@@ -95,35 +118,19 @@ module _ (F S O : Publication → Row → Type 0) where
       (subst (λ (l : List Entry). All (FoundNone Is) l) r.mids_are all) p r.finds.row held.1
       r.finds.row_is r.finds.is
 
-  pub none_fresh : (own : ℕ) (above : List ℕ) (met : List met_row.Step)
-      (Ends : (above : List ℕ) → List Entry → Type 0) (part : List Entry)
-      → Walks F S O own above met Ends part → All (FoundNone F) part → count_by is_fresh met ≡ 0
-  none_fresh own above [] Ends part w all = refl
-  none_fresh own above (met.Fresh path ∷ more) Ends part w all =
-      let first = all_front (FoundNone F) w.0 w.1
-      (subst (λ (l : List Entry). All (FoundNone F) l) w.2 all) in
-      absurd (no_pass F w.3.number w.3.p above path w.3.mids w.3.hold w.3.is
-      (all_mids (FoundNone F) own w.0 _ w.3 first))
-  none_fresh own above (taken ∷ more) Ends part w all =
-      let rest = none_fresh own (path_of above taken) more Ends w.1 w.4
-      (all_behind (FoundNone F) w.0 w.1
-      (subst (λ (l : List Entry). All (FoundNone F) l) w.2 all)) in
-      omega (arith, rest, sum_by-cons (λ x. cond (is_fresh x) 1 0) taken more)
+  never_fresh : Never (FoundNone F) is_fresh
+  never_fresh number p above (met.Fresh path) mids t = no_pass F number p above path mids
+  never_fresh number p above other mids t = λ hold r all. absurd (false≢true t)
 
-  pub none_left : (own : ℕ) (above : List ℕ) (met : List met_row.Step)
-      (Ends : (above : List ℕ) → List Entry → Type 0) (part : List Entry)
-      → Walks F S O own above met Ends part → All (FoundNone O) part → count_by is_left met ≡ 0
-  none_left own above [] Ends part w all = refl
-  none_left own above (met.Left path ∷ more) Ends part w all =
-      let first = all_front (FoundNone O) w.0 w.1
-      (subst (λ (l : List Entry). All (FoundNone O) l) w.2 all) in
-      absurd (no_pass O w.3.number w.3.p above path w.3.mids w.3.hold w.3.is
-      (all_mids (FoundNone O) own w.0 _ w.3 first))
-  none_left own above (taken ∷ more) Ends part w all =
-      let rest = none_left own (path_of above taken) more Ends w.1 w.4
-      (all_behind (FoundNone O) w.0 w.1
-      (subst (λ (l : List Entry). All (FoundNone O) l) w.2 all)) in
-      omega (arith, rest, sum_by-cons (λ x. cond (is_left x) 1 0) taken more)
+  pub none_fresh : NoneMet (FoundNone F) is_fresh
+  none_fresh = none_met (FoundNone F) is_fresh never_fresh
+
+  never_left : Never (FoundNone O) is_left
+  never_left number p above (met.Left path) mids t = no_pass O number p above path mids
+  never_left number p above other mids t = λ hold r all. absurd (false≢true t)
+
+  pub none_left : NoneMet (FoundNone O) is_left
+  none_left = none_met (FoundNone O) is_left never_left
 
 -- with a source that was had it is so with any
 any_fresh : (HadSource : Envelope → Publication → Row → Type 0) (p : Publication) (row : Row)
@@ -139,15 +146,6 @@ module _ (heard : (worker : ℕ) → Heard) (o : Opening) (files : List Settings
     abbrev run : Run
     run = run_of sealed_values heard o files workers replies history outside readings
 
-    abbrev Fresh : (worker : ℕ) → Publication → Row → Type 0
-    Fresh worker = IsFreshWith (HasSource (heard worker))
-
-    abbrev Stale : (worker : ℕ) → Publication → Row → Type 0
-    Stale worker = IsStaleWith (HasSource (heard worker))
-
-    abbrev Leaves : (worker : ℕ) → Publication → Row → Type 0
-    Leaves worker = IsLeftWith (HasSource (heard worker))
-
     abbrev Ended : ℕ → (above : List ℕ) → List Entry → Type 0
     Ended worker above rest =
         HoldsPart (run.replica_of worker) rest (λ p number. FindsNone above)
@@ -158,14 +156,14 @@ module _ (heard : (worker : ℕ) → Heard) (o : Opening) (files : List Settings
           let s = h.tells worker at line.Rewrite (told.Rewritten rewritten fresh changed left)
           told_is in
           some (none_by rewritten (count_by is_rewritten s.0) s.3
-          (none_counted (Fresh worker) (Stale worker) (Leaves worker) (run.replica_of worker) [] s.0
-          (Ended worker) (own_entries h.steps worker at) s.1 all));
+          (none_counted (FreshBy (heard worker)) (StaleBy (heard worker)) (LeftBy (heard worker))
+          (run.replica_of worker) [] s.0 (Ended worker) (own_entries h.steps worker at) s.1 all));
       counted_stale = λ worker at rewritten fresh changed left told_is all some.
           let s = h.tells worker at line.Rewrite (told.Rewritten rewritten fresh changed left)
           told_is in
           some (none_by fresh (count_by is_fresh s.0) s.4
-          (none_fresh (Fresh worker) (Stale worker) (Leaves worker) (run.replica_of worker) [] s.0
-          (Ended worker) (own_entries h.steps worker at) s.1 (λ k e below p row held is f.
+          (none_fresh (FreshBy (heard worker)) (StaleBy (heard worker)) (LeftBy (heard worker))
+          (run.replica_of worker) [] s.0 (Ended worker) (own_entries h.steps worker at) s.1 (λ k e below p row held is f.
           all k e below p row held is (any_fresh (HasSource (heard worker)) p row f))));
       rewrite_got = λ worker at revision bytes told_is.
           h.tells worker at line.Rewrite (told.Got revision bytes) told_is;

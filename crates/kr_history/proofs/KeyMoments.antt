@@ -20,6 +20,7 @@ use Rattle.kr_history.specs.Acting.{Caller, AddsEntry}
 use Rattle.kr_history.specs.CallerLaws.{LeavesHolding}
 use Rattle.kr_history.specs.Calls.{AdoptsNothing, LetsGo}
 use Rattle.kr_history.specs.KeyMoments.{Happens, KeysAtEachMoment, LaysDown, Moment, Said, TakesUp, added, adopts_in, call_moments, has_adopted, is_adoption, laid_down, moments_at, moments_of, taken_up}
+use Rattle.kr_history.specs.TakingUp.{HasTakenUp}
 use Rattle.kr_history.specs.declared.call.CallNo.{CallNo}
 use Rattle.kr_history.proofs.Following.{released_law, stays_law}
 use Rattle.kr_history.proofs.NothingAdopted.{nothing_adopted}
@@ -163,13 +164,15 @@ in_turn_early replica old new why keys idle a = in_turn_quiet old new keys idle
 
 -- the bench was given a configuration
 pub adopts_published : {L D : Type 0} (p : Publication) (old new : BenchState L D)
-    → new.published ≡ Some p → HoldKeys (adopted_secrets new.published) new.pages
+    → new ≡ record old { published = Some p; pages = new.pages }
+    → HoldKeys (adopted_secrets new.published) new.pages
     → size_of new.pages ≡ size_of old.pages → TakesKeys p (adoption_of old) (adoption_of new)
-adopts_published p old new is keys size = record {
-  published = is;
-  keys = subst (λ (o : Option Publication). HoldKeys (adopted_secrets o) new.pages) is keys;
-  size = size;
-}
+adopts_published {L} {D} p old new kept keys size =
+    let is = ap (λ (b : BenchState L D). b.published) kept in record {
+      published = is;
+      keys = subst (λ (o : Option Publication). HoldKeys (adopted_secrets o) new.pages) is keys;
+      size = size;
+    }
 
 -- a generation was adopted, its configuration taken up, and laid down before the LetGo
 module _ {T : Type 0} (replica number : ℕ) (p : Publication) (old adopted acted new : Caller)
@@ -227,22 +230,16 @@ module _ {T : Type 0} (replica number : ℕ) (p : Publication) (old adopted acte
   in_turn_held (inr l) = by_spent l.0.same
 
 -- the stages of a call, one behind another
-pub held_turn : {T L D : Type 0} (replica : ℕ) (held : ℕ × Publication)
-    (old adopted acted new : Caller) (done result : Result T CallNo)
-    (before taken worked after : BenchState L D)
-    → AddsEntry old (event.Adopt replica) (answer.Adopted held.0 held.1) adopted
-    → holding adopted.mine ≡ Some (held.0, held.1)
-    → taken ≡ record before { published = Some held.1; pages = taken.pages }
-    → HoldKeys (adopted_secrets taken.published) taken.pages
-    → size_of taken.pages ≡ size_of before.pages → AddsQuietly adopted acted
-    → adoption_of worked ≡ adoption_of taken
+pub held_turn : {T L D : Type 0} {replica : ℕ} {old adopted acted : Caller}
+    {before taken : BenchState L D} (t : HasTakenUp replica old before adopted taken)
+    (quiet : AddsQuietly adopted acted) (new : Caller) (done result : Result T CallNo)
+    (worked after : BenchState L D) → adoption_of worked ≡ adoption_of taken
     → ClearsKeys (adoption_of worked) (adoption_of after) → LetsGo acted done result new
     → TakesInTurn old (adoption_of before) new (adoption_of after)
-held_turn {T} {L} {D} replica held old adopted acted new done result before taken worked after a
-    holds is keys size quiet same clears go =
-    in_turn_held replica held.0 held.1 old adopted acted new done result (adoption_of before)
-    (adoption_of taken) (adoption_of after) a holds
-    (adopts_published held.1 before taken (ap (λ (b : BenchState L D). b.published) is) keys size) quiet
+held_turn {T} {L} {D} {replica} {old} {adopted} {acted} {before} {taken} t quiet new done result
+    worked after same clears go =
+    in_turn_held replica t.number t.p old adopted acted new done result (adoption_of before)
+    (adoption_of taken) (adoption_of after) t.adopts t.holds t.takes quiet
     (subst (λ k. ClearsKeys k (adoption_of after)) same clears) go
 
 -- ---- one call after another

@@ -27,6 +27,7 @@ pub mod Lacking
 pub mod LineChanges
 pub mod KeptSeeds
 pub mod LivePuts
+pub mod Meanwhile
 pub mod NeedsLive
 pub mod Nexts
 pub mod NoNames

@@ -186,33 +186,31 @@ within_more entries more reloads brought puts old new l m a = (
 )
 
 module _ (entries more reloads brought : ℕ) (puts : List Did) (old middle new : Caller) where
-  pub within_behind : AddsWithin entries reloads [] old middle
-      → AddsWithin more brought puts middle new
+  both_within : (first second : List Did) (a : AddsWithin entries reloads first old middle)
+      (b : AddsWithin more brought second middle new)
+      → (written_puts (a.0 ++ b.0) ≡ []) ⊎ (written_puts (a.0 ++ b.0) ≡ puts)
       → AddsWithin (entries + more) (reloads + brought) puts old new
-  within_behind a b = (
+  both_within first second a b puts_are = (
     a.0 ++ b.0,
     both_added old middle new a.0 b.0 a.1 b.1,
     record {
       few = omega (arith, a.2.few, b.2.few, length-append a.0 b.0);
       brings_few = omega (arith, a.2.brings_few, b.2.brings_few, reloads_more a.0 b.0);
-      puts_are = puts_behind a.0 b.0 puts (no_puts (written_puts a.0) a.2.puts_are)
-          b.2.puts_are;
+      puts_are = puts_are;
     },
   )
+
+  pub within_behind : AddsWithin entries reloads [] old middle
+      → AddsWithin more brought puts middle new
+      → AddsWithin (entries + more) (reloads + brought) puts old new
+  within_behind a b = both_within [] puts a b
+      (puts_behind a.0 b.0 puts (no_puts (written_puts a.0) a.2.puts_are) b.2.puts_are)
 
   pub within_before : AddsWithin entries reloads puts old middle
       → AddsWithin more brought [] middle new
       → AddsWithin (entries + more) (reloads + brought) puts old new
-  within_before a b = (
-    a.0 ++ b.0,
-    both_added old middle new a.0 b.0 a.1 b.1,
-    record {
-      few = omega (arith, a.2.few, b.2.few, length-append a.0 b.0);
-      brings_few = omega (arith, a.2.brings_few, b.2.brings_few, reloads_more a.0 b.0);
-      puts_are = puts_before a.0 b.0 puts (no_puts (written_puts b.0) b.2.puts_are)
-          a.2.puts_are;
-    },
-  )
+  within_before a b = both_within puts [] a b
+      (puts_before a.0 b.0 puts (no_puts (written_puts b.0) b.2.puts_are) a.2.puts_are)
 
 pub bounds_follow : BoundsFollow
 bounds_follow = record {

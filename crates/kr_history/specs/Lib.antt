@@ -16,4 +16,5 @@ pub mod LineLaws
 pub mod PartLaws
 pub mod Parts
 pub mod SizeLaws
+pub mod TakingUp
 pub mod inner

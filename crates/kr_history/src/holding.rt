@@ -1,12 +1,15 @@
 //! What calls do that hold a generation meanwhile.
 ghost use Rattle.std.specs.Prelude.{◌≡◌, ◌<◌, ◌≤◌, [], length, None, Some, IfOk, IfErr, IsSome};
-ghost use Rattle.kr_provider.specs.BenchKeys.{ClearsKeys, adoption_of};
+ghost use Rattle.kr_base.specs.Walks.{Walk};
+ghost use Rattle.kr_provider.specs.BenchKeys.{ClearsKeys, LeavesKeys, adoption_of};
 ghost use Rattle.kr_provider.specs.KeyPages.{HoldKeys, adopted_secrets, size_of};
 ghost use Rattle.kr_provider.specs.Names.{HasLinks, names_of};
 ghost use Rattle.kr_rollout.specs.Callers.{holding};
-ghost use Rattle.kr_history.specs.Calls.{Adopts, IsIdle, IsIdleAfter, KeepsHonesty, LetsGo};
+ghost use Rattle.kr_history.specs.Calls.{Adopts, AreServed, HoldsAdopted, IsIdle, IsIdleAfter, KeepsHonesty, LetsGo};
+ghost use Rattle.kr_history.specs.KeyMoments.{Happens, call_moments, has_adopted};
 ghost use Rattle.kr_rollout.specs.Openings.{IsAdmitted};
 ghost use Rattle.kr_history.specs.Parts.{AddsWithin};
+ghost use Rattle.kr_history.specs.TakingUp.{TakesUpCurrent};
 ghost use Rattle.kr_history.specs.inner.Adopting.{AdoptsBy, AnswersAdopt};
 
 use crate::acts::Acts;
@@ -67,6 +70,39 @@ pub fn adopt_configuration<L: Kms, D: Dice>(bench: &mut Bench<L, D>, published: 
     let Ok(()) = bench.adopt(published) else {
         unreachable!()
     };
+}
+
+/// Adopts the replica's current generation and gives the bench its configuration, by which the call
+/// works until `hand_back`. Where nothing is adopted the bench stays as it was.
+pub fn take_up<A: Acts, L: Kms, D: Dice>(
+    acts: &mut A,
+    replica: u32,
+    bench: &mut Bench<L, D>,
+) -> Result<(), CallNo>
+    requires replica { replica < length (A.caller acts.old).opening.replicas }
+    requires idle { holding (A.caller acts.old).mine ≡ None }
+    requires links { AreServed (A.caller acts.old).opening.names (names_of L.link bench.old.links) }
+    requires pages { 64 ≤ size_of bench.old.pages }
+    ensures takes_up { TakesUpCurrent replica (A.caller acts.old) bench.old result
+        (A.caller acts.new) bench.new }
+    ensures held { IfOk result
+        (λ done. HoldsAdopted bench.new.published (A.caller acts.new).mine) }
+    ensures holds { IfOk result (λ done. IsSome (holding (A.caller acts.new).mine)) }
+    ensures adds { AddsWithin 1 0 [] (A.caller acts.old) (A.caller acts.new) }
+    ensures honest { KeepsHonesty (A.caller acts.old) (A.caller acts.new) }
+    ensures idle { IfErr result (λ why. IsIdleAfter why (A.caller acts.new)) }
+    ensures keys { IfErr result (λ why. LeavesKeys (has_adopted (A.caller acts.old)
+        (A.caller acts.new)) (adoption_of bench.old) (adoption_of bench.new)) }
+    ensures moments { IfErr result (λ why. Walk Happens (adoption_of bench.old)
+        (call_moments (A.caller acts.old) (A.caller acts.new)) (adoption_of bench.new)) }
+    ensures place { A.place acts.new ≡ A.place acts.old }
+{
+    let held = match adopt(acts, replica) {
+        Ok(held) => held,
+        Err(why) => return Err(why),
+    };
+    adopt_configuration(bench, held.1);
+    Ok(())
 }
 
 /// Takes the configuration of the bench away, so that each page is zero, and then lets the

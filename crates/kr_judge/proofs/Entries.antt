@@ -1,5 +1,5 @@
 -- Paths with the places of their pairs, and the paths of one pair.
-use Rattle.std.proofs.Common.{◌≡◌, ℕ, Bool, true, false, List, [], ◌∷◌, None, Some, Contains, map, refl, sym, ap, subst, ◌∙◌}
+use Rattle.std.proofs.Common.{◌≡◌, ℕ, Bool, true, false, List, [], ◌∷◌, Option, None, Some, Contains, map, refl, sym, ap, subst, ◌∙◌}
 use Rattle.std.specs.Prelude.{◌==◌, cond, if◌then◌else◌, get_or}
 use Rattle.std.specs.List.{AllByRecursion, filter}
 use Rattle.std.specs.List.Sorted.{IsStrictlySortedBy}
@@ -39,6 +39,20 @@ itself path = tied_itself nat_list_cmp_total path
 
 pub at_itself : (path : List ℕ) → is_at (name_cmp path) path ≡ true
 at_itself path = ap is_eq (itself path)
+
+-- what was put at a key is found there
+pub put_found : {V : Type 0} (es : List (List ℕ × V)) (key : List ℕ) (value : V) → lookup (is_at (name_cmp key)) (insert_entry name_cmp es key value) ≡ Some value
+put_found [] key value = ap (λ v. cond v (Some value) None) (at_itself key)
+put_found {V} (e ∷ es) key value = by (name_cmp key e.0) refl (put_found es key value)
+  where
+    find : List (List ℕ × V) → Option V
+    find all = lookup (is_at (name_cmp key)) all
+
+    by : (r : Ordering) → name_cmp key e.0 ≡ r → find (insert_entry name_cmp es key value) ≡ Some value
+        → find (match_ordering r ((key, value) ∷ e ∷ es) ((e.0, value) ∷ es) (e ∷ insert_entry name_cmp es key value)) ≡ Some value
+    by Less h rest = ap (λ v. cond v (Some value) (find (e ∷ es))) (at_itself key)
+    by Equal h rest = ap (λ r. cond (is_eq r) (Some value) (find es)) h
+    by Greater h rest = ap (λ r. cond (is_eq r) (Some e.1) (find (insert_entry name_cmp es key value))) h ∙ rest
 
 at_turned : (path other : List ℕ) → is_at (name_cmp path) other ≡ bytes_eq other path
 at_turned path other = is_eq-slice_cmp path other

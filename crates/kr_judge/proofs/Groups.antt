@@ -23,7 +23,7 @@ use Rattle.kr_judge.specs.inner.Places.{Groups, group_at, all_or_none, places_at
 use Rattle.kr_config.proofs.ListParts.{here, there, cases}
 use Rattle.kr_judge.proofs.Lists.{head_is}
 use Rattle.kr_judge.proofs.Parts.{take_at_more}
-use Rattle.kr_judge.proofs.Entries.{at_itself}
+use Rattle.kr_judge.proofs.Entries.{put_found}
 use Rattle.kr_judge.proofs.Needs.{equal_paths}
 use Rattle.kr_judge.proofs.Pairs.{label_here, label_set, label_last, label_put, replaced}
 use Rattle.kr_judge.proofs.Scans.{found_place, no_place, label_is, is_label, label_before, labels_fit, apart_set, apart_push}
@@ -41,16 +41,6 @@ other_name a b apart = by (is_at (name_cmp a) b) refl
 
 apart_names : (a b : List ℕ) → bytes_eq a b ≡ false → a ≢ b
 apart_names a b h e = (let clash : true ≡ false = sym ((bytes_eq-Decides a b).1 e) ∙ h in cc)
-
-pub group_own : (groups : Groups) (resource places : List ℕ) → group_at (insert_entry name_cmp groups resource places) resource ≡ Some places
-group_own [] resource places = ap (λ v. cond v (Some places) None) (at_itself resource)
-group_own (g ∷ gs) resource places = by (name_cmp resource g.0) refl (group_own gs resource places)
-  where
-    by : (r : Ordering) → name_cmp resource g.0 ≡ r → group_at (insert_entry name_cmp gs resource places) resource ≡ Some places
-        → group_at (match_ordering r ((resource, places) ∷ g ∷ gs) ((g.0, places) ∷ gs) (g ∷ insert_entry name_cmp gs resource places)) resource ≡ Some places
-    by Less h rest = ap (λ v. cond v (Some places) (group_at (g ∷ gs) resource)) (at_itself resource)
-    by Equal h rest = ap (λ r. cond (is_eq r) (Some places) (group_at gs resource)) h
-    by Greater h rest = ap (λ r. cond (is_eq r) (Some g.1) (group_at (insert_entry name_cmp gs resource places) resource)) h ∙ rest
 
 pub group_other : (groups : Groups) (resource places other : List ℕ) → other ≢ resource → group_at (insert_entry name_cmp groups resource places) other ≡ group_at groups other
 group_other [] resource places other apart = ap (λ v. cond v (Some places) None) (other_name other resource apart)
@@ -76,7 +66,7 @@ group_left (g ∷ gs) resource other apart = by (is_at (name_cmp resource) g.0) 
 -- what a call puts in place
 pub put_at : (old new : Groups) (resource places : List ℕ) → new ≡ insert_entry name_cmp old resource places → IsPutAt resource (Some places) old new
 put_at old new resource places e = record {
-  own = ap (λ l. group_at l resource) e ∙ group_own old resource places;
+  own = ap (λ l. group_at l resource) e ∙ put_found old resource places;
   others = λ other apart. ap (λ l. group_at l other) e ∙ group_other old resource places other apart;
 }
 

@@ -19,7 +19,7 @@ use Rattle.kr_judge.specs.declared.pair.Pair.{Pair}
 use Rattle.kr_judge.specs.declared.proposal.Proposal.{Proposal}
 use Rattle.kr_judge.specs.inner.Indexes.{AreSorted, need_of, needs_of, paths_of, labels_of, kept_paths, with_proposed, without_proposed, IsIndexed, AreAsBefore, IsChangedAt}
 use Rattle.kr_config.proofs.ListParts.{here, there}
-use Rattle.kr_judge.proofs.Entries.{Entries, has_path, needs_with, needs_without, needs_relabelled, paths_with, paths_beside, paths_without, not_among, is_among, taken_and_put, key_put_and_taken, key_put_twice, at_itself}
+use Rattle.kr_judge.proofs.Entries.{Entries, has_path, needs_with, needs_without, needs_relabelled, paths_with, paths_beside, paths_without, not_among, is_among, taken_and_put, key_put_and_taken, key_put_twice, put_found}
 
 abbrev kept_at : List Pair → ℕ → List (List ℕ)
 kept_at pairs place = get_or (kept_paths pairs) place []
@@ -82,17 +82,6 @@ place_fits es pairs p path q ix h = elim (cases_lt q (length pairs)) [
       )
 ]
 
--- where a path was put
-pub found_put : (es : Entries) (path : List ℕ) (place : ℕ) → found (insert_entry name_cmp es path place) path ≡ Some place
-found_put [] path place = ap (λ v. cond v (Some place) None) (at_itself path)
-found_put (e ∷ es) path place = by (name_cmp path e.0) refl (found_put es path place)
-  where
-    by : (r : Ordering) → name_cmp path e.0 ≡ r → found (insert_entry name_cmp es path place) path ≡ Some place
-        → found (match_ordering r ((path, place) ∷ e ∷ es) ((e.0, place) ∷ es) (e ∷ insert_entry name_cmp es path place)) path ≡ Some place
-    by Less h rest = ap (λ v. cond v (Some place) (found (e ∷ es) path)) (at_itself path)
-    by Equal h rest = ap (λ r. cond (is_eq r) (Some place) (found es path)) h
-    by Greater h rest = ap (λ r. cond (is_eq r) (Some e.1) (found (insert_entry name_cmp es path place) path)) h ∙ rest
-
 -- the paths of a pair beside the one that is put
 untouched : (es : Entries) (path : List ℕ) (place i : ℕ) → AreSorted es → (place == i) ≡ false → (found es path ≡ Some i → ⊥) → paths_of i es ≡ paths_of i (insert_entry name_cmp es path place)
 untouched es path place i s o lost = sym (paths_beside es path place i o s ∙ not_among es path i s lost)
@@ -116,7 +105,7 @@ pub made_fresh : (es : Entries) (old new : List Pair) (path : List ℕ) (place :
 made_fresh es old new path place ix fits same none change sorted = record {
   sorted = sorted;
   paths = λ other. change.paths other ∙ ap (λ ps. if place == other then insert_key name_cmp ps path else ps) (ix.paths other) ∙ by other (place == other) refl;
-  stands = (omega (arith, fits, same), subst IsSome (sym (found_put es path place)) refl, λ e. found_put es path place);
+  stands = (omega (arith, fits, same), subst IsSome (sym (put_found es path place)) refl, λ e. put_found es path place);
 }
   where
     all : Entries

@@ -132,21 +132,19 @@ pub added_live : (gs : List GenerationState) (new : GenerationState) → is_live
 added_live gs new h = added_from 0 gs new h ∙ ap (λ n. live_numbers gs ++ n ∷ []) (omega arith)
 
 -- the current generation of a replica
-left_same : (replica : ℕ) (g : GenerationState) → is_replica_current replica g ≡ false → left_by replica g ≡ g
-left_same replica g h = ap (λ v. record g { current = v }) (by g.current (g.replica == replica) h)
+left_as : (replica : ℕ) (g : GenerationState) → left_by replica g ≡ record g { current = cond (is_replica_current replica g) false g.current }
+left_as replica g = ap (λ v. record g { current = v }) (by g.current (g.replica == replica))
   where
-    by : (c own : Bool) → (c && own) ≡ false → (c && not own) ≡ c
-    by true true k = cc
-    by true false k = refl
-    by false own k = refl
+    by : (c own : Bool) → (c && not own) ≡ cond (c && own) false c
+    by true true = refl
+    by true false = refl
+    by false own = refl
+
+left_same : (replica : ℕ) (g : GenerationState) → is_replica_current replica g ≡ false → left_by replica g ≡ g
+left_same replica g h = left_as replica g ∙ ap (λ v. record g { current = cond v false g.current }) h
 
 left_own : (replica : ℕ) (g : GenerationState) → is_replica_current replica g ≡ true → left_by replica g ≡ uncurrent g
-left_own replica g h = ap (λ v. record g { current = v }) (by g.current (g.replica == replica) h)
-  where
-    by : (c own : Bool) → (c && own) ≡ true → (c && not own) ≡ false
-    by true true k = refl
-    by true false k = cc
-    by false own k = cc
+left_own replica g h = left_as replica g ∙ ap (λ v. record g { current = cond v false g.current }) h
 
 pub left_none : (replica : ℕ) (gs : List GenerationState) → filter (is_replica_current replica) gs ≡ [] → without_current replica gs ≡ gs
 left_none replica [] h = refl

@@ -1,9 +1,10 @@
 //! All generations by their numbers, and the numbers of those that are live.
-ghost use Rattle.std.specs.Prelude.{◌≡◌, ◌<◌, ◌≤◌, ◌+◌, ◌++◌, ◌==◌, [], ◌∷◌, length, not, true, IfOk, IsTrue, Some, vec_len, vec_capacity};
-ghost use Rattle.std.specs.List.{filter, list_any, slice_get};
+ghost use Rattle.std.specs.Prelude.{◌≡◌, ◌<◌, ◌≤◌, [], length, IfOk, Some};
+ghost use Rattle.std.specs.List.{slice_get};
 ghost use Rattle.kr_config.specs.Kept.{rows_of};
 ghost use Rattle.kr_judge.specs.Boards.{HasOneCurrent, without_current, held_more, held_less, changed_at, MayHold, IsHeld};
 ghost use Rattle.kr_judge.specs.Scans.{live_numbers};
+ghost use Rattle.kr_judge.specs.inner.Lives.{with_added};
 ghost use Rattle.kr_judge.specs.inner.Views.{generation_of};
 
 use crate::generation::JudgedGeneration;
@@ -23,7 +24,7 @@ pub struct GenerationList {
 }
 
 impl Model for GenerationList {
-    ghost use Rattle.std.specs.Prelude.{◌≡◌, ◌<◌, ◌≤◌, ◌^◌, vec_len, vec_capacity};
+    ghost use Rattle.std.specs.Prelude.{◌≡◌, ◌≤◌, vec_len, vec_capacity};
     ghost use Rattle.kr_judge.specs.Boards.{HasOneCurrent};
     ghost use Rattle.kr_judge.specs.inner.Lives.{GenerationsState};
     ghost use Rattle.kr_judge.specs.Scans.{live_numbers};
@@ -87,15 +88,7 @@ impl GenerationList {
     pub fn add(&mut self, replica: u32, settings: Shared<Settings>) -> u32
         requires { length self.old.generations < self.old.room }
         ensures number { result ≡ length self.old.generations }
-        ensures added { self.new ≡ record self.old {
-          generations = without_current replica self.old.generations
-              ++ record {
-                replica = replica;
-                rows = rows_of settings.entries.0;
-                current = true;
-                holders = 0;
-              } ∷ [];
-        } }
+        ensures added { self.new ≡ with_added self.old replica (rows_of settings.entries.0) }
     {
         let number = self.all.len() as u32;
         holding::leave(&mut self.all, &mut self.live, replica);

@@ -5,6 +5,7 @@ use Rattle.std.specs.Map.{lookup, lookup_entry, remove_entry}
 use Rattle.std.specs.Option.{option_map_or}
 use Rattle.lru.specs.LruCache.{LruCache, lru_cache, put_entries}
 use Rattle.lru.proofs.CallerLemmas.{Contains-lookup, Contains-put_entries}
+use Rattle.kr_base.specs.Pairs.{Pairs}
 use Rattle.kr_kms.specs.Cache.{CacheState, Fetches, GivesSeed, KeepsAnswer, key_eq, seed_at}
 use Rattle.kr_kms.specs.Calls.{Link, AsksLink, IsSameLink, asked_key}
 use Rattle.kr_kms.specs.declared.plugin.KmsNo.{KmsNo}
@@ -12,6 +13,18 @@ use Rattle.kr_kms.specs.declared.plugin.KmsNo.TheVariants.{Failed, NoMemory}
 use Rattle.kr_kms.specs.declared.seeds.SeedKey.{SeedKey}
 use Rattle.kr_kms.specs.inner.Keeping.{Rows, IsCopyAt, IsPut, AreAmong, AreAmongWith}
 use Rattle.kr_kms.proofs.Keys.{same_key}
+
+-- a key that was made of the name that was told is the one that is asked for
+pub asked_of : {key : SeedKey} (said name key_id : List ℕ) (annotations : Pairs) (source : List ℕ)
+    → key ≡ asked_key said key_id annotations source → said ≡ name
+    → key ≡ asked_key name key_id annotations source
+asked_of said name key_id annotations source is same =
+    is ∙ ap (λ n. asked_key n key_id annotations source) same
+
+-- and where none is kept under it
+pub none_kept : {key asked : SeedKey} (rows : Rows) → key ≡ asked → seed_at rows key ≡ None
+    → seed_at rows asked ≡ None
+none_kept rows same none = subst (λ k. seed_at rows k ≡ None) same none
 
 -- what is found under a key stands under it
 pub found_there : (rows : Rows) (key : SeedKey) (seed : List ℕ) → seed_at rows key ≡ Some seed

@@ -132,6 +132,11 @@ pub some_given : {X Y : Type 0} (f : X → Y) (p : X → Bool) {seen xs : List X
     → Some at ≡ position p seen → seen ≡ xs → IsSome (option_map f (find p xs))
 some_given f p {xs = xs} {at = at} first is = first_there f p xs at (placed p first is)
 
+-- where it stands, but there is no room to lend it
+pub not_lent : {X Y : Type 0} (f : X → Y) (p : X → Bool) {seen xs : List X} {at n : ℕ}
+    → Some at ≡ position p seen → seen ≡ xs → IsSome (option_map f (find p xs)) × (n ≡ n)
+not_lent f p first is = (some_given f p first is, refl)
+
 -- one of which some are out has a place there
 pub not_taken : {X : Type 0} (p : X → Bool) (xs : List X) → position p xs ≡ None
     → 0 < count_by p xs → ⊥
@@ -153,6 +158,12 @@ module _ {X : Type 0} (p : X → Bool) {seen xs : List X} {place : Option ℕ} {
       by : (place : Option ℕ) → position p xs ≡ place → is_some place ≡ true → 0 < count_by p xs
       by None e t = absurd (cc)
       by (Some at) e t = some_counted p xs at e
+
+-- a name that has no place among those that are out is out no time
+pub name_free : (name : List ℕ) {seen xs : List (List ℕ)} {place : Option ℕ} {there : Bool}
+    → place ≡ position (λ o. same_name o name) seen → seen ≡ xs → there ≡ is_some place
+    → there ≡ false → count_by (λ o. same_name o name) xs ≡ 0
+name_free name first is told = none_out (λ o. same_name o name) first is told
 
 -- ---- the tests of keys
 

@@ -1,5 +1,5 @@
 -- A tape that is made where none of its name is here or out.
-use Rattle.std.proofs.Common.{◌≡◌, ℕ, List, [], ◌∷◌, ◌++◌, Bool, true, None, Some, option_map, Result, Ok, Err, inr, refl, sym, ap, subst}
+use Rattle.std.proofs.Common.{◌≡◌, ℕ, List, [], ◌∷◌, ◌++◌, Bool, true, None, Some, option_map, Result, Ok, Err, ◌⊎◌, inl, inr, refl, sym, ap, subst}
 use Rattle.std.specs.Prelude.{count_by, IfOk, IfErr}
 use Rattle.kr_base.specs.Faults.{counted}
 use Rattle.kr_base.specs.InMemory.{TapeState, faults_of}
@@ -48,6 +48,10 @@ module _ (old new : TapeShelf) (name : List ℕ) (make : Bool) (room faults : �
       subst (λ f. IsTape (Some (option_map (λ entry. entry.1.bytes) f)) make (Some tape.bytes))
       (sym none_here) (m, ap (λ (t : TapeState). Some t.bytes) is)
   made_empty (Err why) m is = tt
+
+-- there is no memory to lend the one that is here
+pub starved : {Out There Make Same : Type 0} → Out → There × Same → Out × (There ⊎ Make) × Same
+starved out (there, same) = (out, inl there, same)
 
 pub alone_if : {T E : Type 0} (result : Result T E) (count : ℕ) → count ≡ 0
     → IfOk result (λ t. count ≡ 0)

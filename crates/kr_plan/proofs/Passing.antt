@@ -104,27 +104,37 @@ same_read : (rows : List ConfigEntry) (list : List Who) (class : Class) → list
 same_read rows list class own =
     wider_read rows rows list class own (λ who m. m) (first_member (class_list rows class))
 
+-- settings pass that have each member of the lists before, and whose writers are among those
+passes_onto : (one rows : List ConfigEntry) (needs : List Need)
+    (generations : List GenerationState) (replica : ℕ)
+    → IsBetween one rows needs generations replica
+    → ((class : Class) (who : Who) → Contains (class_list one class) who
+    → Contains (class_list rows class) who)
+    → ((class : Class) (who : Who) → first (class_list rows class) ≡ Some who
+    → Contains (class_list one class) who)
+    → verdict_of needs generations replica rows ≡ Pass
+passes_onto one rows needs generations replica between wider back =
+    passes one rows needs generations replica between rows
+    (λ need m. elim (stored_at one rows needs generations replica between need m) [
+      | inl k ↦ wider (Exact need.resource) need.who k
+      | inr k ↦ k
+    ])
+    (λ list class e. elim e [
+      | inl own ↦ wider_read one rows list class own (wider class) (back class)
+      | inr own ↦ same_read rows list class own
+    ])
+
 pub wide_passes : WidePasses
 wide_passes from to needs generations replica kept between =
     let wide : List ConfigEntry = wide_rows from to in
     let at : (class : Class)
     → class_list wide class ≡ merge (class_list from class) (class_list to class) =
     λ class. (merges_each_class from to class).0 in
-    let widens : (class : Class) (who : Who) → Contains (class_list from class) who
-    → Contains (class_list wide class) who =
-    λ class who m. subst (λ l. Contains l who) (sym (at class))
-    (in_one (class_list from class) (class_list to class) who m) in
-    passes from wide needs generations replica between wide
-    (λ need m. elim (stored_at from wide needs generations replica between need m) [
-      | inl k ↦ widens (Exact need.resource) need.who k
-      | inr k ↦ k
-    ])
-    (λ list class e. elim e [
-      | inl own ↦ wider_read from wide list class own (widens class)
-          (λ who f. first_merged (class_list from class) (class_list to class) who
-          (full_list from class kept) (ap first (sym (at class)) ∙ f))
-      | inr own ↦ same_read wide list class own
-    ])
+    passes_onto from wide needs generations replica between
+    (λ class who m. subst (λ l. Contains l who) (sym (at class))
+    (in_one (class_list from class) (class_list to class) who m))
+    (λ class who f. first_merged (class_list from class) (class_list to class) who
+    (full_list from class kept) (ap first (sym (at class)) ∙ f))
 
 pub turned_passes : TurnedPasses
 turned_passes from to needs generations replica between =
@@ -136,26 +146,14 @@ turned_passes from to needs generations replica between =
     let here_turned : (class : Class)
     → class_list turned class ≡ merge (class_list to class) (class_list from class) =
     λ class. (merges_each_class from to class).1 in
-    let turn : (class : Class) (who : Who) → Contains (class_list wide class) who
-    → Contains (class_list turned class) who =
-    λ class who m. subst (λ l. Contains l who) (sym (here_turned class))
+    passes_onto wide turned needs generations replica between
+    (λ class who m. subst (λ l. Contains l who) (sym (here_turned class))
     ((merges_members (class_list from class) (class_list to class) who).0
-    (subst (λ l. Contains l who) (here_wide class) m)) in
-    let back : (class : Class) (who : Who) → Contains (class_list turned class) who
-    → Contains (class_list wide class) who =
-    λ class who m. subst (λ l. Contains l who) (sym (here_wide class))
+    (subst (λ l. Contains l who) (here_wide class) m)))
+    (λ class who f. subst (λ l. Contains l who) (sym (here_wide class))
     ((merges_members (class_list from class) (class_list to class) who).1
-    (subst (λ l. Contains l who) (here_turned class) m)) in
-    passes wide turned needs generations replica between turned
-    (λ need m. elim (stored_at wide turned needs generations replica between need m) [
-      | inl k ↦ turn (Exact need.resource) need.who k
-      | inr k ↦ k
-    ])
-    (λ list class e. elim e [
-      | inl own ↦ wider_read wide turned list class own (turn class)
-          (λ who f. back class who (first_member (class_list turned class) who f))
-      | inr own ↦ same_read turned list class own
-    ])
+    (subst (λ l. Contains l who) (here_turned class)
+    (first_member (class_list turned class) who f))))
 
 pub target_passes : TargetPasses
 target_passes from to needs generations replica kept between stored =

@@ -1,11 +1,26 @@
 -- A prefix is its head, its name and a colon: bytes begin with it where each follows the other.
-use Rattle.std.proofs.Common.{◌≡◌, ◌≢◌, ℕ, List, ◌∷◌, ◌++◌, length, drop, Bool, true, false, refl, sym, ◌∙◌, ap}
+use denote.Ref.{Bor}
+use Rattle.std.proofs.Common.{◌≡◌, ◌≢◌, ℕ, ◌+◌, List, ◌∷◌, ◌++◌, length, take, drop, eqb, Bool, true, false, refl, sym, ◌∙◌, ap, subst}
+use Rattle.std.specs.Prelude.{MatchOption, Option}
 use Rattle.std.specs.Bool.{Decides}
+use Rattle.std.specs.Cmp.Lexicographic.{pointwise}
+use Rattle.std.proofs.lemmas.Bool.Decides.{Decides-eqb}
+use Rattle.std.proofs.lemmas.Slice.Eq.{strip_prefix_is}
 use Rattle.std.proofs.lemmas.List.{append_cancel_left}
 use Rattle.std.proofs.Math.Seq.{drop-append_seam}
 use Rattle.kr_envelope.specs.declared.prefix.Kind.{Kind}
 use Rattle.kr_envelope.specs.Prefixes.{begins, head, prefix}
 use Rattle.kr_envelope.proofs.Prefixing.{begins_is, headed}
+
+-- where a front is cut off, the bytes begin with it, and else they don't
+pub stripped : (bytes cut front : List ℕ) (r : Option (Bor (List ℕ))) → cut ≡ front
+    → MatchOption r (pointwise eqb (take (length cut) bytes) cut ≡ false)
+    (λ rest. (pointwise eqb (take (length cut) bytes) cut ≡ true)
+    × (rest.now ≡ drop (length cut) bytes) × (length rest.now + length cut ≡ length bytes))
+    → MatchOption r ((rest : List ℕ) → bytes ≢ front ++ rest) (λ rest. bytes ≡ front ++ rest.now)
+stripped bytes cut front r is cases =
+    subst (λ f. MatchOption r ((rest : List ℕ) → bytes ≢ f ++ rest) (λ rest. bytes ≡ f ++ rest.now)) is
+    (strip_prefix_is Decides-eqb bytes cut r cases)
 
 refuted : (b : Bool) (P : Type 0) → Decides b P → (P → ⊥) → b ≡ false
 refuted true P d n = absurd (n (d.0 refl))

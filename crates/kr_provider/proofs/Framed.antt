@@ -3,6 +3,7 @@ use Rattle.std.proofs.Common.{◌≡◌, ℕ, ◌+◌, ◌-◌, List, ◌++◌, 
 use Rattle.std.proofs.lemmas.List.{drop-replicate, length-append, length-replicate, length-take-le, take-take}
 use Rattle.std.proofs.lemmas.Slice.{between_is}
 use lib.Seq.{drop-append-add, paste}
+use Rattle.kr_provider.proofs.Filled.{all_new}
 
 -- the data were moved behind the place of the front, and the front is written
 pub framed_is : (front plain resized moved : List ℕ) (n k : ℕ) → n ≡ length plain
@@ -87,12 +88,12 @@ module _ (items front first plain : List ℕ) (zeros k start : ℕ)
       ∙ append_assoc first (replicate zeros 0) (plain ++ replicate k 0)
 
   -- what stands before what is written
-  pub before_written : take start items ≡ first
+  before_written : take start items ≡ first
   before_written = ap (take start) parts
       ∙ take_at first (replicate zeros 0 ++ (plain ++ replicate k 0)) start start_is
 
   -- the data stand behind the zeros
-  pub data_in : (size : ℕ) → length plain ≡ size
+  data_in : (size : ℕ) → length plain ≡ size
       → take size (drop zeros (drop start items)) ≡ plain
   data_in size long = ap (λ l. take size (drop zeros (drop start l))) parts
       ∙ ap (λ l. take size (drop zeros l))
@@ -100,3 +101,14 @@ module _ (items front first plain : List ℕ) (zeros k start : ℕ)
       ∙ ap (take size) (drop_at (replicate zeros 0) (plain ++ replicate k 0) zeros
       (length-replicate {A = ℕ} zeros 0))
       ∙ take_at plain (replicate k 0) size long
+
+  -- with what was written over the zeros and the data, all of the value
+  pub value_written : (body : List ℕ → List ℕ) (result new now : List ℕ) (count size : ℕ)
+      → result ≡ take count (new ++ drop (length new) items) → length new ≡ length now → now ≡ items
+      → count ≡ length items → length plain ≡ size
+      → new ≡ take start now ++ body (take size (drop zeros (drop start now)))
+      → result ≡ first ++ body plain
+  value_written body result new now count size all kept same counted long written =
+      all_new result new now items count all kept same counted ∙ written
+      ∙ ap (λ l. take start l ++ body (take size (drop zeros (drop start l)))) same
+      ∙ (λ i. before_written i ++ body (data_in size long i))

@@ -22,7 +22,7 @@ use Rattle.kr_provider.specs.KeyPages.{HoldKeys, KeyPages, words_out, key_secret
 use Rattle.kr_provider.specs.Publication.{Publication}
 use Rattle.kr_provider.specs.Readers.{writer_of}
 use Rattle.kr_provider.specs.inner.Scan.{AreAmong, HasWords, IsAmong, place_from}
-use Rattle.kr_provider.proofs.Lists.{of_row, first_has}
+use Rattle.kr_provider.proofs.Lists.{each_at, of_row, first_has}
 
 -- ---- what is left of a list behind an item
 
@@ -355,17 +355,13 @@ list_among rows resource =
     (any_behind (secrets_among row.providers) (secrets_in rows)))
     (λ pattern. matches pattern resource) rows
 
-pub among_at : (secrets : List (List ℕ)) (list : List Who) (i : ℕ) (who : Who)
-    → AreAmong secrets list → i < length list → who ≡ get_or list i who → IsAmong secrets who
-among_at secrets [] i who a h is = absurd (omega (arith, h))
-among_at secrets (x ∷ xs) zero who a h is = subst (IsAmong secrets) (sym is) a.0
-among_at secrets (x ∷ xs) (suc i) who a h is = among_at secrets xs i who a.1 (omega (arith, h)) is
-
 pub adopted_among : (adopted : Option Publication) (list : List Who) (i : ℕ) (who : Who)
     → IfSome adopted (λ p. AreAmong (secrets_in p.rows) list) → i < length list
     → who ≡ get_or list i who → IfSome adopted (λ p. IsAmong (secrets_in p.rows) who)
 adopted_among None list i who a h is = tt
-adopted_among (Some p) list i who a h is = among_at (secrets_in p.rows) list i who a h is
+adopted_among (Some p) list i who a h is =
+    let secrets : List (List ℕ) = secrets_in p.rows in
+    each_at (IsAmong secrets) (AreAmong secrets) (λ x xs all. (all.0, all.1)) list i who a h is
 
 pub writer_among : (secrets : List (List ℕ)) (list : List Who) → AreAmong secrets list
     → IsAmong secrets (writer_of list)

@@ -9,12 +9,12 @@ use Rattle.kr_provider.specs.Names.{AreDistinct}
 use Rattle.kr_provider.proofs.AskedLists.{asked_alone, asks_at, distinct_stay, place_named}
 use Rattle.kr_provider.proofs.LinkTalks.{talk_among}
 
-module _ {L : Type 0} (link : L → Link) (name : List ℕ) {old items slice : List L} {at : ℕ}
-    {before : L} (after : L) (view : items ≡ old) (slice_is : slice ≡ items)
-    (found : position (λ l. bytes_eq (link l).name name) slice ≡ Some at)
+module _ {L : Type 0} (link : L → Link) (name : List ℕ) {old items : List L} {at : ℕ}
+    {before : L} (after : L) (view : items ≡ old)
+    (found : position (λ l. bytes_eq (link l).name name) old ≡ Some at)
     (is : before ≡ get_or items at before) (same : IsSameLink (link before) (link after)) where
   place : position (λ l. bytes_eq (link l).name name) items ≡ Some at
-  place = ap (position (λ l. bytes_eq (link l).name name)) (sym slice_is) ∙ found
+  place = ap (position (λ l. bytes_eq (link l).name name)) view ∙ found
 
   asked : (Asks : L → L → Type 0) → Asks before after
       → AsksOne link name Asks items (slice_set items at after)

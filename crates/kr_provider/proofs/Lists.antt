@@ -1,5 +1,5 @@
 -- The list of a resource, by settings that keep their rules and name no plugin.
-use Rattle.std.proofs.Common.{◌≡◌, ℕ, ◌≤◌, Bool, true, false, List, [], ◌∷◌, ◌++◌, length, map, refl, ◌∙◌, ap, arith, IsTrue, lit≤}
+use Rattle.std.proofs.Common.{◌≡◌, ℕ, zero, suc, ◌<◌, ◌≤◌, Bool, true, false, List, [], ◌∷◌, ◌++◌, length, get_or, map, refl, sym, ◌∙◌, ap, subst, arith, IsTrue, lit≤}
 use Rattle.std.specs.Prelude.{◌&&◌, ◌||◌, if◌then◌else◌, nat_le}
 use Rattle.std.specs.List.{list_all, list_any}
 use Rattle.std.proofs.lemmas.Bool.Decides.{nat_tests}
@@ -29,6 +29,16 @@ first_has Has none own more test (row ∷ rows) = chosen (list_any test row.patt
         → Has (row ∷ rows) (if q then row.providers else first_list test rows)
     chosen true a b = a
     chosen false a b = b
+
+-- what holds of each provider of a list holds of the one at a place
+pub each_at : (Is : Who → Type 0) (Are : List Who → Type 0)
+    → ((who : Who) (list : List Who) → Are (who ∷ list) → Is who × Are list)
+    → (list : List Who) (i : ℕ) (who : Who) → Are list → i < length list → who ≡ get_or list i who
+    → Is who
+each_at Is Are parts [] i who all h is = absurd (omega (arith, h))
+each_at Is Are parts (x ∷ xs) zero who all h is = subst Is (sym is) (parts x xs all).0
+each_at Is Are parts (x ∷ xs) (suc i) who all h is =
+    each_at Is Are parts xs i who (parts x xs all).1 (omega (arith, h)) is
 
 some_of : (n : ℕ) → nat_le 1 n ≡ true → 1 ≤ n
 some_of n e = grind (arith, nat_tests)

@@ -20,7 +20,7 @@ use Rattle.kr_provider.specs.Publication.{IsPublished, Publication, seed_of}
 use Rattle.kr_provider.specs.Publishing.{AreSeedsOf}
 use Rattle.kr_provider.specs.Readers.{writer_of}
 use Rattle.kr_provider.specs.inner.Scan.{AreNamedIn, HasSeed, HaveSeeds, IsNamedIn}
-use Rattle.kr_provider.proofs.Lists.{first_has, of_row, rows_keep}
+use Rattle.kr_provider.proofs.Lists.{each_at, first_has, of_row, rows_keep}
 use Rattle.kr_provider.proofs.NameOrder.{comes_earlier}
 use Rattle.kr_provider.proofs.Rivals.{name_of}
 
@@ -104,12 +104,6 @@ list_named rows resource =
     (Contains-append_right (plugins_among row.providers) (plugins_in rows)))
     (λ pattern. matches pattern resource) rows
 
-pub named_at : (names : List (List ℕ)) (list : List Who) (i : ℕ) (who : Who)
-    → AreNamedIn names list → i < length list → who ≡ get_or list i who → IsNamedIn names who
-named_at names [] i who a h is = absurd (omega (arith, h))
-named_at names (x ∷ xs) zero who a h is = subst (IsNamedIn names) (sym is) a.0
-named_at names (x ∷ xs) (suc i) who a h is = named_at names xs i who a.1 (omega (arith, h)) is
-
 -- ---- each has its seed
 
 seed_there : (seeds : List SeedRow) (name : List ℕ)
@@ -142,9 +136,7 @@ list_seeded p resource is = seeded p is (list_of p.rows resource) (list_named p.
 
 pub seeded_at : (seeds : List SeedRow) (list : List Who) (i : ℕ) (who : Who)
     → HaveSeeds seeds list → i < length list → who ≡ get_or list i who → HasSeed seeds who
-seeded_at seeds [] i who a h is = absurd (omega (arith, h))
-seeded_at seeds (x ∷ xs) zero who a h is = subst (HasSeed seeds) (sym is) a.0
-seeded_at seeds (x ∷ xs) (suc i) who a h is = seeded_at seeds xs i who a.1 (omega (arith, h)) is
+seeded_at seeds = each_at (HasSeed seeds) (HaveSeeds seeds) (λ x xs all. (all.0, all.1))
 
 pub writer_seeded : (seeds : List SeedRow) (list : List Who) → HaveSeeds seeds list
     → HasSeed seeds (writer_of list)
@@ -181,5 +173,6 @@ pub linked : (names : List (List ℕ)) (list : List Who) (i : ℕ) (who : Who) (
     → asked ≡ name → Contains names asked
 linked names list i who name asked a h is k s =
     let there : IsNamedIn names (Kms name) =
-    subst (IsNamedIn names) k (named_at names list i who a h is) in
+    subst (IsNamedIn names) k (each_at (IsNamedIn names) (AreNamedIn names)
+    (λ x xs all. (all.0, all.1)) list i who a h is) in
     subst (Contains names) (sym s) there

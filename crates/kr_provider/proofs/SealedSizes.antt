@@ -165,27 +165,31 @@ prefix_length k name n = omega (
   n.1,
 )
 
+-- a value that a prefix and at most 32 bytes stand beside
+few_keyed : (seeds : List SeedRow) (who : Who) (k : Kind) (name path plain drawn value : List ℕ)
+    → IsName name → IsBytes (draw_size who) drawn → length plain ≤ 2097152
+    → value_by seeds who path plain drawn ≡ Some value
+    → value_size seeds who (length plain) ≤ length (prefix k name) + (length plain + 32)
+    → length value ≤ 2162688
+few_keyed seeds who k name path plain drawn value n b f e few = omega (
+  arith,
+  size_by seeds who path plain drawn value b e,
+  f,
+  few,
+  prefix_length k name n,
+)
+
 few_by : (seeds : List SeedRow) (who : Who) (path plain drawn value : List ℕ) → All IsSeedRow seeds
     → is_provider who ≡ true → IsBytes (draw_size who) drawn → length plain ≤ 2097152
     → value_by seeds who path plain drawn ≡ Some value → length value ≤ 2162688
 few_by seeds Identity path plain drawn value a p b f e =
     omega (arith, size_by seeds Identity path plain drawn value b e, f)
-few_by seeds (Aescbc name secret) path plain drawn value a p b f e =
-    omega (
-      arith,
-      size_by seeds (Aescbc name secret) path plain drawn value b e,
-      f,
-      prefix_length
-          kind.Aescbc name (key_name name secret p),
-    )
-few_by seeds (Aesgcm name secret) path plain drawn value a p b f e =
-    omega (
-      arith,
-      size_by seeds (Aesgcm name secret) path plain drawn value b e,
-      f,
-      prefix_length
-          kind.Aesgcm name (key_name name secret p),
-    )
+few_by seeds (Aescbc name secret) path plain drawn value a p b f e = few_keyed seeds
+    (Aescbc name secret) kind.Aescbc name path plain drawn value (key_name name secret p) b f e
+    (omega arith)
+few_by seeds (Aesgcm name secret) path plain drawn value a p b f e = few_keyed seeds
+    (Aesgcm name secret) kind.Aesgcm name path plain drawn value (key_name name secret p) b f e
+    (omega arith)
 few_by seeds (Kms name) path plain drawn value a p b f e = by_row (seed_of name seeds) refl e
   where
     by_row : (o : Option SeedRow) → seed_of name seeds ≡ o

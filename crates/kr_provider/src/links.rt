@@ -106,6 +106,16 @@ impl<L: Kms> Links<L> {
         self.items.destroy_empty();
     }
 
+    /// Where the link to the plugin of this name stands, which is there.
+    fn place(&self, name: &str) -> usize
+        requires { Contains (names_of L.link self.now) name.now }
+        ensures place { position (λ link. bytes_eq (L.link link).name name.now) self.now
+            ≡ Some result }
+        ensures within { result < length self.now }
+    {
+        plugin_link_place(self.items.as_slice(), name)
+    }
+
     /// The id of the key that the plugin of this name wraps with.
     pub(crate) fn key_id(&mut self, alloc: Global, name: &str) -> Result<Text, SeedNo>
         requires { Contains (names_of L.link self.old) name.now }
@@ -113,7 +123,7 @@ impl<L: Kms> Links<L> {
             (λ old new. TellsKeyId (L.link old) result (L.link new)) self.old self.new }
         ensures exchanged { Talk (Among L.step) self.old self.new (TellsKeyIdBy name.now result) }
     {
-        let at = plugin_link_place(self.items.as_slice(), name);
+        let at = self.place(name);
         healthy_key_id(alloc, &mut self.items[at])
     }
 
@@ -132,7 +142,7 @@ impl<L: Kms> Links<L> {
         ensures exchanged { Talk (Among L.step) self.old self.new
             (MakesSeedBy D.left D.count name.now dice.old result dice.new) }
     {
-        let at = plugin_link_place(self.items.as_slice(), name);
+        let at = self.place(name);
         make_seed(alloc, &mut self.items[at], dice)
     }
 
@@ -151,7 +161,7 @@ impl<L: Kms> Links<L> {
             (asked_key name.now object.now.key_id object.now.annotations object.now.source)
             cache.old result cache.new) }
     {
-        let at = plugin_link_place(self.items.as_slice(), name);
+        let at = self.place(name);
         cache.fetch(
             &mut self.items[at],
             object.key_id.as_str(),

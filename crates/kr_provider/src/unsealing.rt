@@ -1,5 +1,5 @@
 //! What stored values read as.
-ghost use Rattle.std.specs.Prelude.{◌≡◌, ◌≤◌, true, false, length, drop};
+ghost use Rattle.std.specs.Prelude.{◌≡◌, ◌≤◌, true, false, length, take, drop};
 ghost use Rattle.kr_aes.specs.KeyExpansion.{IsKeyLength, padded_schedule};
 ghost use Rattle.kr_base.specs.Limits.{path_limit, value_limit};
 ghost use Rattle.kr_config.specs.Providers.{is_provider, is_kms};
@@ -59,10 +59,7 @@ fn by_aescbc(secret: &[u8], words: &[u32; 60], value: Bytes, from: usize) -> Res
     let rounds = key_rounds(secret);
     let mut buffer = value.into_vec();
     match cbc_unseal_in_place(words, rounds, buffer.as_mut_slice(), from) {
-        Ok(length) => {
-            buffer.truncate(length);
-            Ok(Bytes::from_vec(buffer))
-        }
+        Ok(length) => Ok(front_bytes(buffer, length)),
         Err(why) => Err(UnsealNo::Refused(mode_refusal(why))),
     }
 }
@@ -112,12 +109,17 @@ fn by_gcm(
     let rounds = key_rounds(secret);
     let mut buffer = value.into_vec();
     match gcm_unseal_in_place(words, rounds, nonce, path, buffer.as_mut_slice(), from) {
-        Ok(length) => {
-            buffer.truncate(length);
-            Ok(Bytes::from_vec(buffer))
-        }
+        Ok(length) => Ok(front_bytes(buffer, length)),
         Err(why) => Err(UnsealNo::Refused(mode_refusal(why))),
     }
+}
+
+/// The first bytes of the buffer, in it.
+fn front_bytes(mut buffer: Vec<u8>, length: usize) -> Bytes
+    ensures { result ≡ take length buffer.items }
+{
+    buffer.truncate(length);
+    Bytes::from_vec(buffer)
 }
 
 /// The refusal of a body.

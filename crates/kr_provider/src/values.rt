@@ -1,9 +1,8 @@
 //! What stored values hold by the adopted configuration.
-ghost use Rattle.std.specs.Prelude.{◌≡◌, ℕ, ◌≤◌, List, length, All, Contains, Some, None, IsSome, Ok, IfSome};
+ghost use Rattle.std.specs.Prelude.{◌≡◌, ℕ, ◌≤◌, List, length, Contains, Some, IsSome, Ok, IfSome};
 ghost use Rattle.kr_base.specs.Limits.{path_limit, value_limit};
 ghost use Rattle.kr_config.specs.declared.who.Who.{Who};
 ghost use Rattle.kr_kms.specs.Cache.{seed_at};
-ghost use Rattle.kr_kms.specs.Seeds.{IsSeedRow};
 ghost use Rattle.kr_kms.specs.declared.seeds.SeedRow.{SeedRow};
 ghost use Rattle.kr_base.specs.Walks.{Talk};
 ghost use Rattle.kr_provider.specs.AskedLinks.{Among};

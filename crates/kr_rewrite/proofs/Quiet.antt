@@ -1,15 +1,19 @@
 -- Between its Adopt and its LetGo a step neither adopts nor lets go.
-use Rattle.std.proofs.Common.{◌≡◌, inl, inr, ℕ, List, Option, Some, Result, subst}
+use Rattle.std.proofs.Common.{inl, inr, ℕ, List, Option, Result}
 use Rattle.std.specs.Prelude.{IfSome}
+use Rattle.kr_kms.specs.Calls.{Link}
+use Rattle.kr_provider.specs.BenchState.{BenchState}
 use Rattle.kr_provider.specs.Publication.{Publication}
 use Rattle.kr_store.specs.declared.rows.Row.{Row}
 use Rattle.kr_rollout.specs.declared.answer.Answer.TheVariants as answer
 use Rattle.kr_rollout.specs.declared.event.Event.TheVariants as event
 use Rattle.kr_history.specs.Acting.{Caller}
+use Rattle.kr_history.specs.TakingUp.{HasTakenUp}
 use Rattle.kr_history.specs.declared.call.CallNo.{CallNo}
 use Rattle.kr_history.proofs.KeyMoments.{AddsQuietly, quiet_both, quiet_none, quiet_one}
+use Rattle.kr_history.proofs.Meanwhile.{of_taken}
 use Rattle.kr_rewrite.proofs.OneEntry.{found_none, rewritten}
-use Rattle.kr_rewrite.specs.Rewrites.{FindsNone, RewritesOver, ReadsFoundRow, StepsOver}
+use Rattle.kr_rewrite.specs.Rewrites.{FindsNone, RewritesOver, ReadsFoundRow, Steps, StepsOver, UnsealsRow}
 use Rattle.kr_rewrite.specs.declared.outcome.Step.{Step}
 
 none_found : (above : List ℕ) (old new : Caller) (result : Result Step CallNo)
@@ -36,14 +40,16 @@ module _ {S D : Type 0} (Reads : ReadsFoundRow S) (left : D → Option (List ℕ
       (quiet_one old f.found (event.After above) (answer.Found f.row) tt f.finds)
       (rewrites f.row f.found result f.rewrites)
 
--- by the configuration that the bench has
-pub steps_quietly : {S D : Type 0} (Reads : ReadsFoundRow S) (left : D → Option (List ℕ))
-    (count : D → ℕ) (above : List ℕ) (published : Option Publication) (p : Publication)
-    (old new : Caller) (from to : S) (dice after : D) (result : Result Step CallNo)
-    → published ≡ Some p
-    → IfSome published (λ p. StepsOver Reads left count p above old from dice result new to after)
-    → AddsQuietly old new
-steps_quietly Reads left count above published p old new from to dice after result is f =
-    steps Reads left count p above old new from to dice after result
-    (subst (λ o. IfSome o (λ p. StepsOver Reads left count p above old from dice result new to
-    after)) is f)
+-- by the configuration that the bench took up
+pub steps_quietly : {L D : Type 0} {replica : ℕ} {old adopted : Caller}
+    {before taken : BenchState L D} (t : HasTakenUp replica old before adopted taken)
+    (link : L → Link) (left : D → Option (List ℕ)) (count : D → ℕ) (above : List ℕ) (new : Caller)
+    (worked : BenchState L D) (result : Result Step CallNo)
+    → IfSome taken.published (λ p. Steps link left count p above adopted taken.links taken.dice
+    result new worked.links worked.dice)
+    → AddsQuietly adopted new
+steps_quietly {L} {D} {replica} {old} {adopted} {before} {taken} t link left count above new worked
+    result f =
+    steps (UnsealsRow link) left count t.p above adopted new taken.links worked.links taken.dice
+    worked.dice result (of_taken t (λ p. Steps link left count p above adopted taken.links
+    taken.dice result new worked.links worked.dice) f)

@@ -1,5 +1,5 @@
 -- A row that is replaced: what its seat may ask, what becomes of the row, and that its data stay.
-use Rattle.std.specs.Prelude.{IfOk}
+use Rattle.std.specs.Prelude.{IfOk, IfSome}
 use Rattle.std.proofs.Common.{◌≡◌, inl, inr, ℕ, List, ◌++◌, Option, Some, Result, Ok, Err, refl, sym, ap, subst, ◌∙◌}
 use Rattle.std.specs.Option.{option_map}
 use Rattle.std.proofs.lemmas.Option.{same_Some}
@@ -24,12 +24,13 @@ use Rattle.kr_rollout.specs.declared.opening.Opening.{Opening}
 use Rattle.kr_history.specs.Acting.{Caller, AddsEntry, IsCaller}
 use Rattle.kr_rollout.specs.Callers.{Allows, found_in, gave_of, holding}
 use Rattle.kr_history.specs.Asking.{AsksReplace}
-use Rattle.kr_history.specs.Calls.{KeepsHonestBy}
+use Rattle.kr_history.specs.Calls.{HoldsAdopted, KeepsHonestBy}
 use Rattle.kr_history.specs.Honesty.{HonestBy, IsHonest, KeepsData}
 use Rattle.kr_history.proofs.FoundRows.{replaced_is_live}
 use Rattle.kr_history.proofs.HeldFacts.{found_is_named, held_is_named, held_opens}
 use Rattle.kr_history.proofs.KeptHonest.{honesty_follows}
 use Rattle.kr_history.proofs.Nexts.{front_own, legal_now}
+use Rattle.kr_rewrite.proofs.Options.{holds_at, holds_of}
 use Rattle.kr_rewrite.specs.declared.outcome.Step.{Step}
 use Rattle.kr_rewrite.specs.Rewrites.{IsStepTo, ResealsBy, unsealed_step}
 use Rattle.kr_rewrite.specs.inner.Stages.{ResealsRow, replaced_step}
@@ -159,32 +160,39 @@ offered p row plain stored old new (Err other) t a = absurd a
 
 -- ---- by the configuration that the bench adopted
 
-module _ {D : Type 0} (left : D → Option (List ℕ)) (count : D → ℕ) (row : Row)
-    (path plain : List ℕ) (path_is : path ≡ row.path) (published : Option Publication)
-    (p : Publication) (adopted : published ≡ Some p) (old new : Caller) (dice after : D) where
+module _ {D : Type 0} {published : Option Publication} {own : List Entry}
+    (h : HoldsAdopted published own) (left : D → Option (List ℕ)) (count : D → ℕ) (row : Row)
+    (path plain : List ℕ) (path_is : path ≡ row.path) (old new : Caller) (dice after : D) where
+  abbrev IsSealed : Result (List ℕ) SealNo → Publication → Type 0
+  IsSealed sealed q =
+      Seals left count q.seeds (writer_at q row.resource) row.path plain dice after sealed
+
   abbrev IsResealed : Result Step CallNo → Publication → Type 0
   IsResealed result q = ResealsRow left count q row plain old dice result new after
 
   pub reseals_done : (copy stored : List ℕ) (done : Result Replacing CallNo)
-      (result : Result Step CallNo)
-      → Seals left count p.seeds (writer_at p row.resource) row.path plain dice after (Ok stored)
-      → IsSealing p row.resource row.path plain stored → copy ≡ row.path
+      (result : Result Step CallNo) → IfSome published (IsSealed (Ok stored))
+      → IfSome published (λ q. IsSealing q row.resource row.path plain stored) → copy ≡ row.path
       → AsksReplace copy row.revision stored old done new → result ≡ replaced_step path done
-      → IsResealed result p
-  reseals_done copy stored done result s t is a d = inl (record {
-    sealed = Ok stored;
-    seals = s;
-    reseals = subst (λ r. ResealsBy p row plain (Ok stored) old r new)
-        (sym (d ∙ ap (λ q. replaced_step q done) path_is))
-        (offered p row plain stored old new done t
-        (subst (λ q. AsksReplace q row.revision stored old done new) is a));
-  })
+      → IfSome published (IsResealed result)
+  reseals_done copy stored done result s t is a d =
+      holds_at (IsResealed result) published h.p h.adopted (inl (record {
+        sealed = Ok stored;
+        seals = holds_of (IsSealed (Ok stored)) published h.p h.adopted s;
+        reseals = subst (λ r. ResealsBy h.p row plain (Ok stored) old r new)
+            (sym (d ∙ ap (λ q. replaced_step q done) path_is))
+            (offered h.p row plain stored old new done
+            (holds_of (λ q. IsSealing q row.resource row.path plain stored) published h.p h.adopted
+            t)
+            (subst (λ q. AsksReplace q row.revision stored old done new) is a));
+      }))
 
   pub reseals_nothing : (why : SealNo) (result : Result Step CallNo)
-      → Seals left count p.seeds (writer_at p row.resource) row.path plain dice after (Err why)
-      → result ≡ unsealed_step path why → new ≡ old → IsResealed result p
-  reseals_nothing why result s d same = inl (record {
-    sealed = Err why;
-    seals = s;
-    reseals = (d ∙ ap (λ q. unsealed_step q why) path_is, same);
-  })
+      → IfSome published (IsSealed (Err why)) → result ≡ unsealed_step path why → new ≡ old
+      → IfSome published (IsResealed result)
+  reseals_nothing why result s d same =
+      holds_at (IsResealed result) published h.p h.adopted (inl (record {
+        sealed = Err why;
+        seals = holds_of (IsSealed (Err why)) published h.p h.adopted s;
+        reseals = (d ∙ ap (λ q. unsealed_step q why) path_is, same);
+      }))

@@ -1,5 +1,5 @@
 -- What the bench and the core answered is what the step did.
-use Rattle.std.specs.Prelude.{IfOk, IfSome}
+use Rattle.std.specs.Prelude.{IfOk}
 use Rattle.std.proofs.Common.{◌≡◌, inl, inr, ℕ, true, false, List, Option, None, Some, Result, Ok, Err, refl, sym, ap, subst, ◌∙◌}
 use Rattle.kr_base.specs.Rules.{IsPath}
 use Rattle.kr_kms.specs.Calls.{Link}
@@ -16,6 +16,7 @@ use Rattle.kr_rollout.specs.declared.event.Event.TheVariants as event
 use Rattle.kr_history.specs.Acting.{Caller, AddsEntry}
 use Rattle.kr_history.specs.Asking.{AsksAfter}
 use Rattle.kr_history.specs.Calls.{LetsGo}
+use Rattle.kr_history.proofs.Meanwhile.{held_meanwhile}
 use Rattle.kr_rewrite.specs.declared.outcome.Step.{Step}
 use Rattle.kr_rewrite.specs.declared.outcome.Step.TheVariants as step
 use Rattle.kr_rewrite.specs.Rewrites.{IsStepOver, IsStepTo, RewritesData, RewritesOver, ReadsFoundRow, StepsOver, UnsealsRow, unread_step}
@@ -105,34 +106,18 @@ module _ {S D : Type 0} (Reads : ReadsFoundRow S) (left : D → Option (List ℕ
 
 -- the stages of a step, one behind another
 pub step_held : {S D : Type 0} (Reads : ReadsFoundRow S) (left : D → Option (List ℕ)) (count : D → ℕ)
-    (above copy : List ℕ) (replica : ℕ) (old adopted acted new : Caller) (from lent to : S)
-    (dice taken after : D) (held : ℕ × Publication) (published : Option Publication)
-    (done result : Result Step CallNo) → copy ≡ above → lent ≡ from → taken ≡ dice
-    → published ≡ Some held.1
+    (above copy : List ℕ) (replica : ℕ) (old adopted acted new : Caller) (from to : S)
+    (dice after : D) (held : ℕ × Publication) (done result : Result Step CallNo) → copy ≡ above
     → AddsEntry old (event.Adopt replica) (answer.Adopted held.0 held.1) adopted
-    → IfSome published (λ p. StepsOver Reads left count p copy adopted lent taken done acted to
-    after)
+    → StepsOver Reads left count held.1 copy adopted from dice done acted to after
     → LetsGo acted done result new
     → IsStepOver Reads left count replica above old from dice result new to after
-step_held Reads left count above copy replica old adopted acted new from lent to dice taken after
-    held published done result own links drawn is a f g =
-    inr (record {
-      number = held.0;
-      p = held.1;
-      adopted = adopted;
-      done = done;
-      acted = acted;
-      adopts = a;
-      does = subst (λ d. StepsOver Reads left count held.1 above adopted from d done acted to after)
-          drawn
-          (subst (λ l. StepsOver Reads left count held.1 above adopted l taken done acted to after)
-          links
-          (subst (λ q. StepsOver Reads left count held.1 q adopted lent taken done acted to after)
-          own
-          (subst (λ o. IfSome o (λ p. StepsOver Reads left count p copy adopted lent taken done
-          acted to after)) is f)));
-      lets_go = g;
-    })
+step_held Reads left count above copy replica old adopted acted new from to dice after held done
+    result own a f g =
+    inr (held_meanwhile (λ number p start ended end. StepsOver Reads left count p above start from
+    dice ended end to after) replica held old adopted acted new done result a
+    (subst (λ q. StepsOver Reads left count held.1 q adopted from dice done acted to after) own f)
+    g)
 
 -- a step that was let go is to a row of a path, where what was done is
 pub let_go_to : (old new : Caller) (done result : Result Step CallNo)

@@ -1,20 +1,21 @@
 -- By which exchanges a row that was found was rewritten, and a step went.
 use Rattle.std.specs.Prelude.{IfSome}
-use Rattle.std.proofs.Common.{◌≡◌, ℕ, List, [], Option, Some, Result, sym, ap, subst, append-nil}
+use Rattle.std.proofs.Common.{◌≡◌, ℕ, List, [], Option, Some, Result, sym, append-nil}
 use Rattle.kr_base.specs.Walks.{Talk}
 use Rattle.kr_base.proofs.Walks.{talk_none, talk_so}
 use Rattle.kr_kms.specs.Cache.{CacheState}
 use Rattle.kr_kms.specs.Exchanges.{Exchange}
+use Rattle.kr_provider.specs.BenchState.{BenchState}
 use Rattle.kr_provider.specs.Exchanges.{ReadsBy}
 use Rattle.kr_provider.specs.Publication.{Publication, list_at}
 use Rattle.kr_provider.specs.declared.refusal.Opened.{Opened}
 use Rattle.kr_provider.specs.declared.refusal.UnsealNo.{UnsealNo}
 use Rattle.kr_store.specs.declared.rows.Row.{Row}
-use Rattle.kr_rollout.specs.declared.answer.Answer.TheVariants as answer
-use Rattle.kr_rollout.specs.declared.event.Event.TheVariants as event
 use Rattle.kr_history.specs.declared.call.CallNo.{CallNo}
-use Rattle.kr_history.specs.Acting.{Caller, AddsEntry}
+use Rattle.kr_history.specs.Acting.{Caller}
 use Rattle.kr_history.specs.Calls.{LetsGo}
+use Rattle.kr_history.specs.TakingUp.{HasTakenUp}
+use Rattle.kr_history.proofs.Meanwhile.{of_taken}
 use Rattle.kr_rewrite.specs.DriveExchanges.{IsStepBy, ReadsRow, before, behind}
 use Rattle.kr_rewrite.specs.declared.outcome.Step.{Step}
 use Rattle.kr_rewrite.specs.inner.Stages.{StepsBy}
@@ -49,28 +50,23 @@ module _ {L : Type 0} (step : L → Exchange → L → Type 0) (published : Opti
       (talk_none step (B p) links h)
 
 -- the stages of a step, one behind another
-pub step_talked : {L D : Type 0} (step : L → Exchange → L → Type 0) (left : D → Option (List ℕ))
-    (count : D → ℕ) (replica : ℕ) (above copy : List ℕ) (old adopted acted new : Caller)
-    (links lent news : L) (cache given kept : CacheState)
-    (dice taken after : D) (held : ℕ × Publication) (published : Option Publication)
-    (done result : Result Step CallNo) → copy ≡ above → lent ≡ links → given ≡ cache
-    → taken ≡ dice → published ≡ Some held.1
-    → AddsEntry old (event.Adopt replica) (answer.Adopted held.0 held.1) adopted
-    → IfSome published (λ p. Talk step lent news
-    (StepsBy left count p copy adopted given taken done acted kept after))
+pub step_talked : {L D : Type 0} {replica : ℕ} {old adopted : Caller}
+    {before_it taken : BenchState L D} (t : HasTakenUp replica old before_it adopted taken)
+    (step : List L → Exchange → List L → Type 0) (left : D → Option (List ℕ)) (count : D → ℕ)
+    (above copy : List ℕ) (acted new : Caller) (worked : BenchState L D)
+    (done result : Result Step CallNo) → copy ≡ above
+    → IfSome taken.published (λ p. Talk step taken.links worked.links
+    (StepsBy left count p copy adopted taken.cache taken.dice done acted worked.cache worked.dice))
     → LetsGo acted done result new
-    → Talk step links news
-    (IsStepBy left count replica above old cache dice result new kept after)
-step_talked step left count replica above copy old adopted acted new links lent news cache given
-    kept dice taken
-    after held published done result own linked cached drawn is a t g =
-    let Given = λ (p : Publication). StepsBy left count p copy adopted given taken done acted kept
-    after in
-    let Whole = IsStepBy left count replica above old cache dice result new kept after in
-    subst (λ l. Talk step l news Whole) linked
-    (talk_so step (Given held.1) Whole lent news
-    (holds_of (λ p. Talk step lent news (Given p)) published held.1 is t)
+    → Talk step taken.links worked.links (IsStepBy left count replica above old taken.cache
+    taken.dice result new worked.cache worked.dice)
+step_talked {L} {D} {replica} {old} {adopted} {before_it} {taken} t step left count above copy acted
+    new worked done result own f g =
+    talk_so step (StepsBy left count t.p copy adopted taken.cache taken.dice done acted worked.cache
+    worked.dice) (IsStepBy left count replica above old taken.cache taken.dice result new
+    worked.cache worked.dice) taken.links worked.links (of_taken t (λ p. Talk step taken.links
+    worked.links (StepsBy left count p copy adopted taken.cache taken.dice done acted worked.cache
+    worked.dice)) f)
     (λ es s. step_held ReadsRow left count above copy replica old adopted acted new
-    (before cache es) (before given es) (behind kept) dice taken after held published done result
-    own (ap (λ c. before c es) cached) drawn is a
-    (holds_at (λ p. Given p es) published held.1 is s) g))
+    (before taken.cache es) (behind worked.cache) taken.dice worked.dice (t.number, t.p) done result
+    own t.adopts s g)

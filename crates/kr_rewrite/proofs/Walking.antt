@@ -45,77 +45,45 @@ module _ (p : Step → Bool) (steps : List Step) (taken : Step) (m : ℕ)
       omega (arith, count_more, none) in
       is ∙ ap capped_count same
 
-module _ (above : List ℕ) (steps : List Step) (old new : Report) (c : StepCounts above steps old) where
-  counts_rewritten : (path : List ℕ)
-      → new ≡ record old { rewritten = next_number old.rewritten; last = path }
-      → StepCounts above (steps ++ step.Rewritten path ∷ []) new
-  counts_rewritten path e =
-      let s = step.Rewritten path in record {
-        rewritten = ap (λ (r : Report). r.rewritten) e
-            ∙ counts_it is_rewritten steps s old.rewritten c.rewritten refl;
-        fresh = ap (λ (r : Report). r.fresh) e
-            ∙ counts_still is_fresh steps s old.fresh c.fresh refl;
-        changed = ap (λ (r : Report). r.changed) e
-            ∙ counts_still is_changed steps s old.changed c.changed refl;
-        left = ap (λ (r : Report). r.left) e ∙ counts_still is_left steps s old.left c.left refl;
-        last = ap (λ (r : Report). r.last) e ∙ sym (last_more above steps s);
-      }
+  -- it is counted where it is of this kind
+  counts_one : (n : ℕ) → n ≡ cond (p taken) (next_number m) m
+      → n ≡ capped_count (count_by p (steps ++ taken ∷ []))
+  counts_one n e = by (p taken) refl e
+    where
+      by : (b : Bool) → p taken ≡ b → n ≡ cond b (next_number m) m
+          → n ≡ capped_count (count_by p (steps ++ taken ∷ []))
+      by true here f = f ∙ counts_it here
+      by false not_here f = f ∙ counts_still not_here
 
-  counts_fresh : (path : List ℕ) → new ≡ record old { fresh = next_number old.fresh; last = path }
-      → StepCounts above (steps ++ step.Fresh path ∷ []) new
-  counts_fresh path e =
-      let s = step.Fresh path in record {
-        rewritten = ap (λ (r : Report). r.rewritten) e
-            ∙ counts_still is_rewritten steps s old.rewritten c.rewritten refl;
-        fresh = ap (λ (r : Report). r.fresh) e
-            ∙ counts_it is_fresh steps s old.fresh c.fresh refl;
-        changed = ap (λ (r : Report). r.changed) e
-            ∙ counts_still is_changed steps s old.changed c.changed refl;
-        left = ap (λ (r : Report). r.left) e ∙ counts_still is_left steps s old.left c.left refl;
-        last = ap (λ (r : Report). r.last) e ∙ sym (last_more above steps s);
-      }
-
-  counts_changed : (path : List ℕ)
-      → new ≡ record old { changed = next_number old.changed; last = path }
-      → StepCounts above (steps ++ step.Changed path ∷ []) new
-  counts_changed path e =
-      let s = step.Changed path in record {
-        rewritten = ap (λ (r : Report). r.rewritten) e
-            ∙ counts_still is_rewritten steps s old.rewritten c.rewritten refl;
-        fresh = ap (λ (r : Report). r.fresh) e
-            ∙ counts_still is_fresh steps s old.fresh c.fresh refl;
-        changed = ap (λ (r : Report). r.changed) e
-            ∙ counts_it is_changed steps s old.changed c.changed refl;
-        left = ap (λ (r : Report). r.left) e ∙ counts_still is_left steps s old.left c.left refl;
-        last = ap (λ (r : Report). r.last) e ∙ sym (last_more above steps s);
-      }
-
-  counts_left : (path : List ℕ) → new ≡ record old { left = next_number old.left; last = path }
-      → StepCounts above (steps ++ step.Left path ∷ []) new
-  counts_left path e =
-      let s = step.Left path in record {
-        rewritten = ap (λ (r : Report). r.rewritten) e
-            ∙ counts_still is_rewritten steps s old.rewritten c.rewritten refl;
-        fresh = ap (λ (r : Report). r.fresh) e
-            ∙ counts_still is_fresh steps s old.fresh c.fresh refl;
-        changed = ap (λ (r : Report). r.changed) e
-            ∙ counts_still is_changed steps s old.changed c.changed refl;
-        left = ap (λ (r : Report). r.left) e ∙ counts_it is_left steps s old.left c.left refl;
-        last = ap (λ (r : Report). r.last) e ∙ sym (last_more above steps s);
-      }
+-- one more step is counted in the number of its kind
+counts_step : (above : List ℕ) (steps : List Step) (taken : Step) (old new : Report)
+    → StepCounts above steps old
+    → new ≡ record {
+      rewritten = cond (is_rewritten taken) (next_number old.rewritten) old.rewritten;
+      fresh = cond (is_fresh taken) (next_number old.fresh) old.fresh;
+      changed = cond (is_changed taken) (next_number old.changed) old.changed;
+      left = cond (is_left taken) (next_number old.left) old.left;
+      last = path_of old.last taken;
+    }
+    → StepCounts above (steps ++ taken ∷ []) new
+counts_step above steps taken old new c e = record {
+  rewritten = counts_one is_rewritten steps taken old.rewritten c.rewritten new.rewritten
+      (ap (λ (r : Report). r.rewritten) e);
+  fresh = counts_one is_fresh steps taken old.fresh c.fresh new.fresh
+      (ap (λ (r : Report). r.fresh) e);
+  changed = counts_one is_changed steps taken old.changed c.changed new.changed
+      (ap (λ (r : Report). r.changed) e);
+  left = counts_one is_left steps taken old.left c.left new.left
+      (ap (λ (r : Report). r.left) e);
+  last = ap (λ (r : Report). r.last) e ∙ ap (λ l. path_of l taken) c.last
+      ∙ sym (last_more above steps taken);
+}
 
 pub counts_more : (above : List ℕ) (steps : List Step) (taken : Step) (found : Bool)
     (old new : Report) → CountsStep old taken found new → found ≡ true → StepCounts above steps old
     → StepCounts above (steps ++ taken ∷ []) new
 counts_more above steps step.End found old new s is c = cc (s.0, is)
-counts_more above steps (step.Rewritten path) found old new s is c =
-    counts_rewritten above steps old new c path s.1
-counts_more above steps (step.Fresh path) found old new s is c =
-    counts_fresh above steps old new c path s.1
-counts_more above steps (step.Changed path) found old new s is c =
-    counts_changed above steps old new c path s.1
-counts_more above steps (step.Left path) found old new s is c =
-    counts_left above steps old new c path s.1
+counts_more above steps taken found old new s is c = counts_step above steps taken old new c s.1
 
 -- the step that isn't counted is the end
 pub record IsEnd (taken : Step) (old new : Report) : Type 0 where

@@ -17,7 +17,7 @@ ghost use Rattle.kr_rewrite.specs.inner.Stages.{StepsBy};
 use crate::outcome::Step;
 use crate::row::rewrite;
 use kr_base::{Dice, Text};
-use kr_history::{Acts, CallNo, adopt, adopt_configuration, hand_back, look_above};
+use kr_history::{Acts, CallNo, hand_back, look_above, take_up};
 use kr_kms::Kms;
 use kr_provider::Bench;
 use std::alloc::Global;
@@ -59,11 +59,10 @@ pub fn rewrite_next<A: Acts, L: Kms, D: Dice>(
         return Err(CallNo::NoMemory);
     };
     acts.known();
-    let held = match adopt(acts, replica) {
-        Ok(held) => held,
+    match take_up(acts, replica, bench) {
+        Ok(()) => {}
         Err(why) => return Err(why),
-    };
-    adopt_configuration(bench, held.1);
+    }
     let done = step(alloc, acts, bench, copy);
     hand_back(acts, bench, done)
 }

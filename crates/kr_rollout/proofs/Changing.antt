@@ -52,13 +52,11 @@ none_counted n (c ∷ cs) d = omega (
   none_counted n cs (λ place. d (suc place)),
 )
 
-and_false : (b : Bool) → (b && false) ≡ false
-and_false true = refl
-and_false false = refl
-
-and_true : (b : Bool) → (b && true) ≡ b
-and_true true = refl
-and_true false = refl
+and_when : (b own : Bool) → (b && own) ≡ cond own b false
+and_when true true = refl
+and_when true false = refl
+and_when false true = refl
+and_when false false = refl
 
 -- the replicas from `base` on: only the owner can have the number as its current one
 abbrev OnlyAt : ℕ → ℕ → ℕ → List (Option ℕ) → Type 0
@@ -81,15 +79,15 @@ left_at base owner n now (c ∷ cs) zero own d = by (cases_eq owner (base + 0))
         → ((is_number n c || list_any (is_number n) cs) && not (owner == base + 0))
         ≡ (is_number n now || list_any (is_number n) cs)
     by (inl same) =
-        ap (λ b. (is_number n c || list_any (is_number n) cs) && not b)
+        and_when (is_number n c || list_any (is_number n) cs) (not (owner == base + 0))
+        ∙ ap (λ b. cond (not b) (is_number n c || list_any (is_number n) cs) false)
         (eq-eqb owner (base + 0) same)
-        ∙ and_false (is_number n c || list_any (is_number n) cs)
         ∙ sym (none_any n cs (λ place e. omega (arith, own (suc place) e, same)))
         ∙ ap (λ b. b || list_any (is_number n) cs) (sym d)
     by (inr other) =
-        ap (λ b. (is_number n c || list_any (is_number n) cs) && not b)
+        and_when (is_number n c || list_any (is_number n) cs) (not (owner == base + 0))
+        ∙ ap (λ b. cond (not b) (is_number n c || list_any (is_number n) cs) false)
         (ne_eqb owner (base + 0) other)
-        ∙ and_true (is_number n c || list_any (is_number n) cs)
         ∙ ap (λ b. b || list_any (is_number n) cs)
         (not_number n c (λ e. other (sym (own zero e))) ∙ sym d)
 left_at base owner n now (c ∷ cs) (suc replica) own d =

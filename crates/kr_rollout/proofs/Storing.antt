@@ -189,6 +189,27 @@ module _ (store next : Kept) (kept later : BoardState) (generations : List Gener
         few = k.few;
       })
 
+  -- the state that comes, by what it is made of
+  state_by : (generated : List Generation) (needs : List Need) (rows : List LogRow)
+      → generations ≡ generated → later.needs ≡ needs → next.rows ≡ rows
+      → ◌≡◌ {A = State} (state_with next later generations current held)
+      (record {
+        generations = generated;
+        current = current;
+        held = held;
+        needs = needs;
+        rows = rows;
+        count = next.count;
+      })
+  state_by generated needs rows g n r = (λ i. record {
+    generations = g i;
+    current = current;
+    held = held;
+    needs = n i;
+    rows = r i;
+    count = next.count;
+  })
+
   -- nothing but the count changes
   stays_so : later.needs ≡ kept.needs → next.rows ≡ store.rows
       → ◌≡◌ {A = State} (state_with next later generations current held)
@@ -201,16 +222,8 @@ module _ (store next : Kept) (kept later : BoardState) (generations : List Gener
         rows = store.rows ++ [];
         count = next.count;
       })
-  stays_so n r =
-      let g = sym (append-nil generations) in let rows = r ∙ sym (append-nil store.rows) in
-      (λ i. record {
-        generations = g i;
-        current = current;
-        held = held;
-        needs = n i;
-        rows = rows i;
-        count = next.count;
-      })
+  stays_so n r = state_by (generations ++ []) kept.needs (store.rows ++ [])
+      (sym (append-nil generations)) n (r ∙ sym (append-nil store.rows))
 
   module _ (seat : ℕ) (k : IsRollout (opening_of store first rs names reloads count torn)
       (state_with store kept generations current held) kept) (l : seat < length reloads)
@@ -304,19 +317,10 @@ module _ (store next : Kept) (kept later : BoardState) (generations : List Gener
             → Serves here seat asked (answer.Written revision)
             (line_now soon.state seat (did_of asked) (Written revision)) soon
         written revision w needs rows is stores =
-            let g = sym (append-nil generations) in
             let longer = ap (λ (x : List LogRow). length x) w.rows in
             stepped here soon seat asked (answer.Written revision)
             (same_opening (row ∷ []) room w.rows w.limit w.format)
-            (λ i. record {
-              generations = g i;
-              current = current;
-              held = held;
-              needs = needs i;
-              rows = rows i;
-              count = next.count;
-            })
-            l refl rules is (
+            (state_by _ _ _ (sym (append-nil generations)) needs rows) l refl rules is (
               row,
               would (Written revision),
               w.within,

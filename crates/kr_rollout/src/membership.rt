@@ -1,10 +1,11 @@
 //! Events that give replicas configurations, or take their current generations away.
 ghost use Rattle.std.specs.Prelude.{◌≡◌, ◌<◌, ◌↔◌, IsTrue, length};
 ghost use Rattle.kr_config.specs.Kept.{rows_of};
-ghost use Rattle.kr_rollout.specs.Answers.{HasExpected, IsExpected};
+ghost use Rattle.kr_rollout.specs.Answers.{IsExpected};
+ghost use Rattle.kr_rollout.specs.Callers.{did_of, gave_of};
 ghost use Rattle.kr_rollout.specs.Openings.{room_of};
 ghost use Rattle.kr_rollout.specs.declared.event.Event.TheVariants as event;
-ghost use Rattle.kr_rollout.specs.inner.Membership.{with_generation};
+ghost use Rattle.kr_rollout.specs.inner.Membership.{AwaitsIt, brought, taken_as, with_generation};
 ghost use Rattle.kr_rollout.specs.inner.Rollouts.{MayServe, Serves};
 
 use crate::answer::Answer;
@@ -27,6 +28,46 @@ fn is_expected(expect: Option<u32>, current: u32) -> bool
     }
 }
 
+/// How a replica is given a configuration: another one, where its current generation is the
+/// expected one, or its first.
+#[derive(Clone, Copy)]
+enum Bringing {
+    Reload { expect: Option<u32> },
+    Join,
+}
+
+impl Bringing {
+    /// What the seat did then.
+    fn did(self, replica: u32, published: Shared<Published>) -> Did
+        ensures { result ≡ did_of (brought self replica published) }
+    {
+        match self {
+            Bringing::Reload { expect } => Did::Reload {
+                replica,
+                published,
+                expect,
+            },
+            Bringing::Join => Did::Join { replica, published },
+        }
+    }
+
+    /// What is answered where it was taken up.
+    fn taken(self, generation: u32) -> (Answer, Gave)
+        ensures answer { result.0 ≡ taken_as self generation }
+        ensures gave { result.1 ≡ gave_of (taken_as self generation) }
+    {
+        match self {
+            Bringing::Reload { expect: _ } => {
+                (
+                    Answer::Reloaded { generation },
+                    Gave::Reloaded { generation },
+                )
+            }
+            Bringing::Join => (Answer::Joined { generation }, Gave::Joined { generation }),
+        }
+    }
+}
+
 impl<T: Tape> Rollout<T> {
     /// Gives a replica that is in another configuration, where its current generation is the
     /// expected one.
@@ -43,72 +84,21 @@ impl<T: Tape> Rollout<T> {
             result.0 result.1 self.new }
     {
         known(published.get());
+        let bringing = Bringing::Reload { expect };
         let Some(generation) = self.current[replica as usize] else {
-            let did = Did::Reload {
-                replica,
-                published,
-                expect,
-            };
+            let did = bringing.did(replica, published);
             let line = self.line(seat, did, Gave::Gone { replica });
             return (Answer::Gone { replica }, line);
         };
         if !is_expected(expect, generation) {
-            let did = Did::Reload {
-                replica,
-                published,
-                expect,
-            };
+            let did = bringing.did(replica, published);
             let line = self.line(seat, did, Gave::Moved { generation });
             return (Answer::Moved { generation }, line);
         }
-        self.reload_expected(seat, replica, published, expect)
+        self.take_up(seat, replica, published, bringing)
     }
 
-    /// The same, where that is so. All that this needs is made before anything changes.
-    fn reload_expected(
-        &mut self,
-        seat: u32,
-        replica: u32,
-        published: Shared<Published>,
-        expect: Option<u32>,
-    ) -> (Answer, Line)
-        requires seat_in { seat < length self.old.opening.reloads }
-        requires may { MayServe self.old seat (event.Reload replica published expect) }
-        requires expected { HasExpected self.old.state replica expect }
-        ensures { Serves self.old seat (event.Reload replica published expect)
-            result.0 result.1 self.new }
-    {
-        known(published.get());
-        let judged = judge(self.alloc, &self.board, replica, &published);
-        let did = Did::Reload {
-            replica,
-            published,
-            expect,
-        };
-        match judged {
-            Ok(
-                Judgement::Fits {
-                    settings,
-                    published,
-                },
-            ) => {
-                let generation = self.push_generation(replica, settings, published);
-                let line = self.line(seat, did, Gave::Reloaded { generation });
-                return (Answer::Reloaded { generation }, line);
-            }
-            Ok(Judgement::Refused { told, kept }) => {
-                let line = self.line(seat, did, Gave::Refused(kept));
-                return (Answer::Refused(told), line);
-            }
-            Err(NoMemory) => {
-                let line = self.line(seat, did, Gave::Nothing);
-                return (Answer::NoMemory, line);
-            }
-        }
-    }
-
-    /// Gives a replica that isn't in a configuration. All that this needs is made before anything
-    /// changes.
+    /// Gives a replica that isn't in a configuration.
     pub fn join(&mut self, seat: u32, replica: u32, published: Shared<Published>) -> (Answer, Line)
         requires seat_in { seat < length self.old.opening.reloads }
         requires may { MayServe self.old seat (event.Join replica published) }
@@ -121,8 +111,27 @@ impl<T: Tape> Rollout<T> {
             let line = self.line(seat, did, Gave::Present { generation });
             return (Answer::Present { generation }, line);
         }
+        self.take_up(seat, replica, published, Bringing::Join)
+    }
+
+    /// Judges the configuration for a replica that awaits it, which takes it up where it fits. All
+    /// that this needs is made before anything changes.
+    fn take_up(
+        &mut self,
+        seat: u32,
+        replica: u32,
+        published: Shared<Published>,
+        bringing: Bringing,
+    ) -> (Answer, Line)
+        requires seat_in { seat < length self.old.opening.reloads }
+        requires may { MayServe self.old seat (brought bringing replica published) }
+        requires awaited { AwaitsIt bringing self.old.state replica }
+        ensures { Serves self.old seat (brought bringing replica published)
+            result.0 result.1 self.new }
+    {
+        known(published.get());
         let judged = judge(self.alloc, &self.board, replica, &published);
-        let did = Did::Join { replica, published };
+        let did = bringing.did(replica, published);
         match judged {
             Ok(
                 Judgement::Fits {
@@ -131,8 +140,9 @@ impl<T: Tape> Rollout<T> {
                 },
             ) => {
                 let generation = self.push_generation(replica, settings, published);
-                let line = self.line(seat, did, Gave::Joined { generation });
-                return (Answer::Joined { generation }, line);
+                let (answer, gave) = bringing.taken(generation);
+                let line = self.line(seat, did, gave);
+                return (answer, line);
             }
             Ok(Judgement::Refused { told, kept }) => {
                 let line = self.line(seat, did, Gave::Refused(kept));

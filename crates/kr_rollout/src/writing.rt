@@ -39,29 +39,9 @@ fn settle(board: &mut Board, wrote: &Result<u64, PutNo>)
     }
 }
 
-/// Writes a row behind the others: a put, or one in the place of the row with this revision, where
-/// that is still the path's last one.
-fn write_row<T: Tape>(
-    store: &mut Store<T>,
-    path: &Path,
-    resource: &str,
-    over: Option<u64>,
-    stored: Bytes,
-    check: Check,
-) -> Result<u64, PutNo>
-    requires path { IsPath path.now }
-    requires resource { IsResource resource.now }
-    requires stored { length stored ≤ longest_value }
-    ensures { WritesRow over store.old store.new path.now resource.now stored check result }
-{
-    match over {
-        Some(revision) => store.replace_if(path.as_str(), revision, stored, check),
-        None => store.put_shared(path, resource, stored, check),
-    }
-}
-
-/// Writes a value that needs the provider. The need is proposed before the row is written, so that
-/// it is settled without memory.
+/// Writes a value that needs the provider behind the other rows: a put, or one in the place of the
+/// row with this revision, where that is still the path's last one. The need is proposed before, so
+/// that it is settled without memory.
 fn write_value<T: Tape>(
     store: &mut Store<T>,
     board: &mut Board,
@@ -89,7 +69,11 @@ fn write_value<T: Tape>(
             return Err(PutNo::NoMemory);
         }
     }
-    let wrote = write_row(store, path, resource, over, stored, store_check(who));
+    let check = store_check(who);
+    let wrote = match over {
+        Some(revision) => store.replace_if(path.as_str(), revision, stored, check),
+        None => store.put_shared(path, resource, stored, check),
+    };
     settle(board, &wrote);
     wrote
 }

@@ -46,8 +46,7 @@ along rs d (row ∷ rows) (st ∷ ss) w f =
     ap (option_and_then (λ said. run (with_statement d said) rows))
     (next_reads d row st f.0.apart (f.0.may, f.0.same row w.0))
     ∙ along rs (with_statement d st) rows ss w.1 f.1
-along rs d [] (st ∷ ss) w f = absurd w
-along rs d (row ∷ rows) [] w f = absurd w
+along rs d other another w f = absurd w
 
 after_append : (d : Draft) (ss more : List Statement)
     → after d (ss ++ more) ≡ after (after d ss) more

@@ -47,15 +47,8 @@ stops : (whole : Result Fleet ScriptNo) (n : ℕ) (wanted : Result Draft ScriptL
     (why : ScriptLineError) (T : Type 0) (rest : Draft → Result Fleet ScriptNo)
     → goes_on n wanted rest ≡ whole → Moves {T = T} wanted new (Err why)
     → Gives whole (Err (at_line n why))
-stops whole n wanted new line_error.Form T rest is moved =
-    sym is ∙ ap (λ w. goes_on n w rest) moved
-stops whole n wanted new line_error.Replicas T rest is moved =
-    sym is ∙ ap (λ w. goes_on n w rest) moved
-stops whole n wanted new line_error.Workers T rest is moved =
-    sym is ∙ ap (λ w. goes_on n w rest) moved
-stops whole n wanted new line_error.TooLarge T rest is moved =
-    sym is ∙ ap (λ w. goes_on n w rest) moved
 stops whole n wanted new line_error.NoMemory T rest is moved = tt
+stops whole n wanted new other T rest is moved = sym is ∙ ap (λ w. goes_on n w rest) moved
 
 pub reading_stops : (whole : Result Fleet ScriptNo) (n : ℕ) (d new : Draft) (ls : List (List ℕ))
     (line text : List ℕ) (more : List (List ℕ)) (why : ScriptLineError) (T : Type 0)

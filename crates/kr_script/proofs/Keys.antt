@@ -43,26 +43,20 @@ keyword_is word key e =
 -- words of a number
 
 pub one_word_is : (row : Row) (a : List ℕ) → one_word row ≡ Some a → row ≡ a ∷ []
-one_word_is [] a e = absurd (none_some a e)
 one_word_is (b ∷ []) a e = let same : b ≡ a = cc in ap (λ w. w ∷ []) same
-one_word_is (b ∷ (c ∷ row)) a e = absurd (none_some a e)
+one_word_is other a e = absurd (none_some a e)
 
 pub two_words_are : (row : Row) (p : List ℕ × List ℕ) → two_words row ≡ Some p
     → row ≡ p.0 ∷ (p.1 ∷ [])
-two_words_are [] p e = absurd (none_some p e)
-two_words_are (a ∷ []) p e = absurd (none_some p e)
 two_words_are (a ∷ (b ∷ [])) p e =
     let same : (a, b) ≡ p = cc in ap (λ q. q.0 ∷ (q.1 ∷ [])) same
-two_words_are (a ∷ (b ∷ (c ∷ row))) p e = absurd (none_some p e)
+two_words_are other p e = absurd (none_some p e)
 
 pub three_words_are : (row : Row) (p : List ℕ × List ℕ × List ℕ) → three_words row ≡ Some p
     → row ≡ p.0 ∷ (p.1 ∷ (p.2 ∷ []))
-three_words_are [] p e = absurd (none_some p e)
-three_words_are (a ∷ []) p e = absurd (none_some p e)
-three_words_are (a ∷ (b ∷ [])) p e = absurd (none_some p e)
 three_words_are (a ∷ (b ∷ (c ∷ []))) p e =
     let same : (a, b, c) ≡ p = cc in ap (λ q. q.0 ∷ (q.1 ∷ (q.2 ∷ []))) same
-three_words_are (a ∷ (b ∷ (c ∷ (d ∷ row)))) p e = absurd (none_some p e)
+three_words_are other p e = absurd (none_some p e)
 
 pub no_words : (row : Row) → is_empty row ≡ true → row ≡ []
 no_words [] e = refl

@@ -309,14 +309,13 @@ limit_at text line more d Limit fleet s say limit = (
 stopped : (text : Text) (line : List ℕ) (more : Text) (d : Draft) (n : ℕ) (fleet : Fleet)
     (why : ScriptLineError) → Stood text d → Say (text ++ line ∷ []) fleet → Left (Some why) fleet
     → LinesMean (text ++ line ∷ more) (Err (at_line n why))
-stopped text line more d n fleet line_error.Form s say left = absurd left
 stopped text line more d n fleet line_error.Replicas s say left =
     limit_at text line more d HasReplicas fleet s say left
 stopped text line more d n fleet line_error.Workers s say left =
     limit_at text line more d HasWorkers fleet s say left
 stopped text line more d n fleet line_error.TooLarge s say left =
     limit_at text line more d HasData fleet s say left
-stopped text line more d n fleet line_error.NoMemory s say left = absurd left
+stopped text line more d n fleet other s say left = absurd left
 
 -- ---- line by line
 
@@ -474,9 +473,5 @@ answer_meant bytes = lines_mean [] (lines bytes) 1 start
 
 pub reads : (bytes : List ℕ) (result : Result Script ScriptNo)
     → Gives (answer 1 start (lines bytes)) result → ReadsScript bytes result
-reads bytes (Ok script) e = subst (MeansScript bytes) e (answer_meant bytes)
-reads bytes (Err (Breach line)) e = subst (MeansScript bytes) e (answer_meant bytes)
-reads bytes (Err Replicas) e = subst (MeansScript bytes) e (answer_meant bytes)
-reads bytes (Err Workers) e = subst (MeansScript bytes) e (answer_meant bytes)
-reads bytes (Err TooLarge) e = subst (MeansScript bytes) e (answer_meant bytes)
 reads bytes (Err NoMemory) e = tt
+reads bytes other e = subst (MeansScript bytes) e (answer_meant bytes)

@@ -1,7 +1,7 @@
 -- The statement that words write behind what was said: read exactly where it is written.
 use Rattle.std.proofs.Common.{◌≡◌, ℕ, ◌<◌, Bool, true, false, List, [], ◌∷◌, length, map}
 use Rattle.std.proofs.Common.{Option, None, Some, refl, sym, ap, ◌∙◌, subst, codes}
-use Rattle.std.specs.Prelude.{◌&&◌, if◌then◌else◌, is_some, option_and_then}
+use Rattle.std.specs.Prelude.{◌&&◌, if◌then◌else◌, is_some, nat_lt, option_and_then}
 use Rattle.std.specs.Option.{option_map}
 use Rattle.std.proofs.lemmas.Bool.{lt-ltb, ltb-true}
 use Rattle.kr_base.specs.Rules.{is_path, is_resource}
@@ -17,7 +17,7 @@ use Rattle.kr_script.specs.Statements.{replica_name, data_of, WritesStatement, W
 use Rattle.kr_script.specs.Rules.{are_distinct, is_line}
 use Rattle.kr_script.specs.inner.Drafts.{Draft, word_of, replica_number, one_word, two_words, is_empty}
 use Rattle.kr_script.specs.inner.Drafts.{three_words, may_be_replica, may_be_worker, replica_in}
-use Rattle.kr_script.specs.inner.Drafts.{worker_in, put_in, get_in, delete_in, reload_in, join_in}
+use Rattle.kr_script.specs.inner.Drafts.{worker_in, put_in}
 use Rattle.kr_script.specs.inner.Drafts.{leave_in, line_in, line_of_worker, said_behind, head_of}
 use Rattle.kr_script.specs.inner.Drafts.{said_by, said, statement_of, keyword_of, is_version}
 use Rattle.kr_script.proofs.Lists.{none_some, if_only, if_some, then_some, map_some, same_text}
@@ -53,59 +53,47 @@ put_is rs row line e =
     subst (IsLineOf rs (codes "put" ∷ row)) is
     ((words.2, ap (λ r. codes "put" ∷ r) (three_words_are row words there), stands), rules)
 
-get_is : (rs : Replicas) (row : Row) (line : ScriptLine)
-    → line_in rs keyword.Get row ≡ Some line → IsLineOf rs (codes "get" ∷ row) line
-get_is rs row line e =
-    let (path, there, get) = then_some get_in (one_word row) line e in
-    let (rule, is) = if_only (is_path path) (Get path) line get in
-    subst (IsLineOf rs (codes "get" ∷ row)) is
-    (ap (λ r. codes "get" ∷ r) (one_word_is row path there), rule)
+-- a line of a path
+path_line : (rs : Replicas) (row : Row) (line : ScriptLine) (word : List ℕ)
+    (say : List ℕ → ScriptLine)
+    → ((path : List ℕ) → word ∷ row ≡ word ∷ (path ∷ []) → is_path path ≡ true
+    → IsLineOf rs (word ∷ row) (say path))
+    → option_and_then (λ (path : List ℕ). if is_path path then Some (say path) else None) (one_word row)
+    ≡ Some line
+    → IsLineOf rs (word ∷ row) line
+path_line rs row line word say writes e =
+    let (path, there, made) = then_some
+    (λ (path : List ℕ). if is_path path then Some (say path) else None) (one_word row) line e in
+    let (rule, is) = if_only (is_path path) (say path) line made in
+    subst (IsLineOf rs (word ∷ row)) is
+    (writes path (ap (λ r. word ∷ r) (one_word_is row path there)) rule)
 
-delete_is : (rs : Replicas) (row : Row) (line : ScriptLine)
-    → line_in rs keyword.Delete row ≡ Some line → IsLineOf rs (codes "delete" ∷ row) line
-delete_is rs row line e =
-    let (path, there, delete) = then_some delete_in (one_word row) line e in
-    let (rule, is) = if_only (is_path path) (Delete path) line delete in
-    subst (IsLineOf rs (codes "delete" ∷ row)) is
-    (ap (λ r. codes "delete" ∷ r) (one_word_is row path there), rule)
+-- a line of its word alone
+bare_line : (rs : Replicas) (row : Row) (line : ScriptLine) (word : List ℕ) (said : ScriptLine)
+    → (word ∷ row ≡ word ∷ [] → IsLineOf rs (word ∷ row) said)
+    → (if is_empty row then Some said else None) ≡ Some line
+    → IsLineOf rs (word ∷ row) line
+bare_line rs row line word said writes e =
+    let (none, is) = if_only (is_empty row) said line e in
+    subst (IsLineOf rs (word ∷ row)) is (writes (ap (λ r. word ∷ r) (no_words row none)))
 
-rewrite_is : (rs : Replicas) (row : Row) (line : ScriptLine)
-    → line_in rs keyword.Rewrite row ≡ Some line → IsLineOf rs (codes "rewrite" ∷ row) line
-rewrite_is rs row line e =
-    let (none, is) = if_only (is_empty row) Rewrite line e in
-    subst (IsLineOf rs (codes "rewrite" ∷ row)) is
-    (ap (λ r. codes "rewrite" ∷ r) (no_words row none), refl)
-
-refresh_is : (rs : Replicas) (row : Row) (line : ScriptLine)
-    → line_in rs keyword.Refresh row ≡ Some line → IsLineOf rs (codes "refresh" ∷ row) line
-refresh_is rs row line e =
-    let (none, is) = if_only (is_empty row) Refresh line e in
-    subst (IsLineOf rs (codes "refresh" ∷ row)) is
-    (ap (λ r. codes "refresh" ∷ r) (no_words row none), refl)
-
-reload_is : (rs : Replicas) (row : Row) (line : ScriptLine)
-    → line_in rs keyword.Reload row ≡ Some line → IsLineOf rs (codes "reload" ∷ row) line
-reload_is rs row line e =
-    let (words, there, reload) = then_some (reload_in rs) (two_words row) line e in
-    let (number, found, is) = map_some (λ n. Reload n words.1) (replica_number rs words.0) line reload in
+-- a line of a replica and a file
+file_line : (rs : Replicas) (row : Row) (line : ScriptLine) (word : List ℕ)
+    (say : ℕ → List ℕ → ScriptLine)
+    → ((number : ℕ) (file : List ℕ) → word ∷ row ≡ word ∷ (replica_name rs number ∷ (file ∷ []))
+    → nat_lt number (length rs) ≡ true → IsLineOf rs (word ∷ row) (say number file))
+    → option_and_then (λ (words : List ℕ × List ℕ). option_map (λ n. say n words.1) (replica_number rs words.0))
+    (two_words row) ≡ Some line
+    → IsLineOf rs (word ∷ row) line
+file_line rs row line word say writes e =
+    let (words, there, made) = then_some (λ (words : List ℕ × List ℕ). option_map (λ n. say n words.1)
+    (replica_number rs words.0)) (two_words row) line e in
+    let (number, found, is) = map_some (λ n. say n words.1) (replica_number rs words.0) line made in
     let place = place_is rs words.0 number found in
-    subst (IsLineOf rs (codes "reload" ∷ row)) is (
-      ap (λ r. codes "reload" ∷ r) (two_words_are row words there)
-          ∙ ap (λ name. codes "reload" ∷ (name ∷ (words.1 ∷ []))) (sym place.1),
-      lt-ltb number (length rs) place.0,
-    )
-
-join_is : (rs : Replicas) (row : Row) (line : ScriptLine)
-    → line_in rs keyword.Join row ≡ Some line → IsLineOf rs (codes "join" ∷ row) line
-join_is rs row line e =
-    let (words, there, join) = then_some (join_in rs) (two_words row) line e in
-    let (number, found, is) = map_some (λ n. Join n words.1) (replica_number rs words.0) line join in
-    let place = place_is rs words.0 number found in
-    subst (IsLineOf rs (codes "join" ∷ row)) is (
-      ap (λ r. codes "join" ∷ r) (two_words_are row words there)
-          ∙ ap (λ name. codes "join" ∷ (name ∷ (words.1 ∷ []))) (sym place.1),
-      lt-ltb number (length rs) place.0,
-    )
+    subst (IsLineOf rs (word ∷ row)) is (writes number words.1
+    (ap (λ r. word ∷ r) (two_words_are row words there)
+    ∙ ap (λ name. word ∷ (name ∷ (words.1 ∷ []))) (sym place.1))
+    (lt-ltb number (length rs) place.0))
 
 leave_is : (rs : Replicas) (row : Row) (line : ScriptLine)
     → line_in rs keyword.Leave row ≡ Some line → IsLineOf rs (codes "leave" ∷ row) line
@@ -122,16 +110,20 @@ leave_is rs row line e =
 line_is : (rs : Replicas) (key : Keyword) (row : Row) (line : ScriptLine)
     → line_in rs key row ≡ Some line → IsLineOf rs (word_of key ∷ row) line
 line_is rs keyword.Put row line e = put_is rs row line e
-line_is rs keyword.Get row line e = get_is rs row line e
-line_is rs keyword.Delete row line e = delete_is rs row line e
-line_is rs keyword.Rewrite row line e = rewrite_is rs row line e
-line_is rs keyword.Reload row line e = reload_is rs row line e
-line_is rs keyword.Refresh row line e = refresh_is rs row line e
-line_is rs keyword.Join row line e = join_is rs row line e
+line_is rs keyword.Get row line e =
+    path_line rs row line (codes "get") Get (λ path is rule. (is, rule)) e
+line_is rs keyword.Delete row line e =
+    path_line rs row line (codes "delete") Delete (λ path is rule. (is, rule)) e
+line_is rs keyword.Rewrite row line e =
+    bare_line rs row line (codes "rewrite") Rewrite (λ is. (is, refl)) e
+line_is rs keyword.Reload row line e =
+    file_line rs row line (codes "reload") Reload (λ number file is lt. (is, lt)) e
+line_is rs keyword.Refresh row line e =
+    bare_line rs row line (codes "refresh") Refresh (λ is. (is, refl)) e
+line_is rs keyword.Join row line e =
+    file_line rs row line (codes "join") Join (λ number file is lt. (is, lt)) e
 line_is rs keyword.Leave row line e = leave_is rs row line e
-line_is rs keyword.Fleet row line e = absurd (none_some line e)
-line_is rs keyword.Replica row line e = absurd (none_some line e)
-line_is rs keyword.Worker row line e = absurd (none_some line e)
+line_is rs other row line e = absurd (none_some line e)
 
 worker_line : (d : Draft) (key : Keyword) (row : Row) (st : Statement) → d.begun ≡ true
     → line_of_worker d key row ≡ Some st → IsNext d (word_of key ∷ row) st
@@ -163,14 +155,7 @@ behind_is d keyword.Worker row st begun e =
       ap (λ r. codes "worker" ∷ r) (two_words_are row words there)
           ∙ ap (λ n. codes "worker" ∷ (words.0 ∷ (n ∷ []))) (sym place.1),
     )
-behind_is d keyword.Put row st begun e = worker_line d keyword.Put row st begun e
-behind_is d keyword.Get row st begun e = worker_line d keyword.Get row st begun e
-behind_is d keyword.Delete row st begun e = worker_line d keyword.Delete row st begun e
-behind_is d keyword.Rewrite row st begun e = worker_line d keyword.Rewrite row st begun e
-behind_is d keyword.Reload row st begun e = worker_line d keyword.Reload row st begun e
-behind_is d keyword.Refresh row st begun e = worker_line d keyword.Refresh row st begun e
-behind_is d keyword.Join row st begun e = worker_line d keyword.Join row st begun e
-behind_is d keyword.Leave row st begun e = worker_line d keyword.Leave row st begun e
+behind_is d other row st begun e = worker_line d other row st begun e
 
 head_is : (d : Draft) (key : Keyword) (row : Row) (st : Statement) → d.begun ≡ false
     → head_of key row ≡ Some st → IsNext d (word_of key ∷ row) st
@@ -183,16 +168,7 @@ head_is d keyword.Fleet row st begun e =
       ap (λ r. codes "fleet" ∷ r) (one_word_is row word there)
           ∙ ap (λ w. codes "fleet" ∷ (w ∷ [])) (same_text word (codes "1") version),
     )
-head_is d keyword.Replica row st begun e = absurd (none_some st e)
-head_is d keyword.Worker row st begun e = absurd (none_some st e)
-head_is d keyword.Put row st begun e = absurd (none_some st e)
-head_is d keyword.Get row st begun e = absurd (none_some st e)
-head_is d keyword.Delete row st begun e = absurd (none_some st e)
-head_is d keyword.Rewrite row st begun e = absurd (none_some st e)
-head_is d keyword.Reload row st begun e = absurd (none_some st e)
-head_is d keyword.Refresh row st begun e = absurd (none_some st e)
-head_is d keyword.Join row st begun e = absurd (none_some st e)
-head_is d keyword.Leave row st begun e = absurd (none_some st e)
+head_is d other row st begun e = absurd (none_some st e)
 
 by_begun : (d : Draft) (key : Keyword) (row : Row) (st : Statement) (b : Bool) → d.begun ≡ b
     → (if b then said_behind d key row else head_of key row) ≡ Some st
@@ -217,86 +193,64 @@ if_then : {T : Type 0} (b : Bool) (o : Option T) (x : T) → b ≡ true → o �
     → (if b then o else None) ≡ Some x
 if_then b o x e h = ap (λ c. if c then o else None) e ∙ h
 
--- the keyword and the words behind it, of a line that is written
-record Reads (rs : Replicas) (row : Row) (line : ScriptLine) : Type 0 where
-  key : Keyword
-  rest : Row
-  split : row ≡ word_of key ∷ rest
-  known : keyword_of (word_of key) ≡ Some key
-  behind : (d : Draft) → said_behind d key rest ≡ line_of_worker d key rest
-  reads : line_in rs key rest ≡ Some line
+-- the keyword of a line, which is read as it is written
+abbrev key_of : ScriptLine → Keyword
+key_of (Put resource path plain) = keyword.Put
+key_of (Get path) = keyword.Get
+key_of (Delete path) = keyword.Delete
+key_of Rewrite = keyword.Rewrite
+key_of Refresh = keyword.Refresh
+key_of (Reload replica file) = keyword.Reload
+key_of (Join replica file) = keyword.Join
+key_of (Leave replica) = keyword.Leave
+
+known : (line : ScriptLine) → keyword_of (word_of (key_of line)) ≡ Some (key_of line)
+known Rewrite = refl
+known other = refl
+
+behind : (line : ScriptLine) (d : Draft) (rest : Row)
+    → said_behind d (key_of line) rest ≡ line_of_worker d (key_of line) rest
+behind Rewrite d rest = refl
+behind other d rest = refl
+
+-- the words behind the keyword of a line that is written
+abbrev Reads : Replicas → Row → ScriptLine → Type 0
+Reads rs row line = (rest : Row) × (row ≡ word_of (key_of line) ∷ rest)
+    × (line_in rs (key_of line) rest ≡ Some line)
 
 line_read : (rs : Replicas) (row : Row) (line : ScriptLine)
     → are_distinct (map (λ replica. replica.0) rs) ≡ true
     → WritesLine rs row line → is_line (length rs) line ≡ true → Reads rs row line
-line_read rs row (Put resource path plain) apart (word, is, stands) rule = record {
-  key = keyword.Put;
-  rest = resource ∷ (path ∷ (word ∷ []));
-  split = is;
-  known = refl;
-  behind = λ d. refl;
-  reads = if_then (is_resource resource && is_path path)
+line_read rs row (Put resource path plain) apart (word, is, stands) rule = (
+  resource ∷ (path ∷ (word ∷ [])),
+  is,
+  if_then (is_resource resource && is_path path)
       (option_map (Put resource path) (data_of word)) (Put resource path plain) rule
-      (ap (option_map (Put resource path)) stands);
-}
-line_read rs row (Get path) apart is rule = record {
-  key = keyword.Get;
-  rest = path ∷ [];
-  split = is;
-  known = refl;
-  behind = λ d. refl;
-  reads = if_true (is_path path) (Get path) rule;
-}
-line_read rs row (Delete path) apart is rule = record {
-  key = keyword.Delete;
-  rest = path ∷ [];
-  split = is;
-  known = refl;
-  behind = λ d. refl;
-  reads = if_true (is_path path) (Delete path) rule;
-}
-line_read rs row Rewrite apart is rule = record {
-  key = keyword.Rewrite;
-  rest = [];
-  split = is;
-  known = refl;
-  behind = λ d. refl;
-  reads = refl;
-}
-line_read rs row Refresh apart is rule = record {
-  key = keyword.Refresh;
-  rest = [];
-  split = is;
-  known = refl;
-  behind = λ d. refl;
-  reads = refl;
-}
-line_read rs row (Reload replica file) apart is rule = record {
-  key = keyword.Reload;
-  rest = replica_name rs replica ∷ (file ∷ []);
-  split = is;
-  known = refl;
-  behind = λ d. refl;
-  reads = ap (option_map (λ n. Reload n file))
-      (place_at rs replica apart (ltb-true replica (length rs) rule));
-}
-line_read rs row (Join replica file) apart is rule = record {
-  key = keyword.Join;
-  rest = replica_name rs replica ∷ (file ∷ []);
-  split = is;
-  known = refl;
-  behind = λ d. refl;
-  reads = ap (option_map (λ n. Join n file))
-      (place_at rs replica apart (ltb-true replica (length rs) rule));
-}
-line_read rs row (Leave replica) apart is rule = record {
-  key = keyword.Leave;
-  rest = replica_name rs replica ∷ [];
-  split = is;
-  known = refl;
-  behind = λ d. refl;
-  reads = ap (option_map Leave) (place_at rs replica apart (ltb-true replica (length rs) rule));
-}
+      (ap (option_map (Put resource path)) stands),
+)
+line_read rs row (Get path) apart is rule =
+    (path ∷ [], is, if_true (is_path path) (Get path) rule)
+line_read rs row (Delete path) apart is rule =
+    (path ∷ [], is, if_true (is_path path) (Delete path) rule)
+line_read rs row Rewrite apart is rule = ([], is, refl)
+line_read rs row Refresh apart is rule = ([], is, refl)
+line_read rs row (Reload replica file) apart is rule = (
+  replica_name rs replica ∷ (file ∷ []),
+  is,
+  ap (option_map (λ n. Reload n file))
+      (place_at rs replica apart (ltb-true replica (length rs) rule)),
+)
+line_read rs row (Join replica file) apart is rule = (
+  replica_name rs replica ∷ (file ∷ []),
+  is,
+  ap (option_map (λ n. Join n file))
+      (place_at rs replica apart (ltb-true replica (length rs) rule)),
+)
+line_read rs row (Leave replica) apart is rule = (
+  replica_name rs replica ∷ [],
+  is,
+  ap (option_map Leave) (place_at rs replica apart (ltb-true replica (length rs) rule)),
+)
 
 by_key : (d : Draft) (key : Keyword) (rest : Row) (st : Statement)
     → keyword_of (word_of key) ≡ Some key → d.begun ≡ true
@@ -325,9 +279,9 @@ next_reads d row (statement.Worker name replica) apart ((begun, may, there), is)
     (statement.Worker name replica) may
     (ap (option_map (statement.Worker name)) (place_at d.replicas replica apart there)))
 next_reads d row (statement.Line line) apart ((begun, some, rule), is) =
-    let r = line_read d.replicas row line apart is rule in
-    ap (statement_of d) r.split
-    ∙ by_key d r.key r.rest (statement.Line line) r.known begun
-    (r.behind d
-    ∙ if_then (is_some d.last) (option_map statement.Line (line_in d.replicas r.key r.rest))
-    (statement.Line line) some (ap (option_map statement.Line) r.reads))
+    let (rest, split, reads) = line_read d.replicas row line apart is rule in
+    ap (statement_of d) split
+    ∙ by_key d (key_of line) rest (statement.Line line) (known line) begun
+    (behind line d rest
+    ∙ if_then (is_some d.last) (option_map statement.Line (line_in d.replicas (key_of line) rest))
+    (statement.Line line) some (ap (option_map statement.Line) reads))

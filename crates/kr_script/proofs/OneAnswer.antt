@@ -22,8 +22,7 @@ use Rattle.kr_script.specs.declared.line_error.ScriptLineError.TheVariants as li
 use Rattle.kr_script.specs.Fleets.{Fleet, Worker}
 use Rattle.kr_script.specs.Rows.{words_of, word_rows, is_spoken}
 use Rattle.kr_script.specs.Rules.{IsWhole, KeepsFleetLimits, is_long}
-use Rattle.kr_script.specs.Meanings.{Say, IsBegun, IsNone, HasReplicas}
-use Rattle.kr_script.specs.Meanings.{HasWorkers, HasData, LinesMean}
+use Rattle.kr_script.specs.Meanings.{Say, IsBegun, IsNone, ExceedsLimit, LinesMean}
 use Rattle.kr_script.specs.Laws.{OneFleetMeaning, SomeFleetMeaning}
 use Rattle.kr_script.specs.inner.Drafts.{Draft, start, fleet_in, workers_in, statement_of, step}
 use Rattle.kr_script.specs.inner.Drafts.{with_statement, with_line, new_worker, passes, draft_within}
@@ -220,30 +219,27 @@ none_stops front line d s none = by (is_utf8 line) refl
     by false e = refl
     by true e = spoken e (is_spoken (words_of line)) refl
 
-same_replicas : (why : ScriptLineError) (f : Fleet) → Left (Some why) f → HasReplicas f
-    → why ≡ line_error.Replicas
-same_replicas line_error.Form f left h = absurd left
-same_replicas line_error.Replicas f left h = refl
-same_replicas line_error.Workers f left h = let k = left.0 in absurd (omega (arith, k, h))
-same_replicas line_error.TooLarge f left h = let k = left.0 in absurd (omega (arith, k, h))
-same_replicas line_error.NoMemory f left h = absurd left
-
-same_workers : (why : ScriptLineError) (f : Fleet) → Left (Some why) f → HasWorkers f
-    → why ≡ line_error.Workers
-same_workers line_error.Form f left h = absurd left
-same_workers line_error.Replicas f left h = let k = h.0 in absurd (omega (arith, k, left))
-same_workers line_error.Workers f left h = refl
-same_workers line_error.TooLarge f left h =
-    let k = left.1 in let l = h.1 in absurd (omega (arith, k, l))
-same_workers line_error.NoMemory f left h = absurd left
-
-same_data : (why : ScriptLineError) (f : Fleet) → Left (Some why) f → HasData f → why ≡ line_error.TooLarge
-same_data line_error.Form f left h = absurd left
-same_data line_error.Replicas f left h = let k = h.0 in absurd (omega (arith, k, left))
-same_data line_error.Workers f left h =
+-- no fleet passes two limits first
+one_limit : (why other : ScriptLineError) (f : Fleet) → Left (Some why) f → Left (Some other) f
+    → why ≡ other
+one_limit line_error.Replicas line_error.Replicas f left h = refl
+one_limit line_error.Workers line_error.Workers f left h = refl
+one_limit line_error.TooLarge line_error.TooLarge f left h = refl
+one_limit line_error.Replicas line_error.Workers f left h =
+    let k = h.0 in absurd (omega (arith, k, left))
+one_limit line_error.Replicas line_error.TooLarge f left h =
+    let k = h.0 in absurd (omega (arith, k, left))
+one_limit line_error.Workers line_error.Replicas f left h =
+    let k = left.0 in absurd (omega (arith, k, h))
+one_limit line_error.Workers line_error.TooLarge f left h =
     let k = h.1 in let l = left.1 in absurd (omega (arith, k, l))
-same_data line_error.TooLarge f left h = refl
-same_data line_error.NoMemory f left h = absurd left
+one_limit line_error.TooLarge line_error.Replicas f left h =
+    let k = left.0 in absurd (omega (arith, k, h))
+one_limit line_error.TooLarge line_error.Workers f left h =
+    let k = left.1 in let l = h.1 in absurd (omega (arith, k, l))
+one_limit line_error.Form other f left h = absurd left
+one_limit line_error.NoMemory other f left h = absurd left
+one_limit why other f left h = absurd h
 
 -- the fleet that a line more writes, past a limit
 limit_stops : (front : Text) (line : List ℕ) (d : Draft) (fleet : Fleet) (limit : ScriptLineError)
@@ -349,6 +345,18 @@ whole_text text fleet d stands is whole = by (is_some d.last) refl stands
     by false e (inr h) = absurd (none (ap (λ (l : List Worker). l ++ option_to_list d.last)
         (h.closed e) ∙ no_last d.last e))
 
+-- a line with which the fleet passes a limit
+at_limit : (text : Text) (limit : ScriptLineError) (at : ℕ) → IsBegun (take at text)
+    → ExceedsLimit text at (Left (Some limit)) → answer 1 start text ≡ Err (at_line (1 + at) limit)
+at_limit text limit at front (inside, (fleet, say, past)) =
+    let a = at_line_of text at inside in
+    let b = stood a.front (subst IsBegun a.before front) in
+    answered_at text at a b.draft limit b.stood
+    (limit_stops a.front a.line b.draft fleet limit b.stood
+    (subst (λ (l : Text). Say l fleet) a.with say)
+    (λ h. not_within limit fleet past h)
+    (λ why left. one_limit why limit fleet left past))
+
 answered : (text : Text) (x : Result Fleet ScriptNo) → LinesMean text x → answer 1 start text ≡ x
 answered text (Ok fleet) (say, within, whole) =
     let r = complete (word_rows text) fleet say.written say.rules in
@@ -377,30 +385,9 @@ answered text (Err (Breach n)) (at, number, front, inr (end, none)) =
     ends d s true e =
         let (say, within, whole) = ends_by text d (length text + 1) true e s refl in
         absurd (none (fleet_in d) say whole)
-answered text (Err Replicas) (at, front, (inside, (fleet, say, past))) =
-    let a = at_line_of text at inside in
-    let b = stood a.front (subst IsBegun a.before front) in
-    answered_at text at a b.draft line_error.Replicas b.stood
-    (limit_stops a.front a.line b.draft fleet line_error.Replicas b.stood
-    (subst (λ (l : Text). Say l fleet) a.with say)
-    (λ h. not_within line_error.Replicas fleet past h)
-    (λ why left. same_replicas why fleet left past))
-answered text (Err Workers) (at, front, (inside, (fleet, say, past))) =
-    let a = at_line_of text at inside in
-    let b = stood a.front (subst IsBegun a.before front) in
-    answered_at text at a b.draft line_error.Workers b.stood
-    (limit_stops a.front a.line b.draft fleet line_error.Workers b.stood
-    (subst (λ (l : Text). Say l fleet) a.with say)
-    (λ h. not_within line_error.Workers fleet past h)
-    (λ why left. same_workers why fleet left past))
-answered text (Err TooLarge) (at, front, (inside, (fleet, say, past))) =
-    let a = at_line_of text at inside in
-    let b = stood a.front (subst IsBegun a.before front) in
-    answered_at text at a b.draft line_error.TooLarge b.stood
-    (limit_stops a.front a.line b.draft fleet line_error.TooLarge b.stood
-    (subst (λ (l : Text). Say l fleet) a.with say)
-    (λ h. not_within line_error.TooLarge fleet past h)
-    (λ why left. same_data why fleet left past))
+answered text (Err Replicas) (at, front, past) = at_limit text line_error.Replicas at front past
+answered text (Err Workers) (at, front, past) = at_limit text line_error.Workers at front past
+answered text (Err TooLarge) (at, front, past) = at_limit text line_error.TooLarge at front past
 answered text (Err NoMemory) h = absurd h
 
 pub one_meaning : OneFleetMeaning

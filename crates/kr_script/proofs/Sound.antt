@@ -45,16 +45,14 @@ pub write_push : (rs : Replicas) (rows : List Row) (ss : List Statement) (row : 
     → WriteAll rs (rows ++ row ∷ []) (ss ++ s ∷ [])
 write_push rs [] [] row s h w = (w, tt)
 write_push rs (r ∷ rows) (t ∷ ss) row s h w = (h.0, write_push rs rows ss row s h.1 w)
-write_push rs [] (t ∷ ss) row s h w = absurd h
-write_push rs (r ∷ rows) [] row s h w = absurd h
+write_push rs other another row s h w = absurd h
 
 -- rows of replicas name none by its number
 heads_stay : (rs qs : Replicas) (rows : List Row) (xs : Replicas)
     → WriteAll rs rows (map replica_statement xs) → WriteAll qs rows (map replica_statement xs)
 heads_stay rs qs [] [] h = tt
 heads_stay rs qs (row ∷ rows) (x ∷ xs) h = (h.0, heads_stay rs qs rows xs h.1)
-heads_stay rs qs [] (x ∷ xs) h = absurd h
-heads_stay rs qs (row ∷ rows) [] h = absurd h
+heads_stay rs qs other another h = absurd h
 
 front_stays : (rs qs : Replicas) (rows : List Row) (xs : Replicas)
     → WriteAll rs rows (statement.Head ∷ map replica_statement xs)

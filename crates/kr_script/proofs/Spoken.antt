@@ -148,29 +148,32 @@ ended_cons : (x : List ℕ) (xs : List (List ℕ))
     → lines_text (x ∷ xs) ≡ (x ++ codes "\n") ++ lines_text xs
 ended_cons x xs = sym (append_assoc x (codes "\n") (lines_text xs))
 
+-- the lines of a list from a place on, where each line is written of its number and its element
+part_from : {X : Type 0} (text : ℕ → X → List ℕ) (texts : ℕ → List X → List (List ℕ))
+    → ((n : ℕ) (x : X) (xs : List X) → texts n (x ∷ xs) ≡ text n x ∷ texts (n + 1) xs)
+    → (n : ℕ) (xs : List X) (i : ℕ) (d : X) → i < length xs
+    → lines_text (texts n (drop i xs))
+    ≡ (text n (get_or xs i d) ++ codes "\n") ++ lines_text (texts (n + 1) (drop (i + 1) xs))
+part_from text texts cons n xs i d h =
+    let one : suc i ≡ i + 1 = omega arith in
+    ap (λ l. lines_text (texts n l)) (drop-cons xs i d h)
+    ∙ ap lines_text (cons n (get_or xs i d) (drop (suc i) xs))
+    ∙ ap (λ k. lines_text (text n (get_or xs i d) ∷ texts (n + 1) (drop k xs))) one
+    ∙ ended_cons (text n (get_or xs i d)) (texts (n + 1) (drop (i + 1) xs))
+
 pub lines_from : (fleet : Fleet) (journal : List Line) (i : ℕ) (d : Line) → i < length journal
     → lines_text (journal_texts fleet i (drop i journal))
     ≡ (journal_text fleet i (get_or journal i d) ++ codes "\n")
     ++ lines_text (journal_texts fleet (i + 1) (drop (i + 1) journal))
 lines_from fleet journal i d h =
-    let one : suc i ≡ i + 1 = omega arith in
-    ap (λ l. lines_text (journal_texts fleet i l)) (drop-cons journal i d h)
-    ∙ ap (λ n. lines_text (journal_text fleet i (get_or journal i d)
-    ∷ journal_texts fleet (i + 1) (drop n journal))) one
-    ∙ ended_cons (journal_text fleet i (get_or journal i d))
-    (journal_texts fleet (i + 1) (drop (i + 1) journal))
+    part_from (journal_text fleet) (journal_texts fleet) (λ n line more. refl) i journal i d h
 
 pub replies_from : (worker : List ℕ) (n : ℕ) (replies : List Told) (i : ℕ) (d : Told)
     → i < length replies → lines_text (told_texts worker n (drop i replies))
     ≡ (told_text worker n (get_or replies i d) ++ codes "\n")
     ++ lines_text (told_texts worker (n + 1) (drop (i + 1) replies))
 replies_from worker n replies i d h =
-    let one : suc i ≡ i + 1 = omega arith in
-    ap (λ l. lines_text (told_texts worker n l)) (drop-cons replies i d h)
-    ∙ ap (λ k. lines_text (told_text worker n (get_or replies i d)
-    ∷ told_texts worker (n + 1) (drop k replies))) one
-    ∙ ended_cons (told_text worker n (get_or replies i d))
-    (told_texts worker (n + 1) (drop (i + 1) replies))
+    part_from (told_text worker) (told_texts worker) (λ n reply more. refl) n replies i d h
 
 pub workers_from : (replies : Replies) (parts : List Part) (i : ℕ) (d : Part) → i < length parts
     → lines_text (all_texts i replies (map worker_of (drop i parts)))
@@ -217,14 +220,14 @@ reply_here worker n replies i reply h is = replies_from worker n replies i reply
     ++ lines_text (told_texts worker (n + 1) (drop (i + 1) replies))) (sym is)
 
 -- nothing was written
-pub nothing_wrote : {S : Type 0} (a : Option (List ℕ)) (faults : ℕ) (text : List ℕ)
+pub nothing_wrote : {S : Type 0} {a : Option (List ℕ)} {faults : ℕ} {text : List ℕ}
     → Wrote {T = S} a a faults faults text (Err NoMemory)
-nothing_wrote a faults text = spoke_stops (spoke_start a text faults)
+nothing_wrote {a = a} {faults = faults} {text = text} = spoke_stops (spoke_start a text faults)
 
-pub wrote_as : {S : Type 0} (a b : Option (List ℕ)) (faults count : ℕ) (text other : List ℕ)
-    (result : Result S WriteNo) → text ≡ other → Wrote a b faults count text result
+pub wrote_as : {S : Type 0} {a b : Option (List ℕ)} {faults count : ℕ} {text other : List ℕ}
+    {result : Result S WriteNo} → text ≡ other → Wrote a b faults count text result
     → Wrote a b faults count other result
-wrote_as a b faults count text other result e w =
+wrote_as {a = a} {b = b} {faults = faults} {count = count} {result = result} e w =
     subst (λ t. Wrote a b faults count t result) e w
 
 pub journal_more : {a b : Option (List ℕ)} {f g : ℕ} {whole : List ℕ} {T : Type 0}

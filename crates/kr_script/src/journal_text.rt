@@ -40,11 +40,7 @@ fn event_path(did: &Did) -> &str
         Did::Put { path, .. } => path.as_str(),
         Did::Delete { path } => path.as_str(),
         Did::Replace { path, .. } => path.as_str(),
-        Did::Adopt { .. } => "",
-        Did::LetGo => "",
-        Did::Reload { .. } => "",
-        Did::Join { .. } => "",
-        Did::Leave { .. } => "",
+        _ => "",
     }
 }
 
@@ -90,12 +86,7 @@ fn event_replica<'a>(replicas: &'a [(Text, Text)], did: &Did) -> &'a str
         Did::Reload { replica, .. } => replica_name(replicas, *replica),
         Did::Join { replica, .. } => replica_name(replicas, *replica),
         Did::Leave { replica } => replica_name(replicas, *replica),
-        Did::Fetch { .. } => "",
-        Did::After { .. } => "",
-        Did::Put { .. } => "",
-        Did::Delete { .. } => "",
-        Did::Replace { .. } => "",
-        Did::LetGo => "",
+        _ => "",
     }
 }
 
@@ -110,11 +101,7 @@ fn add_object(text: &mut LineText, did: &Did) -> Result<(), NoMemory>
         Did::After { path } => text.add(path_text(path.as_str())),
         Did::Put { path, .. } => text.add(path_text(path.as_str())),
         Did::Delete { path } => text.add(path_text(path.as_str())),
-        Did::Adopt { .. } => text.add("-"),
-        Did::LetGo => text.add("-"),
-        Did::Reload { .. } => text.add("-"),
-        Did::Join { .. } => text.add("-"),
-        Did::Leave { .. } => text.add("-"),
+        _ => text.add("-"),
     }
 }
 
@@ -135,8 +122,7 @@ fn add_refusal(text: &mut LineText, name: &str, verdict: &Verdict) -> Result<(),
     ensures { IfOk result (λ done. text.new.bytes.items ≡ text.old.bytes.items
         ++ three (codes "refused") name.now (verdict_text verdict.now)) }
 {
-    text.add("refused ")?;
-    text.add(name)?;
+    text.add_two("refused", name)?;
     text.add(" ")?;
     text.add_verdict(verdict)
 }
@@ -202,20 +188,6 @@ fn add_seen(text: &mut LineText, script: &Script, line: &Line) -> Result<(), NoM
     add_event(text, script.replicas.as_slice(), &line.did, &line.gave)
 }
 
-fn add_text(
-    text: &mut LineText,
-    script: &Script,
-    number: usize,
-    line: &Line,
-) -> Result<(), NoMemory>
-    ensures { IfOk result (λ done. text.new.bytes.items
-        ≡ text.old.bytes.items ++ journal_text (fleet_of script.now) number line.now) }
-{
-    text.add_number(number as u64)?;
-    text.add(" ")?;
-    add_seen(text, script, line)
-}
-
 /// The text of a line of the journal with its LF, in the place of what the text was.
 pub fn set_line(
     text: &mut LineText,
@@ -227,6 +199,8 @@ pub fn set_line(
         ≡ journal_text (fleet_of script.now) number line.now ++ codes "\n") }
 {
     text.clear();
-    add_text(text, script, number, line)?;
+    text.add_number(number as u64)?;
+    text.add(" ")?;
+    add_seen(text, script, line)?;
     text.add("\n")
 }

@@ -44,26 +44,9 @@ fn add_got(alloc: Global, text: &mut LineText, revision: u64, plain: &Bytes) -> 
     ensures { IfOk result (λ done. text.new.bytes.items ≡ text.old.bytes.items
         ++ three (codes "get") (decimal revision) (data_text plain.now)) }
 {
-    text.add("get ")?;
-    text.add_number(revision)?;
+    text.add_counted("get", revision)?;
     text.add(" ")?;
     add_data(alloc, text, plain.as_slice())
-}
-
-/// Adds four numbers.
-fn add_counts(
-    text: &mut LineText,
-    rewritten: u64,
-    fresh: u64,
-    changed: u64,
-    left: u64,
-) -> Result<(), NoMemory>
-    ensures { IfOk result (λ done. text.new.bytes.items ≡ text.old.bytes.items
-        ++ four (decimal rewritten) (decimal fresh) (decimal changed) (decimal left)) }
-{
-    text.add_number(rewritten)?;
-    text.add(" ")?;
-    add_more_counts(text, fresh, changed, left)
 }
 
 fn add_more_counts(text: &mut LineText, fresh: u64, changed: u64, left: u64) -> Result<(), NoMemory>
@@ -88,8 +71,9 @@ fn add_rewritten(
         ++ two (codes "rewrite") (four (decimal rewritten) (decimal fresh) (decimal changed)
         (decimal left))) }
 {
-    text.add("rewrite ")?;
-    add_counts(text, rewritten, fresh, changed, left)
+    text.add_counted("rewrite", rewritten)?;
+    text.add(" ")?;
+    add_more_counts(text, fresh, changed, left)
 }
 
 fn add_refusal(text: &mut LineText, verdict: &Verdict) -> Result<(), NoMemory>
@@ -198,35 +182,8 @@ pub fn set_reply(
         ≡ told_text worker.now number reply.now ++ codes "\n") }
 {
     text.clear();
-    add_text(alloc, text, worker, number, reply)?;
+    text.add_counted(worker, number)?;
+    text.add(" ")?;
+    add_reply(alloc, text, reply)?;
     text.add("\n")
-}
-
-fn add_text(
-    alloc: Global,
-    text: &mut LineText,
-    worker: &str,
-    number: u64,
-    reply: &Told,
-) -> Result<(), NoMemory>
-    ensures { IfOk result (λ done. text.new.bytes.items
-        ≡ text.old.bytes.items ++ told_text worker.now number reply.now) }
-{
-    text.add(worker)?;
-    text.add(" ")?;
-    add_numbered(alloc, text, number, reply)
-}
-
-fn add_numbered(
-    alloc: Global,
-    text: &mut LineText,
-    number: u64,
-    reply: &Told,
-) -> Result<(), NoMemory>
-    ensures { IfOk result (λ done. text.new.bytes.items ≡ text.old.bytes.items
-        ++ two (decimal number) (reply_text reply.now)) }
-{
-    text.add_number(number)?;
-    text.add(" ")?;
-    add_reply(alloc, text, reply)
 }

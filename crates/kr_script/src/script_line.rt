@@ -1,10 +1,11 @@
 //! Reading the lines of workers.
-ghost use Rattle.std.specs.Prelude.{◌≡◌, ◌≤◌, length};
+ghost use Rattle.std.specs.Prelude.{◌≡◌, ◌≤◌, length, if◌then◌else◌, Some, None};
+ghost use Rattle.kr_base.specs.Rules.{is_path};
 ghost use Rattle.std.specs.Option.{option_map};
 ghost use Rattle.kr_script.specs.Rows.{words_of};
 ghost use Rattle.kr_script.specs.Statements.{data_of};
-ghost use Rattle.kr_script.specs.inner.Drafts.{place_from, replica_number, put_in, get_in, delete_in};
-ghost use Rattle.kr_script.specs.inner.Drafts.{reload_in, join_in, leave_in, line_in};
+ghost use Rattle.kr_script.specs.inner.Drafts.{place_from, replica_number, put_in};
+ghost use Rattle.kr_script.specs.inner.Drafts.{leave_in, line_in};
 ghost use Rattle.kr_script.specs.inner.Reading.{Finds};
 
 use crate::line_error::ScriptLineError;
@@ -33,21 +34,21 @@ pub fn read_line(
             None => Err(ScriptLineError::Form),
         },
         Keyword::Get => match one_word(rest) {
-            Some(path) => read_get(alloc, path),
+            Some(path) => read_of_path(alloc, false, path),
             None => Err(ScriptLineError::Form),
         },
         Keyword::Delete => match one_word(rest) {
-            Some(path) => read_delete(alloc, path),
+            Some(path) => read_of_path(alloc, true, path),
             None => Err(ScriptLineError::Form),
         },
         Keyword::Rewrite if is_blank(rest) => Ok(ScriptLine::Rewrite),
         Keyword::Reload => match two_words(rest) {
-            Some((name, file)) => read_reload(alloc, replicas, name, file),
+            Some((name, file)) => read_member(alloc, replicas, false, name, file),
             None => Err(ScriptLineError::Form),
         },
         Keyword::Refresh if is_blank(rest) => Ok(ScriptLine::Refresh),
         Keyword::Join => match two_words(rest) {
-            Some((name, file)) => read_join(alloc, replicas, name, file),
+            Some((name, file)) => read_member(alloc, replicas, true, name, file),
             None => Err(ScriptLineError::Form),
         },
         Keyword::Leave => match one_word(rest) {
@@ -91,61 +92,42 @@ fn read_data(alloc: Global, word: &str) -> Result<Bytes, ScriptLineError>
     }
 }
 
-fn read_get(alloc: Global, path: &str) -> Result<ScriptLine, ScriptLineError>
-    ensures { Finds (get_in path.now) result }
+/// A get or a delete of the path.
+fn read_of_path(alloc: Global, deletes: bool, path: &str) -> Result<ScriptLine, ScriptLineError>
+    ensures { Finds (if is_path path.now then Some (if deletes then ScriptLine.Delete path.now
+        else ScriptLine.Get path.now) else None) result }
 {
     if !path_ok(path) {
         return Err(ScriptLineError::Form);
     }
-    Ok(ScriptLine::Get {
-        path: Text::copy(alloc, path)?,
-    })
+    let path = Text::copy(alloc, path)?;
+    if deletes {
+        Ok(ScriptLine::Delete { path })
+    } else {
+        Ok(ScriptLine::Get { path })
+    }
 }
 
-fn read_delete(alloc: Global, path: &str) -> Result<ScriptLine, ScriptLineError>
-    ensures { Finds (delete_in path.now) result }
+/// A reload or a join of the replica of this name, with the name of its file.
+fn read_member(
+    alloc: Global,
+    replicas: &[(Text, Text)],
+    joins: bool,
+    name: &str,
+    file: &str,
+) -> Result<ScriptLine, ScriptLineError>
+    requires { length replicas.now ≤ 16 }
+    ensures { Finds (option_map (λ replica. if joins then ScriptLine.Join replica file.now
+        else ScriptLine.Reload replica file.now) (replica_number replicas.now name.now)) result }
 {
-    if !path_ok(path) {
+    let Some(replica) = replica_number(replicas, name) else {
         return Err(ScriptLineError::Form);
-    }
-    Ok(ScriptLine::Delete {
-        path: Text::copy(alloc, path)?,
-    })
-}
-
-fn read_reload(
-    alloc: Global,
-    replicas: &[(Text, Text)],
-    name: &str,
-    file: &str,
-) -> Result<ScriptLine, ScriptLineError>
-    requires { length replicas.now ≤ 16 }
-    ensures { Finds (reload_in replicas.now (name.now, file.now)) result }
-{
-    match replica_number(replicas, name) {
-        Some(replica) => Ok(ScriptLine::Reload {
-            replica,
-            file: Text::copy(alloc, file)?,
-        }),
-        None => Err(ScriptLineError::Form),
-    }
-}
-
-fn read_join(
-    alloc: Global,
-    replicas: &[(Text, Text)],
-    name: &str,
-    file: &str,
-) -> Result<ScriptLine, ScriptLineError>
-    requires { length replicas.now ≤ 16 }
-    ensures { Finds (join_in replicas.now (name.now, file.now)) result }
-{
-    match replica_number(replicas, name) {
-        Some(replica) => Ok(ScriptLine::Join {
-            replica,
-            file: Text::copy(alloc, file)?,
-        }),
-        None => Err(ScriptLineError::Form),
+    };
+    let file = Text::copy(alloc, file)?;
+    if joins {
+        Ok(ScriptLine::Join { replica, file })
+    } else {
+        Ok(ScriptLine::Reload { replica, file })
     }
 }
 

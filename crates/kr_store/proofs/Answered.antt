@@ -100,114 +100,104 @@ part_found n bytes x rest all e = by (nat_lt (length bytes) n) refl e
           bytes_are = All-drop (λ byte. byte < 256) n bytes all;
         }))
 
-found_16 : (bytes : List ℕ) (n : ℕ) (rest : List ℕ) → AreBytes bytes → number_16 bytes ≡ Ok
-    (n, rest) → Found bytes (to_be_bytes w16) (λ m. Unit {0}) n rest
-found_16 bytes n rest all e =
-    let b = both (part 2 bytes) (λ number rest. Ok (from_be_bytes w16 number, rest)) n rest e in
-    let p = part_found 2 bytes b.x b.mid all b.first_is in
-    let same = same_found (from_be_bytes w16 b.x) n b.mid rest _ refl b.next_is in
+-- a number of so many bytes, which its bytes spell
+found_number : (size : ℕ) (from : List ℕ → ℕ) (spell : ℕ → List ℕ) (Rule : ℕ → Type 0)
+    → ((b : List ℕ) (n : ℕ) → length b ≡ size → ((i : ℕ) → get_or b i 0 < 256) → n ≡ from b
+    → spell n ≡ b)
+    → ((b : List ℕ) → ((i : ℕ) → get_or b i 0 < 256) → Rule (from b))
+    → (bytes : List ℕ) (n : ℕ) (rest : List ℕ) → AreBytes bytes
+    → behind (part size bytes) (λ number rest. Ok (from number, rest)) ≡ Ok (n, rest)
+    → Found bytes spell Rule n rest
+found_number size from spell Rule back rule bytes n rest all e =
+    let b = both (part size bytes) (λ number rest. Ok (from number, rest)) n rest e in
+    let p = part_found size bytes b.x b.mid all b.first_is in
+    let same = same_found (from b.x) n b.mid rest _ refl b.next_is in
     record {
-      split = p.split ∙ ap (λ l. l ++ b.mid) (sym (be_bytes_2 b.x n p.ruled.0 (known b.x p.ruled.1)
-          (sym same.0))) ∙ ap (λ l. to_be_bytes w16 n ++ l) same.1;
-      ruled = tt;
+      split = p.split ∙ ap (λ l. l ++ b.mid) (sym (back b.x n p.ruled.0 (known b.x p.ruled.1)
+          (sym same.0))) ∙ ap (λ l. spell n ++ l) same.1;
+      ruled = subst Rule same.0 (rule b.x (known b.x p.ruled.1));
       bytes_are = subst AreBytes same.1 p.bytes_are;
     }
 
+found_16 : (bytes : List ℕ) (n : ℕ) (rest : List ℕ) → AreBytes bytes → number_16 bytes ≡ Ok
+    (n, rest) → Found bytes (to_be_bytes w16) (λ m. Unit {0}) n rest
+found_16 = found_number 2 (from_be_bytes w16) (to_be_bytes w16) (λ m. Unit {0}) be_bytes_2
+    (λ b are. tt)
+
 found_32 : (bytes : List ℕ) (n : ℕ) (rest : List ℕ) → AreBytes bytes → number_32 bytes ≡ Ok
     (n, rest) → Found bytes (to_be_bytes w32) (λ m. Unit {0}) n rest
-found_32 bytes n rest all e =
-    let b = both (part 4 bytes) (λ number rest. Ok (from_be_bytes w32 number, rest)) n rest e in
-    let p = part_found 4 bytes b.x b.mid all b.first_is in
-    let same = same_found (from_be_bytes w32 b.x) n b.mid rest _ refl b.next_is in
-    record {
-      split = p.split ∙ ap (λ l. l ++ b.mid) (sym (be_bytes_4 b.x n p.ruled.0 (known b.x p.ruled.1)
-          (sym same.0))) ∙ ap (λ l. to_be_bytes w32 n ++ l) same.1;
-      ruled = tt;
-      bytes_are = subst AreBytes same.1 p.bytes_are;
-    }
+found_32 = found_number 4 (from_be_bytes w32) (to_be_bytes w32) (λ m. Unit {0}) be_bytes_4
+    (λ b are. tt)
 
 fits_64 : (b : List ℕ) → ((i : ℕ) → get_or b i 0 < 256) → from_be_bytes w64 b < 2 ^ 64
 fits_64 b k = omega (arith, k 0, k 1, k 2, k 3, k 4, k 5, k 6, k 7)
 
 found_64 : (bytes : List ℕ) (n : ℕ) (rest : List ℕ) → AreBytes bytes → number_64 bytes ≡ Ok
     (n, rest) → Found bytes (to_be_bytes w64) (λ m. m < 2 ^ 64) n rest
-found_64 bytes n rest all e =
-    let b = both (part 8 bytes) (λ number rest. Ok (from_be_bytes w64 number, rest)) n rest e in
-    let p = part_found 8 bytes b.x b.mid all b.first_is in
-    let same = same_found (from_be_bytes w64 b.x) n b.mid rest _ refl b.next_is in
-    record {
-      split = p.split ∙ ap (λ l. l ++ b.mid) (sym (be_bytes_8 b.x n p.ruled.0 (known b.x p.ruled.1)
-          (sym same.0))) ∙ ap (λ l. to_be_bytes w64 n ++ l) same.1;
-      ruled = subst (λ m. m < 2 ^ 64) same.0 (fits_64 b.x (known b.x p.ruled.1));
-      bytes_are = subst AreBytes same.1 p.bytes_are;
-    }
+found_64 = found_number 8 (from_be_bytes w64) (to_be_bytes w64) (λ m. m < 2 ^ 64) be_bytes_8
+    fits_64
 
-found_sized : (most : ℕ) (bytes x rest : List ℕ) → AreBytes bytes → sized_part most bytes ≡ Ok
-    (x, rest) → Found bytes text_bytes (λ y. Unit {0}) x rest
-found_sized most bytes x rest all e =
-    let b = both (number_16 bytes) (λ n rest. if nat_le n most then part n rest else Err BadRow) x
+-- so many bytes behind their number, which is judged before them
+found_counted : (number : List ℕ → Read ℕ) (spell : ℕ → List ℕ) (most : ℕ)
+    → ((bytes : List ℕ) (n : ℕ) (rest : List ℕ) → AreBytes bytes → number bytes ≡ Ok (n, rest)
+    → Found bytes spell (λ m. Unit {0}) n rest)
+    → (bytes x rest : List ℕ) → AreBytes bytes
+    → behind (number bytes) (λ n rest. if nat_le n most then part n rest else Err BadRow)
+    ≡ Ok (x, rest)
+    → Found bytes (λ y. spell (length y) ++ y) (λ y. length y ≤ most) x rest
+found_counted number spell most found bytes x rest all e =
+    let b = both (number bytes) (λ n rest. if nat_le n most then part n rest else Err BadRow) x
     rest e in
-    let n = found_16 bytes b.x b.mid all b.first_is in
+    let n = found bytes b.x b.mid all b.first_is in
     let c = chosen (nat_le b.x most) BadRow (part b.x b.mid) x rest b.next_is in
     let p = part_found b.x b.mid x rest n.bytes_are c.1 in
     record {
-      split = n.split ∙ ap (λ l. to_be_bytes w16 b.x ++ l) p.split
-          ∙ ap (λ m. to_be_bytes w16 m ++ (x ++ rest)) (sym p.ruled.0)
-          ∙ sym (append_assoc (to_be_bytes w16 (length x)) x rest);
-      ruled = tt;
-      bytes_are = p.bytes_are;
-    }
-
-found_value : (bytes x rest : List ℕ) → AreBytes bytes → value_part bytes ≡ Ok (x, rest)
-    → Found bytes value_bytes (λ v. length v ≤ longest_value) x rest
-found_value bytes x rest all e =
-    let b = both (number_32 bytes) (λ n rest. if nat_le n longest_value then part n rest else Err
-    BadRow) x rest e in
-    let n = found_32 bytes b.x b.mid all b.first_is in
-    let c = chosen (nat_le b.x longest_value) BadRow (part b.x b.mid) x rest b.next_is in
-    let p = part_found b.x b.mid x rest n.bytes_are c.1 in
-    record {
-      split = n.split ∙ ap (λ l. to_be_bytes w32 b.x ++ l) p.split
-          ∙ ap (λ m. to_be_bytes w32 m ++ (x ++ rest)) (sym p.ruled.0)
-          ∙ sym (append_assoc (to_be_bytes w32 (length x)) x rest);
+      split = n.split ∙ ap (λ l. spell b.x ++ l) p.split
+          ∙ ap (λ m. spell m ++ (x ++ rest)) (sym p.ruled.0)
+          ∙ sym (append_assoc (spell (length x)) x rest);
       ruled = small (length x) b.x p.ruled.0 c.0;
       bytes_are = p.bytes_are;
     }
   where
-    small : (m n : ℕ) → m ≡ n → nat_le n longest_value ≡ true → m ≤ longest_value
-    small m n e f = elim (cases_lt longest_value n)
-        [ inl l ↦ (let t = above_most n longest_value l in cc) | inr g ↦ omega (arith, e, g) ]
+    small : (m n : ℕ) → m ≡ n → nat_le n most ≡ true → m ≤ most
+    small m n e f = elim (cases_lt most n)
+        [ inl l ↦ (let t = above_most n most l in cc) | inr g ↦ omega (arith, e, g) ]
+
+found_sized : (most : ℕ) (bytes x rest : List ℕ) → AreBytes bytes → sized_part most bytes ≡ Ok
+    (x, rest) → Found bytes text_bytes (λ y. length y ≤ most) x rest
+found_sized most = found_counted number_16 (to_be_bytes w16) most found_16
+
+found_value : (bytes x rest : List ℕ) → AreBytes bytes → value_part bytes ≡ Ok (x, rest)
+    → Found bytes value_bytes (λ v. length v ≤ longest_value) x rest
+found_value = found_counted number_32 (to_be_bytes w32) longest_value found_32
+
+-- a text that keeps its rule
+found_text : (most : ℕ) (keeps : List ℕ → Bool) (Rule : List ℕ → Type 0)
+    → ((x : List ℕ) → keeps x ≡ true → Rule x) → (bytes x rest : List ℕ) → AreBytes bytes
+    → behind (sized_part most bytes) (λ text rest. kept_if (keeps text) BadRow text rest)
+    ≡ Ok (x, rest) → Found bytes text_bytes Rule x rest
+found_text most keeps Rule rule bytes x rest all e =
+    let b = both (sized_part most bytes) (λ text rest. kept_if (keeps text) BadRow text rest) x
+    rest e in
+    let s = found_sized most bytes b.x b.mid all b.first_is in
+    let k = kept (keeps b.x) BadRow b.x x b.mid rest b.next_is in
+    record {
+      split = s.split ∙ ap (λ l. text_bytes l ++ b.mid) k.1 ∙ ap (λ l. text_bytes x ++ l) k.2;
+      ruled = subst Rule k.1 (rule b.x k.0);
+      bytes_are = subst AreBytes k.2 s.bytes_are;
+    }
 
 found_path : (bytes x rest : List ℕ) → AreBytes bytes → path_part bytes ≡ Ok (x, rest)
     → Found bytes text_bytes IsPath x rest
-found_path bytes x rest all e =
-    let b = both (sized_part 1024 bytes) (λ path rest. kept_if (is_path path) BadRow path rest) x
-    rest e in
-    let s = found_sized 1024 bytes b.x b.mid all b.first_is in
-    let k = kept (is_path b.x) BadRow b.x x b.mid rest b.next_is in
-    record {
-      split = s.split ∙ ap (λ l. text_bytes l ++ b.mid) k.1 ∙ ap (λ l. text_bytes x ++ l) k.2;
-      ruled = subst IsPath k.1 ((kr_path b.x).0 k.0);
-      bytes_are = subst AreBytes k.2 s.bytes_are;
-    }
+found_path = found_text 1024 is_path IsPath (λ x. (kr_path x).0)
 
 found_resource : (bytes x rest : List ℕ) → AreBytes bytes → resource_part bytes ≡ Ok (x, rest)
     → Found bytes text_bytes IsResource x rest
-found_resource bytes x rest all e =
-    let b = both (sized_part 253 bytes) (λ resource rest. kept_if
-    (is_resource resource) BadRow resource rest) x rest e in
-    let s = found_sized 253 bytes b.x b.mid all b.first_is in
-    let k = kept (is_resource b.x) BadRow b.x x b.mid rest b.next_is in
-    record {
-      split = s.split ∙ ap (λ l. text_bytes l ++ b.mid) k.1 ∙ ap (λ l. text_bytes x ++ l) k.2;
-      ruled = subst IsResource k.1 ((kr_resource b.x).0 k.0);
-      bytes_are = subst AreBytes k.2 s.bytes_are;
-    }
+found_resource = found_text 253 is_resource IsResource (λ x. (kr_resource x).0)
 
 single : (x : List ℕ) → length x ≡ 1 → x ≡ get_or x 0 0 ∷ []
-single [] e = absurd (omega (arith, e))
 single (b ∷ []) e = refl
-single (b ∷ (c ∷ x)) e = absurd (omega (arith, e))
+single other e = absurd (omega (arith, e))
 
 abbrev kind_at : Bool → Bool → List ℕ → Read RowKind
 kind_at one two mid = if one then Ok (kind.Put, mid) else

@@ -155,7 +155,7 @@ nothing_loaded first index m s e i =
       indexed = i;
     }
 
-pub rows_before : (first now : Ahead) (format : Format) (rows : List KeptRow) (index : Index)
+rows_before : (first now : Ahead) (format : Format) (rows : List KeptRow) (index : Index)
     → IsReadTo first now format rows index → length rows + 8 ≤ now.place
 rows_before first now format rows index l = omega (
   arith,
@@ -165,6 +165,13 @@ rows_before first now format rows index l = omega (
   rows_long 1 (log_rows_of rows),
   log_rows_length rows,
 )
+
+-- the number of the next row fits where its place does
+pub next_small : (first now : Ahead) (format : Format) (rows : List KeptRow) (index : Index)
+    (k at : ℕ) → IsReadTo first now format rows index → k ≡ length rows + 1 → at ≡ now.place
+    → at < 2 ^ 64 → k < 2 ^ 64
+next_small first now format rows index k at l is place fits =
+    omega (arith, is, place, fits, rows_before first now format rows index l)
 
 -- bytes that may be all there are break at this place
 abbrev BreaksIn : Ahead → ℕ → Cause → Type 0

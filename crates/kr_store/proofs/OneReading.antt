@@ -105,9 +105,7 @@ kind_of_breach bytes (no.Torn at) (inl t) = inr (inl (ap (λ (n : ℕ). no.Torn 
 kind_of_breach bytes (no.Torn at) (inr t) = inr (inr (at, Torn, refl, t))
 kind_of_breach bytes (no.BadRow at) b = inr (inr (at, BadRow, refl, b))
 kind_of_breach bytes (no.Order at) b = inr (inr (at, Order, refl, b))
-kind_of_breach bytes no.TooLong b = absurd b
-kind_of_breach bytes no.Failed b = absurd b
-kind_of_breach bytes no.NoMemory b = absurd b
+kind_of_breach bytes other b = absurd b
 
 kind_once : (bytes : List ℕ) (why other : StoreNo) → BreachKind bytes why
     → BreachKind bytes other → why ≡ other

@@ -10,10 +10,15 @@ use Rattle.kr_store.specs.declared.rows.Row.{Row}
 use Rattle.kr_store.specs.declared.rows.Change.{Change}
 use Rattle.kr_store.specs.declared.rows.Change.TheVariants.{Put, Delete}
 use Rattle.kr_store.specs.declared.rows.LogRow.{LogRow}
+use Rattle.kr_store.specs.declared.rows.RowRef.{RowRef}
+use Rattle.kr_store.specs.declared.rows.RowRef.TheVariants as lent
+use Rattle.kr_base.specs.Rules.{IsPath}
+use Rattle.kr_store.specs.Stores.{LendsRow, IsLent}
 use Rattle.kr_store.specs.declared.kept_row.KeptRow.{KeptRow}
 use Rattle.kr_store.specs.declared.kept_row.KeptRow.TheVariants as kept
-use Rattle.kr_store.specs.Rows.{later, latest_from, latest, live, live_row, row_of, with_revision, put_at, log_row_at, delete_of, MayFollow, AllFollow, AreRows}
+use Rattle.kr_store.specs.Rows.{later, latest_from, latest, live, live_row, row_of, with_revision, put_at, log_row_at, delete_of, IsRow, MayFollow, AllFollow, AreRows}
 use Rattle.kr_store.specs.inner.KeptRows.{log_row_of, log_rows_of, shared_row, IsKeptRow, AreKeptRows}
+use Rattle.kr_store.specs.inner.Lending.{IsLentAs}
 use Rattle.kr_store.proofs.Indexes.{bool_cases}
 
 -- where the last row of a path stands, when the first of the rows has revision n
@@ -196,7 +201,7 @@ log_at rows j d row l e =
     slice_get-map log_row_of rows j ∙ ap (option_map log_row_of) (slice_get-get_or rows j d l)
     ∙ ap (λ (r : KeptRow). some_row (log_row_of r)) e
 
-pub lent_rule : (format : Format) (rows : List KeptRow) (k : ℕ) (d row : KeptRow)
+lent_rule : (format : Format) (rows : List KeptRow) (k : ℕ) (d row : KeptRow)
     → 1 ≤ k → k - 1 < length rows → AreKeptRows format 1 rows
     → get_or rows (k - 1) d ≡ row → IsKeptRow format k row
 lent_rule format rows k d row l m all e =
@@ -205,7 +210,7 @@ lent_rule format rows k d row l m all e =
     (subst (λ (r : KeptRow). IsKeptRow format (1 + (k - 1)) r) e
     (kept_rule format 1 rows (k - 1) d all m))
 
-pub lends_put : (format : Format) (rows : List KeptRow) (k : ℕ) (d : KeptRow) (row : Row)
+lends_put : (format : Format) (rows : List KeptRow) (k : ℕ) (d : KeptRow) (row : Row)
     → 1 ≤ k → k - 1 < length rows → AreKeptRows format 1 rows
     → get_or rows (k - 1) d ≡ kept.Put row → put_at (log_rows_of rows) k ≡ Some row
 lends_put format rows k d row l m all e =
@@ -219,11 +224,26 @@ log_row_found : (rows : List LogRow) (k : ℕ) → 1 ≤ k → log_row_at rows k
 log_row_found rows k l =
     ap (log_row_at rows) (let s : k ≡ suc (k - 1) = omega (arith, l) in s)
 
-pub lends_delete : (rows : List KeptRow) (k : ℕ) (d : KeptRow) (path : List ℕ) → 1 ≤ k
+lends_delete : (rows : List KeptRow) (k : ℕ) (d : KeptRow) (path : List ℕ) → 1 ≤ k
     → k - 1 < length rows → get_or rows (k - 1) d ≡ kept.Delete path
     → log_row_at (log_rows_of rows) k ≡ Some (delete_of path)
 lends_delete rows k d path l m e =
     log_row_found (log_rows_of rows) k l ∙ log_at rows (k - 1) d (kept.Delete path) m e
+
+-- a row is lent as it is kept
+pub lends_row : (format : Format) (rows : List KeptRow) (k : ℕ) (row : KeptRow) (found : RowRef)
+    → 1 ≤ k → k - 1 < length rows → AreKeptRows format 1 rows
+    → get_or rows (k - 1) row ≡ row → IsLentAs row found
+    → LendsRow (log_rows_of rows) k (Some found) × IsLent format found
+lends_row format rows k (kept.Put row) (lent.Put found) l m all e is = (
+  lends_put format rows k (kept.Put row) row l m all e ∙ ap (λ (z : Row). Some z) (sym is),
+  subst (IsRow format) (sym is) (lent_rule format rows k (kept.Put row) (kept.Put row) l m all e).0,
+)
+lends_row format rows k (kept.Delete path) (lent.Delete found) l m all e is = (
+  lends_delete rows k (kept.Delete path) path l m e ∙ ap (λ p. Some (delete_of p)) (sym is),
+  subst IsPath (sym is) (lent_rule format rows k (kept.Delete path) (kept.Delete path) l m all e),
+)
+lends_row format rows k row found l m all e is = absurd is
 
 pub lends_none : (rows : List KeptRow) (k : ℕ) → 1 ≤ k → length rows ≤ k - 1
     → log_row_at (log_rows_of rows) k ≡ None

@@ -36,9 +36,8 @@ same_found {A} a b xs ys r p q =
 
 digit_once : (format other : Format) → digit_of format ≡ digit_of other → format ≡ other
 digit_once One One e = refl
-digit_once One Two e = absurd (omega (arith, e))
-digit_once Two One e = absurd (omega (arith, e))
 digit_once Two Two e = refl
+digit_once other another e = absurd (omega (arith, e))
 
 pub magic_once : (format other : Format) (a b : List ℕ)
     → magic format ++ a ≡ magic other ++ b → (format ≡ other) × (a ≡ b)
@@ -165,9 +164,7 @@ no_file bytes (no.Torn at) (inl t) format rows f = torn_no_file bytes t.1 format
 no_file bytes (no.Torn at) (inr t) format rows f = breaks_no_file bytes at Torn t format rows f
 no_file bytes (no.BadRow at) b format rows f = breaks_no_file bytes at BadRow b format rows f
 no_file bytes (no.Order at) b format rows f = breaks_no_file bytes at Order b format rows f
-no_file bytes no.TooLong b format rows f = b
-no_file bytes no.Failed b format rows f = b
-no_file bytes no.NoMemory b format rows f = b
+no_file bytes other b format rows f = b
 
 refused : (first : Ahead) (limit : ℕ) (why : StoreNo) → first.end ≤ limit
     → MayBreak first why → HasBreach first.left limit why

@@ -19,6 +19,8 @@ use Rattle.kr_store.specs.Rows.{IsRow, latest, live, live_row, row_of, put_of, d
 use Rattle.kr_store.specs.Stores.{IsNext, Kept, IsLatestPut, Puts, Deletes, Replaces, put_over}
 use Rattle.kr_store.specs.inner.KeptRows.{log_rows_of, shared_row, IsKeptRow, AreKeptRows}
 use Rattle.kr_store.specs.inner.Index.{IsIndexOf, Stands, StandsAt, live_at, gone_at}
+use Rattle.kr_store.specs.inner.Log.{Tail}
+use Rattle.kr_store.specs.inner.Store.{IsStore}
 use Rattle.kr_store.proofs.Indexes.{some_live}
 use Rattle.kr_store.proofs.Loading.{log_rows_length}
 use Rattle.kr_store.proofs.Places.{found_in, kept_at, kept_shared, kept_rule, live_at_revision}
@@ -37,10 +39,10 @@ by_change k revision (Put resource stored check) l g s e = let x : Some k ≡ So
     ∙ e in cc
 by_change k revision Delete l g s e = let x : None ≡ Some revision = sym s.0 ∙ e in cc
 
-pub shared_at : (format : Format) (rows : List KeptRow) (index : Index) (path : List ℕ)
+shared_by : (format : Format) (rows : List KeptRow) (index : Index) (path : List ℕ)
     (revision : ℕ) → AreKeptRows format 1 rows → IsIndexOf (log_rows_of rows) index
     → live_at index path ≡ Some revision → IsShared rows path revision
-shared_at format rows index path revision all i e = by (latest (log_rows_of rows) path) refl
+shared_by format rows index path revision all i e = by (latest (log_rows_of rows) path) refl
     (i path)
   where
     by : (found : Option (ℕ × LogRow)) → latest (log_rows_of rows) path ≡ found
@@ -62,17 +64,32 @@ shared_at format rows index path revision all i e = by (latest (log_rows_of rows
               ∙ ap (λ n. row_of n found.1.path found.1.change) is ∙ sym (ap live_row r);
         }
 
+pub shared_at : {format : Format} {rows : List KeptRow} {index : Index} {limit : ℕ} {log : Tail}
+    → IsStore format rows index limit log → (path : List ℕ) {revision : ℕ}
+    → live_at index path ≡ Some revision → IsShared rows path revision
+shared_at {format} {rows} {index} store path {revision} e =
+    shared_by format rows index path revision store.kept_rows store.indexed e
+
+-- its place is within the slice of the rows
+pub lies_in : {slice rows : List KeptRow} {path : List ℕ} {revision : ℕ}
+    → IsShared rows path revision → slice ≡ rows → (1 ≤ revision) × (revision ≤ length slice)
+lies_in shared same =
+    (shared.first, omega (arith, shared.last, ap (λ (l : List KeptRow). length l) same))
+
 pub not_live : (rows : List LogRow) (index : Index) (q : List ℕ) → IsIndexOf rows index
     → live_at index q ≡ None → IsSome (live rows q) → ⊥
 not_live rows index q i e s = let x : false ≡ true = sym (ap is_some e) ∙ some_live (latest rows q)
     (live_at index q) (gone_at index q) (i q) ∙ s in cc
 
 -- what was shared is what the index leads to
-pub shares_it : {E : Type 0} (r : Result (Option Row) E) (rows : List KeptRow) (k : ℕ)
-    (target : Option Row) → IfOk r (λ found. (d : KeptRow) → found ≡ shared_row (get_or rows k d))
+pub shares_it : {E : Type 0} (r : Result (Option Row) E) (slice : List KeptRow)
+    {rows : List KeptRow} (k : ℕ) (target : Option Row)
+    → IfOk r (λ found. (d : KeptRow) → found ≡ shared_row (get_or slice k d)) → slice ≡ rows
     → ((d : KeptRow) → shared_row (get_or rows k d) ≡ target) → IfOk r (λ found. found ≡ target)
-shares_it (Ok found) rows k target h t = h (kept.Delete []) ∙ t (kept.Delete [])
-shares_it (Err e) rows k target h t = tt
+shares_it (Ok found) slice k target h is t =
+    h (kept.Delete []) ∙ ap (λ l. shared_row (get_or l k (kept.Delete []))) is
+    ∙ t (kept.Delete [])
+shares_it (Err e) slice k target h is t = tt
 
 pub shares_next : {E : Type 0} (r : Result (Option Row) E) (lines : List LogRow) (path : List ℕ)
     (target : Option Row) → IfOk r (λ found. found ≡ target)
@@ -81,13 +98,15 @@ shares_next (Ok found) lines path target h n = subst (λ t. IsNext lines path t)
 shares_next (Err e) lines path target h n = tt
 
 pub shares_rules : {E : Type 0} (format : Format) (r : Result (Option Row) E)
-    (rows : List KeptRow) (k : ℕ) (row : Row)
-    → IfOk r (λ found. (d : KeptRow) → found ≡ shared_row (get_or rows k d))
+    (slice : List KeptRow) {rows : List KeptRow} (k : ℕ) (row : Row)
+    → IfOk r (λ found. (d : KeptRow) → found ≡ shared_row (get_or slice k d)) → slice ≡ rows
     → ((d : KeptRow) → shared_row (get_or rows k d) ≡ Some row) → IsRow format row
     → IfOk r (λ found. IfSome found (IsRow format))
-shares_rules format (Ok found) rows k row h t i =
-    subst (λ o. IfSome o (IsRow format)) (sym (h (kept.Delete []) ∙ t (kept.Delete []))) i
-shares_rules format (Err e) rows k row h t i = tt
+shares_rules format (Ok found) slice k row h is t i =
+    subst (λ o. IfSome o (IsRow format))
+    (sym (h (kept.Delete []) ∙ ap (λ l. shared_row (get_or l k (kept.Delete []))) is
+    ∙ t (kept.Delete []))) i
+shares_rules format (Err e) slice k row h is t i = tt
 
 -- the next row in the index is the next one of the rows
 pub next_is : (rows : List KeptRow) (index : Index) (path above : List ℕ) (revision : ℕ)
@@ -125,12 +144,12 @@ pub record IsPutAt (format : Format) (rows : List KeptRow) (path : List ℕ) (re
   pub rules : IsRow format row
   pub shares : (d : KeptRow) → shared_row (get_or rows (revision - 1) d) ≡ Some row
 
-pub put_at : (format : Format) (rows : List KeptRow) (index : Index) (path : List ℕ)
-    (revision : ℕ) → AreKeptRows format 1 rows → IsIndexOf (log_rows_of rows) index
+pub put_at : {format : Format} {rows : List KeptRow} {index : Index} {limit : ℕ} {log : Tail}
+    → IsStore format rows index limit log → (path : List ℕ) {revision : ℕ}
     → live_at index path ≡ Some revision → (row : Row) × IsPutAt format rows path revision row
-put_at format rows index path revision all i e =
-    by (live (log_rows_of rows) path) refl (was_live (log_rows_of rows) index path revision i e)
-    (shared_at format rows index path revision all i e)
+put_at {format} {rows} {index} store path {revision} e =
+    by (live (log_rows_of rows) path) refl
+    (was_live (log_rows_of rows) index path revision store.indexed e) (shared_at store path e)
   where
     by : (found : Option Row) → live (log_rows_of rows) path ≡ found → IsSome found
         → IsShared rows path revision → (row : Row) × IsPutAt format rows path revision row
@@ -138,7 +157,7 @@ put_at format rows index path revision all i e =
     by (Some row) r s h =
         let d : KeptRow = kept.Delete [] in
         let rules = kept_row_rules format (1 + (revision - 1)) (get_or rows (revision - 1) d) row
-        (kept_rule format 1 rows (revision - 1) d all (omega (arith, h.first, h.last)))
+        (kept_rule format 1 rows (revision - 1) d store.kept_rows (omega (arith, h.first, h.last)))
         (h.shares d ∙ r) in (
           row,
           record {
@@ -148,6 +167,17 @@ put_at format rows index path revision all i e =
             shares = λ d. h.shares d ∙ r;
           },
         )
+
+-- the names that were told of the row at a place are its own
+pub names_at : {slice rows : List KeptRow} (k : ℕ) (row : Row) (own resource : List ℕ)
+    → ((d : KeptRow) → IfSome (shared_row (get_or slice k d))
+    (λ (row : Row). (row.path ≡ own) × (row.resource ≡ resource)))
+    → slice ≡ rows → ((d : KeptRow) → shared_row (get_or rows k d) ≡ Some row)
+    → (row.path ≡ own) × (row.resource ≡ resource)
+names_at k row own resource names is shares =
+    let d : KeptRow = kept.Delete [] in
+    subst (λ o. IfSome o (λ (row : Row). (row.path ≡ own) × (row.resource ≡ resource)))
+    (ap (λ (l : List KeptRow). shared_row (get_or l k d)) is ∙ shares d) (names d)
 
 -- a put for the row's resource replaces the row
 pub replaces_by : (old new : Kept) (path : List ℕ) (revision : ℕ) (stored : List ℕ)

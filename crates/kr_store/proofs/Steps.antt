@@ -342,11 +342,9 @@ unnamed old new front (no.Torn at) t m s l e i =
       within = omega (arith, e);
       breach = inl (i.0, (l, i.1, i.2));
     }
-unnamed old new front (no.BadRow at) t m s l e i = i
-unnamed old new front (no.Order at) t m s l e i = i
-unnamed old new front no.TooLong t m s l e i = i
 unnamed old new front no.Failed t m s l e i = tt
 unnamed old new front no.NoMemory t m s l e i = tt
+unnamed old new front other t m s l e i = i
 
 pub named_by : (old new : Ahead) (front : List ℕ) (result : Result Format StoreNo)
     → Takes old new front → Moves old new → old.place ≡ 0 → 0 < length front

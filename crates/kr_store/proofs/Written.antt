@@ -1,5 +1,5 @@
 -- What a write leaves of a store.
-use Rattle.std.proofs.Common.{◌≡◌, ℕ, ◌+◌, ◌^◌, ◌<◌, ◌≤◌, Bool, true, false, List, [], ◌∷◌, ◌++◌, length, take, Option, None, Some, Ok, IfSome, IsSome, is_some, refl, sym, ◌∙◌, ap, subst, arith, nat_eq, length-append, inl, inr}
+use Rattle.std.proofs.Common.{◌≡◌, ℕ, ◌+◌, ◌^◌, ◌<◌, ◌≤◌, Bool, true, false, List, [], ◌∷◌, ◌++◌, length, take, Option, None, Some, Ok, Err, IfSome, IsSome, is_some, refl, sym, ◌∙◌, ap, subst, arith, nat_eq, length-append, inl, inr}
 use Rattle.std.proofs.lemmas.List.{append-nil}
 use Rattle.std.proofs.lemmas.Bool.{ne_eqb}
 use Rattle.std.proofs.Math.Seq.{take-append_seam}
@@ -17,9 +17,11 @@ use Rattle.kr_store.specs.inner.KeptRows.{log_row_of, log_rows_of, IsKeptRow, Is
 use Rattle.kr_store.specs.File.{byte_kind, magic, row_bytes, rows_bytes, file_bytes, IsFile}
 use Rattle.kr_store.specs.inner.Log.{Tail, Tears, Extends}
 use Rattle.kr_store.specs.inner.Store.{IsStore, kept_of}
-use Rattle.kr_store.specs.inner.Writing.{lead}
+use Rattle.kr_store.specs.inner.Writing.{lead, Writes, put_refusal}
+use Rattle.kr_store.specs.declared.write.RowWriteNo.{RowWriteNo}
+use Rattle.kr_store.specs.declared.write.RowWriteNo.TheVariants.{Failed, NoMemory}
 use Rattle.kr_store.specs.inner.Index.{IsIndexOf, Stands, StandsAt, Adds, StaysAs, Same, SameBut, live_at, gone_at}
-use Rattle.kr_store.specs.Stores.{Kept, length_with, Wrote, Fails}
+use Rattle.kr_store.specs.Stores.{Kept, length_with, Wrote, Fails, Puts}
 use Rattle.kr_store.specs.declared.index.Index.{Index}
 use Rattle.kr_store.specs.declared.kept_row.RowKind.{RowKind}
 use Rattle.kr_store.specs.declared.kept_row.KeptRow.{KeptRow}
@@ -117,7 +119,7 @@ stays_deleted rows path before after s same i q = elim (bool_cases (bytes_eq pat
 ]
 
 -- whatever row was to be written, the index stands for the same rows
-pub stays : (format : Format) (rows : List LogRow) (path : List ℕ) (change : Change)
+stays : (format : Format) (rows : List LogRow) (path : List ℕ) (change : Change)
     (kind : RowKind) (before after : Index) → kind ≡ byte_kind change
     → MayChange format rows path change → StaysAs before after path kind
     → IsIndexOf rows before → IsIndexOf rows after
@@ -132,7 +134,7 @@ pub change_rules : (format : Format) (rows : List LogRow) (path : List ℕ) (cha
 change_rules format rows path (Put resource stored check) m = m
 change_rules format rows path Delete m = tt
 
-pub store_failed : (format : Format) (rows : List KeptRow) (before after : Index) (limit : ℕ)
+store_failed : (format : Format) (rows : List KeptRow) (before after : Index) (limit : ℕ)
     (log now : Tail) → IsStore format rows before limit log → Tears log now
     → IsIndexOf (log_rows_of rows) after → IsStore format rows after limit now
 store_failed format rows before after limit log now s x i = record {
@@ -217,7 +219,7 @@ full_at format rows index limit log s line e n i v ends size over =
     subst (λ (z : Kept). (z ≡ z) × (e + n ≡ length_with z line) × (z.limit < e + n)) v
     (refl, sized format rows index limit log line e n i ends size, over)
 
-pub fails_at : (format : Format) (rows : List KeptRow) (index : Index) (limit : ℕ)
+fails_at : (format : Format) (rows : List KeptRow) (index : Index) (limit : ℕ)
     (log now : Tail) (s : Kept) (line : LogRow) (e n : ℕ)
     → IsStore format rows index limit log → kept_of format rows limit log ≡ s → e ≡ log.end
     → n ≡ length (behind_end format e (length rows + 1) line) → e + n ≤ limit
@@ -270,7 +272,7 @@ pub live_seen : (format : Format) (rows : List KeptRow) (limit : ℕ) (log : Tai
 live_seen format rows limit log s index path k v i e =
     subst (λ (z : Kept). IsSome (live z.rows path)) v (was_live (log_rows_of rows) index path k i e)
 
-pub stays_memory : (format : Format) (rows : List KeptRow) (before after : Index) (limit : ℕ)
+stays_memory : (format : Format) (rows : List KeptRow) (before after : Index) (limit : ℕ)
     (log now : Tail) → IsStore format rows before limit log → now ≡ log
     → IsIndexOf (log_rows_of rows) after → IsStore format rows after limit now
 stays_memory format rows before after limit log now s e i =
@@ -284,3 +286,37 @@ stays_memory format rows before after limit log now s e i =
       small = s.small;
       told = s.told;
     })
+
+-- a row that wasn't written leaves the store as it was
+module _ (format : Format) (rows : List KeptRow) (before after : Index) (limit : ℕ)
+    (log now : Tail) (s : Kept) (path : List ℕ) (kind : RowKind) (k : ℕ) (bytes : List ℕ)
+    (store : IsStore format rows before limit log) (is : kept_of format rows limit log ≡ s)
+  where
+    pub not_written : (change : Change) (made : KeptRow) (why : RowWriteNo)
+        → kind ≡ byte_kind (log_row_of made).change
+        → log_row_of made ≡ record { path = path; change = change }
+        → MayChange s.format s.rows path change
+        → Writes {A = Unit {0}} log now before after k path kind bytes (Err why)
+        → IsStore format rows after limit now
+    not_written change made why kind_is made_is may = by why
+      where
+        indexed : StaysAs before after path kind → IsIndexOf (log_rows_of rows) after
+        indexed same = stays format (log_rows_of rows) path change kind before after
+            (kind_is ∙ ap (λ (row : LogRow). byte_kind row.change) made_is)
+            (subst (λ (s : Kept). MayChange s.format s.rows path change) (sym is) may) same
+            store.indexed
+
+        by : (why : RowWriteNo)
+            → Writes {A = Unit {0}} log now before after k path kind bytes (Err why)
+            → IsStore format rows after limit now
+        by Failed w = store_failed format rows before after limit log now store w.0 (indexed w.1)
+        by NoMemory w = stays_memory format rows before after limit log now store w.0 (indexed w.1)
+
+    pub put_not_written : (line : LogRow) (e n : ℕ) (why : RowWriteNo) → e ≡ log.end
+        → n ≡ length (behind_end format e (length rows + 1) line) → e + n ≤ limit
+        → Writes {A = Unit {0}} log now before after k path kind bytes (Err why)
+        → Puts s (kept_of format rows limit now) line (Err (put_refusal why))
+    put_not_written line e n Failed ends size fits w =
+        fails_at format rows before limit log now s line e n store is ends size fits w.0.1 w.0.2
+        w.2 w.3 w.4
+    put_not_written line e n NoMemory ends size fits w = ap (kept_of format rows limit) w.0 ∙ is

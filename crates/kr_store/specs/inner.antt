@@ -5,3 +5,4 @@ pub mod Index
 pub mod Log
 pub mod Store
 pub mod Writing
+pub mod Lending

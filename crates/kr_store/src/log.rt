@@ -113,11 +113,7 @@ impl<T: Tape> Log<T> {
         ensures told { T.told result ≡ self.told }
         ensures count { T.count result ≡ self.count }
     {
-        let Log {
-            tape,
-            end: _,
-            torn: _,
-        } = self;
+        let Log { tape, .. } = self;
         tape
     }
 }

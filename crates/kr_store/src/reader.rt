@@ -12,9 +12,8 @@ use crate::answers::{Cause, LoadStop, StoreNo};
 use crate::format::{Check, Format, MAGIC_LENGTH, STORE_NAME};
 use crate::kept_row::{KeptRow, RowKind};
 use crate::limits::{LONGEST_PATH, LONGEST_RESOURCE, LONGEST_VALUE};
-use crate::rows::Row;
 use crate::stored::Stored;
-use kr_base::{Bytes, Failed, NoMemory, Shared, Tape, Text, path_ok, resource_ok};
+use kr_base::{Bytes, Failed, NoMemory, Tape, Text, path_ok, resource_ok};
 use kr_paths::Path;
 use std::alloc::Global;
 use std::marker::Model;
@@ -142,14 +141,7 @@ impl<T: Tape> Reader<T> {
         ensures told { T.told result ≡ self.told }
         ensures count { T.count result ≡ self.count }
     {
-        let Reader {
-            tape,
-            place: _,
-            end: _,
-            ahead: _,
-            start: _,
-            filled: _,
-        } = self;
+        let Reader { tape, .. } = self;
         tape
     }
 
@@ -491,16 +483,9 @@ impl<T: Tape> Reader<T> {
                     Ok(put) => put,
                     Err(stop) => return Err(stop),
                 };
-                let row = Row {
-                    path,
-                    resource,
-                    revision,
-                    stored,
-                    check,
-                };
-                match Shared::new(alloc, row) {
-                    Ok(row) => Ok(KeptRow::Put(row)),
-                    Err(_) => Err(LoadStop::NoMemory),
+                match KeptRow::put(alloc, path, resource, revision, stored, check) {
+                    Ok(row) => Ok(row),
+                    Err(NoMemory) => Err(LoadStop::NoMemory),
                 }
             }
         }

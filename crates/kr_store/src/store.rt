@@ -21,7 +21,7 @@ use crate::log::Log;
 use crate::reader::Reader;
 use crate::rows::{Change, Row, RowRef};
 use crate::stored::Stored;
-use crate::write::{RowWriteNo, write_row};
+use crate::write::write_row;
 use kr_base::{Bytes, Failed, List, NoMemory, Shared, Tape, Text};
 use kr_paths::Path;
 use std::alloc::Global;
@@ -76,28 +76,15 @@ fn kept_row(alloc: Global, revision: u64, path: Path, change: Change) -> Result<
             resource,
             stored,
             check,
-        } => {
-            let row = Row {
-                path,
-                resource,
-                revision,
-                stored,
-                check,
-            };
-            match Shared::new(alloc, row) {
-                Ok(row) => Ok(KeptRow::Put(row)),
-                Err(_) => Err(NoMemory),
-            }
-        }
+        } => KeptRow::put(alloc, path, resource, revision, stored, check),
         Change::Delete => Ok(KeptRow::Delete(path)),
     }
 }
 
 /// The path, shared, and a copy of the resource of the row with this revision, a put.
 fn row_names(alloc: Global, rows: &[KeptRow], revision: u64) -> Result<(Path, Text), NoMemory>
-    requires first { 1 ≤ revision }
-    requires last { revision ≤ length rows.now }
-    requires put { (d : KeptRow) → IsSome (shared_row (get_or rows.now (revision - 1) d)) }
+    requires { (1 ≤ revision) × (revision ≤ length rows.now)
+        × ((d : KeptRow) → IsSome (shared_row (get_or rows.now (revision - 1) d))) }
     ensures { IfOk result (λ names. (d : KeptRow)
         → IfSome (shared_row (get_or rows.now (revision - 1) d))
         (λ row. (row.path ≡ names.0) × (row.resource ≡ names.1))) }
@@ -114,8 +101,7 @@ fn row_names(alloc: Global, rows: &[KeptRow], revision: u64) -> Result<(Path, Te
 
 /// Shares the row with this revision, if it is a put.
 fn share(rows: &[KeptRow], revision: u64) -> Result<Option<Shared<Row>>, NoMemory>
-    requires first { 1 ≤ revision }
-    requires last { revision ≤ length rows.now }
+    requires { (1 ≤ revision) × (revision ≤ length rows.now) }
     ensures { IfOk result (λ found. (d : KeptRow)
         → found ≡ shared_row (get_or rows.now (revision - 1) d)) }
 {
@@ -430,13 +416,9 @@ impl<T: Tape> Store<T> {
             bytes.as_slice(),
         ) {
             Ok(()) => {}
-            Err(RowWriteNo::Failed) => {
+            Err(why) => {
                 drop((bytes, row));
-                return Err(PutNo::Failed);
-            }
-            Err(RowWriteNo::NoMemory) => {
-                drop((bytes, row));
-                return Err(PutNo::NoMemory);
+                return Err(why.refusal());
             }
         }
         drop(bytes);
@@ -476,8 +458,7 @@ impl<T: Tape> Store<T> {
             return None;
         }
         match self.rows.as_slice().get(revision as usize - 1) {
-            Some(KeptRow::Put(row)) => Some(RowRef::Put(row.get())),
-            Some(KeptRow::Delete(path)) => Some(RowRef::Delete(path.as_str())),
+            Some(row) => Some(row.lend()),
             None => None,
         }
     }
@@ -531,14 +512,7 @@ impl<T: Tape> Store<T> {
         ensures count { T.count result ≡ self.count }
         ensures holds { Holds self }
     {
-        let Store {
-            alloc: _,
-            log,
-            limit: _,
-            format: _,
-            rows: _,
-            index: _,
-        } = self;
+        let Store { log, .. } = self;
         log.into_tape()
     }
 

@@ -1,7 +1,8 @@
 //! Writing one row.
 ghost use Rattle.std.specs.Prelude.{◌≡◌, ◌+◌, ◌^◌, ◌<◌, length};
-ghost use Rattle.kr_store.specs.inner.Writing.{Writes};
+ghost use Rattle.kr_store.specs.inner.Writing.{Writes, put_refusal};
 
+use crate::answers::PutNo;
 use crate::index::Index;
 use crate::kept_row::RowKind;
 use crate::log::Log;
@@ -15,7 +16,20 @@ pub(crate) enum RowWriteNo {
     NoMemory,
 }
 
-/// Appends the bytes of a row, and notes it. A delete is that of a live row.
+impl RowWriteNo {
+    /// What the store answers.
+    pub fn refusal(self) -> PutNo
+        ensures { result ≡ put_refusal self }
+    {
+        match self {
+            RowWriteNo::Failed => PutNo::Failed,
+            RowWriteNo::NoMemory => PutNo::NoMemory,
+        }
+    }
+}
+
+/// Appends the bytes of a row, and notes it. A delete is that of a live row. What the index needs
+/// is taken before the tape is touched.
 pub(crate) fn write_row<T: Tape>(
     log: &mut Log<T>,
     index: &mut Index,
@@ -31,71 +45,36 @@ pub(crate) fn write_row<T: Tape>(
         log.old log.new index.old index.new revision path.now kind bytes.now result }
 {
     match kind {
-        RowKind::Put => write_put(log, index, path, key, revision, bytes),
-        RowKind::Delete => write_delete(log, index, path, key, revision, bytes),
-    }
-}
-
-/// Appends the bytes of a put, and notes it. What the index needs is taken before the tape is
-/// touched.
-fn write_put<T: Tape>(
-    log: &mut Log<T>,
-    index: &mut Index,
-    path: &str,
-    key: Path,
-    revision: u64,
-    bytes: &[u8],
-) -> Result<(), RowWriteNo>
-    requires fits { log.old.end + length bytes.now < 2 ^ 64 }
-    requires key { key ≡ path.now }
-    ensures { Writes
-        log.old log.new index.old index.new revision path.now RowKind.Put bytes.now result }
-{
-    if index.live(path).is_some() {
-        match log.append(bytes) {
-            Ok(()) => {}
-            Err(Failed) => return Err(RowWriteNo::Failed),
+        RowKind::Put if index.live(path).is_some() => {
+            let Ok(()) = log.append(bytes) else {
+                return Err(RowWriteNo::Failed);
+            };
+            match index.set_live(key, revision) {
+                Ok(()) => Ok(()),
+                Err(NoMemory) => unreachable!(),
+            }
         }
-        match index.set_live(key, revision) {
-            Ok(()) => return Ok(()),
-            Err(NoMemory) => unreachable!(),
+        RowKind::Put => {
+            let Ok(()) = index.set_live(key, revision) else {
+                return Err(RowWriteNo::NoMemory);
+            };
+            match log.append(bytes) {
+                Ok(()) => Ok(()),
+                Err(Failed) => {
+                    index.unset_live(path);
+                    Err(RowWriteNo::Failed)
+                }
+            }
         }
-    }
-    match index.set_live(key, revision) {
-        Ok(()) => {}
-        Err(NoMemory) => return Err(RowWriteNo::NoMemory),
-    }
-    match log.append(bytes) {
-        Ok(()) => Ok(()),
-        Err(Failed) => {
+        RowKind::Delete => {
+            let Ok(()) = index.set_gone(key, revision) else {
+                return Err(RowWriteNo::NoMemory);
+            };
+            let Ok(()) = log.append(bytes) else {
+                return Err(RowWriteNo::Failed);
+            };
             index.unset_live(path);
-            Err(RowWriteNo::Failed)
+            Ok(())
         }
     }
-}
-
-/// Appends the bytes of a delete of a live row, and notes it.
-fn write_delete<T: Tape>(
-    log: &mut Log<T>,
-    index: &mut Index,
-    path: &str,
-    key: Path,
-    revision: u64,
-    bytes: &[u8],
-) -> Result<(), RowWriteNo>
-    requires fits { log.old.end + length bytes.now < 2 ^ 64 }
-    requires key { key ≡ path.now }
-    ensures { Writes
-        log.old log.new index.old index.new revision path.now RowKind.Delete bytes.now result }
-{
-    match index.set_gone(key, revision) {
-        Ok(()) => {}
-        Err(NoMemory) => return Err(RowWriteNo::NoMemory),
-    }
-    match log.append(bytes) {
-        Ok(()) => {}
-        Err(Failed) => return Err(RowWriteNo::Failed),
-    }
-    index.unset_live(path);
-    Ok(())
 }

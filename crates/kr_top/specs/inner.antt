@@ -1,2 +1,3 @@
 -- The definitions of inner contracts.
 pub mod Parts
+pub mod Team

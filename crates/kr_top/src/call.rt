@@ -1,35 +1,18 @@
 //! The call that does a command.
-ghost use Rattle.std.specs.Prelude.{◌≡◌, ◌≤◌, List, [], Some, None};
-ghost use Rattle.kr_kms.specs.Exchanges.{Exchange};
+ghost use Rattle.std.specs.Prelude.{◌≡◌, ◌≤◌, None};
 ghost use Rattle.kr_words.specs.Grammar.{texts};
-ghost use Rattle.kr_cmd_steps.specs.Around.{Around, IsUnheard, around, with_exchanges, with_world};
-ghost use Rattle.kr_cmd_steps.specs.Heard.{Heard};
-ghost use Rattle.kr_cmd_messages.specs.FleetAsked.{AskNoFleet};
-ghost use Rattle.kr_cmd_messages.specs.LoadAsked.{AskNoLoad};
-ghost use Rattle.kr_cmd_fleet.specs.Fleets.{RanAlone, RanFleet};
-ghost use Rattle.kr_cmd_gen.specs.GeneratedLoads.{RanLoad};
-ghost use Rattle.kr_cmd_watch.specs.Watchings.{RanWatch};
-ghost use Rattle.kr_cmd_steps.specs.Ran.{Answers};
-ghost use Rattle.kr_cmd_messages.specs.WatchAsked.{AsksWatch};
+ghost use Rattle.kr_cmd_steps.specs.Around.{around};
+ghost use Rattle.kr_cmd_fleet.specs.Fleets.{RanAlone, TellsFleet};
 ghost use Rattle.kr_cmd_messages.specs.Message.{line_of, status_of};
 ghost use Rattle.kr_cmd_messages.specs.Receipts.{Tells, receipt};
-ghost use Rattle.kr_cmd_messages.specs.declared.fleet_words.FleetWords.{FleetWords};
-ghost use Rattle.kr_cmd_messages.specs.declared.load_words.LoadWords.{LoadWords};
-ghost use Rattle.kr_cmd_messages.specs.declared.watch_words.WatchWords.{WatchWords};
 ghost use Rattle.kr_cmd_messages.specs.inner.Asking.{KeepsRules};
-ghost use Rattle.kr_cmd_steps.specs.inner.Reporting.{DoesAll, saying};
-ghost use Rattle.kr_cmd_laws.specs.VerifyLaws.{listening};
 ghost use Rattle.kr_top.specs.Asked.{AloneHearing};
 ghost use Rattle.kr_top.specs.Run.{Runs};
-ghost use Rattle.kr_top.specs.inner.Parts.{RunsAlone, RunsOther, RunsUnloaded};
+ghost use Rattle.kr_top.specs.inner.Parts.{AnswersHearing, Performs};
 
+use crate::team::{read_team, run_team};
 use kr_base::{Sink, Source};
-use kr_cmd_fleet::fleet::fleet;
-use kr_cmd_gen::load;
-use kr_cmd_messages::{
-    Command, Done, Ended, FleetWords, LoadWords, Outcome, Stop, WatchWords, read_command,
-    read_fleet, read_load, read_watch, tell,
-};
+use kr_cmd_messages::{Command, Done, Ended, Outcome, Stop, read_command, tell};
 use kr_cmd_rewrite::rewrite;
 use kr_cmd_steps::write_output;
 use kr_cmd_store::judge::judge;
@@ -38,8 +21,8 @@ use kr_cmd_values::check::check;
 use kr_cmd_values::convert::convert;
 use kr_cmd_values::inspect::inspect;
 use kr_cmd_values::plan;
-use kr_cmd_watch::watch;
 use kr_kms::World;
+use kr_workers::Ending;
 use std::alloc::Global;
 use std::sync::Wait;
 use std::thread::Threads;
@@ -72,119 +55,13 @@ pub fn run<R: Threads + Wait + Sync, W: World, I: Source, O: Sink, E: Sink>(
         (receipt (E.held errors.old) (E.held errors.new) (E.count errors.old) (E.count errors.new))
         result }
 {
-    match read_fleet(alloc, words) {
+    match read_team(alloc, words) {
         Ok(Some(asked)) => {
-            let status = run_fleet(rt, alloc, &asked, world, output, errors);
+            let ended = run_team(rt, alloc, &asked, world, output);
             drop(asked);
-            status
+            tell_ending(errors, ended)
         }
-        Ok(None) => run_other(rt, alloc, words, world, input, output, errors),
-        Err(stop) => tell_end(errors, Err(stop)),
-    }
-}
-
-/// The same for words that ask for no fleet.
-fn run_other<R: Threads + Wait + Sync, W: World, I: Source, O: Sink, E: Sink>(
-    rt: &R,
-    alloc: Global,
-    words: &[String],
-    world: &mut W,
-    input: &mut I,
-    output: &mut O,
-    errors: &mut E,
-) -> u8
-    ensures { RunsOther W.Tap W.Link.link W.Link.step W.lent W.took W.Rand.left
-        W.Rand.count
-        (texts words.now)
-        (around (W.told world.old) (I.left input.old) (I.count input.old))
-        (around (W.told world.new) (I.left input.new) (I.count input.new))
-        (receipt (O.held output.old) (O.held output.new) (O.count output.old) (O.count output.new))
-        (receipt (E.held errors.old) (E.held errors.new) (E.count errors.old) (E.count errors.new))
-        result }
-{
-    match read_load(alloc, words) {
-        Ok(Some(asked)) => {
-            let status = run_load(rt, alloc, &asked, world, output, errors);
-            drop(asked);
-            status
-        }
-        Ok(None) => run_unloaded(rt, alloc, words, world, input, output, errors),
-        Err(stop) => tell_end(errors, Err(stop)),
-    }
-}
-
-/// The same for words that ask for no load either.
-fn run_unloaded<R: Threads + Wait + Sync, W: World, I: Source, O: Sink, E: Sink>(
-    rt: &R,
-    alloc: Global,
-    words: &[String],
-    world: &mut W,
-    input: &mut I,
-    output: &mut O,
-    errors: &mut E,
-) -> u8
-    ensures { RunsUnloaded W.Tap W.Link.link W.Link.step W.lent W.took W.Rand.left
-        W.Rand.count
-        (texts words.now)
-        (around (W.told world.old) (I.left input.old) (I.count input.old))
-        (around (W.told world.new) (I.left input.new) (I.count input.new))
-        (receipt (O.held output.old) (O.held output.new) (O.count output.old) (O.count output.new))
-        (receipt (E.held errors.old) (E.held errors.new) (E.count errors.old) (E.count errors.new))
-        result }
-{
-    match read_watch(alloc, words) {
-        Ok(Some(asked)) => {
-            let status = run_watch(rt, alloc, words, &asked, world, output, errors);
-            drop(asked);
-            status
-        }
-        Ok(None) => alone(alloc, words, world, input, output, errors),
-        Err(stop) => tell_end(errors, Err(stop)),
-    }
-}
-
-/// Runs a watch, and tells how it ended where its replies don't.
-fn run_watch<R: Threads + Wait + Sync, W: World, O: Sink, E: Sink>(
-    rt: &R,
-    alloc: Global,
-    words: &[String],
-    asked: &WatchWords,
-    world: &mut W,
-    output: &mut O,
-    errors: &mut E,
-) -> u8
-    requires means { AsksWatch (texts words.now) asked.now }
-    ensures { (es : List Exchange) × ((a : Around)
-        → RanWatch W.Tap W.Link.link W.Link.step W.lent W.took W.Rand.left W.Rand.count asked.now
-        (with_world (W.told world.old) a) (with_world (W.told world.new) (with_exchanges es a))
-        (receipt (O.held output.old) (O.held output.new) (O.count output.old) (O.count output.new))
-        (receipt (E.held errors.old) (E.held errors.new) (E.count errors.old) (E.count errors.new))
-        result) }
-{
-    match watch(rt, alloc, asked, world, output) {
-        Ok(ending) => ending.status(),
-        Err(stop) => tell_end(errors, Err(stop)),
-    }
-}
-
-/// Runs a load, and tells how it ended where its replies don't.
-fn run_load<R: Threads + Wait + Sync, W: World, O: Sink, E: Sink>(
-    rt: &R,
-    alloc: Global,
-    asked: &LoadWords,
-    world: &mut W,
-    output: &mut O,
-    errors: &mut E,
-) -> u8
-    ensures { (a : Around) → IsUnheard a
-        → RanLoad W.Tap W.Link.link W.Link.step asked.now
-        (with_world (W.told world.old) a) (with_world (W.told world.new) a)
-        (receipt (O.held output.old) (O.held output.new) (O.count output.old) (O.count output.new))
-        (receipt (E.held errors.old) (E.held errors.new) (E.count errors.old) (E.count errors.new))
-        result }
-{
-    match load(rt, alloc, asked, world, output) {
-        Ok(ending) => ending.status(),
+        Ok(None) => tell_end(errors, answer(alloc, words, world, input, output)),
         Err(stop) => tell_end(errors, Err(stop)),
     }
 }
@@ -212,125 +89,14 @@ pub fn run_alone<W: World, I: Source, O: Sink, E: Sink>(
         (receipt (E.held errors.old) (E.held errors.new) (E.count errors.old) (E.count errors.new))
         result }
 {
-    match read_fleet(alloc, words) {
+    match read_team(alloc, words) {
         Ok(Some(asked)) => {
             drop(asked);
             None
         }
-        Ok(None) => other_alone(alloc, words, world, input, output, errors),
+        Ok(None) => Some(tell_end(errors, answer(alloc, words, world, input, output))),
         Err(stop) => Some(tell_end(errors, Err(stop))),
     }
-}
-
-/// The same for words that ask for no fleet.
-fn other_alone<W: World, I: Source, O: Sink, E: Sink>(
-    alloc: Global,
-    words: &[String],
-    world: &mut W,
-    input: &mut I,
-    output: &mut O,
-    errors: &mut E,
-) -> Option<u8>
-    requires { AskNoFleet (texts words.now) }
-    ensures ran { RanAlone (texts words.now)
-        (around (W.told world.old) (I.left input.old) (I.count input.old))
-        (around (W.told world.new) (I.left input.new) (I.count input.new))
-        (receipt (O.held output.old) (O.held output.new) (O.count output.old) (O.count output.new))
-        (receipt (E.held errors.old) (E.held errors.new) (E.count errors.old) (E.count errors.new))
-        result }
-    ensures asked { AloneHearing W.Link.link W.lent W.took W.Link.step (texts words.now)
-        (around (W.told world.old) (I.left input.old) (I.count input.old))
-        (around (W.told world.new) (I.left input.new) (I.count input.new))
-        (receipt (O.held output.old) (O.held output.new) (O.count output.old) (O.count output.new))
-        (receipt (E.held errors.old) (E.held errors.new) (E.count errors.old) (E.count errors.new))
-        result }
-{
-    match read_load(alloc, words) {
-        Ok(Some(asked)) => {
-            drop(asked);
-            None
-        }
-        Ok(None) => unloaded_alone(alloc, words, world, input, output, errors),
-        Err(stop) => Some(tell_end(errors, Err(stop))),
-    }
-}
-
-/// The same for words that ask for no load either.
-fn unloaded_alone<W: World, I: Source, O: Sink, E: Sink>(
-    alloc: Global,
-    words: &[String],
-    world: &mut W,
-    input: &mut I,
-    output: &mut O,
-    errors: &mut E,
-) -> Option<u8>
-    requires fleet { AskNoFleet (texts words.now) }
-    requires load { AskNoLoad (texts words.now) }
-    ensures ran { RanAlone (texts words.now)
-        (around (W.told world.old) (I.left input.old) (I.count input.old))
-        (around (W.told world.new) (I.left input.new) (I.count input.new))
-        (receipt (O.held output.old) (O.held output.new) (O.count output.old) (O.count output.new))
-        (receipt (E.held errors.old) (E.held errors.new) (E.count errors.old) (E.count errors.new))
-        result }
-    ensures asked { AloneHearing W.Link.link W.lent W.took W.Link.step (texts words.now)
-        (around (W.told world.old) (I.left input.old) (I.count input.old))
-        (around (W.told world.new) (I.left input.new) (I.count input.new))
-        (receipt (O.held output.old) (O.held output.new) (O.count output.old) (O.count output.new))
-        (receipt (E.held errors.old) (E.held errors.new) (E.count errors.old) (E.count errors.new))
-        result }
-{
-    match read_watch(alloc, words) {
-        Ok(Some(asked)) => {
-            drop(asked);
-            None
-        }
-        Ok(None) => Some(alone(alloc, words, world, input, output, errors)),
-        Err(stop) => Some(tell_end(errors, Err(stop))),
-    }
-}
-
-/// Runs a fleet, and tells how it ended where its replies don't.
-fn run_fleet<R: Threads + Wait + Sync, W: World, O: Sink, E: Sink>(
-    rt: &R,
-    alloc: Global,
-    asked: &FleetWords,
-    world: &mut W,
-    output: &mut O,
-    errors: &mut E,
-) -> u8
-    ensures { (es : List Exchange) × ((a : Around)
-        → RanFleet W.Tap W.Link.link W.Link.step W.lent W.took W.Rand.left W.Rand.count asked.now
-        (with_world (W.told world.old) a) (with_world (W.told world.new) (with_exchanges es a))
-        (receipt (O.held output.old) (O.held output.new) (O.count output.old) (O.count output.new))
-        (receipt (E.held errors.old) (E.held errors.new) (E.count errors.old) (E.count errors.new))
-        result) }
-{
-    match fleet(rt, alloc, asked, world, output) {
-        Ok(ending) => ending.status(),
-        Err(stop) => tell_end(errors, Err(stop)),
-    }
-}
-
-/// Does a command that no one waits in. Words that ask for a fleet, a watch or a load mean none
-/// here.
-fn alone<W: World, I: Source, O: Sink, E: Sink>(
-    alloc: Global,
-    words: &[String],
-    world: &mut W,
-    input: &mut I,
-    output: &mut O,
-    errors: &mut E,
-) -> u8
-    ensures { RunsAlone W.Link.link W.Link.step W.lent W.took
-        (texts words.now)
-        (around (W.told world.old) (I.left input.old) (I.count input.old))
-        (around (W.told world.new) (I.left input.new) (I.count input.new))
-        (receipt (O.held output.old) (O.held output.new) (O.count output.old) (O.count output.new))
-        (receipt (E.held errors.old) (E.held errors.new) (E.count errors.old) (E.count errors.new))
-        result }
-{
-    let answer = answer(alloc, words, world, input, output);
-    tell_end(errors, answer)
 }
 
 /// Does the command that the words mean, and writes what it made.
@@ -341,18 +107,11 @@ fn answer<W: World, I: Source, O: Sink>(
     input: &mut I,
     output: &mut O,
 ) -> Result<Done, Stop>
-    ensures answers { Answers (texts words.now)
+    ensures answers { AnswersHearing W.Link.link W.Link.step W.lent W.took (texts words.now)
         (around (W.told world.old) (I.left input.old) (I.count input.old))
         (around (W.told world.new) (I.left input.new) (I.count input.new))
         (receipt (O.held output.old) (O.held output.new) (O.count output.old) (O.count output.new))
         result }
-    ensures asked { Heard W.Link.link W.lent W.took W.Link.step 0
-        (W.told world.old) (W.told world.new) [] [] (λ es. Answers (texts words.now)
-        (listening (around (W.told world.old) (I.left input.old) (I.count input.old)))
-        (with_exchanges es (listening
-        (around (W.told world.new) (I.left input.new) (I.count input.new))))
-        (receipt (O.held output.old) (O.held output.new) (O.count output.old) (O.count output.new))
-        result) }
     ensures later { O.count output.old ≤ O.count output.new }
 {
     let command = match read_command(alloc, words) {
@@ -372,17 +131,10 @@ fn perform<W: World, I: Source>(
     input: &mut I,
 ) -> Ended
     requires path { KeepsRules (Some command.now) }
-    ensures does { DoesAll command.now
+    ensures { Performs W.Link.link W.Link.step W.lent W.took command.now
         (around (W.told world.old) (I.left input.old) (I.count input.old))
-        (saying result.said
-        (around (W.told world.new) (I.left input.new) (I.count input.new)))
-        result.made }
-    ensures asked { Heard W.Link.link W.lent W.took W.Link.step 0
-        (W.told world.old) (W.told world.new) [] [] (λ es. DoesAll command.now
-        (listening (around (W.told world.old) (I.left input.old) (I.count input.old)))
-        (saying result.said (with_exchanges es (listening
-        (around (W.told world.new) (I.left input.new) (I.count input.new)))))
-        result.made) }
+        (around (W.told world.new) (I.left input.new) (I.count input.new))
+        result }
 {
     match command {
         Command::Convert(words) => silent(convert(alloc, words, world, input)),
@@ -406,6 +158,19 @@ fn silent(made: Result<Outcome, Stop>) -> Ended
     ensures { result ≡ record { made = made; said = None } }
 {
     Ended { made, said: None }
+}
+
+/// Tells how workers ended, which their status says, or the line of what stopped them.
+fn tell_ending<E: Sink>(errors: &mut E, ended: Result<Ending, Stop>) -> u8
+    ensures told { TellsFleet ended
+        (receipt (E.held errors.old) (E.held errors.new) (E.count errors.old) (E.count errors.new))
+        result }
+    ensures later { E.count errors.old ≤ E.count errors.new }
+{
+    match ended {
+        Ok(ending) => ending.status(),
+        Err(stop) => tell_end(errors, Err(stop)),
+    }
 }
 
 /// Tells how a call ended, and lets that go.

@@ -2,6 +2,7 @@
 #![tactic(auto)]
 
 mod call;
+mod team;
 
 pub use call::{run, run_alone};
 pub use kr_kms::{FileNo, MemWorld, World};

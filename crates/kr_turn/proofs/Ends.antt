@@ -16,9 +16,9 @@ use Rattle.kr_turn.specs.inner.Rule.{SpeaksFor, IsSeat, Knows, Has, IsOut, Keeps
 use Rattle.kr_turn.specs.inner.Rule.{gone_view}
 use Rattle.kr_turn.specs.inner.Steps.{joined_view, part_of}
 use Rattle.kr_turn.specs.inner.Endings.{Covers, Ending}
-use Rattle.kr_turn.proofs.Orders.{lefts_set, put, put_here, put_else}
-use Rattle.kr_turn.proofs.Stays.{stays, each_set, same_view, slot_set}
-use Rattle.kr_turn.proofs.Keeps.{known}
+use Rattle.kr_turn.proofs.Orders.{Table, lefts_set, put, put_here, put_else}
+use Rattle.kr_turn.proofs.Stays.{stays, each_set, not_out, slot_set}
+use Rattle.kr_turn.proofs.Keeps.{known, regrouped}
 
 at_cons : {A : Type 0} (x : A) (xs : List A) (i : ℕ) (a : A) → get_elem? (x ∷ xs) i ≡ some a
     → ((k : ℕ) × (get_elem? xs k ≡ some a)) ⊎ (x ≡ a)
@@ -27,10 +27,7 @@ at_cons x xs (suc i) a e = inl (i, e)
 
 module _ {S L G : Type 0} (lines : S → List L) (basis : S → G) (room : S → ℕ) (seat_of : L → ℕ)
     (terms : Terms G) where
-  abbrev St : Type 0
-  St = State (Option S) (View L G)
-
-  abbrev Rule : St → Type 0
+  abbrev Rule : Table S L G → Type 0
   Rule = KeepsRule lines basis room seat_of terms
 
   pub joins : (id : ℕ) (v : View L G) (other : ℕ) (w : View L G) → v.stage ≡ Idle → w.stage ≡ Idle
@@ -98,28 +95,14 @@ module _ {S L G : Type 0} (lines : S → List L) (basis : S → G) (room : S →
       } u u.stage k in
       let v_out : IsOut v.stage → ⊥ = λ out. subst (λ (z : Stage L). IsOut z) v_rests out in
       let w_out : IsOut w.stage → ⊥ = λ out. subst (λ (z : Stage L). IsOut z) w_rests out in
-      record {
-        log = r.log;
-        tickets = r.tickets;
-        made = r.made;
-        owner = owner;
-        holder = r.holder;
-        content = r.content;
-        words_are = r.words_are;
-        homes_are = r.homes_are;
-        left_is = omega arith;
-        small = r.small;
-        roomy = r.roomy;
-        behind = r.behind;
-        few = r.few;
-        unmade = r.unmade;
-        slot = slot_set lines basis room terms r.log r.made vs other w gone_view there w_out
-            r.content (slot_set lines basis room terms r.log r.made s.views id v both at v_out
-            r.content r.slot);
-        each = each_set (λ j u. j ≢ other → K' j u) K' vs other gone_view
-            (each_set K (λ j u. j ≢ other → K' j u) s.views id both r.each (λ far. mine) others) tt
-            (λ j u far k. k far);
-      }
+      regrouped lines basis room seat_of terms s r (set vs other gone_view) r.made owner
+      (omega arith) (omega arith) r.few
+      (slot_set lines basis room terms r.log r.made vs other w gone_view there w_out
+      r.content (slot_set lines basis room terms r.log r.made s.views id v both at v_out
+      r.content r.slot))
+      (each_set (λ j u. j ≢ other → K' j u) K' vs other gone_view
+      (each_set K (λ j u. j ≢ other → K' j u) s.views id both r.each (λ far. mine) others) tt
+      (λ j u far k. k far))
 
   stands_of : (log : List L) (made : ℕ) (owner : ℕ → ℕ) (index number : ℕ) (seen mine : List L)
       (y : S) → lines y ≡ log → SpeaksFor seat_of terms log made owner index number seen mine
@@ -132,14 +115,14 @@ module _ {S L G : Type 0} (lines : S → List L) (basis : S → G) (room : S →
       }
 
   -- the view that answers for a seat, where one view answers for all
-  one_owner : (s : St) (r : Rule s) (id : ℕ) (v : View L G)
+  one_owner : (s : Table S L G) (r : Rule s) (id : ℕ) (v : View L G)
       → IsSeat seat_of terms r.log r.made r.owner id v → Covers terms v → (number : ℕ)
       → number < r.made → r.owner number ≡ id
   one_owner s r id v seat all number low = let few = r.few in
       ⊎_elim (λ e. ap r.owner (sym e) ∙ seat.itself.owned)
       (λ h. ap r.owner (sym h.3) ∙ (seat.ended h.0 h.1 h.2).owned) (all number (omega arith))
 
-  nobody_out : (s : St) (r : Rule s) (id : ℕ) (v : View L G) → get_elem? s.views id ≡ some v
+  nobody_out : (s : Table S L G) (r : Rule s) (id : ℕ) (v : View L G) → get_elem? s.views id ≡ some v
       → v.stage ≡ Idle → Covers terms v → (k : ℕ) (u : View L G) → get_elem? s.views k ≡ some u
       → (stage : Stage L) → u.stage ≡ stage → IsOut stage → k ≡ id
   nobody_out s r id v at rests all k u at_u Filling is out = let none_made =
@@ -152,7 +135,7 @@ module _ {S L G : Type 0} (lines : S → List L) (basis : S → G) (room : S →
       (known lines basis room seat_of terms s r id v at Idle rests) all u.number own.known
   nobody_out s r id v at rests all k u at_u other is out = absurd out
 
-  ends_at : (xs : List (Option S)) (s : St) (r : Rule s) (id : ℕ) (v : View L G)
+  ends_at : (xs : List (Option S)) (s : Table S L G) (r : Rule s) (id : ℕ) (v : View L G)
       → get_elem? s.views id ≡ some v → v.stage ≡ Idle → Covers terms v
       → ((k : ℕ) (y : Option S) → get_elem? s.homes k ≡ some (some y) → get_elem? xs k ≡ some y)
       → (content : Maybe (Option S)) → s.homes ≡ content ∷ []
@@ -164,9 +147,8 @@ module _ {S L G : Type 0} (lines : S → List L) (basis : S → G) (room : S →
   ends_at xs s r id v at rests all homes none is has =
       let same : has.0 ≡ id = nobody_out s r id v at rests all has.0 has.1 has.2 has.1.stage refl
       has.3 in
-      absurd (subst (λ (z : Stage L). IsOut z) rests
-      (subst (λ (u : View L G). IsOut u.stage)
-      (same_view s.views id has.0 v has.1 at has.2 (sym same)) has.3))
+      absurd (not_out s.views id has.0 v has.1 at has.2
+      (λ out. subst (λ (z : Stage L). IsOut z) rests out) has.3 (sym same))
   ends_at xs s r id v at rests all homes (some (Some y)) is has =
       let seat = known lines basis room seat_of terms s r id v at Idle rests in
       let few = r.few in (

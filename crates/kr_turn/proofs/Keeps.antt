@@ -22,18 +22,26 @@ use Rattle.kr_turn.specs.inner.Rule.{IsSeat, Knows, Has, IsOut, KeepsRule, lefts
 use Rattle.kr_turn.specs.inner.Steps.{SeatState, waiting_view, holding_view, served_to, view_after}
 use Rattle.kr_turn.specs.inner.Steps.{carried_lines, Draws, Looks, Passes, IsTurned}
 use Rattle.kr_turn.proofs.Orders.{prefix_more, prefix_whole, drop_own, of_seat_own, of_seat_other}
-use Rattle.kr_turn.proofs.Orders.{lefts_set, in_range, put, put_here, put_else}
-use Rattle.kr_turn.proofs.Stays.{stays, each_set, same_view, slot_set}
+use Rattle.kr_turn.proofs.Orders.{Table, lefts_set, in_range, put, put_here, put_else}
+use Rattle.kr_turn.proofs.Stays.{stays, each_set, not_out, slot_set}
 
 module _ {S L G : Type 0} (lines : S → List L) (basis : S → G) (room : S → ℕ) (seat_of : L → ℕ)
     (terms : Terms G) where
-  abbrev St : Type 0
-  St = State (Option S) (View L G)
-
-  abbrev Rule : St → Type 0
+  abbrev Rule : Table S L G → Type 0
   Rule = KeepsRule lines basis room seat_of terms
 
-  pub known : (s : St) (r : Rule s) (id : ℕ) (v : View L G) → get_elem? s.views id ≡ some v
+  -- whatever it waits for, it is the same seat
+  reseated : {log : List L} {made : ℕ} {owner : ℕ → ℕ} {id : ℕ} (v : View L G) (stage : Stage L)
+      (left : ℕ) → IsSeat seat_of terms log made owner id v
+      → IsSeat seat_of terms log made owner id (record v { stage = stage; left = left })
+  reseated v stage left seat = record {
+    terms_are = seat.terms_are;
+    itself = seat.itself;
+    ended = seat.ended;
+    makes = seat.makes;
+  }
+
+  pub known : (s : Table S L G) (r : Rule s) (id : ℕ) (v : View L G) → get_elem? s.views id ≡ some v
       → (stage : Stage L) → v.stage ≡ stage
       → Knows seat_of terms r.log r.made r.owner r.tickets r.holder id v stage
   known s r id v at stage is =
@@ -41,12 +49,69 @@ module _ {S L G : Type 0} (lines : S → List L) (basis : S → G) (room : S →
       (r.each id v at)
 
   -- where there is a seat, a view that has the slot in hand holds the ticket that is served
-  pub out_alone : (s : St) (r : Rule s) (k : ℕ) (u : View L G) → get_elem? s.views k ≡ some u
+  pub out_alone : (s : Table S L G) (r : Rule s) (k : ℕ) (u : View L G) → get_elem? s.views k ≡ some u
       → 0 < r.made → (stage : Stage L) → u.stage ≡ stage → IsOut stage → r.holder (length r.log) ≡ k
   out_alone s r k u at begun Filling is out = let none_made =
       (known s r k u at Filling is).none_made in absurd (omega arith)
   out_alone s r k u at begun (Holding served) is out = (known s r k u at (Holding served) is).2
   out_alone s r k u at begun other is out = absurd out
+
+  -- the slot goes out to a view that has as many turns left
+  pub taken_out : (s : Table S L G) (r : Rule s) (id word : ℕ) (own : List (ℕ × Option S))
+      (v w : View L G) (x : Option S) → get_elem? s.views id ≡ some v → w.left ≡ v.left
+      → IsOut w.stage → s.homes ≡ some x ∷ []
+      → Knows seat_of terms r.log r.made r.owner r.tickets r.holder id w w.stage
+      → Rule (stepped s word (slice_index s.words word) id own w (takes 0 x))
+  taken_out s r id word own v w x at as_many out homes knows =
+      let moved : lefts (set s.views id w) + v.left ≡ lefts s.views + w.left =
+      lefts_set s.views id v w at in
+      let all_left = r.left_is in
+      let K : ℕ → View L G → Type 0 =
+      λ j u. Knows seat_of terms r.log r.made r.owner r.tickets r.holder j u u.stage in
+      record {
+        log = r.log;
+        tickets = r.tickets;
+        made = r.made;
+        owner = r.owner;
+        holder = r.holder;
+        content = none;
+        words_are = set-get_or s.words word 0 ∙ r.words_are;
+        homes_are = ap (λ (hs : List (Maybe (Option S))). slice_set hs 0 none) homes;
+        left_is = omega arith;
+        small = r.small;
+        roomy = r.roomy;
+        behind = r.behind;
+        few = r.few;
+        unmade = r.unmade;
+        slot = (id, w, set_here s.views id w (in_range s.views id v at), out);
+        each = each_set K K s.views id w r.each knows (λ j u other x. x);
+      }
+
+  -- the views change and the seats that are made, and neither words nor the slot
+  pub regrouped : (s : Table S L G) (r : Rule s) (views : List (View L G)) (made : ℕ)
+      (owner : ℕ → ℕ) → r.tickets + lefts views ≡ sum (take made terms.budgets) → r.made ≤ made
+      → made ≤ length terms.budgets → Has lines basis room terms r.log made views r.content
+      → ((j : ℕ) (u : View L G) → get_elem? views j ≡ some u
+      → Knows seat_of terms r.log made owner r.tickets r.holder j u u.stage)
+      → Rule record { words = s.words; homes = s.homes; views = views }
+  regrouped s r views made owner left_is more few slot each = record {
+    log = r.log;
+    tickets = r.tickets;
+    made = made;
+    owner = owner;
+    holder = r.holder;
+    content = r.content;
+    words_are = r.words_are;
+    homes_are = r.homes_are;
+    left_is = left_is;
+    small = r.small;
+    roomy = r.roomy;
+    behind = r.behind;
+    few = few;
+    unmade = λ number h. r.unmade number (omega arith);
+    slot = slot;
+    each = each;
+  }
 
   pub draws : (slots id : ℕ) (m : SeatState S L G) → m.0.stage ≡ Idle → m.0.ended ≡ []
       → 0 < m.0.left → Allows Rule slots id m 0 (λ n. (n + 1) % 2 ^ 64)
@@ -93,13 +158,7 @@ module _ {S L G : Type 0} (lines : S → List L) (basis : S → G) (room : S →
           each = each_set (λ j u. Knows seat_of terms r.log r.made r.owner t r.holder j u u.stage)
               (λ j u. Knows seat_of terms r.log r.made r.owner (t + 1) (put r.holder t id) j u
               u.stage) s.views id w r.each (
-                record {
-                  terms_are = seat.terms_are;
-                  itself = seat.itself;
-                  ended =
-                      seat.ended;
-                  makes = seat.makes;
-                },
+                reseated v (Waiting n) (v.left - 1) seat,
                 none_ended,
                 put_here r.holder t id n n_is,
                 omega arith,
@@ -128,7 +187,7 @@ module _ {S L G : Type 0} (lines : S → List L) (basis : S → G) (room : S →
       )
 
   -- the state that the slot has goes to the seat that is served
-  serves : (slots : ℕ) (s : St) (r : Rule s) (id : ℕ) (m : SeatState S L G) (ticket : ℕ)
+  serves : (slots : ℕ) (s : Table S L G) (r : Rule s) (id : ℕ) (m : SeatState S L G) (ticket : ℕ)
       → get_elem? s.views id ≡ some m.0 → m.0.stage ≡ Waiting ticket → m.1 ≡ []
       → slice_index s.words 1 ≡ ticket
       → (content : Maybe (Option S)) → s.homes ≡ content ∷ []
@@ -147,9 +206,8 @@ module _ {S L G : Type 0} (lines : S → List L) (basis : S → G) (room : S →
       let alone : r.holder (length r.log) ≡ has.0 =
       out_alone s r has.0 has.1 has.2 begun has.1.stage refl has.3 in
       let same : id ≡ has.0 = sym k.2 ∙ (ap r.holder (sym here ∙ n_is) ∙ alone) in
-      absurd (subst (λ (z : Stage L). IsOut z) waits
-      (subst (λ (u : View L G). IsOut u.stage)
-      (same_view s.views id has.0 m.0 has.1 at has.2 same) has.3))
+      absurd (not_out s.views id has.0 m.0 has.1 at has.2
+      (λ out. subst (λ (z : Stage L). IsOut z) waits out) has.3 same)
   serves slots s r id m ticket at waits bare here (some (Some y)) homes has =
       let v : View L G = m.0 in
       let k = known s r id v at (Waiting ticket) waits in
@@ -160,8 +218,6 @@ module _ {S L G : Type 0} (lines : S → List L) (basis : S → G) (room : S →
       ap (λ (ws : List ℕ). slice_index ws 1) r.words_are in
       let count : length r.log ≡ ticket = sym n_is ∙ here in
       let w : View L G = holding_view v (lines y) in
-      let moved : lefts (set s.views id w) + v.left ≡ lefts s.views + v.left =
-      lefts_set s.views id v w at in
       let part : sum (take r.made terms.budgets) ≤ sum terms.budgets =
       sum_by-take-le (λ x. x) terms.budgets r.made in
       let all_left = r.left_is in
@@ -172,40 +228,13 @@ module _ {S L G : Type 0} (lines : S → List L) (basis : S → G) (room : S →
         w,
         takes 0 (Some y),
         ap (λ (hs : List (Maybe (Option S))). get_elem? hs 0) homes,
-        record {
-          log = r.log;
-          tickets = r.tickets;
-          made = r.made;
-          owner = r.owner;
-          holder = r.holder;
-          content = none;
-          words_are = set-get_or s.words 1 0 ∙ r.words_are;
-          homes_are = ap (λ (hs : List (Maybe (Option S))). slice_set hs 0 none) homes;
-          left_is = omega arith;
-          small = r.small;
-          roomy = r.roomy;
-          behind = r.behind;
-          few = r.few;
-          unmade = r.unmade;
-          slot = (id, w, set_here s.views id w (in_range s.views id v at), tt);
-          each = each_set (λ j u. Knows seat_of terms r.log r.made r.owner r.tickets r.holder j u
-              u.stage) (λ j u. Knows seat_of terms r.log r.made r.owner r.tickets r.holder j u
-              u.stage) s.views id w r.each (
-                record {
-                  terms_are = seat.terms_are;
-                  itself = seat.itself;
-                  ended =
-                      seat.ended;
-                  makes = seat.makes;
-                },
-                k.1,
-                ap r.holder count
-                    ∙ k.2,
-                omega arith,
-                lines_is,
-              )
-              (λ j u other x. x);
-        },
+        taken_out s r id 1 m.1 v w (Some y) at refl tt homes (
+          reseated v (Holding (lines y)) v.left seat,
+          k.1,
+          ap r.holder count ∙ k.2,
+          omega arith,
+          lines_is,
+        ),
         λ t waits_t. let same : t ≡ ticket = cc in (
           (λ _. record {
             state = y;
@@ -226,7 +255,7 @@ module _ {S L G : Type 0} (lines : S → List L) (basis : S → G) (room : S →
       )
 
   -- a look at another ticket changes nothing
-  unchanged : (s : St) (r : Rule s) (id : ℕ) (m : SeatState S L G) → get_elem? s.views id ≡ some m.0
+  unchanged : (s : Table S L G) (r : Rule s) (id : ℕ) (m : SeatState S L G) → get_elem? s.views id ≡ some m.0
       → Rule (stepped s 1 (slice_index s.words 1) id m.1 m.0 keeps)
   unchanged s r id m at = subst
       (λ (x : List ℕ × List (View L G)). Rule record { words = x.0; homes = s.homes; views = x.1 })

@@ -21,9 +21,9 @@ use Rattle.kr_turn.specs.inner.Rule.{idle_view}
 use Rattle.kr_turn.specs.Keys.{seat_budget}
 use Rattle.kr_turn.specs.inner.Steps.{SeatState, filling_view, opening_view, next_of, new_of}
 use Rattle.kr_turn.specs.inner.Steps.{Empties, Fills}
-use Rattle.kr_turn.proofs.Orders.{lefts_set, lefts_more, in_range, put, put_here, put_else}
-use Rattle.kr_turn.proofs.Stays.{stays, each_set, same_view, slot_set}
-use Rattle.kr_turn.proofs.Keeps.{known}
+use Rattle.kr_turn.proofs.Orders.{Table, lefts_set, lefts_more, in_range, put, put_here, put_else}
+use Rattle.kr_turn.proofs.Stays.{stays, each_set, not_out, slot_set}
+use Rattle.kr_turn.proofs.Keeps.{known, regrouped, taken_out}
 
 -- the last of a list stands at its end
 at_end : {A : Type 0} (l : List A) (a b : A) (j : ℕ) → get_elem? (l ++ a ∷ []) j ≡ some b
@@ -35,10 +35,7 @@ at_end (x ∷ xs) a b (suc j) e = ⊎_elim (λ h. inl h) (λ h. inr (ap suc h.0,
 
 module _ {S L G : Type 0} (lines : S → List L) (basis : S → G) (room : S → ℕ) (seat_of : L → ℕ)
     (terms : Terms G) where
-  abbrev St : Type 0
-  St = State (Option S) (View L G)
-
-  abbrev Rule : St → Type 0
+  abbrev Rule : Table S L G → Type 0
   Rule = KeepsRule lines basis room seat_of terms
 
   begins_each : (j : ℕ) (u : View L G) → get_elem? (blank_view terms ∷ []) j ≡ some u
@@ -71,7 +68,7 @@ module _ {S L G : Type 0} (lines : S → List L) (basis : S → G) (room : S →
   }
 
   -- where there is no seat yet, the slot is in hand at the first view alone
-  out_first : (s : St) (r : Rule s) (k : ℕ) (u : View L G) → get_elem? s.views k ≡ some u
+  out_first : (s : Table S L G) (r : Rule s) (k : ℕ) (u : View L G) → get_elem? s.views k ≡ some u
       → r.made ≡ 0 → (stage : Stage L) → u.stage ≡ stage → IsOut stage → k ≡ 0
   out_first s r k u at none_made Filling is out =
       (known lines basis room seat_of terms s r k u at Filling is).first
@@ -80,7 +77,7 @@ module _ {S L G : Type 0} (lines : S → List L) (basis : S → G) (room : S →
       absurd (omega arith)
   out_first s r k u at none_made other is out = absurd out
 
-  empties_at : (slots : ℕ) (s : St) (r : Rule s) (id : ℕ) (m : SeatState S L G)
+  empties_at : (slots : ℕ) (s : Table S L G) (r : Rule s) (id : ℕ) (m : SeatState S L G)
       → get_elem? s.views id ≡ some m.0 → m.0.stage ≡ Blank → m.1 ≡ []
       → (content : Maybe (Option S)) → s.homes ≡ content ∷ []
       → Has lines basis room terms r.log r.made s.views content
@@ -93,41 +90,17 @@ module _ {S L G : Type 0} (lines : S → List L) (basis : S → G) (room : S →
   empties_at slots s r id m at is bare none homes has =
       let k = known lines basis room seat_of terms s r id m.0 at Blank is in
       let there : has.0 ≡ 0 = out_first s r has.0 has.1 has.2 k.none_made has.1.stage refl has.3 in
-      absurd (subst (λ (z : Stage L). IsOut z) is
-      (subst (λ (u : View L G). IsOut u.stage)
-      (same_view s.views id has.0 m.0 has.1 at has.2 (k.first ∙ sym there)) has.3))
+      absurd (not_out s.views id has.0 m.0 has.1 at has.2
+      (λ out. subst (λ (z : Stage L). IsOut z) is out) has.3 (k.first ∙ sym there))
   empties_at slots s r id m at is bare (some None) homes has =
       let v : View L G = m.0 in
       let k = known lines basis room seat_of terms s r id v at Blank is in
-      let w : View L G = filling_view v in
-      let moved : lefts (set s.views id w) + v.left ≡ lefts s.views + v.left =
-      lefts_set s.views id v w at in
-      let all_left = r.left_is in (
+      let w : View L G = filling_view v in (
         w,
         takes 0 None,
         ap (λ (hs : List (Maybe (Option S))). get_elem? hs 0) homes,
-        record {
-          log = r.log;
-          tickets = r.tickets;
-          made = r.made;
-          owner = r.owner;
-          holder = r.holder;
-          content = none;
-          words_are = set-get_or s.words 0 0 ∙ r.words_are;
-          homes_are = ap (λ (hs : List (Maybe (Option S))). slice_set hs 0 none) homes;
-          left_is = omega arith;
-          small = r.small;
-          roomy = r.roomy;
-          behind = r.behind;
-          few = r.few;
-          unmade = r.unmade;
-          slot = (id, w, set_here s.views id w (in_range s.views id v at), tt);
-          each = each_set (λ j u. Knows seat_of terms r.log r.made r.owner r.tickets r.holder j u
-              u.stage) (λ j u. Knows seat_of terms r.log r.made r.owner r.tickets r.holder j u
-              u.stage) s.views id w r.each
-              record { first = k.first; none_made = k.none_made; no_line = k.no_line }
-              (λ j u other x. x);
-        },
+        taken_out lines basis room seat_of terms s r id 0 m.1 v w None at refl tt homes
+            record { first = k.first; none_made = k.none_made; no_line = k.no_line },
         ap (λ (cs : List (ℕ × Option S)). let z : SeatState S L G = (w, (0, None) ∷ cs) in z) bare,
       )
 
@@ -300,25 +273,11 @@ module _ {S L G : Type 0} (lines : S → List L) (basis : S → G) (room : S →
         waits = λ ticket h a b. (h, a, b);
         holds = λ h b. (h, b, refl);
       } u u.stage k in
-      record {
-        log = r.log;
-        tickets = r.tickets;
-        made = r.made + 1;
-        owner = owner;
-        holder = r.holder;
-        content = r.content;
-        words_are = r.words_are;
-        homes_are = r.homes_are;
-        left_is = omega arith;
-        small = r.small;
-        roomy = r.roomy;
-        behind = r.behind;
-        few = omega arith;
-        unmade = λ m h. r.unmade m (omega arith);
-        slot = slot_split r.log r.made (r.made + 1) s.views id v w n at (λ out. out) (omega arith)
-            (omega arith) r.content r.slot;
-        each = λ j u e. ⊎_elim (λ h. each_set K K' s.views id w r.each the_maker others j u h)
-            (λ h. subst (λ (x : ℕ × View L G). K' x.0 x.1)
-            (λ i. (sym (h.0 ∙ length-set s.views id w) i, h.1 i)) the_new)
-            (at_end (set s.views id w) n u j e);
-      }
+      regrouped lines basis room seat_of terms s r (set s.views id w ++ n ∷ []) (r.made + 1) owner
+      (omega arith) (omega arith) (omega arith)
+      (slot_split r.log r.made (r.made + 1) s.views id v w n at (λ out. out) (omega arith)
+      (omega arith) r.content r.slot)
+      (λ j u e. ⊎_elim (λ h. each_set K K' s.views id w r.each the_maker others j u h)
+      (λ h. subst (λ (x : ℕ × View L G). K' x.0 x.1)
+      (λ i. (sym (h.0 ∙ length-set s.views id w) i, h.1 i)) the_new)
+      (at_end (set s.views id w) n u j e))

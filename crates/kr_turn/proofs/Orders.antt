@@ -1,15 +1,20 @@
 -- Lines of seats, beginnings of histories, and what is left over all seats.
 use Rattle.std.proofs.Common.{◌≡◌, ℕ, zero, suc, ◌+◌, ◌<◌, ◌≢◌, cond, eqb, List, [], ◌∷◌, ◌++◌}
 use Rattle.std.proofs.Common.{length, drop, set, sym, refl, ap, ◌∙◌, arith, append_assoc}
-use Rattle.std.proofs.Common.{append-nil, eq-eqb, ne_eqb, length-append}
+use Rattle.std.proofs.Common.{append-nil, eq-eqb, ne_eqb, length-append, Option}
 use mathlib.Core.Option.{some, some-injective, some-ne-none}
 use mathlib.Core.List.{IsPrefix}
 use lib.ListN.{get_elem?}
 use Rattle.std.proofs.lemmas.List.Elements.{filter-append}
 use Rattle.std.proofs.Math.Seq.{drop-append_seam}
+use Rattle.atomic_table.specs.Table.{State}
 use Rattle.kr_turn.specs.declared.view.View.{View}
 use Rattle.kr_base.specs.Lines.{of_seat}
 use Rattle.kr_turn.specs.inner.Rule.{lefts}
+
+-- the table of a lock
+abbrev pub Table : Type 0 → Type 0 → Type 0 → Type 0
+Table S L G = State (Option S) (View L G)
 
 pub in_range : {A : Type 0} (l : List A) (i : ℕ) (a : A) → get_elem? l i ≡ some a → i < length l
 in_range [] i a e = absurd (some-ne-none a (sym e))

@@ -68,6 +68,12 @@ module _ {L G : Type 0} where
   same_view vs i j v u at there e =
       some-injective u v (sym there ∙ (ap (get_elem? vs) (sym e) ∙ at))
 
+  -- a view that hasn't the slot in hand isn't where one is that has
+  pub not_out : (vs : List (View L G)) (i j : ℕ) (v u : View L G) → get_elem? vs i ≡ some v
+      → get_elem? vs j ≡ some u → (IsOut v.stage → ⊥) → IsOut u.stage → i ≢ j
+  not_out vs i j v u at there rests out e = rests
+      (subst (λ (z : View L G). IsOut z.stage) (same_view vs i j v u at there e) out)
+
 module _ {S L G : Type 0} (lines : S → List L) (basis : S → G) (room : S → ℕ) (terms : Terms G)
     (log : List L) (made : ℕ) where
   -- the slot stays where a view that hasn't it in hand changes
@@ -78,6 +84,5 @@ module _ {S L G : Type 0} (lines : S → List L) (basis : S → G) (room : S →
   slot_set vs id v w at rests (some None) has = has
   slot_set vs id v w at rests (some (Some y)) has = has
   slot_set vs id v w at rests none has = let apart : has.0 ≢ id =
-      λ e. rests (subst (λ (u : View L G). IsOut u.stage)
-      (same_view vs id has.0 v has.1 at has.2 (sym e)) has.3) in
+      λ e. not_out vs id has.0 v has.1 at has.2 rests has.3 (sym e) in
       (has.0, has.1, set_else vs id has.0 w apart ∙ has.2, has.3)

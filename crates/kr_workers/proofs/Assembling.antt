@@ -287,6 +287,14 @@ pub budgets_many : (rows : List LogRow) (parts : List Part) (budgets : List ℕ)
 budgets_many rows parts budgets are = ap length are.2
     ∙ length-map parts (λ (p : Part). budget_of (are.0 + put_lines parts) p.lines.0)
 
+-- so a fresh seat is there for each part
+pub fresh_all : {T : Type 0} → (home : Home Opening) (rows : List LogRow) (parts : List Part)
+    (budgets : List ℕ) (seats : List (Place (SharedCore T) Entry Opening))
+    → AreBudgets rows parts budgets → AreFresh home (length budgets) seats
+    → AreFresh home (length parts) seats
+fresh_all home rows parts budgets seats are fresh =
+    subst (λ n. AreFresh home n seats) (budgets_many rows parts budgets are) fresh
+
 module _ {T L D : Type 0} (link : L → Link) (step : L → Exchange → L → Type 0) (left : D → Option (List ℕ))
     (count : D → ℕ) (files : List SettingsFile) (parts : List Part) (home : Home Opening)
     (o : Opening) (budgets : List ℕ) (seats : List (Place (SharedCore T) Entry Opening))
@@ -317,7 +325,7 @@ module _ {T L D : Type 0} (link : L → Link) (step : L → Exchange → L → T
     basis = ap (λ (t : Terms Opening). t.basis) terms;
     shares = ap (λ (t : Terms Opening). t.budgets) terms;
     as_many = budgets_many rows parts budgets are;
-    fresh = subst (λ n. AreFresh home n seats) (budgets_many rows parts budgets are) fresh;
+    fresh = fresh_all home rows parts budgets seats are fresh;
     many = many;
     long = long ∙ ap length is;
     worked = subst (λ ws. (i : ℕ) (d : Worker T L D) → i < length ws

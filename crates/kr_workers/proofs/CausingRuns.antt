@@ -139,32 +139,6 @@ module _ {L D : Type 0} (link : L → Link) (count : D → ℕ) where
   cause_within : (asked : ScriptLine) (a b c : Workplace L D) (reply : Told) (seen : List Entry)
       (links : List L) (dice : D) → HasGone link count a b → IsFurther link count c seen links dice
       → HasCauseAt link count asked b reply c → HasCause link count asked a reply seen links dice
-  cause_within asked a b c (told.Put revision) seen links dice s t h =
-      (h.0, own_within a b c (told.Put revision) seen links dice s t h.1)
-  cause_within asked a b c (told.Got revision plain) seen links dice s t h =
-      (h.0, own_within a b c (told.Got revision plain) seen links dice s t h.1)
-  cause_within asked a b c (told.Deleted revision) seen links dice s t h =
-      (h.0, own_within a b c (told.Deleted revision) seen links dice s t h.1)
-  cause_within asked a b c told.Absent seen links dice s t h =
-      (h.0, own_within a b c told.Absent seen links dice s t h.1)
-  cause_within asked a b c (told.Reloaded generation) seen links dice s t h =
-      (h.0, own_within a b c (told.Reloaded generation) seen links dice s t h.1)
-  cause_within asked a b c (told.Joined generation) seen links dice s t h =
-      (h.0, own_within a b c (told.Joined generation) seen links dice s t h.1)
-  cause_within asked a b c (told.Present generation) seen links dice s t h =
-      (h.0, own_within a b c (told.Present generation) seen links dice s t h.1)
-  cause_within asked a b c (told.Left generation) seen links dice s t h =
-      (h.0, own_within a b c (told.Left generation) seen links dice s t h.1)
-  cause_within asked a b c told.Gone seen links dice s t h =
-      (h.0, own_within a b c told.Gone seen links dice s t h.1)
-  cause_within asked a b c (told.Refused verdict) seen links dice s t h =
-      (h.0, own_within a b c (told.Refused verdict) seen links dice s t h.1)
-  cause_within asked a b c (told.Refreshed generation) seen links dice s t h =
-      (h.0, own_within a b c (told.Refreshed generation) seen links dice s t h.1)
-  cause_within asked a b c (told.Moved generation) seen links dice s t h =
-      (h.0, own_within a b c (told.Moved generation) seen links dice s t h.1)
-  cause_within asked a b c told.Full seen links dice s t h =
-      (h.0, own_within a b c told.Full seen links dice s t h.1)
   cause_within asked a b c told.Unchanged seen links dice s t h = (
     h.0,
     h.1,
@@ -191,7 +165,11 @@ module _ {L D : Type 0} (link : L → Link) (count : D → ℕ) where
     h.0,
     store_within a.caller b.caller s.part c.caller.seen t.rest seen s.adds h.1 t.seen_is,
   )
-  cause_within asked a b c other seen links dice s t h = h
+  cause_within asked a b c told.Memory seen links dice s t h = h
+  cause_within asked a b c (told.Value why) seen links dice s t h = h
+  cause_within asked a b c (told.Rewritten rewritten fresh changed left) seen links dice s t h = h
+  cause_within asked a b c other seen links dice s t h =
+      (h.0, own_within a b c other seen links dice s t h.1)
 
 -- ---- a run
 

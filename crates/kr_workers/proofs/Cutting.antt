@@ -12,13 +12,12 @@ use Rattle.kr_rollout.specs.declared.event.Event.{Event}
 use Rattle.kr_rollout.specs.declared.event.Event.TheVariants as event
 use Rattle.kr_history.specs.Acting.{Caller, AddsEntry}
 use Rattle.kr_history.specs.Calls.{HoldsMeanwhile, LetsGo}
-use Rattle.kr_history.specs.declared.outcome.Joining.{Joining}
 use Rattle.kr_fleet.specs.declared.outcome.Loaded.{Loaded}
 use Rattle.kr_fleet.specs.declared.outcome.Loaded.TheVariants as loaded
 use Rattle.kr_fleet.specs.declared.outcome.Read.{Read}
 use Rattle.kr_fleet.specs.declared.outcome.Read.TheVariants as found
 use Rattle.kr_fleet.specs.SingleCalls.{IsDelete, IsLeave}
-use Rattle.kr_fleet.specs.LoadCalls.{BringsBy, IsJoin, IsRefresh, IsReload, Refreshes, RefreshesBy, plugin_names}
+use Rattle.kr_fleet.specs.LoadCalls.{BringsBy, IsRefresh, Refreshes, RefreshesBy, plugin_names}
 use Rattle.kr_fleet.specs.ReadCalls.{Finds, IsRead}
 use Rattle.kr_fleet.specs.WriteCalls.{IsWrite, Puts}
 use Rattle.kr_provider.specs.AskedLinks.{AskedOnly}
@@ -142,24 +141,6 @@ module _ {D : Type 0} (left : D → Option (List ℕ)) (count : D → ℕ)
 
 module _ {L D : Type 0} (link : L → Link) (left : D → Option (List ℕ))
     (count : D → ℕ) where
-  pub reload_spent : (rows : List ConfigEntry) (replica : ℕ) (old : Caller) (olds : List L) (dice : D)
-      (new : Caller) (news : List L) (after : D) (result : Result Loaded CallNo)
-      → IsReload link left count rows replica old olds dice result new news after
-      → result ≡ Err refusal.Spent → old.left < 1
-  reload_spent rows replica old olds dice new news after result is e =
-      let d = subst (λ (r : Result Loaded CallNo).
-      IsReload link left count rows replica old olds dice r new news after) e is in
-      omega (arith, d.1.spent)
-
-  pub join_spent : (rows : List ConfigEntry) (replica : ℕ) (old : Caller) (olds : List L) (dice : D)
-      (new : Caller) (news : List L) (after : D) (result : Result Joining CallNo)
-      → IsJoin link left count rows replica old olds dice result new news after
-      → result ≡ Err refusal.Spent → old.left < 1
-  join_spent rows replica old olds dice new news after result is e =
-      let d = subst (λ (r : Result Joining CallNo).
-      IsJoin link left count rows replica old olds dice r new news after) e is in
-      omega (arith, d.1.spent)
-
   brings_one : (rows : List ConfigEntry) (brings : Publication → Event) (replica : ℕ) (old : Caller)
       (olds : List L) (dice : D) (why : CallNo) (new : Caller) (news : List L) (after : D)
       → BringsBy link left count rows brings replica old olds dice why new news after

@@ -3,11 +3,11 @@
 pub mod Telling
 pub mod Cutting
 pub mod OneLine
+pub mod ByEvents
 pub mod Making
 pub mod MovedKeys
 pub mod AllLines
 pub mod Shaping
-pub mod ShapingLoads
 pub mod ShapingRewrites
 pub mod ShapingLines
 pub mod Hearing

@@ -26,7 +26,7 @@ use Rattle.kr_rollout.specs.declared.line.Gave.{Gave}
 use Rattle.kr_rollout.specs.declared.opening.Entry.{Entry}
 use Rattle.kr_history.specs.Acting.{AddsEntry, Caller, IsCaller}
 use Rattle.kr_rollout.specs.Callers.{did_of, gave_of, holding}
-use Rattle.kr_history.specs.Calls.{AddsNothing, AdoptsNothing, HoldsMeanwhile, LetsGo}
+use Rattle.kr_history.specs.Calls.{AddsNothing, LetsGo}
 use Rattle.kr_history.specs.Parts.{Adds}
 use Rattle.kr_history.proofs.Following.{adopted_law}
 use Rattle.kr_history.proofs.HeldFacts.{held_is_named}
@@ -35,16 +35,11 @@ use Rattle.kr_history.specs.declared.outcome.Joining.{Joining}
 use Rattle.kr_history.specs.declared.outcome.Joining.TheVariants as joining
 use Rattle.kr_fleet.specs.declared.outcome.Loaded.{Loaded}
 use Rattle.kr_fleet.specs.declared.outcome.Loaded.TheVariants as loaded
-use Rattle.kr_fleet.specs.declared.outcome.Read.{Read}
-use Rattle.kr_fleet.specs.declared.outcome.Read.TheVariants as read
 use Rattle.kr_fleet.specs.LoadCalls.{BringsBy, IsJoin, IsRefresh, IsReload, Refreshes, plugin_names, reload_of}
-use Rattle.kr_fleet.specs.ReadCalls.{Finds, IsRead}
 use Rattle.kr_fleet.specs.SingleCalls.{IsDelete, IsLeave}
 use Rattle.kr_fleet.specs.WriteCalls.{IsWrite, Puts}
-use Rattle.kr_rewrite.specs.declared.outcome.Report.{Report}
 use Rattle.kr_rewrite.specs.declared.outcome.Step.{Step}
 use Rattle.kr_rewrite.specs.declared.outcome.Step.TheVariants as step
-use Rattle.kr_rewrite.specs.Drives.{EndsBy, IsDrive, Walks, last_of, path_of}
 use Rattle.kr_rewrite.specs.Rewrites.{FindsNone, IsStep, ReplacesBy, ResealsBy, Rewrites, RewritesBy, RewritesData, Steps}
 use Rattle.kr_script.specs.declared.script.ScriptLine.{ScriptLine}
 use Rattle.kr_script.specs.declared.script.ScriptLine.TheVariants as line
@@ -54,6 +49,7 @@ use Rattle.kr_workers.specs.Changes.{AllowsChange, MayChange}
 use Rattle.kr_workers.specs.Files.{rows_at}
 use Rattle.kr_workers.specs.Replies.{Reply, told_of_delete, told_of_join, told_of_leave, told_of_refresh, told_of_reload, told_of_write}
 use Rattle.kr_workers.specs.ScriptLines.{Does, Workplace}
+use Rattle.kr_workers.proofs.ByEvents.{IsSilent, KeptByEvents, drive_by, early_by, held_by, lacking_by, meanwhile_by, read_by, reading_silent}
 
 -- ---- replies
 
@@ -132,34 +128,23 @@ module _ {L D : Type 0} (link : L → Link) (left : D → Option (List ℕ))
       (subst (λ g. Changes g (did_of made) a.entry.line.held a.entry.published)
       (sym a.records.gave_is) does))
 
-  -- ---- calls that hold a generation meanwhile
+  -- events that change nothing
+  silent_changes : (given : Answer) → IsSilent given → (done : Did) (held : Option ℕ)
+      (published : Option Publication) → Changes (gave_of given) done held published
+  silent_changes (answer.Written revision) s done held published = absurd s
+  silent_changes (answer.Reloaded number) s done held published = absurd s
+  silent_changes (answer.Joined number) s done held published = absurd s
+  silent_changes (answer.Departed number) s done held published = absurd s
+  silent_changes other s done held published = tt
 
-  early_makes : (replica : ℕ) (old new : Caller) (why : CallNo)
-      → AdoptsNothing replica old why new → Adding old new
-  early_makes replica old new refusal.Gone e =
-      event_makes old new (event.Adopt replica) (answer.Gone replica) e tt
-  early_makes replica old new refusal.Spent e = none_makes OfLine old new e
-  early_makes replica old new refusal.NoMemory (inl e) = same_makes OfLine old new e
-  early_makes replica old new refusal.NoMemory (inr e) =
-      event_makes old new (event.Adopt replica) answer.NoMemory e tt
-  early_makes replica old new other e = absurd e
-
-  let_go_makes : {T : Type 0} → (old new : Caller) (done result : Result T CallNo)
-      → LetsGo old done result new → Adding old new
-  let_go_makes old new done result (inl g) =
-      event_makes old new event.LetGo answer.Released g.0 tt
-  let_go_makes old new done result (inr n) = none_makes OfLine old new n.0
-
-  held_makes : {T : Type 0}
-      → (Does : (number : ℕ) → Publication → Caller → Result T CallNo → Caller → Type 0)
-      (replica : ℕ) (old new : Caller) (result : Result T CallNo)
-      → (h : HoldsMeanwhile Does replica old result new) → Adding h.adopted h.acted
-      → Adding old new
-  held_makes {T} Does replica old new result h by =
-      then_makes OfLine old h.adopted new (event_makes old h.adopted (event.Adopt replica)
-      (answer.Adopted h.number h.p) h.adopts tt)
-      (then_makes OfLine h.adopted h.acted new by
-      (let_go_makes {T = T} h.acted new h.done result h.lets_go))
+  kept : KeptByEvents Adding
+  kept = record {
+    same = same_makes OfLine;
+    both = then_makes OfLine;
+    reads = λ old new made given r a. event_makes old new made given a
+        (silent_changes given (reading_silent made given r) (did_of made) a.entry.line.held
+        a.entry.published);
+  }
 
   -- ---- a put
 
@@ -195,44 +180,13 @@ module _ {L D : Type 0} (link : L → Link) (left : D → Option (List ℕ))
         → Adding old new
     write_makes seat replica old new dice after (Ok revision) tells (inl e) = absurd e
     write_makes seat replica old new dice after (Err why) tells (inl e) =
-        early_makes replica old new why e.0
-    write_makes seat replica old new dice after result tells (inr h) = held_makes
+        early_by kept replica old new why e.0
+    write_makes seat replica old new dice after result tells (inr h) = held_by kept
         (λ (number : ℕ) (p : Publication) (from : Caller) (done : Result ℕ CallNo)
         (to : Caller). Puts left count resource path plain p from dice done to after) replica old
         new result h (puts_make seat h.p h.adopted h.acted dice after h.done
         (done_told {T = ℕ} h.acted new h.done result (told_of_write seat) reply tells refl
         h.lets_go) h.does)
-
-  -- ---- a get
-
-  finds_make : (path : List ℕ) (p : Publication) (old new : Caller) (olds news : List L)
-      (result : Result Read CallNo) → Finds link path p old olds result new news
-      → Adding old new
-  finds_make path p old new olds news (Ok read.Absent) d =
-      event_makes old new (event.Fetch path) answer.Absent d.0.absent tt
-  finds_make path p old new olds news (Ok (read.Value revision plain stale)) d =
-      event_makes old new (event.Fetch path) (answer.Found d.0) d.1.found tt
-  finds_make path p old new olds news (Err (refusal.Refused why)) d =
-      event_makes old new (event.Fetch path) (answer.Found d.0) d.1.found tt
-  finds_make path p old new olds news (Err (refusal.PluginFailed name)) d =
-      event_makes old new (event.Fetch path) (answer.Found d.0) d.1.found tt
-  finds_make path p old new olds news (Err refusal.Spent) d = none_makes OfLine old new d.0
-  finds_make path p old new olds news (Err refusal.NoMemory) (inl d) =
-      event_makes old new (event.Fetch path) (answer.Found d.0) d.1.found tt
-  finds_make path p old new olds news (Err refusal.NoMemory) (inr d) =
-      event_makes old new (event.Fetch path) answer.NoMemory d.0 tt
-  finds_make path p old new olds news (Err other) d = absurd d
-
-  read_makes : (path : List ℕ) (replica : ℕ) (old new : Caller) (olds news : List L)
-      (result : Result Read CallNo) → IsRead link path replica old olds result new news
-      → Adding old new
-  read_makes path replica old new olds news (Ok found) (inl e) = absurd e
-  read_makes path replica old new olds news (Err why) (inl e) =
-      early_makes replica old new why e.0
-  read_makes path replica old new olds news result (inr h) = held_makes
-      (λ (number : ℕ) (p : Publication) (from : Caller) (done : Result Read CallNo) (to : Caller).
-      Finds link path p from olds done to news) replica old new result h
-      (finds_make path h.p h.adopted h.acted olds news h.done h.does)
 
   -- ---- a delete and a leave
 
@@ -391,8 +345,8 @@ module _ {L D : Type 0} (link : L → Link) (left : D → Option (List ℕ))
         → Adding old new
     refresh_makes seat old new olds news dice after (Ok found) k tells (inl e) = absurd e
     refresh_makes seat old new olds news dice after (Err why) k tells (inl e) =
-        early_makes own old new why e.0
-    refresh_makes seat old new olds news dice after result k tells (inr h) = held_makes
+        early_by kept own old new why e.0
+    refresh_makes seat old new olds news dice after result k tells (inr h) = held_by kept
         (λ (number : ℕ) (p : Publication) (from : Caller) (done : Result Loaded CallNo)
         (to : Caller). Refreshes link left count own number p from olds dice done to news
         after × AskedOnly link (plugin_names p.seeds) olds news) own old new result h
@@ -472,52 +426,14 @@ module _ {L D : Type 0} (link : L → Link) (left : D → Option (List ℕ))
         (dice after : D) (result : Result Step CallNo)
         → IsStep link left count replica above old olds dice result new news after
         → Adding old new
-    step_makes replica above old new olds news dice after (Ok taken) (inl e) = absurd e
-    step_makes replica above old new olds news dice after (Err why) (inl e) =
-        early_makes replica old new why e.0
-    step_makes replica above old new olds news dice after result (inr h) = held_makes
+    step_makes replica above old new olds news dice after result = meanwhile_by kept
+        ((news ≡ olds) × (after ≡ dice))
         (λ (number : ℕ) (p : Publication) (from : Caller) (done : Result Step CallNo)
         (to : Caller). Steps link left count p above from olds dice done to news after)
-        replica old new result h
-        (steps_make h.p above h.adopted h.acted olds news dice after h.done h.does)
+        replica old new result
+        (λ h. steps_make h.p above h.adopted h.acted olds news dice after h.done h.does)
 
-    walks_make : (replica : ℕ) (above : List ℕ) (steps : List Step) (old new : Caller)
-        (olds news : List L) (dice after : D)
-        → Walks link left count replica above steps old olds dice new news after
-        → Adding old new
-    walks_make replica above [] old new olds news dice after w = same_makes OfLine old new w.0
-    walks_make replica above (taken ∷ steps) old new olds news dice after w =
-        then_makes OfLine old w.middle new
-        (step_makes replica above old w.middle olds w.mids dice w.between (Ok taken) w.goes)
-        (walks_make replica (path_of above taken) steps w.middle new w.mids news w.between after
-        w.behind)
-
-    ends_make : (replica : ℕ) (above : List ℕ) (steps : List Step) (old new : Caller)
-        (olds news : List L) (dice after : D) (ended : Result Step CallNo) (report : Report)
-        → EndsBy link left count replica above steps old olds dice ended report new news
-        after → Adding old new
-    ends_make replica above steps old new olds news dice after ended report e =
-        then_makes OfLine old e.middle new
-        (walks_make replica above steps old e.middle olds e.mids dice e.between e.walks)
-        (step_makes replica (last_of above steps) e.middle new e.mids news e.between after ended
-        e.ends)
-
-    drive_makes : (replica : ℕ) (above : List ℕ) (old new : Caller) (olds news : List L)
-        (dice after : D) (result : Result Report (Report × CallNo))
-        → IsDrive link left count replica above old olds dice result new news after
-        → Adding old new
-    drive_makes replica above old new olds news dice after (Ok report) d =
-        ends_make replica above d.steps old new olds news dice after (Ok step.End) report d.ends
-    drive_makes replica above old new olds news dice after (Err cut) (inl d) =
-        ends_make replica above d.steps old new olds news dice after (Err cut.1) cut.0 d.ends
-    drive_makes replica above old new olds news dice after (Err cut) (inr n) =
-        same_makes OfLine old new n.same
-
-  -- ---- each line
-
-  lacking_makes : (old new : Workplace L D) → new ≡ old → Adding old.caller new.caller
-  lacking_makes old new same =
-      same_makes OfLine old.caller new.caller (ap (λ (w : Workplace L D). w.caller) same)
+-- ---- each line
 
 module _ {L D : Type 0} (link : L → Link) (left : D → Option (List ℕ))
     (count : D → ℕ) (files : List SettingsFile) (own : ℕ) (asked : ScriptLine) (reply : Told)
@@ -528,22 +444,25 @@ module _ {L D : Type 0} (link : L → Link) (left : D → Option (List ℕ))
     line_makes (line.Put resource path plain) is old new k d = write_makes link left count
         (rows_at files) own asked reply resource path plain is old.caller.seat own old.caller
         new.caller old.dice new.dice d.0 d.1 d.2
-    line_makes (line.Get path) is old new k d = read_makes link left count (rows_at files)
-        own asked reply path own old.caller new.caller old.links new.links d.0 d.2
+    line_makes (line.Get path) is old new k d =
+        read_by (kept link left count (rows_at files) own asked reply) link path own old.caller
+        new.caller old.links new.links d.0 d.2
     line_makes (line.Delete path) is old new k d = delete_makes link left count
         (rows_at files) own asked reply path is old.caller.seat old.caller new.caller d.0 d.1 d.2
-    line_makes line.Rewrite is old new k d = drive_makes link left count (rows_at files) own
-        asked reply is own [] old.caller new.caller old.links new.links old.dice new.dice d.0 d.2
-    line_makes (line.Reload named file) is old new k (rows, read, inl none) = lacking_makes link
-        left count (rows_at files) own asked reply old new none.1
+    line_makes line.Rewrite is old new k d =
+        drive_by (kept link left count (rows_at files) own asked reply) link left count
+        (step_makes link left count (rows_at files) own asked reply is) own [] old.caller new.caller
+        old.links new.links old.dice new.dice d.0 d.2
+    line_makes (line.Reload named file) is old new k (rows, read, inl none) = lacking_by
+        (kept link left count (rows_at files) own asked reply) old new none.1
     line_makes (line.Reload named file) is old new k (rows, read, inr d) = reload_makes link left
         count (rows_at files) own asked reply rows named file read is old.caller.seat old.caller
         new.caller old.links new.links old.dice new.dice d.0 d.1 d.2
     line_makes line.Refresh is old new k d = refresh_makes link left count (rows_at files)
         own asked reply is old.caller.seat old.caller new.caller old.links new.links old.dice
         new.dice d.0 k d.1 d.2
-    line_makes (line.Join named file) is old new k (rows, read, inl none) = lacking_makes link
-        left count (rows_at files) own asked reply old new none.1
+    line_makes (line.Join named file) is old new k (rows, read, inl none) = lacking_by
+        (kept link left count (rows_at files) own asked reply) old new none.1
     line_makes (line.Join named file) is old new k (rows, read, inr d) = join_makes link left
         count (rows_at files) own asked reply rows named file read is old.caller.seat old.caller
         new.caller old.links new.links old.dice new.dice d.0 d.1 d.2

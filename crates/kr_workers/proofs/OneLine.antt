@@ -47,7 +47,7 @@ use Rattle.kr_workers.specs.inner.Bringing.{line_by}
 use Rattle.kr_workers.specs.inner.Serving.{AddsFor, EndsFor, IsIdleAt, IsReadyFor, MovesKeys, Serves, place_of}
 use Rattle.kr_workers.specs.LineMoments.{adopts_published}
 use Rattle.kr_workers.proofs.MovedKeys.{moves_nothing}
-use Rattle.kr_workers.proofs.Cutting.{delete_spent, join_spent, leave_spent, read_spent, refresh_spent, reload_spent, write_spent}
+use Rattle.kr_workers.proofs.Cutting.{delete_spent, leave_spent, read_spent, refresh_spent, write_spent}
 use Rattle.kr_workers.proofs.Telling.{ends_delete, ends_drive, ends_join, ends_leave, ends_read, ends_refresh, ends_reload, ends_write, idle_always, idle_drive, idle_read, idle_refresh, idle_write}
 
 -- ---- links
@@ -86,23 +86,33 @@ drive_for n old new a = (
 module _ {L D : Type 0} (link : L → Link) (step : L → Exchange → L → Type 0) (left : D → Option (List ℕ))
     (count : D → ℕ) (files : List SettingsFile) (replica : ℕ) where
   -- nothing was done
+  -- a line for which no plugin is asked and nothing is drawn leaves the bench as it is
+  serves_alone : (old new : Caller) (b : BenchState L D) (reply : Reply) (asked : ScriptLine)
+      → Does link left count files replica asked (place_of old b) reply (place_of new b)
+      → DoesBy left count files replica asked (place_of old b) reply (place_of new b) []
+      → AddsFor asked old new → EndsFor asked old reply → holding new.mine ≡ None
+      → MovesKeys (adopts_published asked) old (adoption_of b) new (adoption_of b)
+      → Serves link step left count files replica asked old b reply new b
+  serves_alone old new b reply asked does asks adds spent idle keys = record {
+    does = does;
+    asks = record { steps = []; walk = refl; are = asks };
+    adds = adds;
+    spent = spent;
+    idle = idle_always reply new idle;
+    asked_only = asked_none link (names_of link b.links) b.links;
+    later = omega arith;
+    pages = refl;
+    keys = keys;
+  }
+
   pub serves_nothing : (asked : ScriptLine) (c : Caller) (b : BenchState L D)
       → Does link left count files replica asked (place_of c b) (Ok told.Memory)
       (place_of c b)
       → DoesBy left count files replica asked (place_of c b) (Ok told.Memory) (place_of c b) []
       → holding c.mine ≡ None
       → Serves link step left count files replica asked c b (Ok told.Memory) c b
-  serves_nothing asked c b d asks idle = record {
-    does = d;
-    asks = record { steps = []; walk = refl; are = asks };
-    adds = nothing_for asked c;
-    spent = tt;
-    idle = idle;
-    asked_only = asked_none link (names_of link b.links) b.links;
-    later = omega arith;
-    pages = refl;
-    keys = moves_nothing (adopts_published asked) c (adoption_of b) idle;
-  }
+  serves_nothing asked c b d asks idle = serves_alone c c b (Ok told.Memory) asked d asks
+      (nothing_for asked c) tt idle (moves_nothing (adopts_published asked) c (adoption_of b) idle)
 
   module _ (old new : Caller) (b after : BenchState L D) (reply : Reply) where
     pub serves_put : (resource path plain : List ℕ) (result : Result ℕ CallNo)
@@ -235,21 +245,25 @@ module _ {L D : Type 0} (link : L → Link) (step : L → Exchange → L → Typ
           → Talk (Among step) b.links after.links (CallsBy rows result)
           → Serves link step left count files replica asked old b reply new after
 
-      serves_brought : (asked : ScriptLine) (file : List ℕ)
+      serves_brought : (by it : Way) → by ≡ it → (named : ℕ) (file : List ℕ)
           → (WasRead (rows_at files file) (λ rows. BringsFile link tells (Calls rows) rows
           (place_of old b) reply (place_of new after))
-          → Does link left count files replica asked (place_of old b) reply (place_of new after))
+          → Does link left count files replica (line_by it named file) (place_of old b) reply
+          (place_of new after))
           → ((es : List Exchange) → WasRead (rows_at files file) (λ rows. BringsFileBy tells
           (CallsBy rows) (place_of old b) reply (place_of new after) es)
-          → DoesBy left count files replica asked (place_of old b) reply (place_of new after) es)
-          → (AddsWithin 1 1 [] old new → AddsFor asked old new)
-          → (adoption_of after ≡ adoption_of b → MovesKeys (adopts_published asked) old
-          (adoption_of b) new (adoption_of after))
-          → ((rows : List ConfigEntry) (result : Result T CallNo) → Calls rows result
-          → EndsFor asked old (tells old.seat result))
-          → ServesBrought asked file
-      serves_brought asked file does_so asks_so adds_so keys_so ends rows result read is does adds
-          idle asked_only later kept talk = record {
+          → DoesBy left count files replica (line_by it named file) (place_of old b) reply
+          (place_of new after) es)
+          → (AddsWithin 1 1 [] old new → AddsFor (line_by it named file) old new)
+          → (adoption_of after ≡ adoption_of b → MovesKeys
+          (adopts_published (line_by it named file)) old (adoption_of b) new (adoption_of after))
+          → ((result : Result T CallNo) → (result ≡ Err refusal.Spent → old.left < 1)
+          → EndsFor (line_by it named file) old (tells old.seat result))
+          → ((rows : List ConfigEntry) → Calls rows (Err refusal.Spent) → old.left < 1)
+          → ServesBrought (line_by by named file) file
+      serves_brought by it same named file does_so asks_so adds_so keys_so ends spent =
+          subst (λ (w : Way). ServesBrought (line_by w named file) file) (sym same)
+          (λ rows result read is does adds idle asked_only later kept talk. record {
             does = does_so (rows, read, inr (result, is, does, asked_only));
             asks = record {
               steps = talk.steps;
@@ -261,13 +275,14 @@ module _ {L D : Type 0} (link : L → Link) (step : L → Exchange → L → Typ
               );
             };
             adds = adds_so adds;
-            spent = subst (λ r. EndsFor asked old r) (sym is) (ends rows result does);
+            spent = subst (λ r. EndsFor (line_by it named file) old r) (sym is)
+                (ends result (λ e. spent rows (subst (Calls rows) e does)));
             idle = idle_always reply new idle;
             asked_only = asked_all link (plugins_in rows) b.links after.links asked_only;
             later = later;
             pages = ap (λ (s : BenchState L D). size_of s.pages) kept;
             keys = keys_so (ap (λ (s : BenchState L D). adoption_of s) kept);
-          }
+          })
 
     abbrev pub Reloads : (named : ℕ) → List ConfigEntry → Result Loaded CallNo → Type 0
     Reloads named rows result =
@@ -277,72 +292,50 @@ module _ {L D : Type 0} (link : L → Link) (step : L → Exchange → L → Typ
     Joins named rows result =
         IsJoin link left count rows named old b.links b.dice result new after.links after.dice
 
+    abbrev ReloadsBy : (named : ℕ) → List ConfigEntry → Result Loaded CallNo → List Exchange
+        → Type 0
+    ReloadsBy named rows result =
+        IsReloadBy left count rows named old b.dice result new after.dice
+
+    abbrev JoinsBy : (named : ℕ) → List ConfigEntry → Result Joining CallNo → List Exchange
+        → Type 0
+    JoinsBy named rows result = IsJoinBy left count rows named old b.dice result new after.dice
+
     pub serves_reload : (by : Way) → by ≡ way.Reload → (named : ℕ) (file : List ℕ)
-        → ServesBrought told_of_reload (Reloads named)
-        (λ rows result. IsReloadBy left count rows named old b.dice result new after.dice)
-        (line_by by named file) file
-    serves_reload by by_is named file = subst
-        (λ (w : Way). ServesBrought told_of_reload (Reloads named)
-        (λ rows result. IsReloadBy left count rows named old b.dice result new after.dice)
-        (line_by w named file) file) (sym by_is)
-        (serves_brought told_of_reload (Reloads named)
-        (λ rows result. IsReloadBy left count rows named old b.dice result new after.dice)
-        (line.Reload named file) file (λ d. d) (λ es d. d) (λ a. a) (λ k. k)
-        (λ rows result does. ends_reload (line.Reload named file) old old.seat result
-        (reload_spent link left count rows named old b.links b.dice new after.links after.dice
-        result does)))
+        → ServesBrought told_of_reload (Reloads named) (ReloadsBy named) (line_by by named file) file
+    serves_reload by is named file = serves_brought told_of_reload (Reloads named) (ReloadsBy named)
+        by way.Reload is named file (λ d. d) (λ es d. d) (λ a. a) (λ k. k)
+        (ends_reload (line.Reload named file) old old.seat) (λ rows d. omega (arith, d.1.spent))
 
     pub serves_join : (by : Way) → by ≡ way.Join → (named : ℕ) (file : List ℕ)
-        → ServesBrought told_of_join (Joins named)
-        (λ rows result. IsJoinBy left count rows named old b.dice result new after.dice)
-        (line_by by named file) file
-    serves_join by by_is named file = subst
-        (λ (w : Way). ServesBrought told_of_join (Joins named)
-        (λ rows result. IsJoinBy left count rows named old b.dice result new after.dice)
-        (line_by w named file) file) (sym by_is)
-        (serves_brought told_of_join (Joins named)
-        (λ rows result. IsJoinBy left count rows named old b.dice result new after.dice)
-        (line.Join named file) file (λ d. d) (λ es d. d) (λ a. a) (λ k. k)
-        (λ rows result does. ends_join (line.Join named file) old old.seat result
-        (join_spent link left count rows named old b.links b.dice new after.links after.dice
-        result does)))
+        → ServesBrought told_of_join (Joins named) (JoinsBy named) (line_by by named file) file
+    serves_join by is named file = serves_brought told_of_join (Joins named) (JoinsBy named) by
+        way.Join is named file (λ d. d) (λ es d. d) (λ a. a) (λ k. k)
+        (ends_join (line.Join named file) old old.seat) (λ rows d. omega (arith, d.1.spent))
 
   module _ (old new : Caller) (b : BenchState L D) (reply : Reply) where
-    pub serves_delete : (path : List ℕ) (result : Result (Option ℕ) CallNo)
-        → reply ≡ told_of_delete old.seat result → IsDelete path old result new
-        → AddsWithin 1 0 [] old new → holding new.mine ≡ None
-        → Serves link step left count files replica (line.Delete path) old b reply new b
-    serves_delete path result is does adds idle = record {
-      does = (result, is, does, (refl, refl));
-      asks = record { steps = []; walk = refl; are = (refl, refl) };
-      adds = adds;
-      spent = subst (λ r. EndsFor (line.Delete path) old r) (sym is)
-          (ends_delete (line.Delete path) old old.seat result
-          (delete_spent path old new result does));
-      idle = idle_always reply new idle;
-      asked_only = asked_none link (names_of link b.links) b.links;
-      later = omega arith;
-      pages = refl;
-      keys = refl;
-    }
+    -- a call that uses neither plugins nor the random source
+    abbrev pub ServesAlone : ScriptLine → (tells : ℕ → Result (Option ℕ) CallNo → Reply)
+        → (Calls : Result (Option ℕ) CallNo → Type 0) → Type 0
+    ServesAlone asked tells Calls = (result : Result (Option ℕ) CallNo)
+        → reply ≡ tells old.seat result → Calls result → AddsWithin 1 0 [] old new
+        → holding new.mine ≡ None → Serves link step left count files replica asked old b reply new b
 
-    pub serves_leave : (named : ℕ) (result : Result (Option ℕ) CallNo)
-        → reply ≡ told_of_leave old.seat result → IsLeave named old result new
-        → AddsWithin 1 0 [] old new → holding new.mine ≡ None
-        → Serves link step left count files replica (line.Leave named) old b reply new b
-    serves_leave named result is does adds idle = record {
-      does = (result, is, does, (refl, refl));
-      asks = record { steps = []; walk = refl; are = (refl, refl) };
-      adds = adds;
-      spent = subst (λ r. EndsFor (line.Leave named) old r) (sym is)
-          (ends_leave (line.Leave named) old old.seat result
-          (leave_spent named old new result does));
-      idle = idle_always reply new idle;
-      asked_only = asked_none link (names_of link b.links) b.links;
-      later = omega arith;
-      pages = refl;
-      keys = refl;
-    }
+    pub serves_delete : (path : List ℕ)
+        → ServesAlone (line.Delete path) told_of_delete (λ result. IsDelete path old result new)
+    serves_delete path result is does adds idle = serves_alone old new b reply (line.Delete path)
+        (result, is, does, (refl, refl)) (refl, refl) adds
+        (subst (λ r. EndsFor (line.Delete path) old r) (sym is)
+        (ends_delete (line.Delete path) old old.seat result
+        (delete_spent path old new result does))) idle refl
+
+    pub serves_leave : (named : ℕ)
+        → ServesAlone (line.Leave named) told_of_leave (λ result. IsLeave named old result new)
+    serves_leave named result is does adds idle = serves_alone old new b reply (line.Leave named)
+        (result, is, does, (refl, refl)) (refl, refl) adds
+        (subst (λ r. EndsFor (line.Leave named) old r) (sym is)
+        (ends_leave (line.Leave named) old old.seat result (leave_spent named old new result does)))
+        idle refl
 
 -- ---- settings that were read
 

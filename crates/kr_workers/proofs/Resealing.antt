@@ -29,7 +29,7 @@ use Rattle.kr_rollout.specs.declared.line.Gave.TheVariants as gave
 use Rattle.kr_rollout.specs.declared.opening.Entry.{Entry}
 use Rattle.kr_history.specs.Acting.{AddsEntry, Caller, IsCaller}
 use Rattle.kr_rollout.specs.Callers.{did_of, found_in, gave_of, holding}
-use Rattle.kr_history.specs.Calls.{AddsNothing, AdoptsNothing, HoldsMeanwhile, LetsGo}
+use Rattle.kr_history.specs.Calls.{AddsNothing, HoldsMeanwhile}
 use Rattle.kr_history.proofs.Following.{adopted_law, next_law, stays_law}
 use Rattle.kr_history.proofs.FoundRows.{replaced_is_live}
 use Rattle.kr_history.proofs.HeldFacts.{found_is_named, held_is_named}
@@ -38,17 +38,12 @@ use Rattle.kr_history.specs.declared.outcome.Joining.{Joining}
 use Rattle.kr_history.specs.declared.outcome.Joining.TheVariants as joining
 use Rattle.kr_fleet.specs.declared.outcome.Loaded.{Loaded}
 use Rattle.kr_fleet.specs.declared.outcome.Loaded.TheVariants as loaded
-use Rattle.kr_fleet.specs.declared.outcome.Read.{Read}
-use Rattle.kr_fleet.specs.declared.outcome.Read.TheVariants as read
 use Rattle.kr_fleet.specs.LoadCalls.{BringsBy, IsJoin, IsRefresh, IsReload, Refreshes, plugin_names, reload_of}
-use Rattle.kr_fleet.specs.ReadCalls.{Finds, IsRead}
 use Rattle.kr_fleet.specs.SingleCalls.{IsDelete, IsLeave}
 use Rattle.kr_fleet.specs.WriteCalls.{IsWrite, Puts}
 use Rattle.kr_provider.specs.AskedLinks.{AskedOnly}
-use Rattle.kr_rewrite.specs.declared.outcome.Report.{Report}
 use Rattle.kr_rewrite.specs.declared.outcome.Step.{Step}
 use Rattle.kr_rewrite.specs.declared.outcome.Step.TheVariants as taken_step
-use Rattle.kr_rewrite.specs.Drives.{EndsBy, IsDrive, Walks, last_of, path_of}
 use Rattle.kr_rewrite.specs.Rewrites.{FindsNone, IsStep, ResealsBy, Rewrites, RewritesBy, RewritesData, Steps}
 use Rattle.kr_script.specs.declared.script.ScriptLine.{ScriptLine}
 use Rattle.kr_script.specs.declared.script.ScriptLine.TheVariants as line
@@ -57,6 +52,7 @@ use Rattle.kr_workers.specs.Plugins.{IsReplaced, Reseals}
 use Rattle.kr_workers.specs.Replies.{Reply}
 use Rattle.kr_workers.specs.Runs.{DoesAll, LineDone}
 use Rattle.kr_workers.specs.ScriptLines.{Does, Workplace}
+use Rattle.kr_workers.proofs.ByEvents.{IsReading, KeptByEvents, drive_by, early_by, lacking_by, let_go_by, read_by}
 
 -- ---- entries that replace nothing
 
@@ -117,21 +113,17 @@ module _ {L D : Type 0} (link : L → Link) (step : L → Exchange → L → Typ
 
   -- ---- calls that hold a generation meanwhile
 
-  early_keeps : (replica : ℕ) (old new : Caller) (why : CallNo)
-      → AdoptsNothing replica old why new → Keeps old new
-  early_keeps replica old new refusal.Gone e =
-      quiet_keeps old new (event.Adopt replica) (answer.Gone replica) refl e
-  early_keeps replica old new refusal.Spent e = none_keeps old new e
-  early_keeps replica old new refusal.NoMemory (inl e) = same_keeps old new e
-  early_keeps replica old new refusal.NoMemory (inr e) =
-      quiet_keeps old new (event.Adopt replica) answer.NoMemory refl e
-  early_keeps replica old new other e = absurd e
+  quiet_reading : (old new : Caller) (made : Event) (given : Answer) → IsReading made given
+      → AddsEntry old made given new → Keeps old new
+  quiet_reading old new (event.Adopt replica) given r a =
+      quiet_keeps old new (event.Adopt replica) given refl a
+  quiet_reading old new (event.Fetch path) given r a =
+      quiet_keeps old new (event.Fetch path) given refl a
+  quiet_reading old new event.LetGo given r a = quiet_keeps old new event.LetGo given refl a
+  quiet_reading old new other given r a = absurd r
 
-  let_go_keeps : {T : Type 0} → (old new : Caller) (done result : Result T CallNo)
-      → LetsGo old done result new → Keeps old new
-  let_go_keeps old new done result (inl g) =
-      quiet_keeps old new event.LetGo answer.Released refl g.0
-  let_go_keeps old new done result (inr n) = none_keeps old new n.0
+  kept : KeptByEvents Keeps
+  kept = record { same = same_keeps; both = then_keeps; reads = quiet_reading }
 
   held_keeps : {T : Type 0}
       → (Does : (number : ℕ) → Publication → Caller → Result T CallNo → Caller → Type 0)
@@ -148,7 +140,7 @@ module _ {L D : Type 0} (link : L → Link) (step : L → Exchange → L → Typ
       (then_keeps h.adopted h.acted new
       (by h.number h.p h.adopted h.done h.acted (first.caller k)
       (adopted_law old h.adopted replica h.number h.p h.adopts) h.does)
-      (let_go_keeps {T = T} h.acted new h.done result h.lets_go)))
+      (let_go_by kept {T = T} h.acted new h.done result h.lets_go)))
 
   -- ---- a put, a get, a delete, a leave
 
@@ -182,41 +174,12 @@ module _ {L D : Type 0} (link : L → Link) (step : L → Exchange → L → Typ
       → IsWrite left count resource path plain replica old dice result new after → Keeps old new
   write_keeps resource path plain replica old new dice after (Ok revision) (inl e) = absurd e
   write_keeps resource path plain replica old new dice after (Err why) (inl e) =
-      early_keeps replica old new why e.0
+      early_by kept replica old new why e.0
   write_keeps resource path plain replica old new dice after result (inr h) = held_keeps
       (λ (number : ℕ) (p : Publication) (from : Caller) (done : Result ℕ CallNo) (to : Caller).
       Puts left count resource path plain p from dice done to after) replica old new result h
       (λ number p from done to k held d.
       puts_keep resource path plain p from to dice after done d)
-
-  finds_keep : (path : List ℕ) (p : Publication) (old new : Caller) (olds news : List L)
-      (result : Result Read CallNo) → Finds link path p old olds result new news
-      → Keeps old new
-  finds_keep path p old new olds news (Ok read.Absent) d =
-      quiet_keeps old new (event.Fetch path) answer.Absent refl d.0.absent
-  finds_keep path p old new olds news (Ok (read.Value revision plain stale)) d =
-      quiet_keeps old new (event.Fetch path) (answer.Found d.0) refl d.1.found
-  finds_keep path p old new olds news (Err (refusal.Refused why)) d =
-      quiet_keeps old new (event.Fetch path) (answer.Found d.0) refl d.1.found
-  finds_keep path p old new olds news (Err (refusal.PluginFailed name)) d =
-      quiet_keeps old new (event.Fetch path) (answer.Found d.0) refl d.1.found
-  finds_keep path p old new olds news (Err refusal.Spent) d = none_keeps old new d.0
-  finds_keep path p old new olds news (Err refusal.NoMemory) (inl d) =
-      quiet_keeps old new (event.Fetch path) (answer.Found d.0) refl d.1.found
-  finds_keep path p old new olds news (Err refusal.NoMemory) (inr d) =
-      quiet_keeps old new (event.Fetch path) answer.NoMemory refl d.0
-  finds_keep path p old new olds news (Err other) d = absurd d
-
-  read_keeps : (path : List ℕ) (replica : ℕ) (old new : Caller) (olds news : List L)
-      (result : Result Read CallNo) → IsRead link path replica old olds result new news
-      → Keeps old new
-  read_keeps path replica old new olds news (Ok found) (inl e) = absurd e
-  read_keeps path replica old new olds news (Err why) (inl e) =
-      early_keeps replica old new why e.0
-  read_keeps path replica old new olds news result (inr h) = held_keeps
-      (λ (number : ℕ) (p : Publication) (from : Caller) (done : Result Read CallNo) (to : Caller).
-      Finds link path p from olds done to news) replica old new result h
-      (λ number p from done to k held d. finds_keep path p from to olds news done d)
 
   delete_keeps : (path : List ℕ) (old new : Caller) (result : Result (Option ℕ) CallNo)
       → IsDelete path old result new → Keeps old new
@@ -338,7 +301,7 @@ module _ {L D : Type 0} (link : L → Link) (step : L → Exchange → L → Typ
       → Keeps old new
   refresh_keeps replica old new olds news dice after (Ok found) (inl e) = absurd e
   refresh_keeps replica old new olds news dice after (Err why) (inl e) =
-      early_keeps replica old new why e.0
+      early_by kept replica old new why e.0
   refresh_keeps replica old new olds news dice after result (inr h) = held_keeps
       (λ (number : ℕ) (p : Publication) (from : Caller) (done : Result Loaded CallNo)
       (to : Caller). Refreshes link left count replica number p from olds dice done to news
@@ -461,50 +424,14 @@ module _ {L D : Type 0} (link : L → Link) (step : L → Exchange → L → Typ
       → Keeps old new
   step_keeps replica above old new olds news dice after (Ok taken) (inl e) = absurd e
   step_keeps replica above old new olds news dice after (Err why) (inl e) =
-      early_keeps replica old new why e.0
+      early_by kept replica old new why e.0
   step_keeps replica above old new olds news dice after result (inr h) = held_keeps
       (λ (number : ℕ) (p : Publication) (from : Caller) (done : Result Step CallNo) (to : Caller).
       Steps link left count p above from olds dice done to news after) replica old new
       result h (λ number p from done to k held d.
       steps_keep number p above from to olds news dice after done k held d)
 
-  walks_keep : (replica : ℕ) (above : List ℕ) (steps : List Step) (old new : Caller)
-      (olds news : List L) (dice after : D)
-      → Walks link left count replica above steps old olds dice new news after
-      → Keeps old new
-  walks_keep replica above [] old new olds news dice after w = same_keeps old new w.0
-  walks_keep replica above (taken ∷ steps) old new olds news dice after w =
-      then_keeps old w.middle new
-      (step_keeps replica above old w.middle olds w.mids dice w.between (Ok taken) w.goes)
-      (walks_keep replica (path_of above taken) steps w.middle new w.mids news w.between after
-      w.behind)
-
-  ends_keep : (replica : ℕ) (above : List ℕ) (steps : List Step) (old new : Caller)
-      (olds news : List L) (dice after : D) (ended : Result Step CallNo) (report : Report)
-      → EndsBy link left count replica above steps old olds dice ended report new news after
-      → Keeps old new
-  ends_keep replica above steps old new olds news dice after ended report e =
-      then_keeps old e.middle new
-      (walks_keep replica above steps old e.middle olds e.mids dice e.between e.walks)
-      (step_keeps replica (last_of above steps) e.middle new e.mids news e.between after ended
-      e.ends)
-
-  drive_keeps : (replica : ℕ) (above : List ℕ) (old new : Caller) (olds news : List L)
-      (dice after : D) (result : Result Report (Report × CallNo))
-      → IsDrive link left count replica above old olds dice result new news after
-      → Keeps old new
-  drive_keeps replica above old new olds news dice after (Ok report) d =
-      ends_keep replica above d.steps old new olds news dice after (Ok taken_step.End) report d.ends
-  drive_keeps replica above old new olds news dice after (Err cut) (inl d) =
-      ends_keep replica above d.steps old new olds news dice after (Err cut.1) cut.0 d.ends
-  drive_keeps replica above old new olds news dice after (Err cut) (inr n) =
-      same_keeps old new n.same
-
   -- ---- each line
-
-  lacking_keeps : (old new : Workplace L D) → new ≡ old → Keeps old.caller new.caller
-  lacking_keeps old new same =
-      same_keeps old.caller new.caller (ap (λ (w : Workplace L D). w.caller) same)
 
   line_keeps : (files : List SettingsFile) (replica : ℕ) (asked : ScriptLine)
       (old new : Workplace L D) (reply : Reply)
@@ -512,20 +439,21 @@ module _ {L D : Type 0} (link : L → Link) (step : L → Exchange → L → Typ
       → Keeps old.caller new.caller
   line_keeps files replica (line.Put resource path plain) old new reply d = write_keeps resource
       path plain replica old.caller new.caller old.dice new.dice d.0 d.2
-  line_keeps files replica (line.Get path) old new reply d = read_keeps path replica old.caller
-      new.caller old.links new.links d.0 d.2
+  line_keeps files replica (line.Get path) old new reply d =
+      read_by kept link path replica old.caller new.caller old.links new.links d.0 d.2
   line_keeps files replica (line.Delete path) old new reply d =
       delete_keeps path old.caller new.caller d.0 d.2
-  line_keeps files replica line.Rewrite old new reply d = drive_keeps replica [] old.caller
-      new.caller old.links new.links old.dice new.dice d.0 d.2
+  line_keeps files replica line.Rewrite old new reply d =
+      drive_by kept link left count step_keeps replica [] old.caller new.caller old.links new.links
+      old.dice new.dice d.0 d.2
   line_keeps files replica (line.Reload named file) old new reply (rows, read, inl none) =
-      lacking_keeps old new none.1
+      lacking_by kept old new none.1
   line_keeps files replica (line.Reload named file) old new reply (rows, read, inr d) =
       reload_keeps rows named old.caller new.caller old.links new.links old.dice new.dice d.0 d.2
   line_keeps files replica line.Refresh old new reply d = refresh_keeps replica old.caller
       new.caller old.links new.links old.dice new.dice d.0 d.2
   line_keeps files replica (line.Join named file) old new reply (rows, read, inl none) =
-      lacking_keeps old new none.1
+      lacking_by kept old new none.1
   line_keeps files replica (line.Join named file) old new reply (rows, read, inr d) =
       join_keeps rows named old.caller new.caller old.links new.links old.dice new.dice d.0 d.2
   line_keeps files replica (line.Leave named) old new reply d =
@@ -535,7 +463,7 @@ module _ {L D : Type 0} (link : L → Link) (step : L → Exchange → L → Typ
       (run : List LineDone) (last : Workplace L D)
       → DoesAll link step left count files replica first run last
       → Keeps first.caller last.caller
-  run_keeps files replica first [] last same = lacking_keeps first last same
+  run_keeps files replica first [] last same = lacking_by kept first last same
   run_keeps files replica first (done ∷ run) last all =
       then_keeps first.caller all.0.caller last.caller
       (line_keeps files replica done.line first all.0 (Ok done.reply) all.1.does)

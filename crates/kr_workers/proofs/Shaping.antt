@@ -1,17 +1,17 @@
 -- The shape of a line's part, by the relation of its call: of what holds a generation meanwhile, of
--- `put`, `get`, `delete` and `leave`.
-use Rattle.std.specs.Prelude.{All, ⊤}
-use Rattle.std.proofs.Common.{◌≡◌, ℕ, Bool, true, false, List, [], ◌∷◌, ◌++◌, Option, None, Some, Result, Ok, Err, inl, inr, refl, ap, sym, subst, ◌∙◌, append-nil}
+-- `put`, `get`, `delete` and `leave`, of `reload`, `join` and `refresh`.
+use Rattle.std.specs.Prelude.{All, ⊤, ◌⊎◌, Contains, map}
+use Rattle.std.proofs.Common.{◌≡◌, ℕ, Bool, true, false, List, [], ◌∷◌, ◌++◌, Option, None, Some, Result, Ok, Err, inl, inr, refl, ap, sym, subst, ◌∙◌, append-nil, suc, arith}
 use Rattle.std.proofs.lemmas.Bool.{false≢true}
 use Rattle.std.proofs.lemmas.List.{append_assoc, append_cancel_left}
 use Rattle.std.proofs.lemmas.List.Elements.{All-cons, All-nil}
 use Rattle.kr_base.specs.Faults.{Rose}
-use Rattle.kr_config.specs.Kept.{ConfigEntry as setting}
+use Rattle.kr_config.specs.Kept.{ConfigEntry as setting, plugins_in}
 use Rattle.kr_kms.specs.Calls.{Link}
 use Rattle.kr_kms.specs.Health.{HasBreach}
 use Rattle.kr_kms.specs.declared.health.Field.{Field}
-use Rattle.kr_provider.specs.AskedLinks.{FaultRose, HasLinkWith}
-use Rattle.kr_provider.specs.Publication.{Publication}
+use Rattle.kr_provider.specs.AskedLinks.{FaultRose, HasLinkWith, AskedOnly}
+use Rattle.kr_provider.specs.Publication.{Publication, IsPublished}
 use Rattle.kr_provider.specs.declared.refusal.ValueNo.{ValueNo}
 use Rattle.kr_provider.specs.declared.refusal.ValueNo.TheVariants as value
 use Rattle.kr_store.specs.declared.rows.Row.{Row}
@@ -24,15 +24,15 @@ use Rattle.kr_rollout.specs.declared.line.Gave.TheVariants as gave
 use Rattle.kr_rollout.specs.declared.opening.Entry.{Entry}
 use Rattle.kr_rollout.specs.Callers.{did_of, gave_of, holding}
 use Rattle.kr_history.specs.Acting.{AddsEntry, Caller, IsCaller}
-use Rattle.kr_history.specs.Calls.{AdoptsNothing, LetsGo}
+use Rattle.kr_history.specs.Calls.{AdoptsNothing, EndsEarly, HoldsMeanwhile, LetsGo}
 use Rattle.kr_history.specs.Parts.{Adds}
 use Rattle.kr_history.specs.declared.call.CallNo.{CallNo}
 use Rattle.kr_history.specs.declared.call.CallNo.TheVariants as refusal
 use Rattle.kr_history.proofs.Following.{adopted_law}
 use Rattle.kr_history.proofs.HeldFacts.{held_is_named}
 use Rattle.kr_history.proofs.HeldNothing.{holds_nothing}
-use Rattle.kr_history.proofs.Nexts.{caller_next}
-use Rattle.kr_fleet.specs.LoadCalls.{AreKeysSame, IsKeyChanged}
+use Rattle.kr_history.proofs.Nexts.{caller_next, adopted_admitted}
+use Rattle.kr_fleet.specs.LoadCalls.{AreKeysSame, IsKeyChanged, AsksInVain, AsksUpTo, Brings, BringsBy, IsJoin, IsRefresh, IsReload, Refreshes, plugin_names, reload_of}
 use Rattle.kr_fleet.specs.ReadCalls.{Finds, IsRead}
 use Rattle.kr_fleet.specs.SingleCalls.{IsDelete, IsLeave}
 use Rattle.kr_fleet.specs.WriteCalls.{IsWrite, Puts}
@@ -41,9 +41,16 @@ use Rattle.kr_fleet.specs.declared.outcome.Read.TheVariants as read
 use Rattle.kr_script.specs.declared.script.ScriptLine.TheVariants as line
 use Rattle.kr_script.specs.declared.told.Told.{Told}
 use Rattle.kr_script.specs.declared.told.Told.TheVariants as told
-use Rattle.kr_workers.specs.Replies.{Reply, told_of_delete, told_of_leave, told_of_read, told_of_refusal, told_of_write}
+use Rattle.kr_workers.specs.Replies.{Reply, told_of_delete, told_of_leave, told_of_read, told_of_refusal, told_of_write, told_of_join, told_of_refresh, told_of_reload}
 use Rattle.kr_workers.specs.Configurations.{CannotBeSealed, NamesPlugin, ReadBy}
-use Rattle.kr_workers.specs.Shapes.{DeletePart, GetPart, HasDone, HoldsPart, IsAlone, IsOne, PartIs, PutPart}
+use Rattle.kr_workers.specs.Shapes.{DeletePart, GetPart, HasDone, HoldsPart, IsAlone, IsOne, PartIs, PutPart, BringsRows, JoinPart, RefreshPart, ReloadPart}
+use Rattle.kr_kms.specs.declared.seeds.SeedRow.{SeedRow}
+use Rattle.kr_provider.proofs.AskedLists.{breach_back, had, rose_later}
+use Rattle.kr_provider.specs.Publishing.{EndsWithin}
+use Rattle.kr_history.specs.declared.outcome.Joining.{Joining}
+use Rattle.kr_history.specs.declared.outcome.Joining.TheVariants as joining
+use Rattle.kr_fleet.specs.declared.outcome.Loaded.{Loaded}
+use Rattle.kr_fleet.specs.declared.outcome.Loaded.TheVariants as loaded
 
 -- ---- what a caller adds
 
@@ -210,6 +217,30 @@ abbrev has_reply : Reply → Bool
 has_reply (Ok reply) = true
 has_reply (Err spent) = false
 
+-- ---- which plugin ended it
+
+named_there : (before : List SeedRow) (row : SeedRow) (rest : List SeedRow)
+    → Contains (map (λ (r : SeedRow). r.name) (before ++ row ∷ rest)) row.name
+named_there [] row rest = (0, omega arith, refl)
+named_there (first ∷ before) row rest =
+    let c = named_there before row rest in (suc c.0, omega (arith, c.1), c.2)
+
+-- one that was asked is one of the configuration
+asked_there : {L : Type 0} (link : L → Link) (links : List L) (p : Publication) (name : List ℕ)
+    → IsPublished p → AsksUpTo link links p.seeds name → Contains (plugins_in p.rows) name
+asked_there link links p name published a = (published.names name).0
+    (subst (λ n. Contains (map (λ (r : SeedRow). r.name) p.seeds) n) a.named
+    (subst (λ (seeds : List SeedRow). Contains (map (λ (r : SeedRow). r.name) seeds) a.row.name)
+    (sym a.seeds_are) (named_there a.before a.row a.rest)))
+
+module _ {L D : Type 0} (link : L → Link) (left : D → Option (List ℕ))
+    (count : D → ℕ) where
+  ends_there : (rows : List setting) (links : List L) (dice after : D) (name : List ℕ)
+      → EndsWithin link left count rows links dice after name
+      → Contains (plugins_in rows) name
+  ends_there rows links dice after name (inl e) = e.there
+  ends_there rows links dice after name (inr e) = e.2.there
+
 module _ {L D : Type 0} (link : L → Link) (left : D → Option (List ℕ))
     (count : D → ℕ) (own : ℕ) (old new : Caller) (k : IsCaller old)
     (idle : holding old.mine ≡ None) (olds news : List L) (dice after : D)
@@ -239,6 +270,47 @@ module _ {L D : Type 0} (link : L → Link) (left : D → Option (List ℕ))
   none : new ≡ old → part ≡ []
   none same = nothing_added old new part adds same
 
+  -- ---- a generation is adopted first, and let go at the end
+
+  -- the replica was out, or memory lacked
+  early_part : (Part : Told → Type 0) → (IsOut own part → Part told.Gone)
+      → (part ≡ [] → Part told.Memory)
+      → (IsAlone (did.Adopt own) gave.Nothing part → Part told.Memory) → (why : CallNo)
+      → AdoptsNothing own old why new → IfTold Part (told_of_refusal old.seat why)
+  early_part Part gone nothing adopted refusal.Gone e =
+      gone (part_here (IsOut own) old new part adds (out_parted own old new k idle e))
+  early_part Part gone nothing adopted refusal.Spent e = tt
+  early_part Part gone nothing adopted refusal.NoMemory (inl same) = nothing (none same)
+  early_part Part gone nothing adopted refusal.NoMemory (inr e) =
+      adopted (single (event.Adopt own) answer.NoMemory e)
+  early_part Part gone nothing adopted other e = absurd e
+
+  -- what is done meanwhile is told, unless the seat was spent before the end
+  held_part : {T : Type 0} → (Part : Told → Type 0) (tells : Result T CallNo → Reply)
+      (Stays : Type 0)
+      (Does : (number : ℕ) → Publication → Caller → Result T CallNo → Caller → Type 0)
+      → ((why : CallNo) → IfTold Part (told_of_refusal old.seat why)
+      → IfTold Part (tells (Err why)))
+      → (IsOut own part → Part told.Gone) → (part ≡ [] → Part told.Memory)
+      → (IsAlone (did.Adopt own) gave.Nothing part → Part told.Memory)
+      → ((number : ℕ) (p : Publication) (adopted acted : Caller)
+      → AddsEntry old (event.Adopt own) (answer.Adopted number p) adopted
+      → AddsEntry acted event.LetGo answer.Released new
+      → (done : Result T CallNo) → Does number p adopted done acted → IfTold Part (tells done))
+      → (result : Result T CallNo)
+      → EndsEarly own Stays old result new ⊎ HoldsMeanwhile Does own old result new
+      → IfTold Part (tells result)
+  held_part Part tells Stays Does told_why gone nothing adopted by (Ok done) (inl e) = absurd e
+  held_part Part tells Stays Does told_why gone nothing adopted by (Err why) (inl e) =
+      told_why why (early_part Part gone nothing adopted why e.0)
+  held_part {T} Part tells Stays Does told_why gone nothing adopted by result (inr h) = go h.lets_go
+    where
+      go : LetsGo h.acted h.done result new → IfTold Part (tells result)
+      go (inl g) = subst (λ (r : Result T CallNo). IfTold Part (tells r)) (sym g.1)
+          (by h.number h.p h.adopted h.acted h.adopts g.0 h.done h.does)
+      go (inr n) = subst (λ (r : Result T CallNo). IfTold Part (tells r)) (sym n.1)
+          (told_why refusal.Spent tt)
+
   -- ---- a put
 
   module _ (resource path plain : List ℕ) where
@@ -249,15 +321,6 @@ module _ {L D : Type 0} (link : L → Link) (left : D → Option (List ℕ))
 
     abbrev asked_put : (stored : List ℕ) → Event
     asked_put stored = event.Put path resource plain stored
-
-    early_put : (why : CallNo) → AdoptsNothing own old why new
-        → IfTold PutsPart (told_of_refusal old.seat why)
-    early_put refusal.Gone e =
-        part_here (IsOut own) old new part adds (out_parted own old new k idle e)
-    early_put refusal.Spent e = tt
-    early_put refusal.NoMemory (inl same) = inl (none same)
-    early_put refusal.NoMemory (inr e) = inr (inl (single (event.Adopt own) answer.NoMemory e))
-    early_put other e = absurd e
 
     module _ (number : ℕ) (p : Publication) (adopted acted : Caller)
         (a : AddsEntry old (event.Adopt own) (answer.Adopted number p) adopted)
@@ -315,17 +378,10 @@ module _ {L D : Type 0} (link : L → Link) (left : D → Option (List ℕ))
     pub write_part : (result : Result ℕ CallNo)
         → IsWrite left count resource path plain own old dice result new after
         → IfTold PutsPart (told_of_write old.seat result)
-    write_part (Ok revision) (inl e) = absurd e
-    write_part (Err why) (inl e) = early_put why e.0
-    write_part result (inr h) = go h.lets_go
-      where
-        go : LetsGo h.acted h.done result new
-            → IfTold PutsPart (told_of_write old.seat result)
-        go (inl g) = subst (λ (r : Result ℕ CallNo).
-            IfTold PutsPart (told_of_write old.seat r)) (sym g.1)
-            (puts_part h.number h.p h.adopted h.acted h.adopts g.0 h.done h.does)
-        go (inr n) = subst (λ (r : Result ℕ CallNo).
-            IfTold PutsPart (told_of_write old.seat r)) (sym n.1) tt
+    write_part = held_part PutsPart (told_of_write old.seat) (after ≡ dice)
+        (λ (number : ℕ) (p : Publication) (from : Caller) (done : Result ℕ CallNo) (to : Caller).
+        Puts left count resource path plain p from dice done to after) (λ why x. x) (λ x. x)
+        (λ x. inl x) (λ x. inr (inl x)) puts_part
 
   -- ---- a get
 
@@ -333,15 +389,6 @@ module _ {L D : Type 0} (link : L → Link) (left : D → Option (List ℕ))
     abbrev GetsPart : Told → Type 0
     GetsPart reply = GetPart Fails Draws Breaks KeysSame KeyChanged NamesPlugin CannotBeSealed ReadBy
         RewriteDone old.seat own part path reply
-
-    early_get : (why : CallNo) → AdoptsNothing own old why new
-        → IfTold GetsPart (told_of_refusal old.seat why)
-    early_get refusal.Gone e =
-        part_here (IsOut own) old new part adds (out_parted own old new k idle e)
-    early_get refusal.Spent e = tt
-    early_get refusal.NoMemory (inl same) = inl (none same)
-    early_get refusal.NoMemory (inr e) = inr (inl (single (event.Adopt own) answer.NoMemory e))
-    early_get other e = absurd e
 
     module _ (number : ℕ) (p : Publication) (adopted acted : Caller)
         (a : AddsEntry old (event.Adopt own) (answer.Adopted number p) adopted)
@@ -388,17 +435,10 @@ module _ {L D : Type 0} (link : L → Link) (left : D → Option (List ℕ))
     pub read_part : (result : Result Read CallNo)
         → IsRead link path own old olds result new news
         → IfTold GetsPart (told_of_read old.seat result)
-    read_part (Ok done) (inl e) = absurd e
-    read_part (Err why) (inl e) = early_get why e.0
-    read_part result (inr h) = go h.lets_go
-      where
-        go : LetsGo h.acted h.done result new
-            → IfTold GetsPart (told_of_read old.seat result)
-        go (inl g) = subst (λ (r : Result Read CallNo).
-            IfTold GetsPart (told_of_read old.seat r)) (sym g.1)
-            (gets_part h.number h.p h.adopted h.acted h.adopts g.0 h.done h.does)
-        go (inr n) = subst (λ (r : Result Read CallNo).
-            IfTold GetsPart (told_of_read old.seat r)) (sym n.1) tt
+    read_part = held_part GetsPart (told_of_read old.seat) (news ≡ olds)
+        (λ (number : ℕ) (p : Publication) (from : Caller) (done : Result Read CallNo) (to : Caller).
+        Finds link path p from olds done to news) (λ why x. x) (λ x. x) (λ x. inl x)
+        (λ x. inr (inl x)) gets_part
 
   -- ---- a delete and a leave
 
@@ -436,3 +476,233 @@ module _ {L D : Type 0} (link : L → Link) (left : D → Option (List ℕ))
         (single (event.Leave named) (answer.Gone named) d)
     leave_part (Err refusal.Spent) reply is d = absurd (false≢true (sym (ap has_reply is)))
     leave_part (Err other) reply is d = absurd d
+
+  -- ---- a reload and a join
+
+  module _ (named : ℕ) (rows : List setting) (brings : Publication → Event) where
+    abbrev Brought : Answer → Type 0
+    Brought given = BringsRows (λ p. did_of (brings p)) rows (gave_of given) part
+
+    brought : (given : Answer)
+        → Brings link left count rows brings old olds dice given new news after → Brought given
+    brought given b = record {
+      p = b.p;
+      rows_are = b.publishes.0;
+      brought = single (brings b.p) given b.brought;
+    }
+
+    -- what is so where the settings aren't published, or come to nothing
+    abbrev IsCut : CallNo → Type 0
+    IsCut (refusal.PluginFailed name) = Fails name × NamesPlugin rows name × (part ≡ [])
+    IsCut refusal.DiceFailed = (old.seat ≡ old.seat) × Draws × (part ≡ [])
+    IsCut (refusal.Unhealthy name field text) =
+        Breaks name field text × NamesPlugin rows name × (part ≡ [])
+    IsCut refusal.Gone = Brought (answer.Gone named)
+    IsCut refusal.Spent = ⊤
+    IsCut refusal.NoMemory = (part ≡ []) ⊎ Brought answer.NoMemory
+    IsCut why = ⊥
+
+    cut_part : (why : CallNo)
+        → BringsBy link left count rows brings named old olds dice why new news after → IsCut why
+    cut_part (refusal.PluginFailed name) b =
+        (b.0.0, ends_there link left count rows olds dice after name b.0.1, none b.1)
+    cut_part refusal.DiceFailed b = (refl, b.0.3, none b.1)
+    cut_part (refusal.Unhealthy name field text) b = (b.0.1, b.0.0.there, none b.1)
+    cut_part refusal.Gone b = brought (answer.Gone named) b
+    cut_part refusal.Spent b = tt
+    cut_part refusal.NoMemory (inl b) = inl (none b.1)
+    cut_part refusal.NoMemory (inr (inl b)) = inl (none b.1)
+    cut_part refusal.NoMemory (inr (inr b)) = inr (brought answer.NoMemory b)
+    cut_part other b = absurd b
+
+  module _ (named : ℕ) (rows : List setting) where
+    abbrev pub ReloadsPart : Told → Type 0
+    ReloadsPart reply =
+        ReloadPart Fails Draws Breaks KeysSame KeyChanged NamesPlugin CannotBeSealed ReadBy RewriteDone
+        old.seat own part named rows reply
+
+    abbrev pub JoinsPart : Told → Type 0
+    JoinsPart reply =
+        JoinPart Fails Draws Breaks KeysSame KeyChanged NamesPlugin CannotBeSealed ReadBy RewriteDone old.seat
+        own part named rows reply
+
+    pub reload_part : (result : Result Loaded CallNo)
+        → IsReload link left count rows named old olds dice result new news after
+        → IfTold ReloadsPart (told_of_reload old.seat result)
+    reload_part (Ok (loaded.Generation number)) b =
+        brought named rows (reload_of named None) (answer.Reloaded number) b
+    reload_part (Ok (loaded.Refused verdict)) b =
+        brought named rows (reload_of named None) (answer.Refused verdict) b
+    reload_part (Ok other) b = absurd b
+    reload_part (Err refusal.Spent) b = tt
+    reload_part (Err other) b = cut_part named rows (reload_of named None) other b
+
+    pub join_part : (result : Result Joining CallNo)
+        → IsJoin link left count rows named old olds dice result new news after
+        → IfTold JoinsPart (told_of_join old.seat result)
+    join_part (Ok (joining.Generation number)) b =
+        brought named rows (event.Join named) (answer.Joined number) b
+    join_part (Ok (joining.Refused verdict)) b =
+        brought named rows (event.Join named) (answer.Refused verdict) b
+    join_part (Ok (joining.Present number)) b =
+        brought named rows (event.Join named) (answer.Present number) b
+    join_part (Err refusal.Gone) b = absurd b
+    join_part (Err other) b = cut_part named rows (event.Join named) other b
+
+  -- ---- a refresh
+
+  abbrev RefreshesPart : Told → Type 0
+  RefreshesPart reply =
+      RefreshPart Fails Draws Breaks KeysSame KeyChanged NamesPlugin CannotBeSealed ReadBy RewriteDone old.seat
+      own part reply
+
+  module _ (number : ℕ) (p : Publication) (adopted acted : Caller)
+      (a : AddsEntry old (event.Adopt own) (answer.Adopted number p) adopted)
+      (g : AddsEntry acted event.LetGo answer.Released new) where
+    published : IsPublished p
+    published = (adopted_admitted old adopted own number p k a).0
+
+    -- nothing was brought
+    none_brought : (Why : Publication → Type 0) → Why p → acted ≡ adopted
+        → HoldsPart own part (λ p number mids. (mids ≡ []) × Why p)
+    none_brought Why why same =
+        let Is : (p : Publication) → (number : ℕ) → List Entry → Type 0 = λ p number mids.
+        (mids ≡ []) × Why p in
+        part_here (λ part. HoldsPart own part Is) old new part adds
+        (held_parted own old adopted acted new number p Is a g
+        (none_between number p (Is p number) adopted acted same (refl, why)))
+
+    -- the settings were brought anew
+    renewed : (given : Answer) (links : List L) → KeyChanged p
+        → Brings link left count p.rows (reload_of own (Some number)) adopted links dice given
+        acted news after
+        → HoldsPart own part (λ p number mids. KeyChanged p × (anew : Publication)
+        × (anew.rows ≡ p.rows)
+        × IsOne mids (did.Reload own anew (Some number)) (gave_of given) (λ e. ⊤))
+    renewed given links changed b =
+        let Is : (p : Publication) → (number : ℕ) → List Entry → Type 0 = λ p number mids.
+        KeyChanged p × (anew : Publication) × (anew.rows ≡ p.rows)
+        × IsOne mids (did.Reload own anew (Some number)) (gave_of given) (λ e. ⊤) in
+        let asked = reload_of own (Some number) b.p in
+        part_here (λ part. HoldsPart own part Is) old new part adds
+        (held_parted own old adopted acted new number p Is a g
+        (parted_one (Mids number p (Is p number)) adopted acted asked given b.brought (
+          holds_entry number p adopted acted asked given
+              (caller_next old adopted (event.Adopt own) (answer.Adopted number p) a k)
+              (adopted_law old adopted own number p a) b.brought,
+          (
+            changed,
+            b.p,
+            b.publishes.0,
+            record {
+              entry = b.brought.entry;
+              mids_are = refl;
+              does = has_done adopted acted asked given b.brought;
+              is = tt;
+            },
+          ),
+        )))
+
+    -- memory lacked, behind the Adopt alone or as the settings were to be brought
+    abbrev Lacks : Publication → ℕ → List Entry → Type 0
+    Lacks p number mids = (mids ≡ []) ⊎ ((anew : Publication) × (anew.rows ≡ p.rows)
+        × IsOne mids (did.Reload own anew (Some number)) gave.Nothing (λ e. ⊤))
+
+    lacks_early : acted ≡ adopted → HoldsPart own part Lacks
+    lacks_early same = part_here (λ part. HoldsPart own part Lacks) old new part adds
+        (held_parted own old adopted acted new number p Lacks a g
+        (none_between number p (Lacks p number) adopted acted same (inl refl)))
+
+    lacks_late : (links : List L)
+        → Brings link left count p.rows (reload_of own (Some number)) adopted links dice
+        answer.NoMemory acted news after
+        → HoldsPart own part Lacks
+    lacks_late links b =
+        let asked = reload_of own (Some number) b.p in
+        part_here (λ part. HoldsPart own part Lacks) old new part adds
+        (held_parted own old adopted acted new number p Lacks a g
+        (parted_one (Mids number p (Lacks p number)) adopted acted asked answer.NoMemory b.brought (
+          holds_entry number p adopted acted asked answer.NoMemory
+              (caller_next old adopted (event.Adopt own) (answer.Adopted number p) a k)
+              (adopted_law old adopted own number p a) b.brought,
+          inr (
+            b.p,
+            b.publishes.0,
+            record {
+              entry = b.brought.entry;
+              mids_are = refl;
+              does = has_done adopted acted asked answer.NoMemory b.brought;
+              is = tt;
+            },
+          ),
+        )))
+
+    -- the plugins couldn't be asked
+    in_vain : (why : CallNo) → AsksInVain link olds p.seeds why news → acted ≡ adopted
+        → IfTold RefreshesPart (told_of_refusal old.seat why)
+    in_vain (refusal.PluginFailed name) v same = (
+      v.1,
+      none_brought (λ p. Contains (plugins_in p.rows) name)
+          (asked_there link olds p name published v.0) same,
+    )
+    in_vain (refusal.Unhealthy name field text) v same = (
+      v.1,
+      none_brought (λ p. Contains (plugins_in p.rows) name)
+          (asked_there link olds p name published v.0) same,
+    )
+    in_vain refusal.NoMemory v same = inr (inr (lacks_early same))
+    in_vain other v same = absurd v
+
+    -- or were, and the settings couldn't be published or brought
+    renews_not : (links : List L) → AskedOnly link (plugin_names p.seeds) olds links
+        → KeyChanged p → (why : CallNo)
+        → BringsBy link left count p.rows (reload_of own (Some number)) own adopted links dice
+        why acted news after
+        → IfTold RefreshesPart (told_of_refusal old.seat why)
+    renews_not links asked changed (refusal.PluginFailed name) b = (
+      rose_later link (plugin_names p.seeds) name olds links news asked b.0.0,
+      none_brought (λ p. Contains (plugins_in p.rows) name)
+          (ends_there link left count p.rows links dice after name b.0.1) b.1,
+    )
+    renews_not links asked changed refusal.DiceFailed b = (
+      refl,
+      b.0.3,
+      part_here (λ part. HoldsPart own part (λ p number mids. mids ≡ [])) old new part adds
+          (held_parted own old adopted acted new number p (λ p number mids. mids ≡ []) a g
+          (none_between number p (λ mids. mids ≡ []) adopted acted b.1 refl)),
+    )
+    renews_not links asked changed (refusal.Unhealthy name field text) b = (
+      had link (plugin_names p.seeds) name (λ it. HasBreach it (Some (field, text))) olds links
+          (breach_back (Some (field, text))) asked b.0.1,
+      none_brought (λ p. Contains (plugins_in p.rows) name) b.0.0.there b.1,
+    )
+    renews_not links asked changed refusal.Gone b = inr (renewed (answer.Gone own) links changed b)
+    renews_not links asked changed refusal.Spent b = tt
+    renews_not links asked changed refusal.NoMemory (inl b) = inr (inr (lacks_early b.1))
+    renews_not links asked changed refusal.NoMemory (inr (inl b)) = inr (inr (lacks_early b.1))
+    renews_not links asked changed refusal.NoMemory (inr (inr b)) =
+        inr (inr (lacks_late links b))
+    renews_not links asked changed other b = absurd b
+
+    refreshes_part : (result : Result Loaded CallNo)
+        → Refreshes link left count own number p adopted olds dice result acted news after
+        → IfTold RefreshesPart (told_of_refresh old.seat result)
+    refreshes_part (Ok (loaded.Unchanged same)) r = none_brought KeysSame r.1 r.2
+    refreshes_part (Ok (loaded.Generation made)) r =
+        renewed (answer.Reloaded made) r.asked r.changed r.brought
+    refreshes_part (Ok (loaded.Moved current)) r =
+        renewed (answer.Moved current) r.asked r.changed r.brought
+    refreshes_part (Ok (loaded.Refused verdict)) r = absurd r
+    refreshes_part (Err why) (inl r) = in_vain why r.0 r.1
+    refreshes_part (Err why) (inr r) = renews_not r.asked r.links r.changed why r.brought
+
+  pub refresh_part : (result : Result Loaded CallNo)
+      → IsRefresh link left count own old olds dice result new news after
+      → IfTold RefreshesPart (told_of_refresh old.seat result)
+  refresh_part = held_part RefreshesPart (told_of_refresh old.seat)
+      ((news ≡ olds) × (after ≡ dice))
+      (λ (number : ℕ) (p : Publication) (from : Caller) (done : Result Loaded CallNo)
+      (to : Caller). Refreshes link left count own number p from olds dice done to news
+      after × AskedOnly link (plugin_names p.seeds) olds news) (λ why x. x) (λ x. inl x)
+      (λ x. inl x) (λ x. inr (inl x))
+      (λ number p adopted acted a g done d. refreshes_part number p adopted acted a g done d.0)

@@ -1,56 +1,29 @@
 -- The part of each line that was done has its shape.
-use Rattle.std.proofs.Common.{◌≡◌, ℕ, List, [], Option, None, Some, Ok, inl, inr, ap, sym, subst}
+use Rattle.std.proofs.Common.{◌≡◌, ℕ, List, [], Option, None, Result, Ok, inl, inr, ap, sym, subst}
 use Rattle.kr_base.specs.Faults.{Rose}
 use Rattle.kr_config.specs.Kept.{ConfigEntry as setting}
 use Rattle.kr_kms.specs.Calls.{Link}
 use Rattle.kr_kms.specs.Exchanges.{Exchange}
-use Rattle.kr_kms.specs.Health.{HasBreach}
-use Rattle.kr_provider.specs.AskedLinks.{FaultRose, HasLinkWith}
+use Rattle.kr_provider.specs.AskedLinks.{FaultRose}
 use Rattle.kr_rollout.specs.declared.opening.Entry.{Entry}
 use Rattle.kr_rollout.specs.Callers.{holding}
 use Rattle.kr_history.specs.Acting.{IsCaller}
 use Rattle.kr_history.specs.Parts.{Adds}
-use Rattle.kr_fleet.specs.LoadCalls.{AreKeysSame, IsKeyChanged}
+use Rattle.kr_history.specs.declared.call.CallNo.{CallNo}
 use Rattle.kr_rewrite.specs.Drives.{CoversLive}
 use Rattle.kr_script.specs.declared.script.ScriptLine.{ScriptLine}
 use Rattle.kr_script.specs.declared.script.ScriptLine.TheVariants as line
 use Rattle.kr_script.specs.declared.told.Told.{Told}
+use Rattle.kr_script.specs.declared.told.Told.TheVariants as told
 use Rattle.kr_workers.specs.declared.files.SettingsFile.{SettingsFile}
 use Rattle.kr_workers.specs.Files.{rows_at}
 use Rattle.kr_workers.specs.LineParts.{HasShape, PartsHaveShape}
-use Rattle.kr_workers.specs.Replies.{Reply}
-use Rattle.kr_workers.specs.ScriptLines.{Does, Workplace}
-use Rattle.kr_workers.specs.Configurations.{CannotBeSealed, IsFresh, IsLeft, IsStale, NamesPlugin, ReadBy}
+use Rattle.kr_workers.specs.Replies.{Reply, told_of_join, told_of_reload}
+use Rattle.kr_workers.specs.ScriptLines.{BringsFile, Does, WasRead, Workplace}
+use Rattle.kr_workers.specs.Configurations.{IsFresh, IsLeft, IsStale}
 use Rattle.kr_workers.specs.RewriteParts.{RewritePart}
-use Rattle.kr_workers.specs.Shapes.{JoinPart, ReloadPart}
-use Rattle.kr_workers.proofs.Shaping.{IfTold, delete_part, leave_part, nothing_added, read_part, write_part}
-use Rattle.kr_workers.proofs.ShapingLoads.{join_part, refresh_part, reload_part}
+use Rattle.kr_workers.proofs.Shaping.{IfTold, JoinsPart, ReloadsPart, delete_part, join_part, leave_part, nothing_added, read_part, refresh_part, reload_part, write_part}
 use Rattle.kr_workers.proofs.ShapingRewrites.{drive_part, linked}
-
--- a reload's part and a join's, by the settings of the file
-module _ {L D : Type 0} (link : L → Link) (count : D → ℕ) (own : ℕ) (old new : Workplace L D)
-    (part : List Entry) (named : ℕ) where
-  -- what a rewrite did
-  abbrev Rewrote : Told → Type 0
-  Rewrote = RewritePart IsFresh IsStale IsLeft (λ name. FaultRose link name old.links new.links)
-      (Rose (count old.dice) (count new.dice)) (λ met. CoversLive [] met old.caller new.caller)
-      old.caller.seat own part
-
-  abbrev ReloadShape : List setting → Told → Type 0
-  ReloadShape rows reply = ReloadPart (λ name. FaultRose link name old.links new.links)
-      (Rose (count old.dice) (count new.dice))
-      (λ name field text. HasLinkWith link name (λ it. HasBreach it (Some (field, text))) old.links)
-      (λ p. AreKeysSame link old.links p.seeds) (λ p. IsKeyChanged link old.links p.seeds)
-      NamesPlugin CannotBeSealed ReadBy Rewrote
-      old.caller.seat own part named rows reply
-
-  abbrev JoinShape : List setting → Told → Type 0
-  JoinShape rows reply = JoinPart (λ name. FaultRose link name old.links new.links)
-      (Rose (count old.dice) (count new.dice))
-      (λ name field text. HasLinkWith link name (λ it. HasBreach it (Some (field, text))) old.links)
-      (λ p. AreKeysSame link old.links p.seeds) (λ p. IsKeyChanged link old.links p.seeds)
-      NamesPlugin CannotBeSealed ReadBy Rewrote
-      old.caller.seat own part named rows reply
 
 module _ {L D : Type 0} (link : L → Link) (left : D → Option (List ℕ))
     (count : D → ℕ) (files : List SettingsFile) (own : ℕ) (old new : Workplace L D)
@@ -74,6 +47,19 @@ module _ {L D : Type 0} (link : L → Link) (left : D → Option (List ℕ))
   unchanged same = nothing_added old.caller new.caller part adds
       (ap (λ (place : Workplace L D). place.caller) same)
 
+  -- a file was read, and a call brings its settings
+  brought_part : {T : Type 0} → (Part : List setting → Told → Type 0)
+      (tells : ℕ → Result T CallNo → Reply) (Calls : List setting → Result T CallNo → Type 0)
+      (found : Option (List setting)) → ((rows : List setting) → part ≡ [] → Part rows told.Memory)
+      → ((rows : List setting) (result : Result T CallNo) → Calls rows result
+      → IfTold (Part rows) (tells old.caller.seat result))
+      → WasRead found (λ rows. BringsFile link tells (Calls rows) rows old (Ok reply) new)
+      → WasRead found (λ rows. Part rows reply)
+  brought_part Part tells Calls found lacks calls (rows, read, inl none) =
+      (rows, read, as_told (Part rows) _ none.0 (lacks rows (unchanged none.1)))
+  brought_part Part tells Calls found lacks calls (rows, read, inr d) =
+      (rows, read, as_told (Part rows) _ d.1 (calls rows d.0 d.2))
+
   pub line_part : (asked : ScriptLine)
       → Does link left count files own asked old (Ok reply) new → Shaped asked reply
   line_part (line.Put resource path plain) d = as_told (Shaped (line.Put resource path plain)) _ d.1
@@ -88,35 +74,19 @@ module _ {L D : Type 0} (link : L → Link) (left : D → Option (List ℕ))
   line_part line.Rewrite d = as_told (Shaped line.Rewrite) _ d.1
       (drive_part (linked link) left count own old.caller new.caller k idle old.links
       new.links tt old.dice new.dice part adds d.0 d.2)
-  line_part (line.Reload named file) (rows, read, inl none) = (
-    rows,
-    read,
-    as_told (ReloadShape link count own old new part named rows) _ none.0
-        (inl (unchanged none.1)),
-  )
-  line_part (line.Reload named file) (rows, read, inr d) = (
-    rows,
-    read,
-    as_told (ReloadShape link count own old new part named rows) _ d.1
-        (reload_part link left count own old.caller new.caller k idle old.links new.links old.dice
-        new.dice RewriteDone part adds named rows d.0 d.2),
-  )
+  line_part (line.Reload named file) d = brought_part
+      (ReloadsPart link left count own old.caller new.caller k idle old.links new.links old.dice
+      new.dice RewriteDone part adds named) told_of_reload _ (rows_at files file) (λ rows e. inl e)
+      (reload_part link left count own old.caller new.caller k idle old.links new.links old.dice
+      new.dice RewriteDone part adds named) d
   line_part line.Refresh d = as_told (Shaped line.Refresh) _ d.1
       (refresh_part link left count own old.caller new.caller k idle old.links new.links
       old.dice new.dice RewriteDone part adds d.0 d.2)
-  line_part (line.Join named file) (rows, read, inl none) = (
-    rows,
-    read,
-    as_told (JoinShape link count own old new part named rows) _ none.0
-        (inl (unchanged none.1)),
-  )
-  line_part (line.Join named file) (rows, read, inr d) = (
-    rows,
-    read,
-    as_told (JoinShape link count own old new part named rows) _ d.1
-        (join_part link left count own old.caller new.caller k idle old.links new.links old.dice
-        new.dice RewriteDone part adds named rows d.0 d.2),
-  )
+  line_part (line.Join named file) d = brought_part
+      (JoinsPart link left count own old.caller new.caller k idle old.links new.links old.dice
+      new.dice RewriteDone part adds named) told_of_join _ (rows_at files file) (λ rows e. inl e)
+      (join_part link left count own old.caller new.caller k idle old.links new.links old.dice
+      new.dice RewriteDone part adds named) d
   line_part (line.Leave named) d = leave_part link left count own old.caller new.caller k
       idle old.links new.links old.dice new.dice RewriteDone part adds (rows_at files) named d.0 reply
       d.1 d.2

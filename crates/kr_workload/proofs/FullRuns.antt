@@ -93,28 +93,14 @@ none_passes test (x ∷ xs) is =
 abbrev of_kind : Ending → Told → Bool
 of_kind kind reply = is_same (reply_ending reply) kind
 
-else_memory : IsElse (of_kind ending.Memory)
-else_memory = record {
-  put = λ r. refl;
-  got = λ r p. refl;
-  reloaded = λ g. refl;
-  refused = λ v. refl;
-}
-
-else_full : IsElse (of_kind ending.Full)
-else_full = record {
-  put = λ r. refl;
-  got = λ r p. refl;
-  reloaded = λ g. refl;
-  refused = λ v. refl;
-}
-
-else_unhealthy : IsElse (of_kind ending.Unhealthy)
-else_unhealthy = record {
-  put = λ r. refl;
-  got = λ r p. refl;
-  reloaded = λ g. refl;
-  refused = λ v. refl;
+-- of a kind that isn't that of a put, a get or a reload
+else_kind : (kind : Ending) → is_same ending.Done kind ≡ false
+    → is_same ending.Refused kind ≡ false → IsElse (of_kind kind)
+else_kind kind done refused = record {
+  put = λ r. done;
+  got = λ r p. done;
+  reloaded = λ g. done;
+  refused = λ v. refused;
 }
 
 else_refused : IsElse refuses
@@ -423,7 +409,8 @@ module _ (T : Type 0) {L D : Type 0} (link : L → Link)
       all_full : AreFull seed size all_told
       all_full = record {
         ended = load_picks all_told ∙ (λ i. pick (no_faults i) (enough i)
-            (none_of ending.Full else_full i) (none_of ending.Unhealthy else_unhealthy i)
+            (none_of ending.Full (else_kind ending.Full refl refl) i)
+            (none_of ending.Unhealthy (else_kind ending.Unhealthy refl refl) i)
             (none_refuse i));
         puts = (let e = ap count_puts told_are in
             omega (arith, e, w0.puts, w1.puts, w2.puts, w3.puts));

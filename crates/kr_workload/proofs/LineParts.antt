@@ -1,8 +1,6 @@
 -- What a put, a get and a reload add to the history, by the relation of each call.
-use Rattle.std.specs.Prelude.{All, ⊤}
-use Rattle.std.proofs.Common.{◌≡◌, ℕ, List, [], ◌∷◌, ◌++◌, Option, None, Some, Result, Ok, Err, inl, inr, ap, sym, subst, ◌∙◌, append-nil}
-use Rattle.std.proofs.lemmas.List.{append_assoc}
-use Rattle.std.proofs.lemmas.List.Elements.{All-append, All-cons, All-nil}
+use Rattle.std.specs.Prelude.{⊤}
+use Rattle.std.proofs.Common.{◌≡◌, ℕ, List, Option, None, Some, Result, Ok, Err, inl, inr, ap, sym, subst, ◌∙◌}
 use Rattle.kr_config.specs.Kept.{ConfigEntry}
 use Rattle.kr_kms.specs.Calls.{Link}
 use Rattle.kr_provider.specs.Publication.{Publication}
@@ -18,13 +16,9 @@ use Rattle.kr_rollout.specs.declared.line.Did.TheVariants as did
 use Rattle.kr_rollout.specs.declared.opening.Entry.{Entry}
 use Rattle.kr_history.specs.Acting.{AddsEntry, Caller}
 use Rattle.kr_rollout.specs.Callers.{did_of}
-use Rattle.kr_history.specs.Calls.{AddsNothing, AdoptsNothing, HoldsMeanwhile, LetsGo}
 use Rattle.kr_fleet.specs.declared.outcome.Loaded.{Loaded}
 use Rattle.kr_fleet.specs.declared.outcome.Loaded.TheVariants as loaded
-use Rattle.kr_fleet.specs.declared.outcome.Read.{Read}
-use Rattle.kr_fleet.specs.declared.outcome.Read.TheVariants as read
 use Rattle.kr_fleet.specs.LoadCalls.{Brings, BringsBy, IsReload, reload_of}
-use Rattle.kr_fleet.specs.ReadCalls.{Finds, IsRead}
 use Rattle.kr_fleet.specs.WriteCalls.{IsWrite, Puts}
 use Rattle.kr_script.specs.declared.script.ScriptLine.{ScriptLine}
 use Rattle.kr_script.specs.declared.script.ScriptLine.TheVariants as line
@@ -32,6 +26,8 @@ use Rattle.kr_workers.specs.declared.files.SettingsFile.{SettingsFile}
 use Rattle.kr_workers.specs.Files.{rows_at}
 use Rattle.kr_workers.specs.Replies.{Reply}
 use Rattle.kr_workers.specs.ScriptLines.{Does, Workplace}
+use Rattle.kr_workers.proofs.ByEvents.{IsReading, KeptByEvents, lacking_by, meanwhile_by, read_by}
+use Rattle.kr_workers.proofs.Making.{Makes, entry_makes, none_makes, same_makes, then_makes}
 
 -- ---- what an entry of a line may be
 
@@ -54,39 +50,6 @@ IsOf files asked other = ⊥
 
 -- ---- parts
 
--- what the caller adds is of this kind
-pub record Makes (P : Entry → Type 0) (old new : Caller) : Type 0 where
-  pub part : List Entry
-  pub mine_is : new.mine ≡ old.mine ++ part
-  pub all : All P part
-
-module _ (P : Entry → Type 0) where
-  same_makes : (old new : Caller) → new ≡ old → Makes P old new
-  same_makes old new same = record {
-    part = [];
-    mine_is = ap (λ (c : Caller). c.mine) same ∙ sym (append-nil old.mine);
-    all = All-nil P;
-  }
-
-  none_makes : (old new : Caller) → AddsNothing old new → Makes P old new
-  none_makes old new n = same_makes old new n.same
-
-  then_makes : (a b c : Caller) → Makes P a b → Makes P b c → Makes P a c
-  then_makes a b c s t = record {
-    part = s.part ++ t.part;
-    mine_is = t.mine_is ∙ ap (λ (l : List Entry). l ++ t.part) s.mine_is
-        ∙ append_assoc a.mine s.part t.part;
-    all = All-append P s.part t.part s.all t.all;
-  }
-
-  entry_makes : (old new : Caller) (asked : Event) (given : Answer)
-      → (a : AddsEntry old asked given new) → P a.entry → Makes P old new
-  entry_makes old new asked given a own = record {
-    part = a.entry ∷ [];
-    mine_is = ap (λ (c : Caller). c.mine) a.new_is;
-    all = All-cons P a.entry [] own (All-nil P);
-  }
-
 module _ {L D : Type 0} (link : L → Link) (left : D → Option (List ℕ))
     (count : D → ℕ) (files : List SettingsFile) (asked : ScriptLine) where
   abbrev pub OfLine : Entry → Type 0
@@ -100,34 +63,19 @@ module _ {L D : Type 0} (link : L → Link) (left : D → Option (List ℕ))
   event_makes old new did given a own = entry_makes OfLine old new did given a
       (subst (λ d. IsOf files asked d) (sym a.records.did_is) own)
 
-  -- ---- calls that hold a generation meanwhile
+  reading_did : (made : Event) (given : Answer) → IsReading made given
+      → IsOf files asked (did_of made)
+  reading_did (event.Adopt replica) given r = tt
+  reading_did (event.Fetch path) given r = tt
+  reading_did event.LetGo given r = tt
+  reading_did other given r = absurd r
 
-  early_makes : (replica : ℕ) (old new : Caller) (why : CallNo)
-      → AdoptsNothing replica old why new → Adding old new
-  early_makes replica old new refusal.Gone e =
-      event_makes old new (event.Adopt replica) (answer.Gone replica) e tt
-  early_makes replica old new refusal.Spent e = none_makes OfLine old new e
-  early_makes replica old new refusal.NoMemory (inl e) = same_makes OfLine old new e
-  early_makes replica old new refusal.NoMemory (inr e) =
-      event_makes old new (event.Adopt replica) answer.NoMemory e tt
-  early_makes replica old new other e = absurd e
-
-  let_go_makes : {T : Type 0} → (old new : Caller) (done result : Result T CallNo)
-      → LetsGo old done result new → Adding old new
-  let_go_makes old new done result (inl g) =
-      event_makes old new event.LetGo answer.Released g.0 tt
-  let_go_makes old new done result (inr n) = none_makes OfLine old new n.0
-
-  held_makes : {T : Type 0}
-      → (Does : (number : ℕ) → Publication → Caller → Result T CallNo → Caller → Type 0)
-      (replica : ℕ) (old new : Caller) (result : Result T CallNo)
-      → (h : HoldsMeanwhile Does replica old result new) → Adding h.adopted h.acted
-      → Adding old new
-  held_makes {T} Does replica old new result h by =
-      then_makes OfLine old h.adopted new (event_makes old h.adopted (event.Adopt replica)
-      (answer.Adopted h.number h.p) h.adopts tt)
-      (then_makes OfLine h.adopted h.acted new by
-      (let_go_makes {T = T} h.acted new h.done result h.lets_go))
+  kept : KeptByEvents Adding
+  kept = record {
+    same = same_makes OfLine;
+    both = then_makes OfLine;
+    reads = λ old new made given r a. event_makes old new made given a (reading_did made given r);
+  }
 
   -- ---- a put
 
@@ -157,44 +105,10 @@ module _ {L D : Type 0} (link : L → Link) (left : D → Option (List ℕ))
     write_makes : (replica : ℕ) (old new : Caller) (dice after : D) (result : Result ℕ CallNo)
         → IsWrite left count resource path plain replica old dice result new after
         → Adding old new
-    write_makes replica old new dice after (Ok revision) (inl e) = absurd e
-    write_makes replica old new dice after (Err why) (inl e) =
-        early_makes replica old new why e.0
-    write_makes replica old new dice after result (inr h) = held_makes
+    write_makes replica old new dice after result = meanwhile_by kept (after ≡ dice)
         (λ (number : ℕ) (p : Publication) (from : Caller) (done : Result ℕ CallNo)
         (to : Caller). Puts left count resource path plain p from dice done to after) replica old
-        new result h (puts_make h.p h.adopted h.acted dice after h.done h.does)
-
-  -- ---- a get
-
-  finds_make : (path : List ℕ) (p : Publication) (old new : Caller) (olds news : List L)
-      (result : Result Read CallNo) → Finds link path p old olds result new news
-      → Adding old new
-  finds_make path p old new olds news (Ok read.Absent) d =
-      event_makes old new (event.Fetch path) answer.Absent d.0.absent tt
-  finds_make path p old new olds news (Ok (read.Value revision plain stale)) d =
-      event_makes old new (event.Fetch path) (answer.Found d.0) d.1.found tt
-  finds_make path p old new olds news (Err (refusal.Refused why)) d =
-      event_makes old new (event.Fetch path) (answer.Found d.0) d.1.found tt
-  finds_make path p old new olds news (Err (refusal.PluginFailed name)) d =
-      event_makes old new (event.Fetch path) (answer.Found d.0) d.1.found tt
-  finds_make path p old new olds news (Err refusal.Spent) d = none_makes OfLine old new d.0
-  finds_make path p old new olds news (Err refusal.NoMemory) (inl d) =
-      event_makes old new (event.Fetch path) (answer.Found d.0) d.1.found tt
-  finds_make path p old new olds news (Err refusal.NoMemory) (inr d) =
-      event_makes old new (event.Fetch path) answer.NoMemory d.0 tt
-  finds_make path p old new olds news (Err other) d = absurd d
-
-  read_makes : (path : List ℕ) (replica : ℕ) (old new : Caller) (olds news : List L)
-      (result : Result Read CallNo) → IsRead link path replica old olds result new news
-      → Adding old new
-  read_makes path replica old new olds news (Ok found) (inl e) = absurd e
-  read_makes path replica old new olds news (Err why) (inl e) =
-      early_makes replica old new why e.0
-  read_makes path replica old new olds news result (inr h) = held_makes
-      (λ (number : ℕ) (p : Publication) (from : Caller) (done : Result Read CallNo) (to : Caller).
-      Finds link path p from olds done to news) replica old new result h
-      (finds_make path h.p h.adopted h.acted olds news h.done h.does)
+        new result (λ h. puts_make h.p h.adopted h.acted dice after h.done h.does)
 
   -- ---- a reload
 
@@ -235,9 +149,9 @@ module _ {L D : Type 0} (link : L → Link) (left : D → Option (List ℕ))
   line_makes replica (line.Put resource path plain) is simple old new reply d =
       write_makes resource path plain is replica old.caller new.caller old.dice new.dice d.0 d.2
   line_makes replica (line.Get path) is simple old new reply d =
-      read_makes path replica old.caller new.caller old.links new.links d.0 d.2
+      read_by kept link path replica old.caller new.caller old.links new.links d.0 d.2
   line_makes replica (line.Reload named file) is simple old new reply (rows, read, inl none) =
-      same_makes OfLine old.caller new.caller (ap (λ (w : Workplace L D). w.caller) none.1)
+      lacking_by kept old new none.1
   line_makes replica (line.Reload named file) is simple old new reply (rows, read, inr d) =
       reload_makes named file is rows read named old.caller new.caller old.links new.links
       old.dice new.dice d.0 d.2

@@ -8,9 +8,11 @@ use Rattle.std.proofs.lemmas.Bool.{false≢true}
 use Rattle.std.proofs.lemmas.List.Elements.{All-append, All-cons, All-head, All-nil, All-tail}
 use Rattle.std.proofs.lemmas.Option.{same_Some}
 use Rattle.kr_config.specs.Kept.{ConfigEntry, plugins_in, rows_of}
-use Rattle.kr_config.specs.declared.who.Who.TheVariants.{Identity}
+use Rattle.kr_config.specs.Lists.{list_of}
+use Rattle.kr_config.specs.declared.who.Who.TheVariants.{Aesgcm, Identity}
 use Rattle.kr_envelope.specs.Prefixes.{prefix}
 use Rattle.kr_envelope.specs.declared.prefix.Kind.TheVariants as kind
+use Rattle.kr_provider.specs.Readers.{writer_of}
 use Rattle.kr_rollout.specs.declared.line.Did.{Did}
 use Rattle.kr_rollout.specs.declared.line.Did.TheVariants as did
 use Rattle.kr_script.specs.declared.script.ScriptLine.{ScriptLine}
@@ -22,7 +24,7 @@ use Rattle.kr_workload.specs.LoadRuns.{opening_rows}
 use Rattle.kr_workload.specs.Loads.{configurations, g1, g2, load_get_line, lines_of, named_configuration, of_secrets, put_of, load_reloads}
 use Rattle.kr_workload.specs.Streams.{piece}
 use Rattle.kr_workload.proofs.LineParts.{IsOf, IsSimple}
-use Rattle.kr_workload.proofs.LoadHistories.{IsLoads, WritesByKey}
+use Rattle.kr_workload.proofs.LoadHistories.{IsLoads, WritesByKey, secrets}
 
 -- ---- the lines
 
@@ -99,13 +101,15 @@ short_other : length (prefix kind.Aesgcm (codes "g2")) ≤ 30
 unfolding prefix
 short_other = omega arith
 
+-- rows whose writer is this key
+keyed : (name secret : List ℕ) (rows : List ConfigEntry)
+    → writer_of (list_of rows secrets) ≡ Aesgcm name secret
+    → length (prefix kind.Aesgcm name) ≤ 30 → WritesByKey rows
+keyed name secret rows writer short =
+    record { name = name; secret = secret; writer = writer; short = short }
+
 pub opening_keyed : (seed : ℕ) → WritesByKey (opening_rows seed)
-opening_keyed seed = record {
-  name = codes "g1";
-  secret = piece seed 0;
-  writer = refl;
-  short = short_first;
-}
+opening_keyed seed = keyed (codes "g1") (piece seed 0) (opening_rows seed) refl short_first
 
 module _ (seed : ℕ) (files : List SettingsFile)
     (files_are : map named_configuration files ≡ configurations seed) where
@@ -117,34 +121,34 @@ module _ (seed : ℕ) (files : List SettingsFile)
       ≡ Some (of_secrets (g2 seed ∷ (g1 seed ∷ (Identity ∷ []))))
   rows_c = rows_named files (codes "C") ∙ ap (found_rows (codes "C")) files_are
 
+  -- the rows of a file that has this name
+  named_rows : (name file : List ℕ) (own rows : List ConfigEntry) → rows_at files name ≡ Some own
+      → file ≡ name → rows_at files file ≡ Some rows → own ≡ rows
+  named_rows name file own rows there same is =
+      same_Some own rows (sym there ∙ sym (ap (rows_at files) same) ∙ is)
+
+  abbrev first_rows : List ConfigEntry
+  first_rows = of_secrets (g1 seed ∷ (g2 seed ∷ (Identity ∷ [])))
+
+  abbrev other_rows : List ConfigEntry
+  other_rows = of_secrets (g2 seed ∷ (g1 seed ∷ (Identity ∷ [])))
+
   file_keyed : (file : List ℕ) (rows : List ConfigEntry) → (file ≡ codes "B") ⊎ (file ≡ codes "C")
       → rows_at files file ≡ Some rows → WritesByKey rows
-  file_keyed file rows (inl b) is = subst WritesByKey
-      (same_Some (of_secrets (g1 seed ∷ (g2 seed ∷ (Identity ∷ [])))) rows
-      (sym rows_b ∙ sym (ap (rows_at files) b) ∙ is)) (record {
-        name = codes "g1";
-        secret = piece seed 0;
-        writer = refl;
-        short = short_first;
-      })
-  file_keyed file rows (inr c) is = subst WritesByKey
-      (same_Some (of_secrets (g2 seed ∷ (g1 seed ∷ (Identity ∷ [])))) rows
-      (sym rows_c ∙ sym (ap (rows_at files) c) ∙ is)) (record {
-        name = codes "g2";
-        secret = piece seed 1;
-        writer = refl;
-        short = short_other;
-      })
+  file_keyed file rows (inl b) is =
+      subst WritesByKey (named_rows (codes "B") file first_rows rows rows_b b is)
+      (keyed (codes "g1") (piece seed 0) first_rows refl short_first)
+  file_keyed file rows (inr c) is =
+      subst WritesByKey (named_rows (codes "C") file other_rows rows rows_c c is)
+      (keyed (codes "g2") (piece seed 1) other_rows refl short_other)
 
   -- it names no plugin
   pub file_bare : (file : List ℕ) → (file ≡ codes "B") ⊎ (file ≡ codes "C") → (rows : List ConfigEntry)
       → rows_at files file ≡ Some rows → plugins_in rows ≡ []
-  file_bare file (inl b) rows is = sym (ap plugins_in
-      (same_Some (of_secrets (g1 seed ∷ (g2 seed ∷ (Identity ∷ [])))) rows
-      (sym rows_b ∙ sym (ap (rows_at files) b) ∙ is)))
-  file_bare file (inr c) rows is = sym (ap plugins_in
-      (same_Some (of_secrets (g2 seed ∷ (g1 seed ∷ (Identity ∷ [])))) rows
-      (sym rows_c ∙ sym (ap (rows_at files) c) ∙ is)))
+  file_bare file (inl b) rows is =
+      sym (ap plugins_in (named_rows (codes "B") file first_rows rows rows_b b is))
+  file_bare file (inr c) rows is =
+      sym (ap plugins_in (named_rows (codes "C") file other_rows rows rows_c c is))
 
   -- ---- entries
 

@@ -66,7 +66,11 @@ fn both<A: Drop, B: Drop>(
 
 /// A list of the item alone.
 fn list_of_one<T: Drop>(alloc: Global, item: T) -> Result<List<T>, NoMemory> {
-    let mut all = List::new(alloc);
+    list_with(List::new(alloc), item)
+}
+
+/// The list with the item at its end.
+fn list_with<T: Drop>(mut all: List<T>, item: T) -> Result<List<T>, NoMemory> {
     match all.push(item) {
         Ok(()) => Ok(all),
         Err(refused) => {

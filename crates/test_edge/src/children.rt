@@ -138,6 +138,21 @@ fn make<R: Files<File = File>>(rt: &R, program: &str, text: &str) -> bool {
     }
 }
 
+/// Whether a program of the shell tells what it is, the link fails so often then, and it wraps and
+/// unwraps where that is never.
+fn is_served<R: Files<File = File> + Processes<Started = SystemProcess>>(
+    rt: &R,
+    alloc: Global,
+    program: &str,
+    text: &str,
+    faults: u64,
+) -> bool {
+    let made = make(rt, program, text);
+    let served = served(rt, alloc, program);
+    let _removed = rt.remove_file(program);
+    made && served == Some((true, faults == 0, faults == 0, faults))
+}
+
 /// What comes of two calls to a program of the shell.
 fn called_shell<R: Files<File = File> + Processes<Started = SystemProcess>>(
     rt: &R,
@@ -153,6 +168,22 @@ fn called_shell<R: Files<File = File> + Processes<Started = SystemProcess>>(
     calls
 }
 
+/// The same of one that answers the first call by this line, and the second as a plugin tells what
+/// it is.
+fn called_after<R: Files<File = File> + Processes<Started = SystemProcess>>(
+    rt: &R,
+    alloc: Global,
+    line: &str,
+) -> Option<Called> {
+    let status = "{\"healthz\":\"ok\",\"key_id\":\"k\",\"version\":\"v2\"}";
+    match format!(in alloc;
+        "#!/bin/sh\nread -r l\necho '{line}'\nread -r l\necho '{status}'\nread -r l\n"
+    ) {
+        Ok(text) => called_shell(rt, alloc, "./kr_edge.after", text.as_str()),
+        Err(_) => None,
+    }
+}
+
 // It looks at the bytes of each request, their numbers among them.
 #[test]
 fn a_plugin_is_asked_and_answers(rt: HostRuntime) {
@@ -163,10 +194,7 @@ fn a_plugin_is_asked_and_answers(rt: HostRuntime) {
         echo '{\"ciphertext\":\"YWI=\",\"key_id\":\"k\"}'\nread -r l\n\
         case $l in *'\"ciphertext\":\"YWI=\",\"key_id\":\"k\",\"uid\":\"2\"}') \
         echo '{\"plaintext\":\"aGVsbG8=\"}';; esac\n";
-    let made = make(&rt, "./kr_edge.serves", text);
-    let served = served(&rt, rt.alloc(), "./kr_edge.serves");
-    let _removed = rt.remove_file("./kr_edge.serves");
-    assert!(rt; made && served == Some((true, true, true, 0)));
+    assert!(rt; is_served(&rt, rt.alloc(), "./kr_edge.serves", text, 0));
 }
 
 // It sends the request back, which is no reply; so do both.
@@ -176,13 +204,13 @@ fn cat_is_no_plugin(rt: HostRuntime) {
     assert!(rt; called(&rt, rt.alloc(), "cat") == (Some((false, false, 2)), 0));
 }
 
-// It refuses once, and then answers: a refusal leaves the link whole.
+// A refusal leaves the link whole; a reply of another kind is none.
 #[test]
-fn a_refusal_leaves_the_link_whole(rt: HostRuntime) {
-    let text = "#!/bin/sh\nread -r l\necho '{\"error\":\"x\"}'\nread -r l\n\
-        echo '{\"healthz\":\"ok\",\"key_id\":\"k\",\"version\":\"v2\"}'\nread -r l\n";
-    let calls = called_shell(&rt, rt.alloc(), "./kr_edge.whole", text);
-    assert!(rt; calls == Some((false, true, 1)));
+fn a_refusal_alone_leaves_the_link_whole(rt: HostRuntime) {
+    let refused = called_after(&rt, rt.alloc(), "{\"error\":\"x\"}");
+    assert!(rt; refused == Some((false, true, 1)));
+    let misled = called_after(&rt, rt.alloc(), "{\"plaintext\":\"aGVsbG8=\"}");
+    assert!(rt; misled == Some((false, false, 2)));
 }
 
 // It prints a line before it is asked. The second call would read the first one's answer.
@@ -204,19 +232,7 @@ fn a_line_between_two_answers_breaks_the_link(rt: HostRuntime) {
         echo 'token renewed'\nread -r l\n\
         echo '{\"ciphertext\":\"YWI=\",\"key_id\":\"k\",\"plaintext\":\"aGVsbG8=\"}'\n\
         read -r l\n";
-    let made = make(&rt, "./kr_edge.logs", text);
-    let served = served(&rt, rt.alloc(), "./kr_edge.logs");
-    let _removed = rt.remove_file("./kr_edge.logs");
-    assert!(rt; made && served == Some((true, false, false, 2)));
-}
-
-// A reply of another kind is none.
-#[test]
-fn another_reply_breaks_the_link(rt: HostRuntime) {
-    let text = "#!/bin/sh\nread -r l\necho '{\"plaintext\":\"aGVsbG8=\"}'\nread -r l\n\
-        echo '{\"healthz\":\"ok\",\"key_id\":\"k\",\"version\":\"v2\"}'\nread -r l\n";
-    let calls = called_shell(&rt, rt.alloc(), "./kr_edge.other", text);
-    assert!(rt; calls == Some((false, false, 2)));
+    assert!(rt; is_served(&rt, rt.alloc(), "./kr_edge.logs", text, 2));
 }
 
 // The second call finds it ended.

@@ -6,7 +6,6 @@ use std::alloc::Global;
 use std::fs::{File, OpenOptions};
 use std::io::Write;
 use std::os::unix::fs::OpenOptionsExt;
-use std::process::{Processes, SystemProcess};
 use std::rt::Files;
 
 /// Makes a file of these bytes.
@@ -34,24 +33,21 @@ fn holds_hello<W: World>(
 
 /// Whether a file of five bytes is read whole, and each other answer comes: one that is too long,
 /// one that isn't there, and a folder, which alone is a fault.
-fn are_loaded<R: Files<File = File> + Processes<Started = SystemProcess>>(
-    rt: &R,
-    alloc: Global,
-    name: &str,
-) -> bool {
-    let mut world = RealWorld::new(alloc, SystemFiles::new(rt));
-    holds_hello(&mut world, alloc, name, 5) == Ok(true)
-        && holds_hello(&mut world, alloc, name, 4) == Err(FileNo::TooLong)
-        && holds_hello(&mut world, alloc, "kr_edge.absent", 5) == Err(FileNo::Absent)
+fn are_loaded<W: World>(world: &mut W, alloc: Global, name: &str) -> bool {
+    holds_hello(world, alloc, name, 5) == Ok(true)
+        && holds_hello(world, alloc, name, 4) == Err(FileNo::TooLong)
+        && holds_hello(world, alloc, "kr_edge.absent", 5) == Err(FileNo::Absent)
         && world.faults() == 0
-        && holds_hello(&mut world, alloc, "/", 5) == Err(FileNo::Failed)
+        && holds_hello(world, alloc, "/", 5) == Err(FileNo::Failed)
         && world.faults() == 1
 }
 
 #[test]
 fn a_file_is_read_whole_or_refused(rt: HostRuntime) {
+    let alloc = rt.alloc();
     let made = make(&rt, "kr_edge.read", b"hello");
-    let loaded = are_loaded(&rt, rt.alloc(), "kr_edge.read");
+    let mut world = RealWorld::new(alloc, SystemFiles::new(&rt));
+    let loaded = are_loaded(&mut world, alloc, "kr_edge.read");
     let _removed = rt.remove_file("kr_edge.read");
     assert!(rt; made && loaded);
 }

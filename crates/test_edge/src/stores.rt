@@ -74,22 +74,24 @@ fn mode<R: Files<File = File>>(rt: &R, name: &str) -> Option<u32> {
 
 /// Whether an absent store is made, its owner's alone, where that is asked for, and keeps what was
 /// put.
-fn keeps<R: Files<File = File> + Processes<Started = SystemProcess>>(
+fn keeps<W: World, R: Files<File = File>>(
+    world: &mut W,
     rt: &R,
     alloc: Global,
     name: &str,
 ) -> bool {
-    let mut world = RealWorld::new(alloc, SystemFiles::new(rt));
-    refusal(&mut world, alloc, name, Access::ToWrite) == Some(FileNo::Absent)
-        && is_written_alone(&mut world, alloc, name)
+    refusal(world, alloc, name, Access::ToWrite) == Some(FileNo::Absent)
+        && is_written_alone(world, alloc, name)
         && mode(rt, name) == Some(0o600)
-        && is_read(&mut world, alloc, name)
+        && is_read(world, alloc, name)
         && world.faults() == 1
 }
 
 #[test]
 fn a_store_keeps_what_was_put(rt: HostRuntime) {
-    let kept = keeps(&rt, rt.alloc(), "kr_edge.store");
+    let alloc = rt.alloc();
+    let mut world = RealWorld::new(alloc, SystemFiles::new(&rt));
+    let kept = keeps(&mut world, &rt, alloc, "kr_edge.store");
     let _removed = rt.remove_file("kr_edge.store");
     assert!(rt; kept);
 }
@@ -135,27 +137,26 @@ fn a_store_that_is_out_is_locked(rt: HostRuntime) {
     assert!(rt; locked);
 }
 
-/// Whether no store is made of the name, nor opened.
-fn is_no_store<R: Files<File = File> + Processes<Started = SystemProcess>>(
-    rt: &R,
-    alloc: Global,
-    name: &str,
-) -> bool {
-    let mut world = RealWorld::new(alloc, SystemFiles::new(rt));
-    refusal(&mut world, alloc, name, Access::ToMake) == Some(FileNo::Failed) && world.faults() == 1
+/// Whether no store is made of the name, nor opened, and the world's files have failed so often
+/// then.
+fn is_no_store<W: World>(world: &mut W, alloc: Global, name: &str, faults: u64) -> bool {
+    refusal(world, alloc, name, Access::ToMake) == Some(FileNo::Failed) && world.faults() == faults
 }
 
 // A folder, a device, and a link that leads to nothing, which no store is made through.
 #[test]
 fn what_is_no_plain_file_is_no_store(rt: HostRuntime) {
     let alloc = rt.alloc();
+    let mut world = RealWorld::new(alloc, SystemFiles::new(&rt));
     let linked = rt.symlink("kr_edge.nothing", "kr_edge.link").is_ok();
-    let refused = is_no_store(&rt, alloc, "kr_edge.link");
+    let refused = is_no_store(&mut world, alloc, "kr_edge.link", 1);
     let made = rt.metadata("kr_edge.nothing").is_ok();
     let _removed = rt.remove_file("kr_edge.link");
+    let folder = is_no_store(&mut world, alloc, "/", 2);
+    let device = is_no_store(&mut world, alloc, "/dev/null", 3);
     assert!(rt; linked && refused && !made);
-    assert!(rt; is_no_store(&rt, alloc, "/"));
-    assert!(rt; is_no_store(&rt, alloc, "/dev/null"));
+    assert!(rt; folder);
+    assert!(rt; device);
 }
 
 /// A file of a disk that has room for its first six bytes alone. It takes and gives two at a time,

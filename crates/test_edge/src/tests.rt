@@ -109,47 +109,36 @@ fn a_read_that_breaks_off_is_a_fault(rt: HostRuntime) -> Result<(), Fail> {
     Ok(())
 }
 
-#[test]
-fn a_short_write_is_continued(rt: HostRuntime) -> Result<(), Fail> {
-    let mut double = Double::new(
-        rt.alloc(),
-        &[
-            Turn::Stops,
-            Turn::Moves(2),
-            Turn::Moves(1),
-            Turn::Stops,
-            Turn::Moves(9),
-        ],
-    )
-    .ok_or("memory")?;
-    let mut sink = StdSink::new(&mut double);
-    let written = write_all(&mut sink, b"hello!").is_ok();
-    let faults = sink.faults();
-    assert!(rt; written);
-    assert_eq!(rt; faults, 0);
-    assert_eq!(rt; double.taken.as_slice(), b"hello!".as_slice());
-    Ok(())
-}
-
-/// Whether a write of `hello` fails, once, behind its first two bytes.
-fn fails_behind_two(alloc: Global, turns: &[Turn]) -> bool {
+/// Whether a write of these bytes passes where no fault is counted, and fails, once, where one is;
+/// and whether the double has taken so many of them.
+fn takes(alloc: Global, turns: &[Turn], bytes: &[u8], taken: &[u8], faults: u64) -> bool {
     let Some(mut double) = Double::new(alloc, turns) else {
         return false;
     };
     let mut sink = StdSink::new(&mut double);
-    let failed = write_all(&mut sink, b"hello").is_err() && sink.faults() == 1;
-    failed && double.taken.as_slice() == b"he".as_slice()
+    let passed = write_all(&mut sink, bytes).is_ok();
+    let as_counted = passed == (faults == 0) && sink.faults() == faults;
+    as_counted && double.taken.as_slice() == taken
+}
+
+#[test]
+fn a_short_write_is_continued(rt: HostRuntime) {
+    let turns = [
+        Turn::Stops,
+        Turn::Moves(2),
+        Turn::Moves(1),
+        Turn::Stops,
+        Turn::Moves(9),
+    ];
+    assert!(rt; takes(rt.alloc(), &turns, b"hello!", b"hello!", 0));
 }
 
 #[test]
 fn a_write_that_breaks_off_or_takes_nothing_is_a_fault(rt: HostRuntime) -> Result<(), Fail> {
-    assert!(rt; fails_behind_two(rt.alloc(), &[Turn::Moves(2), Turn::Breaks, Turn::Moves(3)]));
-    assert!(rt;
-        fails_behind_two(
-            rt.alloc(),
-            &[Turn::Moves(2), Turn::Moves(0), Turn::Moves(3)]
-        )
-    );
+    let breaks = [Turn::Moves(2), Turn::Breaks, Turn::Moves(3)];
+    assert!(rt; takes(rt.alloc(), &breaks, b"hello", b"he", 1));
+    let takes_nothing = [Turn::Moves(2), Turn::Moves(0), Turn::Moves(3)];
+    assert!(rt; takes(rt.alloc(), &takes_nothing, b"hello", b"he", 1));
     Ok(())
 }
 

@@ -165,6 +165,18 @@ module _ {L D : Type 0} (link : L → Link) (old new : BenchState L D) where
     bench_kept link names old new was.1 asked kept,
   )
 
+-- one event was made, and nothing was asked of the bench
+pub acted_alone : {before behind : Caller} {replicas left : ℕ} {ended : Bool}
+    {linked : List (List ℕ)} {pages : KeyPages}
+    → IsCallerOf before replicas left ended × IsBench linked pages
+    → AddsWithin 1 0 [] before behind → holding behind.mine ≡ None
+    → IsCallerOf behind replicas left ended × IsBench linked pages
+acted_alone {before} {behind} {replicas} {left} {ended} was adds idle = (
+  caller_after before behind replicas left left 1 0 [] ended ended was.0 adds (omega arith)
+      (λ e. idle),
+  was.1,
+)
+
 -- ---- what a call requires
 
 pub names_kept : {c : Caller} {replicas left : ℕ} {ended : Bool} {linked : List (List ℕ)}

@@ -11,6 +11,7 @@
 //!     drive REPLICA AFTER              all of them
 use crate::desk::Desk;
 use crate::linked::{Spelled, end_bench, parse_bench};
+use crate::naming::Names;
 use crate::telling::tell;
 use kr_base::{Bytes, Shared, Text, both};
 use kr_config::Settings;
@@ -66,11 +67,8 @@ pub enum Call {
 
 impl Call {
     /// The call that a line spells, as they stand at the head of this file.
-    pub fn spelled(
-        alloc: Global,
-        named: &NamedValues<Settings>,
-        line: &str,
-    ) -> Result<Call, Wrong> {
+    pub fn spelled(names: &Names, line: &str) -> Result<Call, Wrong> {
+        let alloc = names.alloc;
         let (word, rest) = two_words(line)?;
         match parse_key(word)? {
             Key::Read => parse_read(alloc, rest),
@@ -83,8 +81,8 @@ impl Call {
                 let replica = parse_number(rest)?;
                 Ok(Call::Leave { replica })
             }
-            Key::Reload => parse_load(named, rest, true),
-            Key::Join => parse_load(named, rest, false),
+            Key::Reload => parse_load(&names.settings, rest, true),
+            Key::Join => parse_load(&names.settings, rest, false),
             Key::Refresh => {
                 let replica = parse_number(rest)?;
                 Ok(Call::Refresh { replica })
@@ -221,8 +219,7 @@ fn change_bench<A: Acts, L: Spelled>(
 /// Does what the line asks: `# TEXT` says nothing, `bench WORDS` brings another bench, and else it
 /// spells a call.
 pub fn serve_line<A: Acts, L: Spelled>(
-    alloc: Global,
-    named: &NamedValues<Settings>,
+    names: &Names,
     desk: &mut Desk<A, L>,
     line: &str,
     page: &mut Page,
@@ -231,11 +228,11 @@ pub fn serve_line<A: Acts, L: Spelled>(
         return Ok(());
     }
     if let Some(words) = line.strip_prefix("bench ") {
-        return change_bench(alloc, desk, words, page);
+        return change_bench(names.alloc, desk, words, page);
     }
-    match Call::spelled(alloc, named, line) {
+    match Call::spelled(names, line) {
         Ok(call) => {
-            serve(alloc, desk, &call, page);
+            serve(names.alloc, desk, &call, page);
             drop(call);
         }
         Err(why) => page.told_wrong("line", why),

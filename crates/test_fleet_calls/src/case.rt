@@ -18,39 +18,31 @@ ghost use Rattle.test_fleet_calls.specs.Openings.{IsCore};
 use crate::call::serve_line;
 use crate::desk::Desk;
 use crate::linked::{Spelled, end_bench, end_benches, parse_bench};
-use crate::naming::name_all;
+use crate::naming::{Names, name_all};
 use crate::opening::{Budget, Terms, core_over_store, parse_terms};
 use crate::stored::add_rows;
 use crate::two::{play_two, seated};
 use kr_base::{MemDice, MemTape, both};
-use kr_config::Settings;
 use kr_history::{Acts, Solo};
 use kr_keywrap::{ExampleRing, KeyLink};
 use kr_kms::TablePlugin;
 use kr_provider::Bench;
 use kr_rollout::Core;
 use kr_store::Store;
-use std::alloc::Global;
 use std::sync::Wait;
-use test_support::{NamedValues, Page, Wrong, load_store, strip_key, two_lines, two_words};
+use test_support::{Page, Wrong, load_store, strip_key, two_lines, two_words};
 
 /// How many bytes a tape may have.
 const ROOM: usize = 262_144;
 
 /// Runs a case, and prints what came of its lines.
-pub fn run<R: Wait>(
-    rt: &R,
-    alloc: Global,
-    named: &mut NamedValues<Settings>,
-    case: &str,
-    page: &mut Page,
-) -> Result<(), Wrong> {
+pub fn run<R: Wait>(rt: &R, names: &mut Names, case: &str, page: &mut Page) -> Result<(), Wrong> {
     let (first, rest) = two_lines(case);
     let (key, words) = two_words(first)?;
     match key {
-        "settings" => name_all(alloc, named, case),
-        "keys" => begin::<KeyLink<ExampleRing>, R>(rt, alloc, named, words, rest, page),
-        "masks" => begin::<TablePlugin, R>(rt, alloc, named, words, rest, page),
+        "settings" => name_all(names.alloc, &mut names.settings, case),
+        "keys" => begin::<KeyLink<ExampleRing>, R>(rt, names, words, rest, page),
+        "masks" => begin::<TablePlugin, R>(rt, names, words, rest, page),
         _ => Err(Wrong::Form),
     }
 }
@@ -58,8 +50,7 @@ pub fn run<R: Wait>(
 /// Starts the core, and lets its callers make their calls.
 fn begin<L: Spelled, R: Wait>(
     rt: &R,
-    alloc: Global,
-    named: &NamedValues<Settings>,
+    names: &Names,
     words: &str,
     rest: &str,
     page: &mut Page,
@@ -67,9 +58,16 @@ fn begin<L: Spelled, R: Wait>(
     let (second, rest) = two_lines(rest);
     let (third, calls) = two_lines(rest);
     let stored = strip_key("store", second)?;
-    let (store, terms) = both(load_store(alloc, stored, ROOM), parse_terms(named, third))?;
-    match parse_bench::<L>(alloc, words) {
-        Ok(bench) => play(rt, alloc, named, store, terms, bench, words, calls, page),
+    let (store, terms) = both(
+        load_store(names.alloc, stored, ROOM),
+        parse_terms(&names.settings, third),
+    )?;
+    match parse_bench::<L>(names.alloc, words) {
+        Ok(bench) => {
+            let done = play(rt, names, store, &terms, bench, words, calls, page);
+            drop(terms);
+            done
+        }
         Err(why) => {
             drop(store);
             drop(terms);
@@ -81,10 +79,9 @@ fn begin<L: Spelled, R: Wait>(
 /// Starts the core by the bench.
 fn play<L: Spelled, R: Wait>(
     rt: &R,
-    alloc: Global,
-    named: &NamedValues<Settings>,
+    names: &Names,
     store: Store<MemTape>,
-    terms: Terms,
+    terms: &Terms,
     mut bench: Bench<L, MemDice>,
     words: &str,
     calls: &str,
@@ -92,15 +89,14 @@ fn play<L: Spelled, R: Wait>(
 ) -> Result<(), Wrong>
     requires { IsBench (names_of L.link bench.links) bench.pages }
 {
-    let (budget, with_rival) = (terms.budget, terms.with_rival);
-    let made = core_over_store(alloc, &mut bench, store, &terms);
-    drop(terms);
+    let budget = terms.budget;
+    let made = core_over_store(names.alloc, &mut bench, store, terms);
     match made {
         Ok(core) => {
-            if with_rival {
-                play_with_rival(rt, alloc, named, core, budget, bench, words, calls, page)
+            if terms.with_rival {
+                play_with_rival(rt, names, core, budget, bench, words, calls, page)
             } else {
-                play_alone(alloc, named, core, budget, bench, calls, page)
+                play_alone(names, core, budget, bench, calls, page)
             }
         }
         Err(why) => {
@@ -113,8 +109,7 @@ fn play<L: Spelled, R: Wait>(
 /// The calls of two callers, of which the second one has a bench like the first one's.
 fn play_with_rival<L: Spelled, R: Wait>(
     rt: &R,
-    alloc: Global,
-    named: &NamedValues<Settings>,
+    names: &Names,
     core: Core<MemTape>,
     budget: Budget,
     bench: Bench<L, MemDice>,
@@ -125,7 +120,7 @@ fn play_with_rival<L: Spelled, R: Wait>(
     requires core { IsCore budget core }
     requires bench { IsBench (names_of L.link bench.links) bench.pages }
 {
-    let other = match parse_bench(alloc, words) {
+    let other = match parse_bench(names.alloc, words) {
         Ok(other) => other,
         Err(why) => {
             drop(core);
@@ -133,8 +128,8 @@ fn play_with_rival<L: Spelled, R: Wait>(
             return Err(why);
         }
     };
-    match seated(alloc, core, budget) {
-        Some(seats) => play_two(rt, alloc, named, seats, budget, bench, other, calls, page),
+    match seated(names.alloc, core, budget) {
+        Some(seats) => play_two(rt, names, seats, budget, bench, other, calls, page),
         None => {
             end_benches(bench, other, page);
             Err(Wrong::Memory)
@@ -144,8 +139,7 @@ fn play_with_rival<L: Spelled, R: Wait>(
 
 /// The calls of an only caller.
 fn play_alone<L: Spelled>(
-    alloc: Global,
-    named: &NamedValues<Settings>,
+    names: &Names,
     core: Core<MemTape>,
     budget: Budget,
     bench: Bench<L, MemDice>,
@@ -157,7 +151,7 @@ fn play_alone<L: Spelled>(
 {
     let solo = Solo::new(core);
     let mut desk = Desk::new(solo, bench, 2, budget.reloads);
-    let done = serve_all(alloc, named, &mut desk, calls, page);
+    let done = serve_all(names, &mut desk, calls, page);
     let (solo, bench) = desk.into_parts();
     let (store, lines) = solo.into_core().close();
     drop(lines);
@@ -171,14 +165,13 @@ fn play_alone<L: Spelled>(
 
 /// Makes the calls, one behind another.
 fn serve_all<A: Acts, L: Spelled>(
-    alloc: Global,
-    named: &NamedValues<Settings>,
+    names: &Names,
     desk: &mut Desk<A, L>,
     calls: &str,
     page: &mut Page,
 ) -> Result<(), Wrong> {
     for line in calls.lines() {
-        serve_line(alloc, named, desk, line, page)?;
+        serve_line(names, desk, line, page)?;
     }
     Ok(())
 }

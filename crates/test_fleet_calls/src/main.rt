@@ -13,19 +13,18 @@ mod stored;
 mod telling;
 mod two;
 
-use kr_config::Settings;
-use std::alloc::Global;
+use naming::Names;
 use std::io::{self, BufWriter, Write};
 use std::sync::Wait;
-use test_support::{NamedValues, Page};
+use test_support::Page;
 
 fn main(rt: HostRuntime) -> io::Result<()> {
     let alloc = rt.alloc();
     let mut output = BufWriter::new(alloc, rt.stdout())?;
     let text = io::read_to_string(alloc, rt.stdin())?;
-    let mut named = NamedValues::<Settings>::new(alloc);
-    let done = run_all(&rt, alloc, &mut named, text.as_str(), &mut output);
-    drop(named);
+    let mut names = Names::new(alloc);
+    let done = run_all(&rt, &mut names, text.as_str(), &mut output);
+    drop(names);
     drop(text);
     done?;
     output.flush()
@@ -34,32 +33,30 @@ fn main(rt: HostRuntime) -> io::Result<()> {
 /// Runs the cases, of which an empty line ends each.
 fn run_all<R: Wait, W: Write>(
     rt: &R,
-    alloc: Global,
-    named: &mut NamedValues<Settings>,
+    names: &mut Names,
     text: &str,
     output: &mut W,
 ) -> io::Result<()> {
     for case in text.split("\n\n") {
         if !case.is_empty() {
-            run_one(rt, alloc, named, case, output)?;
+            print_page(answered(rt, names, case), output)?;
         }
     }
     Ok(())
 }
 
-/// Runs a case, and prints what comes of it and an empty line.
-fn run_one<R: Wait, W: Write>(
-    rt: &R,
-    alloc: Global,
-    named: &mut NamedValues<Settings>,
-    case: &str,
-    output: &mut W,
-) -> io::Result<()> {
-    let mut page = Page::new(alloc);
-    if let Err(why) = case::run(rt, alloc, named, case, &mut page) {
+/// What comes of a case, and an empty line.
+fn answered<R: Wait>(rt: &R, names: &mut Names, case: &str) -> Page {
+    let mut page = Page::new(names.alloc);
+    if let Err(why) = case::run(rt, names, case, &mut page) {
         page.told_wrong("case", why);
     }
     page.end_line();
+    page
+}
+
+/// Prints a page, if all of it is there.
+fn print_page<W: Write>(page: Page, output: &mut W) -> io::Result<()> {
     match page.into_bytes() {
         Ok(bytes) => {
             let printed = output.write_all(bytes.as_slice());

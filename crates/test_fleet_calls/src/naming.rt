@@ -8,6 +8,23 @@ use test_support::{NamedValues, Wrong, two_words};
 /// How many replicas a core here has.
 const REPLICAS: u32 = 2;
 
+/// Settings that lines named, and where the texts of lines are put.
+#[derive(Drop)]
+pub struct Names {
+    pub alloc: Global,
+    pub settings: NamedValues<Settings>,
+}
+
+impl Names {
+    /// None yet.
+    pub fn new(alloc: Global) -> Names {
+        Names {
+            alloc,
+            settings: NamedValues::new(alloc),
+        }
+    }
+}
+
 /// Each line names settings: `settings NAME JSON`, or `plan WIDE TURNED FROM TO`, those that a plan
 /// puts between two.
 pub fn name_all(alloc: Global, named: &mut NamedValues<Settings>, case: &str) -> Result<(), Wrong> {

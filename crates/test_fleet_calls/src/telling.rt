@@ -50,20 +50,26 @@ impl Answer for u64 {
 /// A delete's revision, or that there was nothing.
 impl Answer for Option<u64> {
     fn add(&self, _alloc: Global, page: &mut Page) {
-        match self {
-            Some(revision) => page.counted("deleted", *revision),
-            None => page.word("absent"),
-        }
+        add_found(page, "deleted", *self);
     }
 }
 
 /// The generation that a replica had which left, or that it was out.
 impl Answer for Option<u32> {
     fn add(&self, _alloc: Global, page: &mut Page) {
-        match self {
-            Some(generation) => page.counted("departed", *generation as u64),
-            None => page.word("absent"),
-        }
+        let generation = match self {
+            Some(generation) => Some(*generation as u64),
+            None => None,
+        };
+        add_found(page, "departed", generation);
+    }
+}
+
+/// A number behind its word, or that there was nothing.
+fn add_found(page: &mut Page, word: &str, number: Option<u64>) {
+    match number {
+        Some(number) => page.counted(word, number),
+        None => page.word("absent"),
     }
 }
 

@@ -9,16 +9,16 @@ use crate::between::Between;
 use crate::call::{Call, serve_line};
 use crate::desk::Desk;
 use crate::linked::{Spelled, end_benches};
+use crate::naming::Names;
 use crate::opening::Budget;
 use kr_base::{List, MemDice, MemTape};
-use kr_config::Settings;
 use kr_fleet::{Fleet, Seat};
 use kr_history::Acts;
 use kr_provider::Bench;
 use kr_rollout::Core;
 use std::alloc::Global;
 use std::sync::Wait;
-use test_support::{NamedValues, Page, Wrong, split_number};
+use test_support::{Page, Wrong, split_number};
 
 /// A fleet of the core, and its two seats.
 pub type Seated = (Fleet<MemTape>, Seat<MemTape>, Seat<MemTape>);
@@ -77,8 +77,7 @@ fn with_first(
 /// The calls of a caller, in whose midst another one makes its own.
 pub fn play_two<L: Spelled, R: Wait>(
     rt: &R,
-    alloc: Global,
-    named: &NamedValues<Settings>,
+    names: &Names,
     seats: Seated,
     budget: Budget,
     own: Bench<L, MemDice>,
@@ -95,9 +94,9 @@ pub fn play_two<L: Spelled, R: Wait>(
 {
     let (fleet, first, second) = seats;
     let rival = Desk::new(fleet.seat_caller(rt, second), other, 2, budget.reloads);
-    let between = Between::new(alloc, fleet.seat_caller(rt, first), rival);
+    let between = Between::new(names.alloc, fleet.seat_caller(rt, first), rival);
     let mut desk = Desk::new(between, own, 2, budget.reloads);
-    let done = serve_both(alloc, named, &mut desk, calls, page);
+    let done = serve_both(names, &mut desk, calls, page);
     let (between, bench) = desk.into_parts();
     let (own, rival, other) = between.into_parts();
     drop(own.into_seat());
@@ -110,34 +109,31 @@ pub fn play_two<L: Spelled, R: Wait>(
 /// A caller, and one that makes its calls in the midst of its own.
 type Both<A: Acts, B: Acts, L: Spelled> = Desk<Between<A, B, L>, L>;
 
-/// Makes the calls, one behind another.
+/// Makes the calls, one behind another, and plans those of the rival.
 fn serve_both<A: Acts, B: Acts, L: Spelled>(
-    alloc: Global,
-    named: &NamedValues<Settings>,
+    names: &Names,
     desk: &mut Both<A, B, L>,
     calls: &str,
     page: &mut Page,
 ) -> Result<(), Wrong> {
     for line in calls.lines() {
-        serve_either(alloc, named, desk, line, page)?;
+        if let Some(words) = line.strip_prefix("between ") {
+            plan_call(names, desk, words)?;
+        } else {
+            serve_line(names, desk, line, page)?;
+            desk.tell(page);
+        }
     }
     Ok(())
 }
 
-/// Makes the call of a line, or plans one of the rival's.
-fn serve_either<A: Acts, B: Acts, L: Spelled>(
-    alloc: Global,
-    named: &NamedValues<Settings>,
+/// `NUMBER CALL`: plans the rival's call, before the event of this number from here.
+fn plan_call<A: Acts, B: Acts, L: Spelled>(
+    names: &Names,
     desk: &mut Both<A, B, L>,
-    line: &str,
-    page: &mut Page,
+    words: &str,
 ) -> Result<(), Wrong> {
-    if let Some(words) = line.strip_prefix("between ") {
-        let (number, line) = split_number(words)?;
-        desk.plan(number, Call::spelled(alloc, named, line)?);
-        return Ok(());
-    }
-    let done = serve_line(alloc, named, desk, line, page);
-    desk.tell(page);
-    done
+    let (number, line) = split_number(words)?;
+    desk.plan(number, Call::spelled(names, line)?);
+    Ok(())
 }

@@ -7,27 +7,22 @@
 use crate::verdict::parse_verdict;
 use kr_rollout::Gave;
 use std::alloc::Global;
-use test_support::{Wrong, parse_long, parse_number};
+use test_support::{Wrong, parse_long, parse_number, two_words};
 
 /// Reads an answer; a number behind a word that takes none, or a word not listed, is no form.
 pub fn parse_gave(alloc: Global, text: &str) -> Result<Gave, Wrong> {
-    match text.split_once(' ') {
-        Some((word, rest)) => with_more(alloc, word, rest),
-        None => alone(text),
-    }
-}
-
-fn alone(word: &str) -> Result<Gave, Wrong> {
-    match word {
+    match text {
         "absent" => Ok(Gave::Absent),
         "released" => Ok(Gave::Released),
         "failed" => Ok(Gave::StoreFailed),
         "nothing" => Ok(Gave::Nothing),
-        _ => Err(Wrong::Form),
+        _ => with_more(alloc, text),
     }
 }
 
-fn with_more(alloc: Global, word: &str, rest: &str) -> Result<Gave, Wrong> {
+/// An answer of a word and what stands behind it.
+fn with_more(alloc: Global, text: &str) -> Result<Gave, Wrong> {
+    let (word, rest) = two_words(text)?;
     match word {
         "refused" => Ok(Gave::Refused(parse_verdict(alloc, rest)?)),
         "found" | "written" | "changed" | "full" => of_store(word, parse_long(rest)?),

@@ -15,7 +15,14 @@ pub fn parse_did(alloc: Global, text: &str) -> Result<Did, Wrong> {
     }
     let (kind, rest) = two_words(text)?;
     match kind {
-        "put" => parse_put(alloc, rest),
+        "put" => {
+            let ((path, resource), plain) = split_put(alloc, rest)?;
+            Ok(Did::Put {
+                path,
+                resource,
+                plain,
+            })
+        }
         "replace" => parse_replace(alloc, rest),
         "fetch" | "after" | "delete" => about_path(kind, own_text_or_empty(alloc, rest)?),
         _ => about_replica(alloc, kind, parse_number(rest)?),
@@ -45,16 +52,6 @@ fn about_replica(alloc: Global, kind: &str, replica: u32) -> Result<Did, Wrong> 
         }),
         _ => Err(Wrong::Form),
     }
-}
-
-/// `PATH RESOURCE HEX`.
-fn parse_put(alloc: Global, rest: &str) -> Result<Did, Wrong> {
-    let ((path, resource), plain) = split_put(alloc, rest)?;
-    Ok(Did::Put {
-        path,
-        resource,
-        plain,
-    })
 }
 
 /// `PATH REVISION`.

@@ -12,7 +12,8 @@ const ROOM: usize = 4_194_304;
 /// What happened so far.
 #[derive(Drop)]
 pub struct FleetOutput {
-    script: Script,
+    /// The fleet file, once there is one.
+    script: Option<Script>,
     journal: List<Line>,
     /// What the workers before the one at hand told.
     replies: List<List<Told>>,
@@ -20,14 +21,19 @@ pub struct FleetOutput {
 }
 
 impl FleetOutput {
-    /// The script's output with no journal lines and no replies yet.
-    pub fn new(alloc: Global, script: Script) -> FleetOutput {
+    /// The output of the script, if there is one, with no journal lines and no replies yet.
+    pub fn new(alloc: Global, script: Option<Script>) -> FleetOutput {
         FleetOutput {
             script,
             journal: List::new(alloc),
             replies: List::new(alloc),
             told: List::new(alloc),
         }
+    }
+
+    /// Whether there is a fleet file.
+    pub fn has_script(&self) -> bool {
+        self.script.is_some()
     }
 
     /// One more line at the journal's end.
@@ -55,9 +61,12 @@ impl FleetOutput {
     }
 
     fn write(&self, alloc: Global, sink: &mut MemSink) -> Result<Vec<u8>, Wrong> {
+        let Some(script) = &self.script else {
+            return Err(Wrong::Form);
+        };
         let journal = self.journal.as_slice();
         let replies = self.replies.as_slice();
-        match write_fleet(alloc, sink, &self.script, journal, replies) {
+        match write_fleet(alloc, sink, script, journal, replies) {
             Ok(()) => Ok(sink.bytes().to_vec(alloc)?),
             Err(why) => {
                 drop(why);

@@ -10,13 +10,13 @@ mod reading;
 mod told;
 mod verdict;
 
-use reading::Outputs;
+use fleet_output::FleetOutput;
 use std::io;
 use test_support::answer_all;
 
 fn main(rt: HostRuntime) -> io::Result<()> {
-    let mut outputs = Outputs::new();
-    let answered = answer_all(rt.alloc(), &mut outputs, rt.stdin(), rt.stdout());
-    drop(outputs);
+    let mut output = FleetOutput::new(rt.alloc(), None);
+    let answered = answer_all(rt.alloc(), &mut output, rt.stdin(), rt.stdout());
+    drop(output);
     answered
 }

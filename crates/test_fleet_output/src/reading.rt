@@ -17,41 +17,26 @@ use std::alloc::{AllocError, Global};
 use std::mem;
 use test_support::{Answers, Wrong, answer_or_line, first_word, parse_hex, split_number};
 
-/// The output at hand, if there is one.
-#[derive(Drop)]
-pub struct Outputs {
-    current: Option<FleetOutput>,
-}
-
-impl Outputs {
-    /// No output yet.
-    pub fn new() -> Outputs {
-        Outputs { current: None }
-    }
-}
-
-impl Answers for Outputs {
+impl Answers for FleetOutput {
     fn answer(&mut self, alloc: Global, line: &str) -> Result<Vec<u8>, AllocError> {
-        answer_or_line(alloc, act(alloc, &mut self.current, line))
+        answer_or_line(alloc, act(alloc, self, line))
     }
 }
 
-fn act(alloc: Global, current: &mut Option<FleetOutput>, line: &str) -> Result<Vec<u8>, Wrong> {
+fn act(alloc: Global, page: &mut FleetOutput, line: &str) -> Result<Vec<u8>, Wrong> {
     let (key, rest) = first_word(line);
     match key {
         "#" => Ok(Vec::new(alloc)),
         "fleet" => {
-            let page = begin(alloc, rest)?;
-            drop(mem::replace(current, Some(page)));
+            let begun = begin(alloc, rest)?;
+            drop(mem::replace(page, begun));
             Ok(Vec::new(alloc))
         }
-        _ => match current {
-            Some(page) => act_by_words(alloc, page, key, rest),
-            None => Err(Wrong::Form),
-        },
+        _ => act_by_words(alloc, page, key, rest),
     }
 }
 
+/// What happened in the fleet at hand; there is none before its file.
 fn act_by_words(
     alloc: Global,
     page: &mut FleetOutput,
@@ -60,6 +45,9 @@ fn act_by_words(
 ) -> Result<Vec<u8>, Wrong> {
     if key == "print" {
         return page.print(alloc);
+    }
+    if !page.has_script() {
+        return Err(Wrong::Form);
     }
     match key {
         "event" => page.add_line(parse_line(alloc, rest)?)?,
@@ -76,7 +64,7 @@ fn begin(alloc: Global, rest: &str) -> Result<FleetOutput, Wrong> {
     let script = read_script(alloc, file.as_slice());
     drop(file);
     match script {
-        Ok(script) => Ok(FleetOutput::new(alloc, script)),
+        Ok(script) => Ok(FleetOutput::new(alloc, Some(script))),
         Err(why) => {
             drop(why);
             Err(Wrong::Form)

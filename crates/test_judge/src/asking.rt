@@ -15,7 +15,10 @@ pub fn ask(
 ) -> Result<Vec<u8>, Wrong> {
     match key {
         "judge" => judge(alloc, named, play, 1, rest),
-        "again" => judge_again(alloc, named, play, rest),
+        "again" => {
+            let (times, rest) = split_number(rest)?;
+            judge(alloc, named, play, times, rest)
+        }
         "live" => numbers_line(alloc, play.live()),
         "paths" => tell_paths(alloc, named, play, rest),
         _ => Err(Wrong::Form),
@@ -35,17 +38,6 @@ fn judge(
     let line = verdict_line(alloc, &verdict);
     drop(verdict);
     line
-}
-
-/// `TIMES REPLICA NAME`.
-fn judge_again(
-    alloc: Global,
-    named: &NamedSettings,
-    play: &Play,
-    rest: &str,
-) -> Result<Vec<u8>, Wrong> {
-    let (times, rest) = split_number(rest)?;
-    judge(alloc, named, play, times, rest)
 }
 
 /// `RESOURCE NAME`.

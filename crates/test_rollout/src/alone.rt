@@ -5,10 +5,9 @@ ghost use Rattle.test_rollout.specs.Hands.{AreTerms};
 
 use crate::hand::{Hand, answer_gain, event_effect};
 use crate::request::Request;
-use crate::terms::Terms;
+use crate::terms::{Started, Terms};
 use kr_base::{List, MemTape};
 use kr_history::{Acts, Solo};
-use kr_opening::StartNo;
 use kr_rollout::{Event, Line};
 use kr_store::Store;
 use std::alloc::Global;
@@ -36,11 +35,7 @@ impl Model for Alone {
 
 impl Alone {
     /// A core over the store, of which one seat is used.
-    pub fn start(
-        alloc: Global,
-        store: Store<MemTape>,
-        terms: Terms,
-    ) -> Result<Alone, (StartNo, Store<MemTape>)>
+    pub fn start(alloc: Global, store: Store<MemTape>, terms: Terms) -> Started<Alone>
         requires { AreTerms terms.replicas.0 terms.reloads.items terms.room }
     {
         let replicas = terms.count();

@@ -9,14 +9,13 @@ use crate::configuration::Named;
 use crate::line_text::add_line;
 use crate::play::{Play, Stage};
 use crate::request::Request;
-use crate::stored::add_parts;
 use crate::table::Table;
 use kr_base::Text;
 use kr_rollout::{Event, Gave};
 use std::alloc::Global;
 use test_support::{
-    Page, Wrong, first_word, own_text_or_empty, parse_number, parse_option, split_number,
-    split_put, two_words,
+    Page, Wrong, add_parts, first_word, own_text_or_empty, parse_number, parse_option,
+    split_number, split_put, two_words,
 };
 
 impl Play {
@@ -140,7 +139,7 @@ fn add_last(alloc: Global, page: &mut Page, table: &Table, seat: u32) -> Result<
     };
     add_line(alloc, page, line);
     if let Gave::Found { .. } = &line.gave {
-        add_parts(page, table.found(seat)?);
+        add_parts(page, table.found(seat)?, true);
     }
     page.end_line();
     Ok(())

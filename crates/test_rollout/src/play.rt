@@ -8,9 +8,8 @@ use crate::configuration::Named;
 use crate::line_text::{add_line, add_refusal};
 use crate::stored::add_rows;
 use crate::table::Table;
-use crate::terms::Terms;
+use crate::terms::{Started, Terms};
 use kr_base::{List, MemTape, both};
-use kr_opening::StartNo;
 use kr_rollout::Line;
 use kr_store::Store;
 use std::alloc::Global;
@@ -221,12 +220,7 @@ fn end_store(store: Store<MemTape>) {
 }
 
 /// A core over the store.
-fn started(
-    alloc: Global,
-    store: Store<MemTape>,
-    terms: Terms,
-    is_alone: bool,
-) -> Result<Stage, (StartNo, Store<MemTape>)>
+fn started(alloc: Global, store: Store<MemTape>, terms: Terms, is_alone: bool) -> Started<Stage>
     requires { AreTerms terms.replicas.0 terms.reloads.items terms.room }
 {
     if is_alone {

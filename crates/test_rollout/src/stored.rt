@@ -1,8 +1,8 @@
 //! What is put into a store as it stands, and what is printed of it.
 use kr_base::{Bytes, MemTape, VALUE_LIMIT, path_ok, resource_ok};
-use kr_store::{Check, PutNo, Row, RowRef, Store};
+use kr_store::{Check, PutNo, Store};
 use std::alloc::Global;
-use test_support::{Page, Wrong, parse_hex, parse_long, two_words};
+use test_support::{Page, Wrong, add_row_lines, parse_hex, parse_long, two_words};
 
 /// `PATH RESOURCE CHECK HEX`: writes the row as it stands.
 pub fn put_row(
@@ -38,42 +38,10 @@ pub fn put_row(
 /// The rows, and then how many there are, how long the file is, how often the tape failed and
 /// whether a write is broken off.
 pub fn add_rows(page: &mut Page, store: &Store<MemTape>) {
-    for before in 0..store.revision() {
-        let revision = before + 1;
-        match store.row_by_revision(revision) {
-            Some(RowRef::Put(row)) => add_put(page, row),
-            Some(RowRef::Delete(path)) => add_delete(page, revision, path),
-            None => {}
-        }
-    }
+    add_row_lines(page, store, true);
     page.counted("rows", store.revision());
     page.number(store.length());
     page.number(store.faults());
     page.word(if store.torn() { "torn" } else { "whole" });
     page.end_line();
-}
-
-fn add_put(page: &mut Page, row: &Row) {
-    page.counted("row", row.revision);
-    add_parts(page, row);
-    page.end_line();
-}
-
-fn add_delete(page: &mut Page, revision: u64, path: &str) {
-    page.counted("row", revision);
-    page.word(path);
-    page.word("deleted");
-    page.end_line();
-}
-
-/// Adds a row's path and resource, the length of its value, and whether it has a check.
-pub fn add_parts(page: &mut Page, row: &Row) {
-    page.word(row.path.as_str());
-    page.word(row.resource.as_str());
-    page.number(row.stored.as_slice().len() as u64);
-    page.word(if row.check.is_some() {
-        "checked"
-    } else {
-        "bare"
-    });
 }

@@ -9,7 +9,7 @@ ghost use Rattle.test_rollout.specs.Hands.{AreTerms, fresh};
 
 use crate::hand::{Hand, answer_gain, event_effect};
 use crate::request::Request;
-use crate::terms::Terms;
+use crate::terms::{Started, Terms};
 use kr_base::{MemTape, NoMemory};
 use kr_opening::StartNo;
 use kr_rollout::{Core, Event, Line};
@@ -55,11 +55,7 @@ fn fresh_hands(alloc: Global, replicas: u32, reloads: &[u32]) -> Result<Vec<Hand
 
 impl Table {
     /// A core over the store.
-    pub fn start(
-        alloc: Global,
-        store: Store<MemTape>,
-        terms: Terms,
-    ) -> Result<Table, (StartNo, Store<MemTape>)>
+    pub fn start(alloc: Global, store: Store<MemTape>, terms: Terms) -> Started<Table>
         requires { AreTerms terms.replicas.0 terms.reloads.items terms.room }
     {
         let many = terms.count();

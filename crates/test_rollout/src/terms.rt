@@ -20,6 +20,9 @@ pub struct Terms {
     pub room: u64,
 }
 
+/// What came of a start over a store, which comes back where the start was refused.
+pub type Started<T> = Result<T, (StartNo, Store<MemTape>)>;
+
 /// Whether the numbers make at most so many together.
 #[tactic(auto, using(crate::proofs::Starting::within_begin, crate::proofs::Starting::within_more, crate::proofs::Starting::within_end))]
 fn sum_fits_room(numbers: &[u32], room: u64) -> bool
@@ -117,11 +120,7 @@ impl Terms {
     }
 
     /// A core over the store.
-    pub fn start(
-        self,
-        alloc: Global,
-        store: Store<MemTape>,
-    ) -> Result<Core<MemTape>, (StartNo, Store<MemTape>)>
+    pub fn start(self, alloc: Global, store: Store<MemTape>) -> Started<Core<MemTape>>
         requires { AreTerms self.replicas.0 self.reloads.items self.room }
         ensures { IfOk result (λ core. IsNew self.replicas.0 self.reloads.items core) }
     {

@@ -90,34 +90,40 @@ fn collect_left(
     world: &FailingWorld,
     streams: &Streams,
 ) -> Result<Left, NoMemory> {
-    let said = both(
-        Bytes::copy(alloc, streams.output.sink.bytes()),
-        Bytes::copy(alloc, streams.errors.sink.bytes()),
-    );
-    let things = both(
-        dice_left(alloc, case, world),
-        tapes_left(alloc, case, world),
-    );
-    let linked = both(links_left(alloc, case, world), links_asked(alloc, world));
-    let (said, lists) = both(said, both(things, linked))?;
-    let (output, errors) = said;
-    let (things, linked) = lists;
-    let (dice, tapes) = things;
-    let (links, asked) = linked;
-    Ok(Left {
+    let (output, errors) = both(
+        Bytes::copy(alloc, streams.output.inner.bytes()),
+        Bytes::copy(alloc, streams.errors.inner.bytes()),
+    )?;
+    let mut left = Left {
         status,
         output,
         errors,
-        input: streams.input.source.bytes().len(),
-        dice,
-        tapes,
-        links,
-        asked,
+        input: streams.input.inner.bytes().len(),
+        dice: List::new(alloc),
+        tapes: List::new(alloc),
+        links: List::new(alloc),
+        asked: List::new(alloc),
         input_faults: streams.input.faults(),
         output_faults: streams.output.faults(),
         error_faults: streams.errors.faults(),
         file_faults: world.faults(),
-    })
+    };
+    let done = add_things_left(alloc, case, world, &mut left);
+    whole(left, done)
+}
+
+/// Adds what is left of the case's random sources, tapes and links, and the links that the world
+/// was asked for.
+fn add_things_left(
+    alloc: Global,
+    case: &Case,
+    world: &FailingWorld,
+    left: &mut Left,
+) -> Result<(), NoMemory> {
+    add_dice_left(case, world, &mut left.dice)?;
+    add_tapes_left(alloc, case, world, &mut left.tapes)?;
+    add_links_left(alloc, case, world, &mut left.links)?;
+    add_links_asked(alloc, world, &mut left.asked)
 }
 
 /// Adds what is left of each random source of the case.
@@ -136,12 +142,6 @@ fn add_dice_left(
     Ok(())
 }
 
-fn dice_left(alloc: Global, case: &Case, world: &FailingWorld) -> Result<List<DiceLeft>, NoMemory> {
-    let mut all = List::new(alloc);
-    let done = add_dice_left(case, world, &mut all);
-    whole(all, done)
-}
-
 /// Adds what is left of each tape of the case, and of those that it says aren't there.
 fn add_tapes_left(
     alloc: Global,
@@ -156,16 +156,6 @@ fn add_tapes_left(
         add(all, tape_left(alloc, world, name.as_str()))?;
     }
     Ok(())
-}
-
-fn tapes_left(
-    alloc: Global,
-    case: &Case,
-    world: &FailingWorld,
-) -> Result<List<TapeLeft>, NoMemory> {
-    let mut all = List::new(alloc);
-    let done = add_tapes_left(alloc, case, world, &mut all);
-    whole(all, done)
 }
 
 /// The bytes of the tape of a name and how often it failed, if it is there.
@@ -211,16 +201,6 @@ fn add_links_left(
     Ok(())
 }
 
-fn links_left(
-    alloc: Global,
-    case: &Case,
-    world: &FailingWorld,
-) -> Result<List<LinkLeft>, NoMemory> {
-    let mut all = List::new(alloc);
-    let done = add_links_left(alloc, case, world, &mut all);
-    whole(all, done)
-}
-
 fn link_asked(
     alloc: Global,
     seat: u32,
@@ -256,10 +236,4 @@ fn add_links_asked(
         )?;
     }
     Ok(())
-}
-
-fn links_asked(alloc: Global, world: &FailingWorld) -> Result<List<LinkAsked>, NoMemory> {
-    let mut all = List::new(alloc);
-    let done = add_links_asked(alloc, world, &mut all);
-    whole(all, done)
 }

@@ -2,7 +2,7 @@
 use crate::case::{Case, Object, Plugin, TapeCalls};
 use crate::lists::add;
 use crate::plugin::TurningPlugin;
-use crate::streams::{SteppedSink, SteppedSource};
+use crate::streams::Stepped;
 use crate::world::FailingWorld;
 use kr_base::{Bytes, List, MemDice, MemSink, MemSource, MemTape, NoMemory, Text, both, whole};
 use kr_kms::{MemWorld, TablePlugin};
@@ -11,9 +11,9 @@ use std::alloc::Global;
 /// The streams of a case's call.
 #[derive(Drop)]
 pub struct Streams {
-    pub input: SteppedSource,
-    pub output: SteppedSink,
-    pub errors: SteppedSink,
+    pub input: Stepped<MemSource>,
+    pub output: Stepped<MemSink>,
+    pub errors: Stepped<MemSink>,
 }
 
 /// The streams of the case.
@@ -29,19 +29,24 @@ pub fn case_streams(alloc: Global, case: &Case) -> Result<Streams, NoMemory> {
     })
 }
 
-fn case_input(alloc: Global, case: &Case) -> Result<SteppedSource, NoMemory> {
+fn case_input(alloc: Global, case: &Case) -> Result<Stepped<MemSource>, NoMemory> {
     let fails = case.failing_calls(alloc, Object::Input);
     let (content, fails) = both(Bytes::copy(alloc, case.input.as_slice()), fails)?;
-    Ok(SteppedSource {
-        source: MemSource::new(content, fails),
+    Ok(Stepped {
+        inner: MemSource::new(content, fails),
         step: case.step,
     })
 }
 
-fn sink(alloc: Global, case: &Case, object: Object, room: usize) -> Result<SteppedSink, NoMemory> {
+fn sink(
+    alloc: Global,
+    case: &Case,
+    object: Object,
+    room: usize,
+) -> Result<Stepped<MemSink>, NoMemory> {
     let fails = case.failing_calls(alloc, object)?;
-    Ok(SteppedSink {
-        sink: MemSink::new(Bytes::new(alloc), room, fails)?,
+    Ok(Stepped {
+        inner: MemSink::new(Bytes::new(alloc), room, fails)?,
         step: case.step,
     })
 }
@@ -55,12 +60,6 @@ fn add_tapes(alloc: Global, case: &Case, all: &mut List<(Text, MemTape)>) -> Res
         add(all, both(Text::copy(alloc, name.as_str()), tape))?;
     }
     Ok(())
-}
-
-fn case_tapes(alloc: Global, case: &Case) -> Result<List<(Text, MemTape)>, NoMemory> {
-    let mut all = List::new(alloc);
-    let done = add_tapes(alloc, case, &mut all);
-    whole(all, done)
 }
 
 fn named_tape(alloc: Global, case: &Case, name: &str, content: &[u8]) -> Result<MemTape, NoMemory> {
@@ -87,12 +86,6 @@ fn add_links(
         add(all, both(Ok(plugin.seat), turning_link(alloc, plugin)))?;
     }
     Ok(())
-}
-
-fn seat_links(alloc: Global, case: &Case) -> Result<List<(u32, TurningPlugin)>, NoMemory> {
-    let mut all = List::new(alloc);
-    let done = add_links(alloc, case, &mut all);
-    whole(all, done)
 }
 
 fn add_changes(
@@ -146,12 +139,6 @@ fn add_files(alloc: Global, case: &Case, all: &mut List<(Text, Bytes)>) -> Resul
     Ok(())
 }
 
-fn case_files(alloc: Global, case: &Case) -> Result<List<(Text, Bytes)>, NoMemory> {
-    let mut all = List::new(alloc);
-    let done = add_files(alloc, case, &mut all);
-    whole(all, done)
-}
-
 fn one_dice(alloc: Global, case: &Case, seat: u32, content: &[u8]) -> Result<MemDice, NoMemory> {
     let fails = case.failing_calls(alloc, Object::Dice(seat));
     let (content, fails) = both(Bytes::copy(alloc, content), fails)?;
@@ -166,23 +153,43 @@ fn add_dice(alloc: Global, case: &Case, all: &mut List<(u32, MemDice)>) -> Resul
     Ok(())
 }
 
-fn seat_dice(alloc: Global, case: &Case) -> Result<List<(u32, MemDice)>, NoMemory> {
-    let mut all = List::new(alloc);
-    let done = add_dice(alloc, case, &mut all);
+/// What a case's world holds.
+#[derive(Drop)]
+struct Objects {
+    files: List<(Text, Bytes)>,
+    tapes: List<(Text, MemTape)>,
+    dice: List<(u32, MemDice)>,
+    links: List<(u32, TurningPlugin)>,
+}
+
+fn add_objects(alloc: Global, case: &Case, all: &mut Objects) -> Result<(), NoMemory> {
+    add_files(alloc, case, &mut all.files)?;
+    add_tapes(alloc, case, &mut all.tapes)?;
+    add_dice(alloc, case, &mut all.dice)?;
+    add_links(alloc, case, &mut all.links)
+}
+
+fn case_objects(alloc: Global, case: &Case) -> Result<Objects, NoMemory> {
+    let mut all = Objects {
+        files: List::new(alloc),
+        tapes: List::new(alloc),
+        dice: List::new(alloc),
+        links: List::new(alloc),
+    };
+    let done = add_objects(alloc, case, &mut all);
     whole(all, done)
 }
 
 /// The world of the case.
 pub fn case_world(alloc: Global, case: &Case) -> Result<FailingWorld, NoMemory> {
-    let stored = both(case_files(alloc, case), case_tapes(alloc, case));
-    let drawn = both(seat_dice(alloc, case), seat_links(alloc, case));
-    let (objects, fails) = both(
-        both(stored, drawn),
-        case.failing_calls(alloc, Object::Files),
-    )?;
-    let (stored, drawn) = objects;
-    let (files, tapes) = stored;
-    let (dice, links) = drawn;
+    let fails = case.failing_calls(alloc, Object::Files);
+    let (objects, fails) = both(case_objects(alloc, case), fails)?;
+    let Objects {
+        files,
+        tapes,
+        dice,
+        links,
+    } = objects;
     let world = MemWorld::new(alloc, files, tapes, dice, links, TAPE_ROOM);
     Ok(FailingWorld::new(alloc, world, fails))
 }

@@ -5,46 +5,39 @@ ghost use Rattle.std.specs.Prelude.{Some};
 
 use kr_base::{Failed, MemSink, MemSource, Sink, Source};
 
-/// A source that gives at most `step` bytes a call, and one at least.
+/// A source or a sink of which one call carries at most `step` bytes, and one at least.
 #[derive(Drop)]
-pub struct SteppedSource {
-    pub source: MemSource,
+pub struct Stepped<S> {
+    pub inner: S,
     pub step: usize,
 }
 
-impl Source for SteppedSource {
-    ghost left = { λ it. Some it.source.bytes };
+impl Source for Stepped<MemSource> {
+    ghost left = { λ it. Some it.inner.bytes };
 
-    ghost count = { λ it. it.source.calls.faults };
+    ghost count = { λ it. it.inner.calls.faults };
 
     fn read(&mut self, into: &mut [u8]) -> Result<usize, Failed> {
         let most = into.len().min(self.step.max(1));
-        self.source.read(&mut into[..most])
+        self.inner.read(&mut into[..most])
     }
 
     fn faults(&self) -> u64 {
-        self.source.faults()
+        self.inner.faults()
     }
 }
 
-/// A sink that takes at most `step` bytes a call, and one at least.
-#[derive(Drop)]
-pub struct SteppedSink {
-    pub sink: MemSink,
-    pub step: usize,
-}
+impl Sink for Stepped<MemSink> {
+    ghost held = { λ it. Some it.inner.bytes };
 
-impl Sink for SteppedSink {
-    ghost held = { λ it. Some it.sink.bytes };
-
-    ghost count = { λ it. it.sink.calls.faults };
+    ghost count = { λ it. it.inner.calls.faults };
 
     fn write(&mut self, bytes: &[u8]) -> Result<usize, Failed> {
         let most = bytes.len().min(self.step.max(1));
-        self.sink.write(&bytes[..most])
+        self.inner.write(&bytes[..most])
     }
 
     fn faults(&self) -> u64 {
-        self.sink.faults()
+        self.inner.faults()
     }
 }

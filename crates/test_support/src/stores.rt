@@ -1,8 +1,9 @@
-//! Stores in memory by lines.
+//! Stores in memory by lines, and their rows as lines.
+use crate::page::Page;
 use crate::words::{parse_hex, parse_longs, split_number, two_words};
 use crate::wrong::Wrong;
 use kr_base::{Bytes, List, MemTape, both};
-use kr_store::Store;
+use kr_store::{Row, RowRef, Store};
 use std::alloc::Global;
 
 /// `HEX LIMIT FAILS`: a store of the tape's bytes, on a tape that has room for so many; the writes
@@ -34,4 +35,43 @@ fn failing_tape(
         return Err(Wrong::Form);
     }
     Ok(MemTape::new(Bytes::from_vec(content), room, List::new(alloc), fails)?)
+}
+
+/// Adds a line for each row of the store: its revision and path, and that it was deleted, or its
+/// parts as `add_parts` tells them.
+pub fn add_row_lines(page: &mut Page, store: &Store<MemTape>, with_checks: bool) {
+    for before in 0..store.revision() {
+        let revision = before + 1;
+        match store.row_by_revision(revision) {
+            Some(RowRef::Put(row)) => add_put(page, row, with_checks),
+            Some(RowRef::Delete(path)) => add_delete(page, revision, path),
+            None => {}
+        }
+    }
+}
+
+fn add_put(page: &mut Page, row: &Row, with_check: bool) {
+    page.counted("row", row.revision);
+    add_parts(page, row, with_check);
+    page.end_line();
+}
+
+fn add_delete(page: &mut Page, revision: u64, path: &str) {
+    page.counted("row", revision);
+    page.named(path, "deleted");
+    page.end_line();
+}
+
+/// Adds a row's path and resource, the length of its value, and, where that is wanted, whether it
+/// has a check.
+pub fn add_parts(page: &mut Page, row: &Row, with_check: bool) {
+    page.named(row.path.as_str(), row.resource.as_str());
+    page.number(row.stored.as_slice().len() as u64);
+    if with_check {
+        page.word(if row.check.is_some() {
+            "checked"
+        } else {
+            "bare"
+        });
+    }
 }

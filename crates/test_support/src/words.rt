@@ -6,16 +6,8 @@ use std::alloc::Global;
 
 /// Puts an item that was made at the end.
 pub fn add<T: Drop>(all: &mut List<T>, item: Result<T, Wrong>) -> Result<(), Wrong> {
-    match item {
-        Ok(item) => match all.push(item) {
-            Ok(()) => Ok(()),
-            Err(refused) => {
-                drop(refused);
-                Err(Wrong::Memory)
-            }
-        },
-        Err(why) => Err(why),
-    }
+    all.push(item?)?;
+    Ok(())
 }
 
 /// A word to be kept.
@@ -95,31 +87,44 @@ pub fn parse_long(text: &str) -> Result<u64, Wrong> {
 
 /// Numbers of 64 bits parted by commas; `-` stands for none.
 pub fn parse_longs(alloc: Global, word: &str) -> Result<List<u64>, Wrong> {
-    let mut numbers = List::new(alloc);
     if word == "-" {
-        return Ok(numbers);
+        return Ok(List::new(alloc));
     }
-    let done = add_longs(&mut numbers, word);
-    whole(numbers, done)
-}
-
-fn add_longs(numbers: &mut List<u64>, word: &str) -> Result<(), Wrong> {
-    for part in word.split(',') {
-        numbers.push(parse_long(part)?)?;
-    }
-    Ok(())
+    Ok(List::from_vec(parse_each(alloc, word)?))
 }
 
 /// Numbers of 32 bits parted by commas.
 pub fn parse_numbers(alloc: Global, word: &str) -> Result<Vec<u32>, Wrong> {
+    parse_each(alloc, word)
+}
+
+/// What stands in digits between commas.
+trait Number: Drop {
+    /// The number of these digits.
+    fn of_digits(text: &str) -> Result<Self, Wrong>;
+}
+
+impl Number for u32 {
+    fn of_digits(text: &str) -> Result<u32, Wrong> {
+        parse_number(text)
+    }
+}
+
+impl Number for u64 {
+    fn of_digits(text: &str) -> Result<u64, Wrong> {
+        parse_long(text)
+    }
+}
+
+fn parse_each<N: Number>(alloc: Global, word: &str) -> Result<Vec<N>, Wrong> {
     let mut numbers = Vec::new(alloc);
-    let done = add_numbers(&mut numbers, word);
+    let done = add_each(&mut numbers, word);
     whole(numbers, done)
 }
 
-fn add_numbers(numbers: &mut Vec<u32>, word: &str) -> Result<(), Wrong> {
+fn add_each<N: Number>(numbers: &mut Vec<N>, word: &str) -> Result<(), Wrong> {
     for part in word.split(',') {
-        numbers.push(parse_number(part)?)?;
+        numbers.push(N::of_digits(part)?)?;
     }
     Ok(())
 }

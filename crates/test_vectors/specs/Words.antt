@@ -3,9 +3,7 @@ use Rattle.std.specs.Prelude.{◌≡◌, ◌≢◌, ◌==◌, ℕ, List, [], ◌
 use Rattle.std.specs.List.{slice_split}
 use Rattle.hex.specs.Hex.{IsBytes, decode_of, encode_lower}
 use Rattle.kr_keywrap.specs.KeyWrap.{IsWrappable}
-use Rattle.kr_keywrap.specs.declared.key_wrap.WrapNo.{WrapNo}
 use Rattle.kr_keywrap.specs.declared.key_wrap.WrapNo.TheVariants.{Length, Check}
-use Rattle.kr_modes.specs.declared.ModeNo.{ModeNo}
 use Rattle.kr_modes.specs.declared.ModeNo.TheVariants.{Short, BadBlock, BadPadding, BadTag}
 use Rattle.test_vectors.specs.declared.case.Case.{Case}
 use Rattle.test_vectors.specs.declared.case.Case.TheVariants.{Cipher, Hmac, Hkdf}
@@ -77,22 +75,16 @@ abbrev pub word_of : List ℕ → List ℕ
 word_of [] = codes "-"
 word_of (byte ∷ rest) = encode_lower (byte ∷ rest)
 
-abbrev pub mode_refusal_name : ModeNo → List ℕ
-mode_refusal_name Short = codes "Short"
-mode_refusal_name BadBlock = codes "BadBlock"
-mode_refusal_name BadPadding = codes "BadPadding"
-mode_refusal_name BadTag = codes "BadTag"
-
-abbrev pub wrap_refusal_name : WrapNo → List ℕ
-wrap_refusal_name Length = codes "Length"
-wrap_refusal_name Check = codes "Check"
-
 -- what is printed for an outcome
 abbrev pub outcome_text : Outcome → List ℕ
 outcome_text (Bytes bytes) = word_of bytes.items
 outcome_text KeyLength = codes "KeyLength"
-outcome_text (Refused why) = mode_refusal_name why
-outcome_text (NotWrapped why) = wrap_refusal_name why
+outcome_text (Refused Short) = codes "Short"
+outcome_text (Refused BadBlock) = codes "BadBlock"
+outcome_text (Refused BadPadding) = codes "BadPadding"
+outcome_text (Refused BadTag) = codes "BadTag"
+outcome_text (NotWrapped Length) = codes "Length"
+outcome_text (NotWrapped Check) = codes "Check"
 
 -- ---- a law for a reader: the word that is printed for bytes stands for them where it is read
 

@@ -1,7 +1,7 @@
 //! What a case comes to, and how it is printed.
 
 ghost use Rattle.std.specs.Prelude.{◌≡◌, IfOk, string_bytes};
-ghost use Rattle.test_vectors.specs.Words.{mode_refusal_name, outcome_text, wrap_refusal_name};
+ghost use Rattle.test_vectors.specs.Words.{outcome_text};
 
 use kr_keywrap::WrapNo;
 use kr_modes::ModeNo;
@@ -22,32 +22,17 @@ impl Outcome {
     pub fn text(&self, alloc: Global) -> Result<String, AllocError>
         ensures { IfOk result (λ text. string_bytes text ≡ outcome_text self.now) }
     {
-        match self {
-            Outcome::Bytes(bytes) if bytes.is_empty() => "-".to_string(alloc),
-            Outcome::Bytes(bytes) => hex::encode(alloc, bytes.as_slice()),
-            Outcome::KeyLength => "KeyLength".to_string(alloc),
-            Outcome::Refused(why) => mode_refusal_name(*why).to_string(alloc),
-            Outcome::NotWrapped(why) => wrap_refusal_name(*why).to_string(alloc),
-        }
-    }
-}
-
-fn mode_refusal_name(why: ModeNo) -> &'static str
-    ensures { result.now ≡ mode_refusal_name why }
-{
-    match why {
-        ModeNo::Short => "Short",
-        ModeNo::BadBlock => "BadBlock",
-        ModeNo::BadPadding => "BadPadding",
-        ModeNo::BadTag => "BadTag",
-    }
-}
-
-fn wrap_refusal_name(why: WrapNo) -> &'static str
-    ensures { result.now ≡ wrap_refusal_name why }
-{
-    match why {
-        WrapNo::Length => "Length",
-        WrapNo::Check => "Check",
+        let name = match self {
+            Outcome::Bytes(bytes) if bytes.is_empty() => "-",
+            Outcome::Bytes(bytes) => return hex::encode(alloc, bytes.as_slice()),
+            Outcome::KeyLength => "KeyLength",
+            Outcome::Refused(ModeNo::Short) => "Short",
+            Outcome::Refused(ModeNo::BadBlock) => "BadBlock",
+            Outcome::Refused(ModeNo::BadPadding) => "BadPadding",
+            Outcome::Refused(ModeNo::BadTag) => "BadTag",
+            Outcome::NotWrapped(WrapNo::Length) => "Length",
+            Outcome::NotWrapped(WrapNo::Check) => "Check",
+        };
+        name.to_string(alloc)
     }
 }

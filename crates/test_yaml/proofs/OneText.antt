@@ -79,6 +79,38 @@ same_member : {k l : List ℕ} {d e : Data} {ms ns : Members} → k ≡ l → d 
     → member k d ms ≡ member l e ns
 same_member h i j = cc
 
+-- the trees of texts that begin alike, so that what follows them does too
+abbrev OneTree : Data → Data → Type 0
+OneTree d e = (r s : List ℕ) → AreBytes d → AreBytes e
+    → tree_text d ++ r ≡ tree_text e ++ s → (d ≡ e) × (r ≡ s)
+
+one_item : (d e : Data) (ds es : Items) (r s : List ℕ) → ItemsAreBytes (item d ds)
+    → ItemsAreBytes (item e es) → OneTree d e
+    → ((x y : List ℕ) → ItemsAreBytes ds → ItemsAreBytes es
+    → more_items ds ++ 93 ∷ x ≡ more_items es ++ 93 ∷ y → (ds ≡ es) × (x ≡ y))
+    → items_text (item d ds) ++ 93 ∷ r ≡ items_text (item e es) ++ 93 ∷ s
+    → (item d ds ≡ item e es) × (r ≡ s)
+one_item d e ds es r s hd he tree more h =
+    let one = tree (more_items ds ++ 93 ∷ r) (more_items es ++ 93 ∷ s) hd.0 he.0
+    (moved (tree_text d) (more_items ds) (93 ∷ r) (tree_text e) (more_items es) (93 ∷ s) h) in
+    let rest = more r s hd.1 he.1 one.1 in
+    (same_item one.0 rest.0, rest.1)
+
+one_member : (k l : List ℕ) (d e : Data) (ms ns : Members) (r s : List ℕ)
+    → MembersAreBytes (member k d ms) → MembersAreBytes (member l e ns) → OneTree d e
+    → ((x y : List ℕ) → MembersAreBytes ms → MembersAreBytes ns
+    → more_members ms ++ 125 ∷ x ≡ more_members ns ++ 125 ∷ y → (ms ≡ ns) × (x ≡ y))
+    → members_text (member k d ms) ++ 125 ∷ r ≡ members_text (member l e ns) ++ 125 ∷ s
+    → (member k d ms ≡ member l e ns) × (r ≡ s)
+one_member k l d e ms ns r s hd he tree more h =
+    let key = words k l _ _ hd.0 he.0 (moved (word_text k) (58 ∷ tree_text d ++ more_members ms)
+    (125 ∷ r) (word_text l) (58 ∷ tree_text e ++ more_members ns) (125 ∷ s) h) in
+    let one = tree (more_members ms ++ 125 ∷ r) (more_members ns ++ 125 ∷ s) hd.1.0 he.1.0
+    (moved (tree_text d) (more_members ms) (125 ∷ r) (tree_text e) (more_members ns) (125 ∷ s)
+    (tails key.1)) in
+    let rest = more r s hd.1.1 he.1.1 one.1 in
+    (same_member key.0 one.0 rest.0, rest.1)
+
 mutual
   pub trees : (d e : Data) (r s : List ℕ) → AreBytes d → AreBytes e
       → tree_text d ++ r ≡ tree_text e ++ s → (d ≡ e) × (r ≡ s)
@@ -114,22 +146,14 @@ mutual
   items (item d ds) no_items r s hd he h = absurd (no_bracket d (more_items ds ++ 93 ∷ r) s (sym h
       ∙ append_assoc (tree_text d) (more_items ds) (93 ∷ r)))
   items (item d ds) (item e es) r s hd he h =
-      let one = trees d e (more_items ds ++ 93 ∷ r) (more_items es ++ 93 ∷ s) hd.0 he.0
-      (moved (tree_text d) (more_items ds) (93 ∷ r) (tree_text e) (more_items es) (93 ∷ s) h) in
-      let rest = further_items ds es r s hd.1 he.1 one.1 in
-      (same_item one.0 rest.0, rest.1)
+      one_item d e ds es r s hd he (trees d e) (further_items ds es) h
 
   further_items : (ds es : Items) (r s : List ℕ) → ItemsAreBytes ds → ItemsAreBytes es
       → more_items ds ++ 93 ∷ r ≡ more_items es ++ 93 ∷ s → (ds ≡ es) × (r ≡ s)
   further_items no_items no_items r s hd he h = (refl, tails h)
-  further_items no_items (item e es) r s hd he h = absurd (clash refl h)
-  further_items (item d ds) no_items r s hd he h = absurd (clash refl h)
   further_items (item d ds) (item e es) r s hd he h =
-      let one = trees d e (more_items ds ++ 93 ∷ r) (more_items es ++ 93 ∷ s) hd.0 he.0
-      (moved (tree_text d) (more_items ds) (93 ∷ r) (tree_text e) (more_items es) (93 ∷ s)
-      (tails h)) in
-      let rest = further_items ds es r s hd.1 he.1 one.1 in
-      (same_item one.0 rest.0, rest.1)
+      one_item d e ds es r s hd he (trees d e) (further_items ds es) (tails h)
+  further_items other another r s hd he h = absurd (clash refl h)
 
   members : (ms ns : Members) (r s : List ℕ) → MembersAreBytes ms → MembersAreBytes ns
       → members_text ms ++ 125 ∷ r ≡ members_text ns ++ 125 ∷ s → (ms ≡ ns) × (r ≡ s)
@@ -137,24 +161,11 @@ mutual
   members no_members (member l e ns) r s hd he h = absurd (clash refl h)
   members (member k d ms) no_members r s hd he h = absurd (clash refl h)
   members (member k d ms) (member l e ns) r s hd he h =
-      let key = words k l _ _ hd.0 he.0 (moved (word_text k) (58 ∷ tree_text d ++ more_members ms)
-      (125 ∷ r) (word_text l) (58 ∷ tree_text e ++ more_members ns) (125 ∷ s) h) in
-      let one = trees d e (more_members ms ++ 125 ∷ r) (more_members ns ++ 125 ∷ s) hd.1.0 he.1.0
-      (moved (tree_text d) (more_members ms) (125 ∷ r) (tree_text e) (more_members ns) (125 ∷ s)
-      (tails key.1)) in
-      let rest = further_members ms ns r s hd.1.1 he.1.1 one.1 in
-      (same_member key.0 one.0 rest.0, rest.1)
+      one_member k l d e ms ns r s hd he (trees d e) (further_members ms ns) h
 
   further_members : (ms ns : Members) (r s : List ℕ) → MembersAreBytes ms → MembersAreBytes ns
       → more_members ms ++ 125 ∷ r ≡ more_members ns ++ 125 ∷ s → (ms ≡ ns) × (r ≡ s)
   further_members no_members no_members r s hd he h = (refl, tails h)
-  further_members no_members (member l e ns) r s hd he h = absurd (clash refl h)
-  further_members (member k d ms) no_members r s hd he h = absurd (clash refl h)
   further_members (member k d ms) (member l e ns) r s hd he h =
-      let key = words k l _ _ hd.0 he.0 (moved (word_text k) (58 ∷ tree_text d ++ more_members ms)
-      (125 ∷ r) (word_text l) (58 ∷ tree_text e ++ more_members ns) (125 ∷ s) (tails h)) in
-      let one = trees d e (more_members ms ++ 125 ∷ r) (more_members ns ++ 125 ∷ s) hd.1.0 he.1.0
-      (moved (tree_text d) (more_members ms) (125 ∷ r) (tree_text e) (more_members ns) (125 ∷ s)
-      (tails key.1)) in
-      let rest = further_members ms ns r s hd.1.1 he.1.1 one.1 in
-      (same_member key.0 one.0 rest.0, rest.1)
+      one_member k l d e ms ns r s hd he (trees d e) (further_members ms ns) (tails h)
+  further_members other another r s hd he h = absurd (clash refl h)

@@ -1,6 +1,7 @@
 -- A state as the words of its columns, and the columns that a round makes.
-use Rattle.std.specs.Prelude.{◌≡◌, ℕ, ◌<◌, List, [], ◌∷◌, bit_xor, slice_index}
+use Rattle.std.specs.Prelude.{◌≡◌, ℕ, ◌+◌, ◌<◌, List, [], ◌∷◌, bit_xor, slice_index}
 use Rattle.kr_aes.specs.Cipher.{column_sum, sbox, cell_state, word_byte}
+use Rattle.kr_aes.specs.EquivalentInverse.{after_equivalent_rounds}
 use Rattle.kr_aes.specs.InverseCipher.{inverse_sbox}
 
 -- the block with these columns
@@ -25,3 +26,9 @@ forward_byte a b c d row = column_sum (2 ∷ 3 ∷ 1 ∷ 1 ∷ []) (sbox_column 
 abbrev pub inverse_byte : ℕ → ℕ → ℕ → ℕ → ℕ → ℕ
 inverse_byte a b c d row =
     column_sum (0xe ∷ 0xb ∷ 0xd ∷ 0x9 ∷ []) (sbox_column inverse_sbox a b c d) row 0
+
+-- from the columns after some rounds of the equivalent inverse cipher to those after so many more
+abbrev pub GoesOn : List ℕ → ℕ → ℕ → ℕ → List ℕ → List ℕ → Type 0
+GoesOn inverse last done more columns next = (block : List ℕ)
+    → block_of_columns columns ≡ after_equivalent_rounds inverse last block done
+    → block_of_columns next ≡ after_equivalent_rounds inverse last block (done + more)

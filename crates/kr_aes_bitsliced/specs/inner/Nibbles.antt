@@ -38,5 +38,5 @@ bit_in plane b p = bit_at (slice_index plane p) b
 -- byte p's element of block b: plane k has bit k
 unfoldable pub nibble_at : Nibbles → ℕ → ℕ → ℕ
 nibble_at nibbles b p =
-    bit_in nibbles.n0 b p + 2 * bit_in nibbles.n1 b p
-    + 4 * bit_in nibbles.n2 b p + 8 * bit_in nibbles.n3 b p
+    bit_in nibbles.0 b p + 2 * bit_in nibbles.1 b p
+    + 4 * bit_in nibbles.2 b p + 8 * bit_in nibbles.3 b p

@@ -14,10 +14,11 @@ use Rattle.kr_config.specs.Kept.{ConfigEntry, rows_of}
 use Rattle.kr_config.specs.declared.settings.Settings.{Settings}
 use Rattle.kr_config.specs.Meanings.{MeansConfig}
 use Rattle.kr_config.specs.declared.refusal.ConfigNo.{ConfigNo}
-use Rattle.kr_cmd_steps.specs.Around.{Around, Stays, IsHome, Ends}
-use Rattle.kr_cmd_steps.specs.Phases.{silently}
+use Rattle.kr_cmd_steps.specs.Around.{Around, Stays, IsHome, Ends, with_world}
+use Rattle.kr_cmd_steps.specs.Phases.{configuration, linking_programs, silently}
 use Rattle.kr_cmd_steps.specs.Configuration.{Entries, IsConfiguration}
 use Rattle.kr_cmd_steps.specs.Steps.{Steps, Left}
+use Rattle.kr_cmd_steps.specs.declared.programs.Program.{Program}
 use Rattle.kr_cmd_messages.specs.declared.refusal.Object.TheVariants.{Input, Files}
 use Rattle.kr_cmd_messages.specs.declared.refusal.Outcome.{Outcome}
 use Rattle.kr_cmd_messages.specs.declared.refusal.Refusal.{Refusal}
@@ -57,6 +58,19 @@ ReadsRows bytes result = ⊥
 abbrev pub rows_in : Result Settings Stop → Result (List ConfigEntry) Stop
 rows_in (Ok settings) = Ok (rows_of settings.entries.0)
 rows_in (Err stop) = Err stop
+
+-- the settings of a file with the programs of their plugins, or why it ended before
+abbrev pub HasPrograms : (old new : Outside) → List ℕ → List (List ℕ × List ℕ)
+    → Result (Settings × List Program) Stop → Type 0
+HasPrograms old new name options (Ok (settings, programs)) =
+    let rows = rows_of settings.entries.0 in
+    ((a : Around) → Does (configuration name) (with_world old a) (with_world new a) (Ok rows))
+    × ((a : Around) → Does (linking_programs options rows) a a (Ok programs))
+HasPrograms old new name options (Err stop) =
+    ((a : Around) → Does (configuration name) (with_world old a) (with_world new a) (Err stop))
+    ⊎ ((rows : List ConfigEntry)
+    × ((a : Around) → Does (configuration name) (with_world old a) (with_world new a) (Ok rows))
+    × ((a : Around) → Does (linking_programs options rows) a a (Err stop)))
 
 -- the file of a name is read so
 abbrev pub IsFileRead : Outside → List ℕ → Entries → Type 0

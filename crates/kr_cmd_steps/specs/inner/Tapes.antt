@@ -12,6 +12,8 @@ use Rattle.kr_store.specs.Stores.{Kept}
 use Rattle.kr_store.specs.Rows.{live}
 use Rattle.kr_store.specs.declared.rows.LogRow.{LogRow}
 use Rattle.kr_store.specs.declared.rows.Row.{Row}
+use Rattle.kr_store.specs.declared.answers.PutNo.{PutNo}
+use Rattle.kr_store.specs.declared.answers.PutNo.TheVariants as put
 use Rattle.kr_store.specs.declared.answers.StoreNo.{StoreNo}
 use Rattle.kr_store.specs.declared.answers.StoreNo.TheVariants as no
 use Rattle.kr_cmd_steps.specs.Phases.{silently}
@@ -93,6 +95,13 @@ load_stop object faults (no.Order at) = Refused (Broken (breach.Order at))
 load_stop object faults no.TooLong = Refused (Limit limit.Store)
 load_stop object faults no.Failed = Fault object faults
 load_stop object faults no.NoMemory = NoMemory
+
+-- why a row wasn't written, as a command says it, by the faults of its tape
+abbrev pub IsWriteStop : Object → (faults : ℕ) → PutNo → Stop → Type 0
+IsWriteStop object faults put.Failed stop = stop ≡ Fault object faults
+IsWriteStop object faults (put.Full needed) stop = stop ≡ Refused (Limit limit.Store)
+IsWriteStop object faults (put.Changed revision) stop = ⊥
+IsWriteStop object faults put.NoMemory stop = stop ≡ NoMemory
 
 abbrev pub stored_of : Kept → Stored
 stored_of store = record { format = store.format; rows = store.rows }

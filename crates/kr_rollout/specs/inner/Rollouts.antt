@@ -22,7 +22,7 @@ use Rattle.kr_base.specs.Faults.{Rose}
 use Rattle.kr_base.specs.Lines.{of_seat}
 use Rattle.kr_rollout.specs.Entries.{entry_of, published_at, seat_of}
 use Rattle.kr_rollout.specs.States.{State, number_at, held_by}
-use Rattle.kr_rollout.specs.Openings.{board, room_of, NamesAmong}
+use Rattle.kr_rollout.specs.Openings.{board, opening_by, room_of, NamesAmong}
 use Rattle.kr_rollout.specs.Steps.{IsStep, after}
 use Rattle.kr_rollout.specs.Histories.{IsLegal, state_of}
 use Rattle.kr_rollout.specs.Callers.{IsResealing, Records, reloads_in}
@@ -35,16 +35,12 @@ pub record RolloutState : Type 0 where
 -- the opening's rows are the first ones of the store
 abbrev pub opening_of : Kept → ℕ → List (Option Publication) → List (List ℕ) → List ℕ → ℕ → Bool
     → Opening
-opening_of store first replicas names reloads count torn = record {
-  format = store.format;
-  rows = take first store.rows;
-  replicas = replicas;
-  names = names;
-  reloads = reloads;
-  limit = store.limit;
-  count = count;
-  torn = torn;
-}
+opening_of store first replicas names reloads count torn =
+    record (opening_by store replicas names reloads) {
+      rows = take first store.rows;
+      count = count;
+      torn = torn;
+    }
 
 abbrev pub state_with : Kept → BoardState → List Generation → (current held : List (Option ℕ))
     → State

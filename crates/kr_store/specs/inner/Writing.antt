@@ -10,6 +10,8 @@ use Rattle.kr_store.specs.inner.Log.{Tail, Extends, Tears}
 use Rattle.kr_store.specs.declared.index.Index.{Index}
 use Rattle.kr_store.specs.declared.write.RowWriteNo.{RowWriteNo}
 use Rattle.kr_store.specs.declared.write.RowWriteNo.TheVariants.{Failed, NoMemory}
+use Rattle.kr_store.specs.declared.answers.PutNo.{PutNo}
+use Rattle.kr_store.specs.declared.answers.PutNo.TheVariants as refused
 
 -- what is written before a row: the magic, where the file is empty
 abbrev pub lead : Format → Bool → List ℕ
@@ -28,3 +30,8 @@ Writes old new before after k path kind bytes (Err Failed) =
     × Rose old.count new.count × (old.count ≤ new.count) × (new.count ≡ next_number old.count)
 Writes old new before after k path kind bytes (Err NoMemory) =
     (new ≡ old) × StaysAs before after path kind
+
+-- what the store answers where a row wasn't written
+abbrev pub put_refusal : RowWriteNo → PutNo
+put_refusal Failed = refused.Failed
+put_refusal NoMemory = refused.NoMemory

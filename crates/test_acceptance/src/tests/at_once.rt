@@ -1,7 +1,7 @@
 //! Two workers of one call whose plugins wait for each other: neither answers before both were
 //! asked.
 use super::gate::Gate;
-use super::{both, called, list_of_one};
+use super::{both, called, list_of_one, list_with};
 use kr_base::{Bytes, List, MemDice, MemTape, NoMemory, Text};
 use kr_kms::TablePlugin;
 use kr_top::MemWorld;
@@ -32,15 +32,7 @@ const RANDOM: &[u8] = b"0123456789abcdef0123456789abcdef";
 /// A list of the two items.
 fn two_in<T: Drop>(alloc: Global, first: T, second: T) -> Result<List<T>, NoMemory> {
     let (all, second) = both(list_of_one(alloc, first), Ok(second))?;
-    let mut all = all;
-    match all.push(second) {
-        Ok(()) => Ok(all),
-        Err(refused) => {
-            drop(refused);
-            drop(all);
-            Err(NoMemory)
-        }
-    }
+    list_with(all, second)
 }
 
 fn named(alloc: Global, name: &str, content: &[u8]) -> Result<(Text, Bytes), NoMemory> {

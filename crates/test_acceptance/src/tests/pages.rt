@@ -55,6 +55,28 @@ fn close(bench: Worker) {
     links.end();
 }
 
+/// What a new bench is asked.
+#[derive(Clone, Copy)]
+enum Asked {
+    /// Whether it refuses a second key, and seals by its first one then.
+    SecondKey,
+    /// Whether it takes up two keys in turn, and is full at three.
+    ThreeKeys,
+}
+
+/// What a new bench of so many pages, whose random source gives `IV` so many times, says to it.
+fn answered(alloc: Global, pages: u32, times: usize, asked: Asked) -> Option<bool>
+    requires { times ≤ 4096 }
+{
+    let mut bench = new_bench(alloc, pages, times)?;
+    let answer = match asked {
+        Asked::SecondKey => refuses(alloc, &mut bench),
+        Asked::ThreeKeys => is_full_at_three(alloc, &mut bench),
+    };
+    close(bench);
+    answer
+}
+
 /// Settings that name no plugin, published.
 fn published(alloc: Global, text: &str) -> Option<Shared<Published>>
     ensures { IfSome result (λ p. names_plugin p.rows ≡ false) }
@@ -166,10 +188,7 @@ fn refuses(alloc: Global, bench: &mut Worker) -> Option<bool> {
 
 #[test]
 fn more_keys_than_pages(rt: HostRuntime) -> Result<(), Fail> {
-    let mut bench = new_bench(rt.alloc(), 1, 4).ok_or("no bench")?;
-    let refuses = refuses(rt.alloc(), &mut bench);
-    close(bench);
-    assert_eq!(rt; refuses, Some(true));
+    assert_eq!(rt; answered(rt.alloc(), 1, 4, Asked::SecondKey), Some(true));
     Ok(())
 }
 
@@ -265,10 +284,7 @@ fn is_full_at_three(alloc: Global, bench: &mut Worker) -> Option<bool> {
 // Each of the 2,000 adoptions is followed by a sealing, and so is the refusal.
 #[test]
 fn two_thousand_adoptions_and_a_refusal(rt: HostRuntime) -> Result<(), Fail> {
-    let mut bench = new_bench(rt.alloc(), 2, 2001).ok_or("no bench")?;
-    let is = is_full_at_three(rt.alloc(), &mut bench);
-    close(bench);
-    assert_eq!(rt; is, Some(true));
+    assert_eq!(rt; answered(rt.alloc(), 2, 2001, Asked::ThreeKeys), Some(true));
     Ok(())
 }
 

@@ -1,6 +1,6 @@
 //! Lines to and from a plugin.
 use crate::tests::making::{annotate, both, gives, text};
-use kr_base::{Annotations, Bytes};
+use kr_base::{Annotations, Bytes, NoMemory};
 use kr_kms::Status;
 use kr_kms_wire::{
     Answered, Asked, Reply, ReplyNo, Request, RequestNo, read_reply, read_request, reply_line,
@@ -8,13 +8,30 @@ use kr_kms_wire::{
 };
 use std::alloc::Global;
 
-/// Whether the request is made, and asked by this line.
-fn asks(alloc: Global, request: Option<Request>, line: &[u8]) -> bool {
-    match request {
-        Some(request) => {
-            let asked = request_line(alloc, &request);
-            drop(request);
-            gives(asked, line)
+/// A request or an answer, each of which is told by a line.
+trait Told: Drop {
+    fn line(&self, alloc: Global) -> Result<Bytes, NoMemory>;
+}
+
+impl Told for Request {
+    fn line(&self, alloc: Global) -> Result<Bytes, NoMemory> {
+        request_line(alloc, self)
+    }
+}
+
+impl Told for Answered {
+    fn line(&self, alloc: Global) -> Result<Bytes, NoMemory> {
+        reply_line(alloc, self)
+    }
+}
+
+/// Whether the value is made, and told by this line.
+fn tells<T: Told>(alloc: Global, value: Option<T>, line: &[u8]) -> bool {
+    match value {
+        Some(value) => {
+            let told = value.line(alloc);
+            drop(value);
+            gives(told, line)
         }
         None => false,
     }
@@ -63,9 +80,9 @@ const DECRYPT: &[u8] = b"{\"annotations\":{\"a.io\":\"AQ==\",\"b.io\":\"\"},\"ca
 #[test]
 fn writes_requests(rt: HostRuntime) {
     let alloc = rt.alloc();
-    assert!(rt; asks(alloc, Some(Request::Status), b"{\"call\":\"status\"}\n"));
-    assert!(rt; asks(alloc, encrypt(alloc), ENCRYPT));
-    assert!(rt; asks(alloc, decrypt(alloc), DECRYPT));
+    assert!(rt; tells(alloc, Some(Request::Status), b"{\"call\":\"status\"}\n"));
+    assert!(rt; tells(alloc, encrypt(alloc), ENCRYPT));
+    assert!(rt; tells(alloc, decrypt(alloc), DECRYPT));
 }
 
 /// What a line is read as, in a word: its kind, and its text or its bytes.
@@ -107,17 +124,20 @@ fn is_v2(status: &Status, key_id: &[u8]) -> bool {
         && status.key_id.as_str().as_bytes() == key_id
 }
 
+fn is_wrapped(alloc: Global, line: &[u8]) -> bool {
+    reads(alloc, Asked::Encrypt, line, "wrapped", b"hi")
+}
+
 #[test]
 fn reads_replies(rt: HostRuntime) {
     let alloc = rt.alloc();
     let call = Asked::Status;
     let line = b"{\"version\":\"v2\",\"more\":[],\"healthz\":\"ok\",\"key_id\":\"k1\"}\n";
     assert!(rt; reads(alloc, call, line, "status", b"k1"));
-    let call = Asked::Encrypt;
     let line = b"{\"ciphertext\":\"aGk=\",\"key_id\":\"k1\"}";
-    assert!(rt; reads(alloc, call, line, "wrapped", b"hi"));
+    assert!(rt; is_wrapped(alloc, line));
     let line = b"{\"annotations\":{\"a.io\":\"AQ==\"},\"ciphertext\":\"aGk=\",\"key_id\":\"k1\"}";
-    assert!(rt; reads(alloc, call, line, "wrapped", b"hi"));
+    assert!(rt; is_wrapped(alloc, line));
     let call = Asked::Decrypt;
     assert!(rt; reads(alloc, call, b"{\"plaintext\":\"aGk=\"}", "plain", b"hi"));
     assert!(rt;
@@ -131,8 +151,8 @@ fn reads_replies(rt: HostRuntime) {
     );
 }
 
-fn is_shapeless(alloc: Global, line: &[u8]) -> bool {
-    reads(alloc, Asked::Decrypt, line, "shape", b"")
+fn is_shapeless(alloc: Global, call: Asked, line: &[u8]) -> bool {
+    reads(alloc, call, line, "shape", b"")
 }
 
 fn is_no_json(alloc: Global, line: &[u8]) -> bool {
@@ -141,10 +161,11 @@ fn is_no_json(alloc: Global, line: &[u8]) -> bool {
 
 // The padding is missing, and bits behind the end aren't zero.
 fn are_shapeless(alloc: Global) -> bool {
-    is_shapeless(alloc, b"[]")
-        && is_shapeless(alloc, b"{\"call\":\"status\"}")
-        && is_shapeless(alloc, b"{\"plaintext\":\"aGk\"}")
-        && is_shapeless(alloc, b"{\"plaintext\":\"aGl=\"}")
+    let call = Asked::Decrypt;
+    is_shapeless(alloc, call, b"[]")
+        && is_shapeless(alloc, call, b"{\"call\":\"status\"}")
+        && is_shapeless(alloc, call, b"{\"plaintext\":\"aGk\"}")
+        && is_shapeless(alloc, call, b"{\"plaintext\":\"aGl=\"}")
 }
 
 fn are_no_json(alloc: Global) -> bool {
@@ -168,11 +189,11 @@ fn refuses_annotations(rt: HostRuntime) {
     let alloc = rt.alloc();
     let call = Asked::Encrypt;
     let line = b"{\"annotations\":null,\"ciphertext\":\"\",\"key_id\":\"k1\"}";
-    assert!(rt; reads(alloc, call, line, "shape", b""));
+    assert!(rt; is_shapeless(alloc, call, line));
     let line = b"{\"annotations\":{\"a.io\":1},\"ciphertext\":\"\",\"key_id\":\"k1\"}";
-    assert!(rt; reads(alloc, call, line, "shape", b""));
+    assert!(rt; is_shapeless(alloc, call, line));
     let line = b"{\"annotations\":{\"a.io\":\"A\"},\"ciphertext\":\"\",\"key_id\":\"k1\"}";
-    assert!(rt; reads(alloc, call, line, "shape", b""));
+    assert!(rt; is_shapeless(alloc, call, line));
 }
 
 /// What a line is read as, in a word: the call of a request, or why it is none.
@@ -215,18 +236,6 @@ fn reads_requests(rt: HostRuntime) {
     assert!(rt; are_no_requests(alloc));
 }
 
-/// Whether the answer is made, and this is its line.
-fn answers(alloc: Global, answered: Option<Answered>, line: &[u8]) -> bool {
-    match answered {
-        Some(answered) => {
-            let reply = reply_line(alloc, &answered);
-            drop(answered);
-            gives(reply, line)
-        }
-        None => false,
-    }
-}
-
 fn refusal(alloc: Global) -> Option<Answered> {
     match text(alloc, "request") {
         Some(why) => Some(Answered::Error(why)),
@@ -254,6 +263,6 @@ const STATUS: &[u8] = b"{\"healthz\":\"ok\",\"key_id\":\"example-1\",\"version\"
 #[test]
 fn writes_answers(rt: HostRuntime) {
     let alloc = rt.alloc();
-    assert!(rt; answers(alloc, refusal(alloc), b"{\"error\":\"request\"}\n"));
-    assert!(rt; answers(alloc, status(alloc), STATUS));
+    assert!(rt; tells(alloc, refusal(alloc), b"{\"error\":\"request\"}\n"));
+    assert!(rt; tells(alloc, status(alloc), STATUS));
 }

@@ -2,7 +2,7 @@
 //! ample memory; and an outside vector.
 use kr_base::{
     Annotations, Bytes, CallLog, Dice, Failed, FaultCount, List, MemDice, MemSink, MemSource,
-    MemTape, NoMemory, SeededDice, Shared, Source, Tape, Text, are_few, read_all, write_all,
+    MemTape, NoMemory, SeededDice, Shared, Source, Tape, Text, are_few, both, read_all, write_all,
 };
 use rand_chacha::ChaCha20Rng;
 use rand_core::SeedableRng;
@@ -22,23 +22,11 @@ fn one(alloc: Global, number: u64) -> Result<List<u64>, NoMemory> {
     Ok(List::from_vec(numbers))
 }
 
-/// Both values, if both were made. Each that isn't used is dropped as a value of some type, which
-/// costs a proof less than by its fields.
-fn both<A: Drop, B: Drop>(first: Option<A>, second: Option<B>) -> Option<(A, B)> {
-    let Some(first) = first else {
-        drop(second);
-        return None;
-    };
-    let Some(second) = second else {
-        drop(first);
-        return None;
-    };
-    Some((first, second))
-}
-
 /// Whether two values are the same in all ways, and below a third one and above the least.
-fn are_same<T: Hash + Ord>(ab: &T, taken: &T, high: &T, least: &T) -> bool {
-    ab == taken && hash_value(ab) == hash_value(taken) && ab < high && ab != high && least < ab
+fn are_same<T: Hash + Ord + Drop>(ab: &T, taken: &T, high: &T, least: T) -> bool {
+    let below = least < *ab;
+    drop(least);
+    ab == taken && hash_value(ab) == hash_value(taken) && ab < high && ab != high && below
 }
 
 /// Whether bytes that were copied and bytes that are taken are the same.
@@ -48,9 +36,7 @@ fn takes_bytes(alloc: Global, ab: &Bytes, high: &Bytes) -> bool {
         return false;
     };
     let taken = Bytes::from_vec(items);
-    let least = Bytes::new(alloc);
-    let same = are_same(ab, &taken, high, &least);
-    drop(least);
+    let same = are_same(ab, &taken, high, Bytes::new(alloc));
     let back = taken.into_vec();
     let is = same && back.as_slice() == b"ab".as_slice();
     drop(back);
@@ -58,17 +44,14 @@ fn takes_bytes(alloc: Global, ab: &Bytes, high: &Bytes) -> bool {
 }
 
 fn keeps_bytes(alloc: Global) -> bool {
-    match both(
-        Bytes::copy(alloc, b"ab").ok(),
-        Bytes::copy(alloc, b"a\x80").ok(),
-    ) {
-        Some((ab, high)) => {
+    match both(Bytes::copy(alloc, b"ab"), Bytes::copy(alloc, b"a\x80")) {
+        Ok((ab, high)) => {
             let is = takes_bytes(alloc, &ab, &high);
             drop(ab);
             drop(high);
             is
         }
-        None => false,
+        Err(_) => false,
     }
 }
 
@@ -78,9 +61,7 @@ fn takes_text(alloc: Global, ab: &Text, high: &Text) -> bool {
         return false;
     };
     let taken = Text::from_string(text);
-    let least = Text::new(alloc);
-    let same = are_same(ab, &taken, high, &least);
-    drop(least);
+    let same = are_same(ab, &taken, high, Text::new(alloc));
     let back = taken.into_string();
     let is = same && back.as_str() == "ab";
     drop(back);
@@ -88,14 +69,14 @@ fn takes_text(alloc: Global, ab: &Text, high: &Text) -> bool {
 }
 
 fn keeps_texts(alloc: Global) -> bool {
-    match both(Text::copy(alloc, "ab").ok(), Text::copy(alloc, "aé").ok()) {
-        Some((ab, high)) => {
+    match both(Text::copy(alloc, "ab"), Text::copy(alloc, "aé")) {
+        Ok((ab, high)) => {
             let is = takes_text(alloc, &ab, &high);
             drop(ab);
             drop(high);
             is
         }
-        None => false,
+        Err(_) => false,
     }
 }
 
@@ -132,9 +113,9 @@ fn keeps_bytes_texts_and_items(rt: HostRuntime) {
 
 /// Whether a value was put.
 fn insert(alloc: Global, annotations: &mut Annotations, key: &str, value: &[u8]) -> bool {
-    match both(Text::copy(alloc, key).ok(), Bytes::copy(alloc, value).ok()) {
-        Some((key, value)) => annotations.insert(key, value).is_ok(),
-        None => false,
+    match both(Text::copy(alloc, key), Bytes::copy(alloc, value)) {
+        Ok((key, value)) => annotations.insert(key, value).is_ok(),
+        Err(_) => false,
     }
 }
 
@@ -229,24 +210,12 @@ fn writes_whole(sink: &mut MemSink) -> bool {
         && sink.bytes() == b"abcd".as_slice()
 }
 
-fn writes(alloc: Global) -> bool {
-    let Ok(fails) = one(alloc, 1) else {
-        return false;
-    };
-    match Bytes::copy(alloc, b"ab") {
-        Ok(content) => match MemSink::new(content, 4, fails) {
-            Ok(mut sink) => {
-                let is = writes_whole(&mut sink);
-                drop(sink);
-                is
-            }
-            Err(_) => false,
-        },
-        Err(_) => {
-            drop(fails);
-            false
-        }
-    }
+fn writes(alloc: Global) -> Option<bool> {
+    let (content, fails) = both(Bytes::copy(alloc, b"ab"), one(alloc, 1)).ok()?;
+    let mut sink = MemSink::new(content, 4, fails).ok()?;
+    let is = writes_whole(&mut sink);
+    drop(sink);
+    Some(is)
 }
 
 /// Whether a first call draws three of four bytes, the second and the third fail, and one is left.
@@ -261,14 +230,14 @@ fn draws(dice: &mut MemDice) -> bool {
 }
 
 fn has_drawn(alloc: Global) -> bool {
-    match both(Bytes::copy(alloc, b"abcd").ok(), one(alloc, 2).ok()) {
-        Some((content, fails)) => {
+    match both(Bytes::copy(alloc, b"abcd"), one(alloc, 2)) {
+        Ok((content, fails)) => {
             let mut dice = MemDice::new(content, fails);
             let is = draws(&mut dice);
             drop(dice);
             is
         }
-        None => false,
+        Err(_) => false,
     }
 }
 
@@ -292,29 +261,18 @@ fn keeps_places(tape: &mut MemTape) -> bool {
         && tape.bytes() == b"a1cd".as_slice()
 }
 
-fn keeps(alloc: Global) -> bool {
-    let Ok(fails) = one(alloc, 2) else {
-        return false;
-    };
-    match Bytes::copy(alloc, b"abcdef") {
-        Ok(content) => match MemTape::new(content, 8, List::new(alloc), fails) {
-            Ok(mut tape) => {
-                let is = keeps_places(&mut tape);
-                drop(tape);
-                is
-            }
-            Err(_) => false,
-        },
-        Err(_) => {
-            drop(fails);
-            false
-        }
-    }
+fn keeps(alloc: Global) -> Option<bool> {
+    let (content, fails) = both(Bytes::copy(alloc, b"abcdef"), one(alloc, 2)).ok()?;
+    let mut tape = MemTape::new(content, 8, List::new(alloc), fails).ok()?;
+    let is = keeps_places(&mut tape);
+    drop(tape);
+    Some(is)
 }
 
 #[test]
 fn reads_writes_and_draws(rt: HostRuntime) {
     assert_eq!(rt; reads_whole(rt.alloc()), Some(0));
     assert!(rt; generates());
-    assert!(rt; writes(rt.alloc()) && has_drawn(rt.alloc()) && keeps(rt.alloc()));
+    assert!(rt; writes(rt.alloc()) == Some(true) && keeps(rt.alloc()) == Some(true));
+    assert!(rt; has_drawn(rt.alloc()));
 }

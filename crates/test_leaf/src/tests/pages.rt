@@ -3,8 +3,8 @@
 use kr_pages::Pages;
 use std::test::Fail;
 
-/// Whether two pages of a pool of two are taken, written and given back, and one of them is zero
-/// where it is taken again.
+/// Whether two pages of a pool of two are taken, a third is refused, the two are written and given
+/// back, and one of them is zero where it is taken again.
 fn are_taken_and_given_back(pool: &mut Pages) -> bool {
     let Ok(first) = pool.take() else {
         return false;
@@ -13,6 +13,12 @@ fn are_taken_and_given_back(pool: &mut Pages) -> bool {
         pool.give(first);
         return false;
     };
+    if let Ok(third) = pool.take() {
+        pool.give(first);
+        pool.give(second);
+        pool.give(third);
+        return false;
+    }
     let taken = pool.free() == 0 && pool.taken_count() == 2;
 
     pool.words_mut(&first)[59] = 7;
@@ -34,36 +40,6 @@ fn are_taken_and_given_back(pool: &mut Pages) -> bool {
 fn pages_are_taken_and_given_back(rt: HostRuntime) -> Result<(), Fail> {
     let mut pool = Pages::new(rt.alloc(), 2)?;
     let is = are_taken_and_given_back(&mut pool);
-    drop(pool);
-    assert!(rt; is);
-    Ok(())
-}
-
-/// Whether two pages are taken, a third is refused, and both are out then.
-fn refuses_the_third(pool: &mut Pages) -> bool {
-    let Ok(first) = pool.take() else {
-        return false;
-    };
-    let Ok(second) = pool.take() else {
-        pool.give(first);
-        return false;
-    };
-    if let Ok(third) = pool.take() {
-        pool.give(first);
-        pool.give(second);
-        pool.give(third);
-        return false;
-    }
-    let out = pool.free() == 0 && pool.taken_count() == 2;
-    pool.give(first);
-    pool.give(second);
-    out
-}
-
-#[test]
-fn a_pool_of_two_is_full_at_the_third(rt: HostRuntime) -> Result<(), Fail> {
-    let mut pool = Pages::new(rt.alloc(), 2)?;
-    let is = refuses_the_third(&mut pool);
     drop(pool);
     assert!(rt; is);
     Ok(())

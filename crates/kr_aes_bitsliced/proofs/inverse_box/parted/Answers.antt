@@ -1,12 +1,10 @@
-use Rattle.std.proofs.Common.{◌≡◌, ℕ, zero, suc, refl, ◌∙◌, rules}
-use Rattle.kr_aes.specs.Cipher.{affine, byte_of}
+use Rattle.std.proofs.Common.{ℕ, zero, suc, refl, rules}
+use Rattle.kr_aes.specs.Cipher.{affine}
 use Rattle.kr_aes.specs.Field.{polynomial_product, product, remainder}
-use Rattle.kr_aes_bitsliced.specs.declared.planes.Planes.{Planes}
-use Rattle.kr_aes_bitsliced.specs.inner.Nibbles.{byte_of_pair, embedded, nibble_at}
+use Rattle.kr_aes_bitsliced.specs.inner.Nibbles.{byte_of_pair, embedded}
 use Rattle.kr_aes_bitsliced.specs.inner.Planes.{sliced_byte}
-use Rattle.kr_aes_bitsliced.proofs.Gates.{Gate, ◌⊕◌, In, Not, bits, inputs, same_at_bits}
-use Rattle.kr_aes_bitsliced.proofs.NibbleGates.{nibbles_by, number_by, output_number}
-use Rattle.kr_aes_bitsliced.proofs.PlaneSums.{ArePlanes}
+use Rattle.kr_aes_bitsliced.proofs.Gates.{Gate, ◌⊕◌, In, Not}
+use Rattle.kr_aes_bitsliced.proofs.NibbleGates.{byte_by_gates}
 use Rattle.kr_aes_bitsliced.proofs.inverse_box.parted.Goals as goal
 
 -- sums that several of the eight have
@@ -33,14 +31,4 @@ low (suc (suc (suc k))) = In 7 ⊕ x13
 
 pub returns : goal.returns
 unfolding sliced_byte byte_of_pair embedded product polynomial_product remainder
-returns c b p small lt =
-    let q : Planes = c.args.planes in
-    let x : ℕ → ℕ = bits q b p in
-    let are : ArePlanes q = search rules in
-    let high_at : nibble_at (nibbles_by (inputs q) high) b p ≡ number_by x high =
-    output_number q b p are small lt high in
-    let low_at : nibble_at (nibbles_by (inputs q) low) b p ≡ number_by x low =
-    output_number q b p are small lt low in
-    (λ i. affine (byte_of_pair (high_at i) (low_at i)))
-    ∙ same_at_bits (λ x. affine (byte_of_pair (number_by x high) (number_by x low))) byte_of refl
-    q b p
+returns c b p small lt = byte_by_gates affine high low refl c.args.planes b p (search rules) small lt

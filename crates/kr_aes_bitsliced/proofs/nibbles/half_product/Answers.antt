@@ -9,13 +9,13 @@ use Rattle.kr_aes_bitsliced.proofs.nibbles.half_product.Goals as goal
 -- both polynomials, twice
 abbrev inputs : List ℕ → List ℕ → List ℕ → List ℕ → Planes
 inputs a0 a1 b0 b1 =
-    let both : Nibbles = record { n0 = a0; n1 = a1; n2 = b0; n3 = b1 } in
+    let both : Nibbles = record { 0 = a0; 1 = a1; 2 = b0; 3 = b1 } in
     pair both both
 
 inputs_are : (a0 a1 b0 b1 : List ℕ) → IsPlane a0 → IsPlane a1 → IsPlane b0 → IsPlane b1
     → ArePlanes (inputs a0 a1 b0 b1)
 inputs_are a0 a1 b0 b1 h0 h1 i0 i1 =
-    let both : Nibbles = record { n0 = a0; n1 = a1; n2 = b0; n3 = b1 } in
+    let both : Nibbles = record { 0 = a0; 1 = a1; 2 = b0; 3 = b1 } in
     ArePlanes-pair both both
     record { n0 = h0; n1 = h1; n2 = i0; n3 = i1 } record { n0 = h0; n1 = h1; n2 = i0; n3 = i1 }
 

@@ -30,8 +30,8 @@ returns c block p small lt =
         middle = c.half_product-3.ensures.middle block p small lt;
         high = c.half_product-3.ensures.high block p small lt;
       }
-          (xor_bit a.n0 a.n2 (search rules) (search rules) block p lt)
-          (xor_bit a.n1 a.n3 (search rules) (search rules) block p lt)
-          (xor_bit b.n0 b.n2 (search rules) (search rules) block p lt)
-          (xor_bit b.n1 b.n3 (search rules) (search rules) block p lt);
+          (xor_bit a.0 a.2 (search rules) (search rules) block p lt)
+          (xor_bit a.1 a.3 (search rules) (search rules) block p lt)
+          (xor_bit b.0 b.2 (search rules) (search rules) block p lt)
+          (xor_bit b.1 b.3 (search rules) (search rules) block p lt);
     } small lt

@@ -1,43 +1,7 @@
 use Rattle.std.proofs.Common.{ℕ, List, [], ◌∷◌, get_or}
 use Rattle.kr_aes_bitsliced.specs.inner.Planes.{plane}
-use Rattle.kr_aes_bitsliced.proofs.Transposed.{by_digits, transposed_bits, apart_by_one, apart_by_two, apart_by_four}
+use Rattle.kr_aes_bitsliced.proofs.Transposed.{by_digits, transposed_bits}
 use Rattle.kr_aes_bitsliced.proofs.planes.transposed.Goals as goal
-
-pub exchanged-requires : goal.exchanged-requires
-exchanged-requires c = apart_by_one
-
-pub exchanged-requires-2 : goal.exchanged-requires-2
-exchanged-requires-2 c = apart_by_one
-
-pub exchanged-requires-3 : goal.exchanged-requires-3
-exchanged-requires-3 c = apart_by_one
-
-pub exchanged-requires-4 : goal.exchanged-requires-4
-exchanged-requires-4 c = apart_by_one
-
-pub exchanged-requires-5 : goal.exchanged-requires-5
-exchanged-requires-5 c = apart_by_two
-
-pub exchanged-requires-6 : goal.exchanged-requires-6
-exchanged-requires-6 c = apart_by_two
-
-pub exchanged-requires-7 : goal.exchanged-requires-7
-exchanged-requires-7 c = apart_by_two
-
-pub exchanged-requires-8 : goal.exchanged-requires-8
-exchanged-requires-8 c = apart_by_two
-
-pub exchanged-requires-9 : goal.exchanged-requires-9
-exchanged-requires-9 c = apart_by_four
-
-pub exchanged-requires-10 : goal.exchanged-requires-10
-exchanged-requires-10 c = apart_by_four
-
-pub exchanged-requires-11 : goal.exchanged-requires-11
-exchanged-requires-11 c = apart_by_four
-
-pub exchanged-requires-12 : goal.exchanged-requires-12
-exchanged-requires-12 c = apart_by_four
 
 pub returns : goal.returns
 returns c =

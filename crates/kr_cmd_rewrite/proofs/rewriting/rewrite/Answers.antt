@@ -1,9 +1,10 @@
 -- `rewrite`: each phase goes on from the one before, and the store's tape comes back.
-use Rattle.std.proofs.Common.{◌≡◌, ◌<◌, ◌∙◌, ℕ, List, [], Result, Ok, Err, sym, subst}
+use Rattle.std.proofs.Common.{◌≡◌, ◌<◌, ◌∙◌, ℕ, List, [], Result, Ok, Err, refl, sym, subst}
 use Rattle.kr_kms.specs.declared.world.Access.TheVariants.{ToWrite}
 use Rattle.kr_config.specs.Kept.{ConfigEntry, rows_of}
 use Rattle.kr_provider.specs.PluginOrder.{plugin_order}
 use Rattle.kr_cmd_steps.specs.Around.{Around, with_exchanges, with_world}
+use Rattle.kr_cmd_steps.specs.Heard.{Heard}
 use Rattle.kr_cmd_steps.proofs.HeardLinks.{heard_nothing, heard_so, heard_within}
 use Rattle.kr_cmd_steps.proofs.Hearing.{none_heard}
 use Rattle.kr_cmd_steps.specs.Phases.{configuration, linking_programs, settled_for}
@@ -21,12 +22,14 @@ use Rattle.kr_cmd_steps.specs.inner.Lent.{with_lent_tape}
 use Rattle.kr_cmd_steps.specs.inner.Phases.{Does}
 use Rattle.kr_cmd_steps.specs.inner.Reporting.{DoesAll, saying}
 use Rattle.kr_cmd_steps.specs.inner.Tapes.{ReturnsSettled}
-use Rattle.kr_cmd_rewrite.proofs.Closing.{closed_err, closed_ok}
+use Rattle.kr_cmd_rewrite.proofs.Closing.{closed, ended_of}
 use Rattle.kr_cmd_steps.proofs.Goes.{goes_on, stops, by_bytes}
 use Rattle.kr_cmd_steps.proofs.NamedPrograms.{names_in}
 use Rattle.kr_cmd_rewrite.proofs.Said.{saying_tape, stopped_all}
 use Rattle.kr_cmd_steps.proofs.Settling.{settled_links}
 use Rattle.kr_cmd_steps.proofs.Tapes.{not_lent, is_out}
+use Rattle.kr_cmd_rewrite.proofs.rewriting.rewrite.Given.{Over}
+use Rattle.kr_cmd_rewrite.proofs.rewriting.rewrite.Goals.{After-settle_tape}
 use Rattle.kr_cmd_rewrite.proofs.rewriting.rewrite.Goals as goal
 
 abbrev on_tape : List ConfigEntry → List Program → (name : List ℕ) → Steps Outcome
@@ -104,90 +107,62 @@ settle_tape-requires-clause-out g c = λ κs lives. subst (λ t. 0 < t.out c.as_
     (sym c.rewrite_on_tape-ended.ensures.tapes)
     (is_out c.as_str-name.result.now c.in-Ok-open_tape.ensures.lent)
 
-pub returns-in-Ok-settle_tape : goal.returns-in-Ok-settle_tape
-returns-in-Ok-settle_tape g c =
-    let settled = settled_links c.as_str-name.result.now Store
+-- once the tape is back
+settled_so : (g : Over) (c : After-settle_tape g) (settled : Result Ended Stop) (ended : Ended)
+    → ended ≡ ended_of settled
+    → ReturnsSettled c.as_str-name.result.now Store
     (g.W.World.told c.rewrite_on_tape-ended.new.world) (g.W.World.told c.settle_tape.new.world)
     (g.W.Tap.Tape.told c.rewrite_on_tape-ended.result.1)
-    (g.W.Tap.Tape.count c.rewrite_on_tape-ended.result.1) c.to_settle.result c.settle_tape.result
-    c.settle_tape.ensures in
-    heard_within g.W.Link.Kms.link g.W.World.lent g.W.World.took g.W.Link.Kms.step 0
-    {out = g.W.World.told c.open_tape.new.world}
-    {mid = g.W.World.told c.rewrite_on_tape-ended.new.world}
-    (λ i. ((c.in-Ok-open_tape.ensures.lent.links ∙ c.in-Ok.ensures.links) i).handed)
-    (λ i. (settled i).handed) [] [] _
-    (heard_so g.W.Link.Kms.link g.W.World.lent g.W.World.took g.W.Link.Kms.step 0 [] [] _ _
-    c.rewrite_on_tape-ended.ensures.ended (λ es does a silent.
-    let then = with_exchanges es a in
+    (g.W.Tap.Tape.count c.rewrite_on_tape-ended.result.1) c.to_settle.result settled
+    → Heard g.W.Link.Kms.link g.W.World.lent g.W.World.took g.W.Link.Kms.step 0
+    (g.W.World.told c.args.world.now) (g.W.World.told c.settle_tape.new.world) [] []
+    (λ es. (a : Around) → a.said ≡ [] → DoesAll (Rewrite c.args.words.now)
+    (with_world (g.W.World.told c.args.world.now) a)
+    (saying ended.said (with_world (g.W.World.told c.settle_tape.new.world)
+    (with_exchanges es a))) ended.made)
+settled_so g c settled ended is came =
+    let link = g.W.Link.Kms.link in
+    let step = g.W.Link.Kms.step in
     let words = c.args.words.now in
     let rows = rows_of c.in-Ok.settings.entries.0 in
     let programs = c.in-Ok-settings_programs.programs in
     let name = c.as_str-name.result.now in
-    let ended = c.rewrite_on_tape-ended.result.0 in
-    let back = c.rewrite_on_tape-ended.result.1 in
+    let work = c.rewrite_on_tape-ended.result.0 in
+    let mid = g.W.World.told c.rewrite_on_tape-ended.new.world in
+    let told = g.W.Tap.Tape.told c.rewrite_on_tape-ended.result.1 in
+    let count = g.W.Tap.Tape.count c.rewrite_on_tape-ended.result.1 in
+    let new = g.W.World.told c.settle_tape.new.world in
+    let back = settled_links name Store mid new told count c.to_settle.result settled came in
+    heard_within link g.W.World.lent g.W.World.took step 0
+    {out = g.W.World.told c.open_tape.new.world} {mid = mid}
+    (λ i. ((c.in-Ok-open_tape.ensures.lent.links ∙ c.in-Ok.ensures.links) i).handed)
+    (λ i. (back i).handed) [] [] _
+    (heard_so link g.W.World.lent g.W.World.took step 0 [] [] _ _
+    c.rewrite_on_tape-ended.ensures.ended (λ es does a silent.
+    let then = with_exchanges es a in
     let now = with_world (g.W.World.told c.configure.new.world) a in
     let out = with_lent_tape name (g.W.Tap.Tape.told c.in-Ok-open_tape.tape)
     (g.W.Tap.Tape.count c.in-Ok-open_tape.tape)
     (with_world (g.W.World.told c.open_tape.new.world) a) in
-    let mid = g.W.World.told c.rewrite_on_tape-ended.new.world in
-    let told = g.W.Tap.Tape.told back in
-    let count = g.W.Tap.Tape.count back in
-    let new = g.W.World.told c.settle_tape.new.world in
-    let works = subst (λ b. Does (rewriting_on name rows programs) out b ended.made)
-    (saying_tape ended.said name told count mid then)
-    (subst (λ p. Does (rewriting_on name rows p) out (saying ended.said (with_lent_tape name
-    told count (with_world mid then))) ended.made)
+    let works = subst (λ b. Does (rewriting_on name rows programs) out b work.made)
+    (saying_tape work.said name told count mid then)
+    (subst (λ p. Does (rewriting_on name rows p) out (saying work.said (with_lent_tape name
+    told count (with_world mid then))) work.made)
     c.as_slice.ensures (does name a)) in
-    closed_ok (Rewrite words) name c.as_str-name.ensures ToWrite (rewriting_on name rows programs)
+    closed (Rewrite words) name c.as_str-name.ensures ToWrite (rewriting_on name rows programs)
     a then silent
     (whole_by words rows programs (by_bytes configuration c.as_str.ensures (c.in-Ok.ensures.does a))
     (c.in-Ok-settings_programs.ensures.does now) c.as_str-name.ensures)
-    c.in-Ok-open_tape.ensures.lent mid new told count ended.said ended.made
-    c.in-Ok-settle_tape.ended
-    (subst (λ m. ReturnsSettled name Store mid new told count m (Ok c.in-Ok-settle_tape.ended))
-    c.to_settle.ensures c.in-Ok-settle_tape.ensures) works))
+    c.in-Ok-open_tape.ensures.lent mid new told count work.said work.made settled ended is
+    (subst (λ m. ReturnsSettled name Store mid new told count m settled) c.to_settle.ensures came)
+    works))
+
+pub returns-in-Ok-settle_tape : goal.returns-in-Ok-settle_tape
+returns-in-Ok-settle_tape g c =
+    settled_so g (goal.at.returns-in-Ok-settle_tape g c).After-settle_tape
+    (Ok c.in-Ok-settle_tape.ended) c.in-Ok-settle_tape.ended refl c.in-Ok-settle_tape.ensures
 
 pub returns : goal.returns
-returns g c =
-    let settled = settled_links c.as_str-name.result.now Store
-    (g.W.World.told c.rewrite_on_tape-ended.new.world) (g.W.World.told c.settle_tape.new.world)
-    (g.W.Tap.Tape.told c.rewrite_on_tape-ended.result.1)
-    (g.W.Tap.Tape.count c.rewrite_on_tape-ended.result.1) c.to_settle.result c.settle_tape.result
-    c.settle_tape.ensures in
-    heard_within g.W.Link.Kms.link g.W.World.lent g.W.World.took g.W.Link.Kms.step 0
-    {out = g.W.World.told c.open_tape.new.world}
-    {mid = g.W.World.told c.rewrite_on_tape-ended.new.world}
-    (λ i. ((c.in-Ok-open_tape.ensures.lent.links ∙ c.in-Ok.ensures.links) i).handed)
-    (λ i. (settled i).handed) [] [] _
-    (heard_so g.W.Link.Kms.link g.W.World.lent g.W.World.took g.W.Link.Kms.step 0 [] [] _ _
-    c.rewrite_on_tape-ended.ensures.ended (λ es does a silent.
-    let then = with_exchanges es a in
-    let words = c.args.words.now in
-    let rows = rows_of c.in-Ok.settings.entries.0 in
-    let programs = c.in-Ok-settings_programs.programs in
-    let name = c.as_str-name.result.now in
-    let ended = c.rewrite_on_tape-ended.result.0 in
-    let back = c.rewrite_on_tape-ended.result.1 in
-    let now = with_world (g.W.World.told c.configure.new.world) a in
-    let out = with_lent_tape name (g.W.Tap.Tape.told c.in-Ok-open_tape.tape)
-    (g.W.Tap.Tape.count c.in-Ok-open_tape.tape)
-    (with_world (g.W.World.told c.open_tape.new.world) a) in
-    let mid = g.W.World.told c.rewrite_on_tape-ended.new.world in
-    let told = g.W.Tap.Tape.told back in
-    let count = g.W.Tap.Tape.count back in
-    let new = g.W.World.told c.settle_tape.new.world in
-    let works = subst (λ b. Does (rewriting_on name rows programs) out b ended.made)
-    (saying_tape ended.said name told count mid then)
-    (subst (λ p. Does (rewriting_on name rows p) out (saying ended.said (with_lent_tape name
-    told count (with_world mid then))) ended.made)
-    c.as_slice.ensures (does name a)) in
-    let all = closed_err (Rewrite words) name c.as_str-name.ensures ToWrite
-    (rewriting_on name rows programs) a then silent
-    (whole_by words rows programs (by_bytes configuration c.as_str.ensures (c.in-Ok.ensures.does a))
-    (c.in-Ok-settings_programs.ensures.does now) c.as_str-name.ensures)
-    c.in-Ok-open_tape.ensures.lent mid new told count ended.said ended.made
-    c.in-Err-settle_tape.stop
-    (subst (λ m. ReturnsSettled name Store mid new told count m (Err c.in-Err-settle_tape.stop))
-    c.to_settle.ensures c.in-Err-settle_tape.ensures) works in
-    subst (λ (e : Ended). DoesAll (Rewrite words) (with_world (g.W.World.told c.args.world.now) a)
-    (saying e.said (with_world new then)) e.made) (sym c.stopped-in-Err-settle_tape.ensures) all))
+returns g c = settled_so g (goal.at.returns g c).After-settle_tape
+    (Err c.in-Err-settle_tape.stop) c.stopped-in-Err-settle_tape.result
+    c.stopped-in-Err-settle_tape.ensures c.in-Err-settle_tape.ensures

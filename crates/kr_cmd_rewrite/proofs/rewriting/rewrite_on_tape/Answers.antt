@@ -1,9 +1,9 @@
 -- `rewrite_on_tape`: the store is loaded, there is room, and what follows has its tape out.
-use Rattle.std.proofs.Common.{◌≡◌, ◌++◌, ◌<◌, [], sym, ◌∙◌, ap, refl, subst, arith}
+use Rattle.std.proofs.Common.{◌≡◌, ℕ, ◌++◌, ◌<◌, List, [], Result, sym, ◌∙◌, ap, refl, subst, arith}
 use Rattle.kr_config.specs.Kept.{rows_of}
 use Rattle.kr_provider.specs.Names.{names_of}
 use Rattle.kr_provider.specs.PluginOrder.{plugin_order}
-use Rattle.kr_cmd_steps.specs.Around.{with_exchanges, with_world}
+use Rattle.kr_cmd_steps.specs.Around.{Around, with_exchanges, with_world}
 use Rattle.kr_cmd_steps.proofs.HeardLinks.{heard_alone, heard_nothing, heard_so, heard_within}
 use Rattle.kr_cmd_steps.proofs.Hearing.{none_heard}
 use Rattle.kr_cmd_steps.specs.RewriteSteps.{rewriting_by, rewriting_on}
@@ -13,6 +13,8 @@ use Rattle.kr_cmd_steps.specs.Steps.{borrow_dice}
 use Rattle.kr_cmd_messages.specs.declared.refusal.Limit.TheVariants as limit
 use Rattle.kr_cmd_messages.specs.declared.refusal.Object.TheVariants.{Store}
 use Rattle.kr_cmd_messages.specs.declared.refusal.Refusal.TheVariants.{Limit}
+use Rattle.kr_cmd_messages.specs.declared.refusal.Outcome.{Outcome}
+use Rattle.kr_cmd_messages.specs.declared.refusal.Stop.{Stop}
 use Rattle.kr_cmd_messages.specs.declared.refusal.Stop.TheVariants.{Refused, NoMemory}
 use Rattle.kr_cmd_steps.specs.inner.Lent.{with_tapes, with_lent_tape}
 use Rattle.kr_cmd_steps.specs.inner.Phases.{Does}
@@ -25,7 +27,23 @@ use Rattle.kr_cmd_steps.proofs.Loading.{as_closed}
 use Rattle.kr_cmd_steps.proofs.NamedPrograms.{names_in}
 use Rattle.kr_cmd_rewrite.proofs.Said.{All_lent, Finding, listing_lacking, room_lacking, room_there, saying_seen, saying_tape, stopped_by, tapes_lent}
 use Rattle.kr_cmd_steps.proofs.Tapes.{behind_tape}
+use Rattle.kr_cmd_rewrite.proofs.rewriting.rewrite_on_tape.Given.{Over}
+use Rattle.kr_cmd_rewrite.proofs.rewriting.rewrite_on_tape.Goals.{In-Ok}
 use Rattle.kr_cmd_rewrite.proofs.rewriting.rewrite_on_tape.Goals as goal
+
+-- the store is loaded, and what follows goes on from it
+loaded : (g : Over) (c : In-Ok g) (name : List ℕ) (a : Around) {end : Around}
+    {made : Result Outcome Stop}
+    → Does (Finding name (rows_of c.args.settings.entries.0) c.args.programs.now
+    (stored_of c.in-Ok.store)) (with_lent_tape name c.in-Ok.store.told c.in-Ok.store.count
+    (with_world (g.W.World.told c.args.world.now) a)) end made
+    → Does (rewriting_on name (rows_of c.args.settings.entries.0) c.args.programs.now)
+    (with_lent_tape name (g.W.Tap.Tape.told c.args.tape) (g.W.Tap.Tape.count c.args.tape)
+    (with_world (g.W.World.told c.args.world.now) a)) end made
+loaded g c name a d = goes_on (stored_on Store name)
+    (Finding name (rows_of c.args.settings.entries.0) c.args.programs.now)
+    (stored_of c.in-Ok.store)
+    (c.in-Ok.ensures.ok name (with_world (g.W.World.told c.args.world.now) a)) d
 
 pub returns-in-Err-clause-ended : goal.returns-in-Err-clause-ended
 returns-in-Err-clause-ended g c =
@@ -44,37 +62,32 @@ returns-in_default-clause-ended g c =
     heard_nothing g.W.Link.Kms.link g.W.World.lent g.W.World.took g.W.Link.Kms.step 0
     refl [] _ (λ name a.
     let rows = rows_of c.args.settings.entries.0 in
-    let programs = c.args.programs.now in
-    let store = c.in-Ok.store in
     let now = with_world (g.W.World.told c.args.world.now) a in
     stopped_by (Refused (Limit limit.Journal)) c.stopped-in_default.result
     c.stopped-in_default.ensures
     (none_heard (with_lent_tape name (g.W.Tap.Tape.told c.close.result)
     (g.W.Tap.Tape.count c.close.result) now)
-    (as_closed (rewriting_on name rows programs) name now _ c.close.ensures.told
+    (as_closed (rewriting_on name rows c.args.programs.now) name now _ c.close.ensures.told
     c.close.ensures.count
-    (goes_on (stored_on Store name) (Finding name rows programs) (stored_of store)
-    (c.in-Ok.ensures.ok name now)
-    (room_lacking name rows programs (stored_of store)
-    (with_lent_tape name store.told store.count now) c.in_default.ensures)))))
+    (loaded g (goal.at.returns-in_default-clause-ended g c).In-Ok name a
+    (room_lacking name rows c.args.programs.now (stored_of c.in-Ok.store)
+    (with_lent_tape name c.in-Ok.store.told c.in-Ok.store.count now) c.in_default.ensures)))))
 
 pub returns-in-Err-program_plugins-clause-ended : goal.returns-in-Err-program_plugins-clause-ended
 returns-in-Err-program_plugins-clause-ended g c =
     heard_nothing g.W.Link.Kms.link g.W.World.lent g.W.World.took g.W.Link.Kms.step 0
     refl [] _ (λ name a.
+    let here = (goal.at.returns-in-Err-program_plugins-clause-ended g c).In-Ok in
     let rows = rows_of c.args.settings.entries.0 in
-    let programs = c.args.programs.now in
-    let store = c.in-Ok.store in
     let now = with_world (g.W.World.told c.args.world.now) a in
-    stopped_by NoMemory c.stopped-in-Err-program_plugins.result c.stopped-in-Err-program_plugins.ensures
+    stopped_by NoMemory c.stopped-in-Err-program_plugins.result
+    c.stopped-in-Err-program_plugins.ensures
     (none_heard (with_lent_tape name (g.W.Tap.Tape.told c.close-in-Err-program_plugins.result)
     (g.W.Tap.Tape.count c.close-in-Err-program_plugins.result) now)
-    (as_closed (rewriting_on name rows programs) name now _ c.close-in-Err-program_plugins.ensures.told
-    c.close-in-Err-program_plugins.ensures.count
-    (goes_on (stored_on Store name) (Finding name rows programs) (stored_of store)
-    (c.in-Ok.ensures.ok name now)
-    (listing_lacking name rows programs (stored_of store)
-    (with_lent_tape name store.told store.count now))))))
+    (as_closed (rewriting_on name rows c.args.programs.now) name now _
+    c.close-in-Err-program_plugins.ensures.told c.close-in-Err-program_plugins.ensures.count
+    (loaded g here name a (listing_lacking name rows c.args.programs.now (stored_of c.in-Ok.store)
+    (with_lent_tape name c.in-Ok.store.told c.in-Ok.store.count now))))))
 
 pub returns-in-Err-open_dice-clause-ended : goal.returns-in-Err-open_dice-clause-ended
 returns-in-Err-open_dice-clause-ended g c =
@@ -84,7 +97,6 @@ returns-in-Err-open_dice-clause-ended g c =
     let programs = c.args.programs.now in
     let store = c.in-Ok.store in
     let world = g.W.World.told c.args.world.now in
-    let now = with_world world a in
     let then = with_world (g.W.World.told c.open_dice.new.world) a in
     let room = c.in-Some.ensures in
     let tapes = tapes_lent name store.told store.count world.tapes in
@@ -94,8 +106,7 @@ returns-in-Err-open_dice-clause-ended g c =
     (g.W.Tap.Tape.count c.close-in-Err-open_dice.result) then)
     (as_closed (rewriting_on name rows programs) name then _ c.close-in-Err-open_dice.ensures.told
     c.close-in-Err-open_dice.ensures.count
-    (goes_on (stored_on Store name) (Finding name rows programs) (stored_of store)
-    (c.in-Ok.ensures.ok name now)
+    (loaded g (goal.at.returns-in-Err-open_dice-clause-ended g c).In-Ok name a
     (room_there name rows programs (stored_of store) room.0 room.1
     (omega (arith, room.2, room.3))
     (behind_tape name store.told store.count a c.in-Err-open_dice.ensures.objects.tapes
@@ -176,8 +187,7 @@ returns-clause-ended g c =
     (g.W.Tap.Tape.count c.close-2.result) last after_all))
     (as_closed (rewriting_on name rows programs) name (with_world last (saying said after_all)) _
     c.close-2.ensures.told c.close-2.ensures.count
-    (goes_on (stored_on Store name) (Finding name rows programs) (stored_of store)
-    (c.in-Ok.ensures.ok name now)
+    (loaded g (goal.at.returns-clause-ended g c).In-Ok name a
     (room_there name rows programs (stored_of store) room.0 room.1
     (omega (arith, room.2, room.3))
     (subst (λ ts. Does (borrow_dice 0 next) (with_lent_tape name store.told store.count now)

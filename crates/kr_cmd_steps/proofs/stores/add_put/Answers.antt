@@ -1,8 +1,6 @@
 -- `add_put`: each answer of the store ends the steps of one more row.
-use Rattle.std.proofs.Common.{ap, arith}
 use Rattle.kr_store.specs.Rows.{check_in, put_of}
-use Rattle.kr_store.specs.declared.answers.PutNo.TheVariants as refused
-use Rattle.kr_cmd_steps.proofs.Adding.{one_more, refused_so, row_added, row_torn, row_above, row_lacking}
+use Rattle.kr_cmd_steps.proofs.Adding.{one_more, refused_so, row_added, row_refused, rows_kept, unchanged}
 use Rattle.kr_cmd_steps.proofs.stores.add_put.Goals as goal
 
 pub returns-in-Ok-clause-does : goal.returns-in-Ok-clause-does
@@ -13,58 +11,24 @@ returns-in-Ok-clause-does g c name a = row_added c.args.object name
 pub returns-in-Ok-clause-grown : goal.returns-in-Ok-clause-grown
 returns-in-Ok-clause-grown g c = one_more c.in-Ok.ensures
 
-pub returns-in-Err-Failed-clause-does : goal.returns-in-Err-Failed-clause-does
-returns-in-Err-Failed-clause-does g c name a =
+pub write_stop-requires : goal.write_stop-requires
+write_stop-requires g c = unchanged c.args.store.now c.put-written.new.self
+    (put_of c.args.path.now c.args.resource.now c.args.stored
+    (check_in c.args.store.now.format c.args.check)) c.in-Err.why
+    (refused_so c.args.store.now c.put-written.new.self _ c.put-written.ensures c.in-Err.is)
+
+pub returns-in-Err-clause-does : goal.returns-in-Err-clause-does
+returns-in-Err-clause-does g c name a =
     let row = put_of c.args.path.now c.args.resource.now c.args.stored
     (check_in c.args.store.now.format c.args.check) in
     let new = c.put-written.new.self in
-    let why = rw c.in-Err-Failed.is at c.in-Err-Failed.field-0-is in
-    row_torn c.args.object name row c.args.store.now new c.requires.within a
-    (refused_so c.args.store.now new row refused.Failed c.put-written.ensures
-    c.in-Err-Failed.is why)
-    c.known.ensures c.faults.ensures
+    row_refused c.args.object name row c.args.store.now new c.requires.within a c.in-Err.why
+    c.write_stop.result
+    (refused_so c.args.store.now new row c.put-written.ensures c.in-Err.is) c.known.ensures
+    c.faults.ensures c.write_stop.ensures
 
-pub returns-in-Err-Full-clause-does : goal.returns-in-Err-Full-clause-does
-returns-in-Err-Full-clause-does g c name a =
-    let row = put_of c.args.path.now c.args.resource.now c.args.stored
-    (check_in c.args.store.now.format c.args.check) in
-    let new = c.put-written.new.self in
-    let why = rw c.in-Err-Full.is at c.in-Err-Full.field-0-is in
-    let full = refused_so c.args.store.now new row (refused.Full c.in-Err-Full._needed)
-    c.put-written.ensures c.in-Err-Full.is why in
-    row_above c.args.object name row c.args.store.now new c.requires.within a full.0
-    (omega (arith, full.1, full.2))
-
-pub returns-in-Err-NoMemory-clause-does : goal.returns-in-Err-NoMemory-clause-does
-returns-in-Err-NoMemory-clause-does g c name a =
-    let row = put_of c.args.path.now c.args.resource.now c.args.stored
-    (check_in c.args.store.now.format c.args.check) in
-    let new = c.put-written.new.self in
-    let why = rw c.in-Err-NoMemory.is at c.in-Err-NoMemory.field-0-is in
-    row_lacking c.args.object name row c.args.store.now new c.requires.within a
-    (refused_so c.args.store.now new row refused.NoMemory c.put-written.ensures
-    c.in-Err-NoMemory.is why)
-
-pub returns-in-Err-Failed-clause-kept : goal.returns-in-Err-Failed-clause-kept
-returns-in-Err-Failed-clause-kept g c =
-    let row = put_of c.args.path.now c.args.resource.now c.args.stored
-    (check_in c.args.store.now.format c.args.check) in
-    let why = rw c.in-Err-Failed.is at c.in-Err-Failed.field-0-is in
-    let is = refused_so c.args.store.now c.put-written.new.self row refused.Failed
-    c.put-written.ensures c.in-Err-Failed.is why in is.rows
-
-pub returns-in-Err-Full-clause-kept : goal.returns-in-Err-Full-clause-kept
-returns-in-Err-Full-clause-kept g c =
-    let row = put_of c.args.path.now c.args.resource.now c.args.stored
-    (check_in c.args.store.now.format c.args.check) in
-    let why = rw c.in-Err-Full.is at c.in-Err-Full.field-0-is in
-    let is = refused_so c.args.store.now c.put-written.new.self row (refused.Full c.in-Err-Full._needed)
-    c.put-written.ensures c.in-Err-Full.is why in ap (λ s. s.rows) is.0
-
-pub returns-in-Err-NoMemory-clause-kept : goal.returns-in-Err-NoMemory-clause-kept
-returns-in-Err-NoMemory-clause-kept g c =
-    let row = put_of c.args.path.now c.args.resource.now c.args.stored
-    (check_in c.args.store.now.format c.args.check) in
-    let why = rw c.in-Err-NoMemory.is at c.in-Err-NoMemory.field-0-is in
-    let is = refused_so c.args.store.now c.put-written.new.self row refused.NoMemory
-    c.put-written.ensures c.in-Err-NoMemory.is why in ap (λ s. s.rows) is
+pub returns-in-Err-clause-kept : goal.returns-in-Err-clause-kept
+returns-in-Err-clause-kept g c = rows_kept c.args.store.now c.put-written.new.self
+    (put_of c.args.path.now c.args.resource.now c.args.stored
+    (check_in c.args.store.now.format c.args.check)) c.in-Err.why
+    (refused_so c.args.store.now c.put-written.new.self _ c.put-written.ensures c.in-Err.is)

@@ -1,5 +1,5 @@
 -- `make_linked`: one more link is borrowed for what follows.
-use Rattle.std.proofs.Common.{◌≡◌, ◌++◌, ◌∷◌, [], refl, subst, sym, ap, ◌∙◌}
+use Rattle.std.proofs.Common.{refl, sym, ap, ◌∙◌}
 use Rattle.kr_base.proofs.Walks.{talk_so}
 use Rattle.kr_config.specs.Kept.{rows_of}
 use Rattle.kr_provider.specs.AskedLinks.{Among}
@@ -14,9 +14,8 @@ use Rattle.kr_cmd_steps.proofs.Apart.{files_apart, objects_apart, link_apart, li
 use Rattle.kr_cmd_steps.proofs.Frames.{Seen}
 use Rattle.kr_cmd_steps.proofs.HeardLinks.{heard_around, heard_by, heard_idle, heard_nothing, heard_so, loan_handed}
 use Rattle.kr_cmd_steps.proofs.Hearing.{none_heard}
-use Rattle.kr_cmd_steps.proofs.Linked.{all_back, at_end, at_first, borrows_to, is_new, is_out, none_added, none_borrowed, same_last, some_named}
+use Rattle.kr_cmd_steps.proofs.Linked.{added_new, at_end, at_first, borrows_to, last_back, last_named, last_out, none_added, none_borrowed, some_named}
 use Rattle.kr_cmd_steps.proofs.Links.{LinksOf}
-use Rattle.kr_cmd_steps.proofs.NamedPrograms.{names_in}
 use Rattle.kr_cmd_steps.proofs.work.+make_linked.Goals as goal
 
 pub returns-in_default-clause-made : goal.returns-in_default-clause-made
@@ -46,11 +45,8 @@ returns-in-Err-clause-made g t c = let task = c.args.task.now in
     c.in-Err.stop c.in-Err.ensures.why c.in-Err.ensures.asked)))
 
 pub add-requires : goal.add-requires
-add-requires g t c = is_new g.W.Link.Kms.link (rows_of c.args.settings.entries.0) c.args.links
-    c.in-Some.program.now c.in-Some.more.now
-    (subst (λ p. names_of g.W.Link.Kms.link c.args.links ++ names_in p
-    ≡ plugin_order (rows_of c.args.settings.entries.0)) c.in-Some.ensures c.requires.programs)
-    c.in-Ok.link (ap (λ l. l.name) c.in-Ok.ensures.lent.link_is ∙ c.as_str.ensures)
+add-requires g t c = added_new g.W.Link.Kms.link (rows_of c.args.settings.entries.0) c.args.links
+    c.in-Ok.ensures.lent c.as_str.ensures c.in-Some.ensures c.requires.programs
 
 pub returns-in-Err-add-clause-made : goal.returns-in-Err-add-clause-made
 returns-in-Err-add-clause-made g t c = let task = c.args.task.now in
@@ -82,14 +78,8 @@ take_last-link-requires g t c = λ none. some_named g.W.Link.Kms.link c.args.lin
     ∙ sym c.make_linked-made.ensures.names ∙ none)
 
 pub close_link-requires-2-clause-out : goal.close_link-requires-2-clause-out
-close_link-requires-2-clause-out g t c κs within =
-    let link = g.W.Link.Kms.link in
-    let last = same_last link c.take_last-link.new.links c.args.links c.take_last-link.result
-    c.in-Ok.link (ap (names_of link) (sym c.take_last-link.ensures)
-    ∙ c.make_linked-made.ensures.names ∙ ap (names_of link) c.in-Ok-add.ensures.ok) in
-    is_out c.in-Ok.ensures.lent.out (g.W.World.told c.make_linked-made.new.world).links
-    (link c.take_last-link.result).name c.make_linked-made.ensures.out
-    (last.1 ∙ ap (λ l. l.name) c.in-Ok.ensures.lent.link_is)
+close_link-requires-2-clause-out g t c κs within = last_out g.W.Link.Kms.link c.args.links c.take_last-link.new.links c.in-Ok.ensures.lent c.in-Ok-add.ensures.ok c.take_last-link.ensures c.make_linked-made.ensures.names
+    (g.W.World.told c.make_linked-made.new.world) c.make_linked-made.ensures.out
 
 pub returns-clause-made : goal.returns-clause-made
 returns-clause-made g t c = let task = c.args.task.now in
@@ -117,19 +107,10 @@ returns-clause-made g t c = let task = c.args.task.now in
     c.in-Ok-add.ensures.ok c.take_last-link.ensures (does tapes a)))
 
 pub returns-clause-out : goal.returns-clause-out
-returns-clause-out g t c =
-    let link = g.W.Link.Kms.link in
-    let last = same_last link c.take_last-link.new.links c.args.links c.take_last-link.result
-    c.in-Ok.link (ap (names_of link) (sym c.take_last-link.ensures)
-    ∙ c.make_linked-made.ensures.names ∙ ap (names_of link) c.in-Ok-add.ensures.ok) in
-    all_back c.in-Ok.ensures.lent.out (g.W.World.told c.make_linked-made.new.world).links
-    (g.W.World.told c.close_link-2.new.world).links (link c.take_last-link.result).name
-    c.make_linked-made.ensures.out c.close_link-2.ensures.back.home
-    (last.1 ∙ ap (λ l. l.name) c.in-Ok.ensures.lent.link_is)
+returns-clause-out g t c = last_back g.W.Link.Kms.link c.args.links c.take_last-link.new.links c.in-Ok.ensures.lent c.in-Ok-add.ensures.ok
+    c.take_last-link.ensures c.make_linked-made.ensures.names (g.W.World.told c.make_linked-made.new.world)
+    c.make_linked-made.ensures.out (g.W.World.told c.close_link-2.new.world) c.close_link-2.ensures.back
 
 pub returns-clause-names : goal.returns-clause-names
-returns-clause-names g t c =
-    let link = g.W.Link.Kms.link in
-    (same_last link c.take_last-link.new.links c.args.links c.take_last-link.result
-    c.in-Ok.link (ap (names_of link) (sym c.take_last-link.ensures)
-    ∙ c.make_linked-made.ensures.names ∙ ap (names_of link) c.in-Ok-add.ensures.ok)).0
+returns-clause-names g t c = (last_named g.W.Link.Kms.link c.args.links c.take_last-link.new.links c.in-Ok.ensures.lent c.in-Ok-add.ensures.ok
+    c.take_last-link.ensures c.make_linked-made.ensures.names).0

@@ -1,9 +1,7 @@
 -- `add_row`: each answer of the store ends the steps of one more row.
-use Rattle.std.proofs.Common.{ap, arith}
 use Rattle.kr_store.specs.Rows.{check_in, put_of}
-use Rattle.kr_store.specs.declared.answers.PutNo.TheVariants as refused
 use Rattle.kr_cmd_messages.specs.declared.refusal.Object as objects
-use Rattle.kr_cmd_steps.proofs.Adding.{one_more, refused_so, row_added, row_torn, row_above, row_lacking}
+use Rattle.kr_cmd_steps.proofs.Adding.{one_more, refused_so, row_added, row_refused, unchanged}
 use Rattle.kr_cmd_store.proofs.migration.add_row.Goals as goal
 
 pub returns-in-Ok-clause-does : goal.returns-in-Ok-clause-does
@@ -14,34 +12,19 @@ returns-in-Ok-clause-does g c name a = row_added objects.Object.Target name
 pub returns-in-Ok-clause-grown : goal.returns-in-Ok-clause-grown
 returns-in-Ok-clause-grown g c = one_more c.in-Ok.ensures
 
-pub returns-in-Err-Failed-clause-does : goal.returns-in-Err-Failed-clause-does
-returns-in-Err-Failed-clause-does g c name a =
-    let row = put_of c.args.row.now.path c.args.row.now.resource c.args.row.now.stored
-    (check_in c.args.target.now.format c.args.check) in
-    let new = c.put_row-written.new.self in
-    let why = rw c.in-Err-Failed.is at c.in-Err-Failed.field-0-is in
-    row_torn objects.Object.Target name row c.args.target.now new c.requires.within a
-    (refused_so c.args.target.now new row refused.Failed c.put_row-written.ensures
-    c.in-Err-Failed.is why)
-    c.known.ensures c.faults.ensures
+pub write_stop-requires : goal.write_stop-requires
+write_stop-requires g c = unchanged c.args.target.now c.put_row-written.new.self
+    (put_of c.args.row.now.path c.args.row.now.resource c.args.row.now.stored
+    (check_in c.args.target.now.format c.args.check)) c.in-Err.why
+    (refused_so c.args.target.now c.put_row-written.new.self _ c.put_row-written.ensures
+    c.in-Err.is)
 
-pub returns-in-Err-Full-clause-does : goal.returns-in-Err-Full-clause-does
-returns-in-Err-Full-clause-does g c name a =
+pub returns-in-Err-clause-does : goal.returns-in-Err-clause-does
+returns-in-Err-clause-does g c name a =
     let row = put_of c.args.row.now.path c.args.row.now.resource c.args.row.now.stored
     (check_in c.args.target.now.format c.args.check) in
     let new = c.put_row-written.new.self in
-    let why = rw c.in-Err-Full.is at c.in-Err-Full.field-0-is in
-    let full = refused_so c.args.target.now new row (refused.Full c.in-Err-Full._needed)
-    c.put_row-written.ensures c.in-Err-Full.is why in
-    row_above objects.Object.Target name row c.args.target.now new c.requires.within a full.0
-    (omega (arith, full.1, full.2))
-
-pub returns-in-Err-NoMemory-clause-does : goal.returns-in-Err-NoMemory-clause-does
-returns-in-Err-NoMemory-clause-does g c name a =
-    let row = put_of c.args.row.now.path c.args.row.now.resource c.args.row.now.stored
-    (check_in c.args.target.now.format c.args.check) in
-    let new = c.put_row-written.new.self in
-    let why = rw c.in-Err-NoMemory.is at c.in-Err-NoMemory.field-0-is in
-    row_lacking objects.Object.Target name row c.args.target.now new c.requires.within a
-    (refused_so c.args.target.now new row refused.NoMemory c.put_row-written.ensures
-    c.in-Err-NoMemory.is why)
+    row_refused objects.Object.Target name row c.args.target.now new c.requires.within a
+    c.in-Err.why c.write_stop.result
+    (refused_so c.args.target.now new row c.put_row-written.ensures c.in-Err.is) c.known.ensures
+    c.faults.ensures c.write_stop.ensures

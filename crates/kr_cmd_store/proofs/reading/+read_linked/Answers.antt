@@ -1,5 +1,5 @@
 -- `read_linked`: one more link is borrowed for what follows.
-use Rattle.std.proofs.Common.{◌≡◌, ◌++◌, refl, subst, sym, ap, ◌∙◌}
+use Rattle.std.proofs.Common.{refl, sym, ap, ◌∙◌}
 use Rattle.kr_base.proofs.Walks.{talk_so}
 use Rattle.kr_config.specs.Kept.{rows_of}
 use Rattle.kr_provider.specs.AskedLinks.{Among}
@@ -13,8 +13,7 @@ use Rattle.kr_cmd_steps.specs.Steps.{and_then}
 use Rattle.kr_cmd_steps.proofs.Frames.{Seen}
 use Rattle.kr_cmd_steps.proofs.HeardLinks.{heard_around, heard_by, heard_idle, heard_nothing, heard_so, loan_handed}
 use Rattle.kr_cmd_steps.proofs.Hearing.{none_heard}
-use Rattle.kr_cmd_steps.proofs.Linked.{all_back, at_end, at_first, borrows_to, is_new, is_out, none_added, none_borrowed, same_last, some_named}
-use Rattle.kr_cmd_steps.proofs.NamedPrograms.{names_in}
+use Rattle.kr_cmd_steps.proofs.Linked.{added_new, at_end, at_first, borrows_to, last_back, last_named, last_out, none_added, none_borrowed, some_named}
 use Rattle.kr_cmd_store.proofs.reading.+read_linked.Goals as goal
 
 pub returns-in_default-clause-does : goal.returns-in_default-clause-does
@@ -42,11 +41,8 @@ returns-in-Err-clause-does g t c =
     c.in-Err.stop c.in-Err.ensures.why c.in-Err.ensures.asked)))
 
 pub add-requires : goal.add-requires
-add-requires g t c = is_new g.W.Link.Kms.link (rows_of c.args.settings.entries.0) c.args.links
-    c.in-Some.program.now c.in-Some.more.now
-    (subst (λ p. names_of g.W.Link.Kms.link c.args.links ++ names_in p
-    ≡ plugin_order (rows_of c.args.settings.entries.0)) c.in-Some.ensures c.requires.programs)
-    c.in-Ok.link (ap (λ l. l.name) c.in-Ok.ensures.lent.link_is ∙ c.as_str.ensures)
+add-requires g t c = added_new g.W.Link.Kms.link (rows_of c.args.settings.entries.0) c.args.links
+    c.in-Ok.ensures.lent c.as_str.ensures c.in-Some.ensures c.requires.programs
 
 pub returns-in-Err-add-clause-does : goal.returns-in-Err-add-clause-does
 returns-in-Err-add-clause-does g t c =
@@ -80,14 +76,8 @@ take_last-link-requires g t c = λ none. some_named g.W.Link.Kms.link c.args.lin
     ∙ sym c.read_linked-told.ensures.names ∙ none)
 
 pub close_link-requires-2-clause-out : goal.close_link-requires-2-clause-out
-close_link-requires-2-clause-out g t c κs within =
-    let link = g.W.Link.Kms.link in
-    let last = same_last link c.take_last-link.new.links c.args.links c.take_last-link.result
-    c.in-Ok.link (ap (names_of link) (sym c.take_last-link.ensures)
-    ∙ c.read_linked-told.ensures.names ∙ ap (names_of link) c.in-Ok-add.ensures.ok) in
-    is_out c.in-Ok.ensures.lent.out (g.W.World.told c.read_linked-told.new.world).links
-    (link c.take_last-link.result).name c.read_linked-told.ensures.out
-    (last.1 ∙ ap (λ l. l.name) c.in-Ok.ensures.lent.link_is)
+close_link-requires-2-clause-out g t c κs within = last_out g.W.Link.Kms.link c.args.links c.take_last-link.new.links c.in-Ok.ensures.lent c.in-Ok-add.ensures.ok c.take_last-link.ensures c.read_linked-told.ensures.names
+    (g.W.World.told c.read_linked-told.new.world) c.read_linked-told.ensures.out
 
 pub returns-clause-does : goal.returns-clause-does
 returns-clause-does g t c =
@@ -113,19 +103,10 @@ returns-clause-does g t c =
     c.take_last-link.ensures (does a)))
 
 pub returns-clause-out : goal.returns-clause-out
-returns-clause-out g t c =
-    let link = g.W.Link.Kms.link in
-    let last = same_last link c.take_last-link.new.links c.args.links c.take_last-link.result
-    c.in-Ok.link (ap (names_of link) (sym c.take_last-link.ensures)
-    ∙ c.read_linked-told.ensures.names ∙ ap (names_of link) c.in-Ok-add.ensures.ok) in
-    all_back c.in-Ok.ensures.lent.out (g.W.World.told c.read_linked-told.new.world).links
-    (g.W.World.told c.close_link-2.new.world).links (link c.take_last-link.result).name
-    c.read_linked-told.ensures.out c.close_link-2.ensures.back.home
-    (last.1 ∙ ap (λ l. l.name) c.in-Ok.ensures.lent.link_is)
+returns-clause-out g t c = last_back g.W.Link.Kms.link c.args.links c.take_last-link.new.links c.in-Ok.ensures.lent c.in-Ok-add.ensures.ok
+    c.take_last-link.ensures c.read_linked-told.ensures.names (g.W.World.told c.read_linked-told.new.world)
+    c.read_linked-told.ensures.out (g.W.World.told c.close_link-2.new.world) c.close_link-2.ensures.back
 
 pub returns-clause-names : goal.returns-clause-names
-returns-clause-names g t c =
-    let link = g.W.Link.Kms.link in
-    (same_last link c.take_last-link.new.links c.args.links c.take_last-link.result
-    c.in-Ok.link (ap (names_of link) (sym c.take_last-link.ensures)
-    ∙ c.read_linked-told.ensures.names ∙ ap (names_of link) c.in-Ok-add.ensures.ok)).0
+returns-clause-names g t c = (last_named g.W.Link.Kms.link c.args.links c.take_last-link.new.links c.in-Ok.ensures.lent c.in-Ok-add.ensures.ok
+    c.take_last-link.ensures c.read_linked-told.ensures.names).0

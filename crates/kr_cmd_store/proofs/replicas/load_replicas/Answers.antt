@@ -1,23 +1,11 @@
 -- `load_replicas`: each turn loads the configuration of the next name.
-use Rattle.std.proofs.Common.{◌≡◌, ℕ, ◌+◌, List, [], ◌∷◌, ◌++◌, Option, Some, sym, ◌∙◌, ap, subst, arith}
-use Rattle.kr_config.specs.declared.settings.Settings.{Settings}
-use Rattle.kr_kms.specs.Outside.{Outside}
+use Rattle.std.proofs.Common.{◌+◌, sym, ◌∙◌, ap, subst, arith}
 use Rattle.kr_opening.specs.Replicas.{rows_in}
 use Rattle.kr_cmd_messages.specs.Command.{replica_names}
 use Rattle.kr_cmd_store.specs.inner.Judging.{AreIn}
 use Rattle.kr_cmd_store.proofs.Loads.{IsLoading, loads_none, loads_more, loads_not, lacks_room, loads_all, keeps_all}
 use Rattle.kr_cmd_store.proofs.ReplicaLists.{count_is, name_there, none_in, one_more_in, rows_more}
 use Rattle.kr_cmd_store.proofs.replicas.load_replicas.Goals as goal
-
--- with the settings that were put behind the others
-pushed : {names : List (List ℕ)} {number : ℕ} {old new : Outside}
-    (replicas all : List (Option Settings)) (shared settings : Settings) → shared ≡ settings
-    → all ≡ replicas ++ Some shared ∷ []
-    → IsLoading names number (rows_in (replicas ++ Some settings ∷ [])) old new
-    → IsLoading names number (rows_in all) old new
-pushed {names} {number} {old} {new} replicas all shared settings same is =
-    subst (λ r. IsLoading names number (rows_in r) old new)
-    (ap (λ (s : Settings). replicas ++ Some s ∷ []) (sym same) ∙ sym is)
 
 pub loop-number-init : goal.loop-number-init
 loop-number-init g c =
@@ -43,25 +31,14 @@ returns-in-Err-clause-objects g c =
     keeps_all c.loop-number.invariant.0 c.in-Some.name.now c.in-Some.ensures
     c.in-Err.ensures.files c.in-Err.ensures.objects
 
-pub returns-in-Err-new-clause-loads : goal.returns-in-Err-new-clause-loads
-returns-in-Err-new-clause-loads g c =
+pub returns-in-Err-add_replica-clause-loads : goal.returns-in-Err-add_replica-clause-loads
+returns-in-Err-add_replica-clause-loads g c =
     lacks_room (loads_more c.loop-number.invariant.0 c.in-Some.name.now c.in-Some.ensures
     c.in-Ok.ensures.files c.in-Ok.ensures.objects c.in-Ok.settings c.in-Ok.ensures.settings
     c.in-Ok.ensures.asked)
 
-pub returns-in-Err-new-clause-objects : goal.returns-in-Err-new-clause-objects
-returns-in-Err-new-clause-objects g c =
-    keeps_all c.loop-number.invariant.0 c.in-Some.name.now c.in-Some.ensures
-    c.in-Ok.ensures.files c.in-Ok.ensures.objects
-
-pub returns-in-Err-push-clause-loads : goal.returns-in-Err-push-clause-loads
-returns-in-Err-push-clause-loads g c =
-    lacks_room (loads_more c.loop-number.invariant.0 c.in-Some.name.now c.in-Some.ensures
-    c.in-Ok.ensures.files c.in-Ok.ensures.objects c.in-Ok.settings c.in-Ok.ensures.settings
-    c.in-Ok.ensures.asked)
-
-pub returns-in-Err-push-clause-objects : goal.returns-in-Err-push-clause-objects
-returns-in-Err-push-clause-objects g c =
+pub returns-in-Err-add_replica-clause-objects : goal.returns-in-Err-add_replica-clause-objects
+returns-in-Err-add_replica-clause-objects g c =
     keeps_all c.loop-number.invariant.0 c.in-Some.name.now c.in-Some.ensures
     c.in-Ok.ensures.files c.in-Ok.ensures.objects
 
@@ -70,17 +47,15 @@ loop-number-preserved g c =
     let names = replica_names c.args.options.now in
     let replicas = c.loop-number.replicas.0 in
     let settings = c.in-Ok.settings in
-    let shared = c.in-Ok-new.settings in
+    let added = c.in-Ok-add_replica.ensures in
     let more = loads_more c.loop-number.invariant.0 c.in-Some.name.now c.in-Some.ensures
     c.in-Ok.ensures.files c.in-Ok.ensures.objects settings c.in-Ok.ensures.settings
     c.in-Ok.ensures.asked in (
-      pushed replicas c.push.new.self.0 shared settings c.in-Ok-new.ensures.ok
-          c.in-Ok-push.ensures.ok
-          (subst (λ r. IsLoading names (c.loop-number.number + 1) r
+      subst (λ r. IsLoading names (c.loop-number.number + 1) r
           (g.W.World.told c.args.world.now) (g.W.World.told c.load_settings.new.world))
-          (rows_more replicas settings) more),
-      subst (AreIn (c.loop-number.number + 1)) (sym c.in-Ok-push.ensures.ok)
-          (one_more_in c.loop-number.number replicas shared c.loop-number.invariant.1),
+          (rows_more replicas settings ∙ ap rows_in (sym added)) more,
+      subst (AreIn (c.loop-number.number + 1)) (sym added)
+          (one_more_in c.loop-number.number replicas settings c.loop-number.invariant.1),
     )
 
 pub returns-clause-loads : goal.returns-clause-loads

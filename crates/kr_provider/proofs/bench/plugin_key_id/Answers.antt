@@ -2,16 +2,16 @@
 use Rattle.std.proofs.Common.{◌≡◌, ℕ, List, Ok, Err, refl, sym, subst, inl, inr}
 use Rattle.std.specs.Prelude.{◌⊎◌}
 use Rattle.kr_kms.specs.Calls.{Link}
-use Rattle.kr_kms.specs.Health.{TellsKeyId}
+use Rattle.kr_kms.specs.Health.{TellsKeyId, TellsKeyIdBy}
 use Rattle.kr_kms.specs.declared.health.SeedNo.{SeedNo}
 use Rattle.kr_kms.specs.declared.health.SeedNo.TheVariants as seed
 use Rattle.kr_provider.specs.Publishing.{AnswersKeyId, TellsKeyIdOf}
 use Rattle.kr_provider.specs.declared.refusal.PublishNo.{PublishNo}
 use Rattle.kr_provider.specs.declared.refusal.PublishNo.TheVariants.{NoMemory}
-use Rattle.kr_base.proofs.Walks.{talk_so}
 use Rattle.kr_provider.specs.Exchanges.{plugin_refusal}
 use Rattle.kr_provider.proofs.Makings.{told_or}
 use Rattle.kr_provider.proofs.AskedLists.{asked_alone}
+use Rattle.kr_provider.proofs.LinkTalks.{told_at}
 use Rattle.kr_provider.proofs.bench.plugin_key_id.Goals as goal
 
 tells : {L : Type 0} (link : L → Link) (name : List ℕ) (olds news : List L) (why : SeedNo)
@@ -45,9 +45,9 @@ returns-in-Err-clause-asked g c = asked_alone g.L.Kms.link c.args.name.now
     c.args.links.now c.key_id.new.self c.key_id.ensures.told
 
 pub returns-in-Ok-clause-exchanged : goal.returns-in-Ok-clause-exchanged
-returns-in-Ok-clause-exchanged g c = talk_so _ _ _ _ _ c.in-Ok.ensures.exchanged (λ es tells.
-    (Ok c.in-Ok.key_id, tells, refl))
+returns-in-Ok-clause-exchanged g c = told_at c.args.name.now (Ok c.in-Ok.key_id) _
+    (TellsKeyIdBy c.args.name.now) refl c.in-Ok.ensures.exchanged
 
 pub returns-in-Err-clause-exchanged : goal.returns-in-Err-clause-exchanged
-returns-in-Err-clause-exchanged g c = talk_so _ _ _ _ _ c.in-Err.ensures.exchanged (λ es tells.
-    (Err c.in-Err.why, tells, c.plugin_refusal.ensures))
+returns-in-Err-clause-exchanged g c = told_at c.args.name.now (Err c.in-Err.why) _
+    (TellsKeyIdBy c.args.name.now) c.plugin_refusal.ensures c.in-Err.ensures.exchanged

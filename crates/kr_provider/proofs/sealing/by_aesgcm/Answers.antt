@@ -1,11 +1,11 @@
 -- `by_aesgcm`: what was written behind the prefix is the value.
-use Rattle.std.proofs.Common.{◌≡◌, ℕ, List, Some, length, replicate, ap, sym, ◌∙◌, ◌-◌, ◌++◌, take, drop}
+use Rattle.std.proofs.Common.{◌≡◌, ℕ, List, Some, length, replicate, ap, sym, ◌∙◌, ◌-◌, ◌++◌}
 use Rattle.kr_envelope.specs.declared.prefix.Kind.TheVariants as kind
 use Rattle.kr_envelope.specs.Prefixes.{prefix}
 use Rattle.kr_config.specs.declared.who.Who.TheVariants.{Identity, Aesgcm}
 use Rattle.kr_provider.specs.Envelopes.{gcm_body}
-use Rattle.kr_provider.proofs.Filled.{all_new, sealed_fits}
-use Rattle.kr_provider.proofs.Framed.{before_written, data_in}
+use Rattle.kr_provider.proofs.Filled.{sealed_fits}
+use Rattle.kr_provider.proofs.Framed.{value_written}
 use Rattle.kr_provider.proofs.sealing.by_aesgcm.Goals as goal
 
 other : {name secret : List ℕ} → Aesgcm name secret ≡ Identity → ⊥
@@ -13,30 +13,21 @@ other e = cc
 
 pub returns-clause-sealed : goal.returns-clause-sealed
 returns-clause-sealed g c = λ seeds.
-    let plain : List ℕ = c.args.plain in
     let first : List ℕ = prefix kind.Aesgcm c.args.name.now in
-    let items : List ℕ = c.in-Some-framed.value.items in
-    let front : List ℕ = c.in-Some.front.items in
-    let size : ℕ = length c.as_slice-size.result.now in
-    let start : ℕ = c.len-start.result - 12 in
-    let now : c.deref_mut.result.now ≡ items = c.deref_mut.ensures.value in
-    let made : items ≡ front ++ (plain ++ replicate 16 0) =
-    c.in-Some-framed.ensures ∙ ap (λ l. l ++ (plain ++ replicate 16 0)) c.as_slice.ensures.value in
-    let at : start ≡ length front - 12 = ap (λ n. n - 12) (c.len-start.ensures ∙ c.in-Some.front.ok.0) in
-    let long : length plain ≡ size = sym (ap length c.as_slice-size.ensures) in
-    let before : take start c.deref_mut.result.now ≡ first = ap (take start) now
-    ∙ before_written items front first plain 12 16 start made c.in-Some.ensures at in
-    let inside : take size (drop 12 (drop start c.deref_mut.result.now)) ≡ plain =
-    ap (λ l. take size (drop 12 (drop start l))) now
-    ∙ data_in items front first plain 12 16 start made c.in-Some.ensures at size long in
-    let written = all_new c.from_vec.result c.write_gcm.new.value c.deref_mut.result.now items _
-    c.from_vec.ensures c.write_gcm.auto.value now c.in-Some-framed.value.ok.0
-    ∙ c.write_gcm.ensures
-    ∙ (λ i. before i
-    ++ gcm_body (c.as_slice-2.ensures i) c.args.path.now (inside i) c.draw.new.into) in (
+    let written = value_written c.in-Some-framed.value.items c.in-Some.front.items first
+    c.args.plain 12 16 (c.len-start.result - 12)
+    (c.in-Some-framed.ensures ∙ ap (λ l. l ++ (c.args.plain ++ replicate 16 0)) c.as_slice.ensures.value)
+    c.in-Some.ensures (ap (λ n. n - 12) (c.len-start.ensures ∙ c.in-Some.front.ok.0))
+    (λ own. gcm_body c.as_slice-2.result.now c.args.path.now own c.draw.new.into)
+    c.from_vec.result c.write_gcm.new.value c.deref_mut.result.now _
+    (length c.as_slice-size.result.now) c.from_vec.ensures c.write_gcm.auto.value
+    c.deref_mut.ensures.value c.in-Some-framed.value.ok.0
+    (sym (ap length c.as_slice-size.ensures)) c.write_gcm.ensures
+    ∙ ap (λ key. first ++ gcm_body key c.args.path.now c.args.plain c.draw.new.into)
+    c.as_slice-2.ensures in (
       c.draw.new.into,
       (c.draw.auto.into, c.in-Ok.ensures.drawn.0),
-      sealed_fits seeds (Aesgcm c.args.name.now c.args.secret.now) c.args.path.now plain
+      sealed_fits seeds (Aesgcm c.args.name.now c.args.secret.now) c.args.path.now c.args.plain
           c.draw.new.into c.requires.fits ∙ sym (ap (λ value. Some value) written),
       c.in-Ok.ensures.drawn.1,
       λ e. absurd (other e),

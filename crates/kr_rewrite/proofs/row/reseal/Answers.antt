@@ -1,8 +1,8 @@
 -- `reseal`: what was sealed is offered in the row's place.
-use Rattle.std.proofs.Common.{[], Err, Ok, inr, refl, ◌∙◌}
-use Rattle.kr_provider.specs.Publication.{list_at, writer_at}
+use Rattle.std.proofs.Common.{[], Err, inr, refl, ◌∙◌}
+use Rattle.kr_provider.specs.Publication.{list_at}
 use Rattle.kr_provider.specs.Reading.{HasSomeReading, data_of}
-use Rattle.kr_provider.specs.Sealing.{IsSealing, Seals}
+use Rattle.kr_provider.specs.Sealing.{IsSealing}
 use Rattle.kr_history.specs.declared.call.CallNo.TheVariants as refusal
 use Rattle.kr_history.proofs.PartsAdd.{nothing_within}
 use Rattle.kr_rewrite.specs.inner.Stages.{ResealsRow}
@@ -28,20 +28,10 @@ pub seal_in_place-requires-clause-path : goal.seal_in_place-requires-clause-path
 seal_in_place-requires-clause-path g c = c.requires.rules.0.1
 
 pub returns-in-Err-clause-reseals : goal.returns-in-Err-clause-reseals
-returns-in-Err-clause-reseals g c =
-    let h = c.requires.held in
-    let old = g.A.Acts.caller c.args.acts.now in
-    let dice = c.args.bench.now.dice in
-    let after = c.seal_in_place.new.bench.dice in
-    holds_at (λ p. ResealsRow g.D.Dice.left g.D.Dice.count p c.args.row.now c.args.plain old dice
-    c.unsealed_step.result old after) c.args.bench.now.published h.p h.adopted
-    (reseals_nothing g.D.Dice.left g.D.Dice.count c.args.row.now c.args.path c.args.plain
-    c.requires.path c.args.bench.now.published h.p h.adopted old old dice after c.in-Err.why
-    c.unsealed_step.result
-    (holds_of (λ p. Seals g.D.Dice.left g.D.Dice.count p.seeds (writer_at p
-    c.args.row.now.resource) c.args.row.now.path c.args.plain dice after (Err c.in-Err.why))
-    c.args.bench.now.published h.p h.adopted c.in-Err.ensures.sealed)
-    c.unsealed_step.ensures refl)
+returns-in-Err-clause-reseals g c = reseals_nothing c.requires.held g.D.Dice.left g.D.Dice.count
+    c.args.row.now c.args.path c.args.plain c.requires.path (g.A.Acts.caller c.args.acts.now)
+    (g.A.Acts.caller c.args.acts.now) c.args.bench.now.dice c.seal_in_place.new.bench.dice
+    c.in-Err.why c.unsealed_step.result c.in-Err.ensures.sealed c.unsealed_step.ensures refl
 
 pub returns-in-Err-clause-path : goal.returns-in-Err-clause-path
 returns-in-Err-clause-path g c = unsealed_to c.args.path c.args.row.now.path c.in-Err.why
@@ -67,25 +57,12 @@ replace-requires g c =
     }
 
 pub returns-clause-reseals : goal.returns-clause-reseals
-returns-clause-reseals g c =
-    let h = c.requires.held in
-    let old = g.A.Acts.caller c.args.acts.now in
-    let new = g.A.Acts.caller c.replace.new.acts in
-    let dice = c.args.bench.now.dice in
-    let after = c.seal_in_place.new.bench.dice in
-    holds_at (λ p. ResealsRow g.D.Dice.left g.D.Dice.count p c.args.row.now c.args.plain old dice
-    c.replaced_step.result new after) c.args.bench.now.published h.p h.adopted
-    (reseals_done g.D.Dice.left g.D.Dice.count c.args.row.now c.args.path c.args.plain
-    c.requires.path c.args.bench.now.published h.p h.adopted old new dice after
+returns-clause-reseals g c = reseals_done c.requires.held g.D.Dice.left g.D.Dice.count
+    c.args.row.now c.args.path c.args.plain c.requires.path (g.A.Acts.caller c.args.acts.now)
+    (g.A.Acts.caller c.replace.new.acts) c.args.bench.now.dice c.seal_in_place.new.bench.dice
     c.in-Ok.copy c.in-Ok-seal_in_place.stored c.replace.result c.replaced_step.result
-    (holds_of (λ p. Seals g.D.Dice.left g.D.Dice.count p.seeds (writer_at p
-    c.args.row.now.resource) c.args.row.now.path c.args.plain dice after
-    (Ok c.in-Ok-seal_in_place.stored)) c.args.bench.now.published h.p h.adopted
-    c.in-Ok-seal_in_place.ensures.sealed)
-    (holds_of (λ p. IsSealing p c.args.row.now.resource c.args.row.now.path c.args.plain
-    c.in-Ok-seal_in_place.stored) c.args.bench.now.published h.p h.adopted
-    c.in-Ok-seal_in_place.ensures.sealing)
-    (c.in-Ok.ensures ∙ c.as_str.ensures) c.replace.ensures.replaces c.replaced_step.ensures)
+    c.in-Ok-seal_in_place.ensures.sealed c.in-Ok-seal_in_place.ensures.sealing
+    (c.in-Ok.ensures ∙ c.as_str.ensures) c.replace.ensures.replaces c.replaced_step.ensures
 
 pub returns-clause-path : goal.returns-clause-path
 returns-clause-path g c = replaces_to c.args.path c.args.row.now.path

@@ -1,5 +1,5 @@
 -- What the tactic leaves open of `write_parts`.
-use Rattle.std.proofs.Common.{List, ◌++◌, codes, Ok, Err, ap, map}
+use Rattle.std.proofs.Common.{List, ◌++◌, codes, ap, map}
 use Rattle.kr_script.specs.declared.script.Part.{Part}
 use Rattle.kr_script.specs.Fleets.{fleet_of, worker_of}
 use Rattle.kr_script.specs.Output.{lines_text, journal_texts, all_texts}
@@ -43,12 +43,7 @@ returns-in-Err-write_replies g c =
     (g.K.Sink.count c.put.new.sink) (g.K.Sink.count c.write_journal.new.sink)
     (g.K.Sink.count c.put-2.new.sink) c.in-Ok.field-0 c.in-Ok-write_journal.field-0
     c.in-Ok-put.field-0 c.in-Ok.ensures c.in-Ok-write_journal.ensures c.in-Ok-put.ensures)
-    (wrote_as (g.K.Sink.held c.put-2.new.sink) (g.K.Sink.held c.write_replies.new.sink)
-    (g.K.Sink.count c.put-2.new.sink) (g.K.Sink.count c.write_replies.new.sink)
-    (lines_text (all_texts 0 c.args.replies.now (map worker_of c.as_slice.result.now)))
-    (lines_text (all_texts 0 c.args.replies.now fleet.workers))
-    (Err c.in-Err-write_replies.why)
-    (ap (λ (parts : List Part). lines_text (all_texts 0 c.args.replies.now (map worker_of parts)))
+    (wrote_as (ap (λ (parts : List Part). lines_text (all_texts 0 c.args.replies.now (map worker_of parts)))
     c.as_slice.ensures) c.in-Err-write_replies.ensures)
 
 pub returns : goal.returns
@@ -64,11 +59,6 @@ returns g c =
     (g.K.Sink.count c.write_replies.new.sink) c.in-Ok.field-0 c.in-Ok-write_journal.field-0
     c.in-Ok-put.field-0 c.in-Ok-write_replies.field-0 c.in-Ok.ensures
     c.in-Ok-write_journal.ensures c.in-Ok-put.ensures
-    (wrote_as (g.K.Sink.held c.put-2.new.sink) (g.K.Sink.held c.write_replies.new.sink)
-    (g.K.Sink.count c.put-2.new.sink) (g.K.Sink.count c.write_replies.new.sink)
-    (lines_text (all_texts 0 c.args.replies.now (map worker_of c.as_slice.result.now)))
-    (lines_text (all_texts 0 c.args.replies.now fleet.workers))
-    (Ok c.in-Ok-write_replies.field-0)
-    (ap (λ (parts : List Part). lines_text (all_texts 0 c.args.replies.now (map worker_of parts)))
+    (wrote_as (ap (λ (parts : List Part). lines_text (all_texts 0 c.args.replies.now (map worker_of parts)))
     c.as_slice.ensures) c.in-Ok-write_replies.ensures))
     c.put-3.ensures

@@ -1,10 +1,10 @@
 -- Answers of load_rows.
-use Rattle.std.proofs.Common.{List, length, ◌+◌, Err, subst, sym, ◌∙◌, arith, ap}
+use Rattle.std.proofs.Common.{List, length, ◌+◌, Err, subst, sym, ◌∙◌, ap}
 use Rattle.kr_store.specs.declared.answers.StoreNo.{StoreNo}
 use Rattle.kr_store.specs.declared.format.Format.TheVariants.{Two}
 use Rattle.kr_store.specs.declared.kept_row.KeptRow.{KeptRow}
 use Rattle.kr_store.specs.inner.Reading.{AreLoaded, LoadsRows, kept_bytes}
-use Rattle.kr_store.proofs.Loading.{IsReadTo, nothing_loaded, loading_more, loading_ended, row_stops, row_refused, rows_before}
+use Rattle.kr_store.proofs.Loading.{IsReadTo, nothing_loaded, loading_more, loading_ended, row_stops, row_refused, next_small}
 use Rattle.kr_store.proofs.load.load_rows.Goals as goal
 
 pub returns-then-is_at_end-clause-advances : goal.returns-then-is_at_end-clause-advances
@@ -33,16 +33,11 @@ pub returns-then-not-allows-clause-loads : goal.returns-then-not-allows-clause-l
 returns-then-not-allows-clause-loads g c =
     let l = c.loop-alloc in
     let k = length c.as_slice.result.now + 1 in
+    let next_is = ap (λ (l : List KeptRow). length l + 1) c.as_slice.ensures in
     row_refused c.args.reader.now l.reader c.row.new.self c.in_ok-format.format l.rows.0 l.index
     c.in-Ok.row k c.place-at.result l.invariant
-    (ap (λ (l : List KeptRow). length l + 1) c.as_slice.ensures)
-    (omega (
-      arith,
-      c.place-at.type_inv,
-      c.place-at.ensures,
-      ap (λ (l : List KeptRow). length l) c.as_slice.ensures,
-      rows_before c.args.reader.now l.reader c.in_ok-format.format l.rows.0 l.index l.invariant,
-    ))
+    next_is (next_small c.args.reader.now l.reader c.in_ok-format.format l.rows.0 l.index k
+    c.place-at.result l.invariant next_is c.place-at.ensures c.place-at.type_inv)
     c.place-at.ensures c.in-Ok.ensures.reads.gives c.row.ensures.reads.advances.moves
     c.in-Ok.ensures.rule (sym c.allows.ensures ∙ c.if-not-allows.true)
 
@@ -50,19 +45,14 @@ pub loop-alloc-preserved : goal.loop-alloc-preserved
 loop-alloc-preserved g c =
     let l = c.loop-alloc in
     let k = length c.as_slice.result.now + 1 in
+    let next_is = ap (λ (l : List KeptRow). length l + 1) c.as_slice.ensures in
     subst (λ (rows : List KeptRow). IsReadTo c.args.reader.now c.row.new.self c.in_ok-format.format
     rows
     c.note.new.self) (sym c.in-Ok-push.ensures.ok)
     (loading_more c.args.reader.now l.reader c.row.new.self c.in_ok-format.format l.rows.0 l.index
     c.note.new.self c.in-Ok.row k l.invariant
-    (ap (λ (l : List KeptRow). length l + 1) c.as_slice.ensures)
-    (omega (
-      arith,
-      c.place-at.type_inv,
-      c.place-at.ensures,
-      ap (λ (l : List KeptRow). length l) c.as_slice.ensures,
-      rows_before c.args.reader.now l.reader c.in_ok-format.format l.rows.0 l.index l.invariant,
-    ))
+    next_is (next_small c.args.reader.now l.reader c.in_ok-format.format l.rows.0 l.index k
+    c.place-at.result l.invariant next_is c.place-at.ensures c.place-at.type_inv)
     c.row.ensures.reads.advances.moves c.in-Ok.ensures.reads.gives c.in-Ok.ensures.rule
     (sym c.allows.ensures ∙ c.if-not-allows.false) c.in-Ok-note.ensures)
 

@@ -4,12 +4,11 @@ use Rattle.std.proofs.lemmas.List.{length-map}
 use Rattle.kr_rollout.specs.declared.opening.Opening.{Opening}
 use Rattle.kr_rollout.specs.Histories.{IsLegal}
 use Rattle.kr_script.specs.declared.script.Part.{Part}
-use Rattle.kr_turn.specs.Seats.{AreFresh}
 use Rattle.kr_turn.specs.declared.view.Terms.{Terms}
 use Rattle.kr_workers.specs.Budgets.{script_budgets, put_lines, reloads_of}
 use Rattle.kr_workers.specs.Histories.{IsOneHistory}
 use Rattle.kr_workers.specs.inner.SeatedWorkers.{IsReadyWorker}
-use Rattle.kr_workers.proofs.Assembling.{all_ready, as_many, back_all, budgets_many, done_seated, have_worked, none_seated_now, none_yet, one_history, seated_long, seats_long, some_seated}
+use Rattle.kr_workers.proofs.Assembling.{all_ready, as_many, back_all, budgets_many, done_seated, fresh_all, have_worked, none_seated_now, none_yet, one_history, seated_long, seats_long, some_seated}
 use Rattle.kr_workers.proofs.team.run_fleet.Goals as goal
 
 pub new-requires : goal.new-requires
@@ -34,10 +33,8 @@ returns-in-Err-clause-seats g c = none_yet g.L.Kms.link c.args.core.opening.name
 
 pub seat_each-requires : goal.seat_each-requires
 seat_each-requires g c =
-    let many = budgets_many c.args.core.opening.rows c.args.parts.now c.args.budgets.now
-    c.requires.budgets in
-    let fresh = subst (λ n. AreFresh c.in-Ok.made.0 n c.in-Ok.made.1.0) many
-    c.in-Ok.ensures.fresh in
+    let fresh = fresh_all c.in-Ok.made.0 c.args.core.opening.rows c.args.parts.now
+    c.args.budgets.now c.in-Ok.made.1.0 c.requires.budgets c.in-Ok.ensures.fresh in
     let basis = ap (λ (t : Terms Opening). t.basis) c.in-Ok.ensures.terms in record {
       many = as_many g.L.Kms.link c.args.files.now c.args.parts.now c.in-Ok.made.0
           c.args.core.opening c.in-Ok.made.1.0 c.args.workers.now.items basis fresh
@@ -49,10 +46,8 @@ seat_each-requires g c =
 
 pub run_workers-requires : goal.run_workers-requires
 run_workers-requires g c =
-    let many = budgets_many c.args.core.opening.rows c.args.parts.now c.args.budgets.now
-    c.requires.budgets in
-    let fresh = subst (λ n. AreFresh c.in-Ok.made.0 n c.in-Ok.made.1.0) many
-    c.in-Ok.ensures.fresh in
+    let fresh = fresh_all c.in-Ok.made.0 c.args.core.opening.rows c.args.parts.now
+    c.args.budgets.now c.in-Ok.made.1.0 c.requires.budgets c.in-Ok.ensures.fresh in
     let basis = ap (λ (t : Terms Opening). t.basis) c.in-Ok.ensures.terms in
     let seated = sym c.seat_each.ensures.seated in
     let some = subst (λ ws. 0 < length ws) seated (some_seated g.L.Kms.link c.args.files.now

@@ -1,20 +1,18 @@
 -- A kept seed, or the link's answer.
-use Rattle.std.proofs.Common.{◌≡◌, ℕ, List, Ok, Err, None, inl, ap, subst, ◌∙◌, [], refl, rules}
+use Rattle.std.proofs.Common.{Ok, Err, inl, subst, ◌∙◌, [], refl, rules}
 use Rattle.kr_base.proofs.Walks.{talk_none, talk_one}
-use Rattle.kr_kms.specs.Cache.{Fetches, FetchesBy, kept, no_memory, unwrapped, seed_at}
+use Rattle.kr_kms.specs.Cache.{Fetches, FetchesBy, kept, no_memory, unwrapped}
 use Rattle.kr_kms.specs.Calls.{asked_key}
 use Rattle.kr_kms.specs.inner.Keeping.{AreAmongWith, IsPut}
-use Rattle.kr_kms.proofs.Fetching.{gives_kept, gives_answer, rows_with, is_kept}
+use Rattle.kr_kms.proofs.Fetching.{asked_of, none_kept, gives_kept, gives_answer, rows_with, is_kept}
 use Rattle.kr_kms.proofs.cache.SeedCache.fetch.Goals as goal
 
 pub returns-in-Some-clause-fetched : goal.returns-in-Some-clause-fetched
 returns-in-Some-clause-fetched g c =
     let link = g.L.Kms.link in
     let old = c.args.link.now in
-    let named = λ (name : List ℕ).
-    asked_key name c.args.key_id.now c.args.annotations.now c.args.source.now in
-    let same : c.in-Ok.key ≡ named (link old).name = ◌∙◌ {b = named c.name.result.now}
-    c.in-Ok.ensures (ap named c.name.ensures) in
+    let same = asked_of c.name.result.now (link old).name c.args.key_id.now c.args.annotations.now
+    c.args.source.now c.in-Ok.ensures c.name.ensures in
     let copied = c.copy_kept_seed.ensures in
     subst (λ key. Fetches link old c.args.self.now key c.in-Some.kept old
     c.copy_kept_seed.new.self) same
@@ -26,12 +24,9 @@ returns-in-Err-clause-fetched g c =
     let link = g.L.Kms.link in
     let old = c.args.link.now in
     let rows = c.args.self.now.rows in
-    let named = λ (name : List ℕ).
-    asked_key name c.args.key_id.now c.args.annotations.now c.args.source.now in
-    let same : c.in-Ok.key ≡ named (link old).name = ◌∙◌ {b = named c.name.result.now}
-    c.in-Ok.ensures (ap named c.name.ensures) in
-    let none : seed_at rows (named (link old).name) ≡ None =
-    subst (λ key. seed_at rows key ≡ None) same c.in_default-copy_kept_seed.ensures.found in
+    let same = asked_of c.name.result.now (link old).name c.args.key_id.now c.args.annotations.now
+    c.args.source.now c.in-Ok.ensures c.name.ensures in
+    let none = none_kept rows same c.in_default-copy_kept_seed.ensures.found in
     let copied = c.copy_kept_seed.ensures in
     let stop = gives_answer link old c.unwrap_source.new.self c.args.self.now
     c.copy_kept_seed.new.self c.args.key_id.now c.args.annotations.now c.args.source.now
@@ -44,18 +39,16 @@ returns-in-Ok-unwrap_source-clause-fetched g c =
     let old = c.args.link.now in
     let rows = c.args.self.now.rows in
     let seed = c.in-Ok-unwrap_source.seed in
-    let named = λ (name : List ℕ).
-    asked_key name c.args.key_id.now c.args.annotations.now c.args.source.now in
-    let same : c.in-Ok.key ≡ named (link old).name = ◌∙◌ {b = named c.name.result.now}
-    c.in-Ok.ensures (ap named c.name.ensures) in
-    let none : seed_at rows (named (link old).name) ≡ None =
-    subst (λ key. seed_at rows key ≡ None) same c.in_default-copy_kept_seed.ensures.found in
+    let same = asked_of c.name.result.now (link old).name c.args.key_id.now c.args.annotations.now
+    c.args.source.now c.in-Ok.ensures c.name.ensures in
+    let none = none_kept rows same c.in_default-copy_kept_seed.ensures.found in
     let kept = c.keep.ensures in
     let copied = c.copy_kept_seed.ensures in
     gives_answer link old c.unwrap_source.new.self c.args.self.now c.keep.new.self
     c.args.key_id.now c.args.annotations.now c.args.source.now (Ok seed) none
     c.in-Ok-unwrap_source.ensures.unwraps
-    (rows_with rows c.copy_kept_seed.new.self.rows c.keep.new.self.rows (named (link old).name) seed
+    (rows_with rows c.copy_kept_seed.new.self.rows c.keep.new.self.rows (asked_key (link old).name
+    c.args.key_id.now c.args.annotations.now c.args.source.now) seed
     copied.rows
     (subst (λ key. AreAmongWith c.copy_kept_seed.new.self.rows key seed c.keep.new.self.rows) same
     kept.rows))
@@ -69,10 +62,8 @@ returns-in-Some-clause-asked g c =
     let link = g.L.Kms.link in
     let old = c.args.link.now in
     let cache = c.args.self.now in
-    let named = λ (name : List ℕ).
-    asked_key name c.args.key_id.now c.args.annotations.now c.args.source.now in
-    let same : c.in-Ok.key ≡ named (link old).name = ◌∙◌ {b = named c.name.result.now}
-    c.in-Ok.ensures (ap named c.name.ensures) in
+    let same = asked_of c.name.result.now (link old).name c.args.key_id.now c.args.annotations.now
+    c.args.source.now c.in-Ok.ensures c.name.ensures in
     let found = c.in-Some.ensures.found in
     talk_none _ _ _ (subst (λ key. FetchesBy key cache c.in-Some.kept c.copy_kept_seed.new.self []) same
     (kept found.0 found.1 found.2 c.in-Some.ensures.used))
@@ -81,12 +72,9 @@ pub returns-in-Err-clause-asked : goal.returns-in-Err-clause-asked
 returns-in-Err-clause-asked g c =
     let link = g.L.Kms.link in
     let rows = c.args.self.now.rows in
-    let named = λ (name : List ℕ).
-    asked_key name c.args.key_id.now c.args.annotations.now c.args.source.now in
-    let same : c.in-Ok.key ≡ named (link c.args.link.now).name = ◌∙◌
-    {b = named c.name.result.now} c.in-Ok.ensures (ap named c.name.ensures) in
-    let none : seed_at rows (named (link c.args.link.now).name) ≡ None =
-    subst (λ key. seed_at rows key ≡ None) same c.in_default-copy_kept_seed.ensures.found in
+    let same = asked_of c.name.result.now (link c.args.link.now).name c.args.key_id.now c.args.annotations.now
+    c.args.source.now c.in-Ok.ensures c.name.ensures in
+    let none = none_kept rows same c.in_default-copy_kept_seed.ensures.found in
     talk_one _ _ _ _ _ (search rules) (unwrapped none c.in_default-copy_kept_seed.ensures.used)
 
 pub returns-in-Ok-unwrap_source-clause-asked : goal.returns-in-Ok-unwrap_source-clause-asked
@@ -94,15 +82,14 @@ returns-in-Ok-unwrap_source-clause-asked g c =
     let link = g.L.Kms.link in
     let cache = c.args.self.now in
     let seed = c.in-Ok-unwrap_source.seed in
-    let named = λ (name : List ℕ).
-    asked_key name c.args.key_id.now c.args.annotations.now c.args.source.now in
-    let same : c.in-Ok.key ≡ named (link c.args.link.now).name = ◌∙◌
-    {b = named c.name.result.now} c.in-Ok.ensures (ap named c.name.ensures) in
-    let none : seed_at cache.rows (named (link c.args.link.now).name) ≡ None =
-    subst (λ key. seed_at cache.rows key ≡ None) same c.in_default-copy_kept_seed.ensures.found in
-    let put : IsPut cache (named (link c.args.link.now).name) seed c.keep.new.self =
+    let same = asked_of c.name.result.now (link c.args.link.now).name c.args.key_id.now c.args.annotations.now
+    c.args.source.now c.in-Ok.ensures c.name.ensures in
+    let none = none_kept cache.rows same c.in_default-copy_kept_seed.ensures.found in
+    let asked = asked_key (link c.args.link.now).name c.args.key_id.now c.args.annotations.now
+    c.args.source.now in
+    let put : IsPut cache asked seed c.keep.new.self =
     subst (λ key. IsPut cache key seed c.keep.new.self) same
     (subst (λ before. IsPut before c.in-Ok.key seed c.keep.new.self)
     c.in_default-copy_kept_seed.ensures.used c.keep.ensures.put) in
     talk_one _ _ _ _ _ (search rules) (unwrapped none
-    (is_kept cache (named (link c.args.link.now).name) seed c.keep.new.self none put))
+    (is_kept cache asked seed c.keep.new.self none put))

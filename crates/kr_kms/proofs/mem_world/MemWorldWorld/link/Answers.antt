@@ -2,7 +2,7 @@
 use Rattle.std.proofs.Common.{ℕ, List, option_and_then, refl, ap}
 use Rattle.kr_kms.specs.MemWorld.{link_key}
 use Rattle.kr_kms.specs.Outside.{same_link}
-use Rattle.kr_kms.proofs.Lent.{lent, link_is, links_decide, none_given, of_key, one_given, placed, some_given}
+use Rattle.kr_kms.proofs.Lent.{lent, link_is, links_decide, none_given, of_key, not_lent, one_given, placed}
 use Rattle.kr_kms.proofs.mem_world.MemWorldWorld.link.Goals as goal
 
 pub returns-in_default-clause-gives : goal.returns-in_default-clause-gives
@@ -14,12 +14,9 @@ returns-in_default-clause-gives g c =
     )
 
 pub returns-in_default-copy-clause-gives : goal.returns-in_default-copy-clause-gives
-returns-in_default-copy-clause-gives g c =
-    let key : ℕ × List ℕ = (c.args.seat, c.args.plugin.now) in (
-      some_given (λ entry. entry.1) (of_key same_link (link_key g.L.Kms.link) key)
-          c.in-Some.ensures.first c.items.ensures,
-      refl,
-    )
+returns-in_default-copy-clause-gives g c = not_lent (λ entry. entry.1)
+    (of_key same_link (link_key g.L.Kms.link) (c.args.seat, c.args.plugin.now))
+    c.in-Some.ensures.first c.items.ensures
 
 pub returns-in-Ok-lend-clause-gives : goal.returns-in-Ok-lend-clause-gives
 returns-in-Ok-lend-clause-gives g c =
@@ -50,9 +47,6 @@ returns-in-Ok-lend-clause-link g c =
     c.in-Ok-lend.ensures.lent
 
 pub returns-in-Err-clause-gives : goal.returns-in-Err-clause-gives
-returns-in-Err-clause-gives g c =
-    let key : ℕ × List ℕ = (c.args.seat, c.args.plugin.now) in (
-      some_given (λ entry. entry.1) (of_key same_link (link_key g.L.Kms.link) key)
-          c.in-Some.ensures.first c.items.ensures,
-      refl,
-    )
+returns-in-Err-clause-gives g c = not_lent (λ entry. entry.1)
+    (of_key same_link (link_key g.L.Kms.link) (c.args.seat, c.args.plugin.now))
+    c.in-Some.ensures.first c.items.ensures

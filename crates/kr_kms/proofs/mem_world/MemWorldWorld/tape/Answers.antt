@@ -4,8 +4,8 @@ use Rattle.std.specs.Prelude.{count_by}
 use Rattle.kr_base.specs.InMemory.{faults_of}
 use Rattle.kr_kms.specs.MemWorld.{tape_name}
 use Rattle.kr_kms.specs.Outside.{IsTape, makes, same_name}
-use Rattle.kr_kms.proofs.Lent.{lent, names_decide, none_given, none_out, of_key, one_given, placed, some_given, some_out}
-use Rattle.kr_kms.proofs.MadeTapes.{alone_if, not_counted, made_empty, made_gives, made_out}
+use Rattle.kr_kms.proofs.Lent.{lent, names_decide, name_free, none_given, none_out, not_lent, of_key, one_given, placed, some_out}
+use Rattle.kr_kms.proofs.MadeTapes.{alone_if, not_counted, made_empty, made_gives, made_out, starved}
 use Rattle.kr_kms.proofs.mem_world.MemWorldWorld.tape.Goals as goal
 
 pub returns-then-is_some-clause-gives : goal.returns-then-is_some-clause-gives
@@ -17,8 +17,8 @@ returns-then-is_some-clause-gives g c = (
 
 pub returns-then-not-makes-clause-gives : goal.returns-then-not-makes-clause-gives
 returns-then-not-makes-clause-gives g c = (
-  none_out (λ o. same_name o c.args.name.now) c.name_place.ensures.first c.taken_keys.ensures
-      c.is_some.ensures c.if-is_some.false,
+  name_free c.args.name.now c.name_place.ensures.first c.taken_keys.ensures c.is_some.ensures
+      c.if-is_some.false,
   none_given (λ entry. entry.1) (of_key same_name tape_name c.args.name.now)
       c.in_default.ensures.first c.items.ensures,
   sym c.makes.ensures ∙ c.if-not-makes.true,
@@ -38,8 +38,8 @@ returns-in_default-clause-gives g c =
     c.args.self.now.room c.args.self.now.faults.tapes
     (placed (of_key same_name tape_name c.args.name.now) c.in_default.ensures.first c.items.ensures)
     c.make_tape.result
-    (none_out (λ o. same_name o c.args.name.now) c.name_place.ensures.first c.taken_keys.ensures
-    c.is_some.ensures c.if-is_some.false)
+    (name_free c.args.name.now c.name_place.ensures.first c.taken_keys.ensures c.is_some.ensures
+    c.if-is_some.false)
     (sym c.makes.ensures ∙ c.if-not-makes.false) c.make_tape.ensures.ok c.make_tape.ensures.refusals
 
 pub returns-in_default-clause-ok : goal.returns-in_default-clause-ok
@@ -58,9 +58,9 @@ returns-in_default-clause-tape g c =
 
 pub returns-in_default-clause-alone : goal.returns-in_default-clause-alone
 returns-in_default-clause-alone g c =
-    let test = λ (o : List ℕ). same_name o c.args.name.now in
-    alone_if c.make_tape.result (count_by test c.args.self.now.tapes.out)
-    (none_out test c.name_place.ensures.first c.taken_keys.ensures c.is_some.ensures
+    alone_if c.make_tape.result
+    (count_by (λ o. same_name o c.args.name.now) c.args.self.now.tapes.out)
+    (name_free c.args.name.now c.name_place.ensures.first c.taken_keys.ensures c.is_some.ensures
     c.if-is_some.false)
 
 pub returns-in_default-clause-once : goal.returns-in_default-clause-once
@@ -68,18 +68,15 @@ returns-in_default-clause-once g c =
     not_counted c.make_tape.result c.args.self.now.faults.tapes c.make_tape.ensures.refusals
 
 pub returns-in_default-copy-clause-gives : goal.returns-in_default-copy-clause-gives
-returns-in_default-copy-clause-gives g c = (
-  none_out (λ o. same_name o c.args.name.now) c.name_place.ensures.first c.taken_keys.ensures
-      c.is_some.ensures c.if-is_some.false,
-  inl (some_given (λ entry. entry.1) (of_key same_name tape_name c.args.name.now)
-      c.in-Some.ensures.first c.items.ensures),
-  refl,
-)
+returns-in_default-copy-clause-gives g c = starved
+    (name_free c.args.name.now c.name_place.ensures.first c.taken_keys.ensures c.is_some.ensures
+    c.if-is_some.false) (not_lent (λ entry. entry.1) (of_key same_name tape_name c.args.name.now)
+    c.in-Some.ensures.first c.items.ensures)
 
 pub returns-in-Ok-lend-clause-gives : goal.returns-in-Ok-lend-clause-gives
 returns-in-Ok-lend-clause-gives g c = (
-  none_out (λ o. same_name o c.args.name.now) c.name_place.ensures.first c.taken_keys.ensures
-      c.is_some.ensures c.if-is_some.false,
+  name_free c.args.name.now c.name_place.ensures.first c.taken_keys.ensures c.is_some.ensures
+      c.if-is_some.false,
   inl (one_given (λ entry. entry.1) (of_key same_name tape_name c.args.name.now)
       c.in-Some.ensures.first c.items.ensures c.in-Ok-lend.ensures.lent),
   refl,
@@ -101,14 +98,11 @@ returns-in-Ok-lend-clause-tape g c =
 
 pub returns-in-Ok-lend-clause-alone : goal.returns-in-Ok-lend-clause-alone
 returns-in-Ok-lend-clause-alone g c =
-    none_out (λ o. same_name o c.args.name.now) c.name_place.ensures.first c.taken_keys.ensures
-    c.is_some.ensures c.if-is_some.false
+    name_free c.args.name.now c.name_place.ensures.first c.taken_keys.ensures c.is_some.ensures
+    c.if-is_some.false
 
 pub returns-in-Err-clause-gives : goal.returns-in-Err-clause-gives
-returns-in-Err-clause-gives g c = (
-  none_out (λ o. same_name o c.args.name.now) c.name_place.ensures.first c.taken_keys.ensures
-      c.is_some.ensures c.if-is_some.false,
-  inl (some_given (λ entry. entry.1) (of_key same_name tape_name c.args.name.now)
-      c.in-Some.ensures.first c.items.ensures),
-  refl,
-)
+returns-in-Err-clause-gives g c = starved
+    (name_free c.args.name.now c.name_place.ensures.first c.taken_keys.ensures c.is_some.ensures
+    c.if-is_some.false) (not_lent (λ entry. entry.1) (of_key same_name tape_name c.args.name.now)
+    c.in-Some.ensures.first c.items.ensures)

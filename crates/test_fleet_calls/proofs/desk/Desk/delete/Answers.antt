@@ -1,17 +1,10 @@
 -- `delete`: the call may be made, and what is kept holds behind it.
-use Rattle.std.proofs.Common.{arith, []}
-use Rattle.test_fleet_calls.proofs.Calling.{caller_after}
+use Rattle.test_fleet_calls.proofs.Calling.{acted_alone}
 use Rattle.test_fleet_calls.proofs.desk.Desk.delete.Goals as goal
 
 pub delete-done-requires-clause-idle : goal.delete-done-requires-clause-idle
 delete-done-requires-clause-idle g c = c.self.invariant.0.idle c.if-self.false
 
 pub invariant_of-self : goal.invariant_of-self
-invariant_of-self g c = (
-  caller_after (g.A.Acts.caller c.self.inside.acts)
-      (g.A.Acts.caller c.delete-done.new.acts) c.self.inside.replicas c.self.inside.left
-      c.self.inside.left 1 0 [] c.self.inside.ended c.self.inside.ended c.self.invariant.0
-      c.delete-done.ensures.adds (omega arith)
-      (λ e. c.delete-done.ensures.idle),
-  c.self.invariant.1,
-)
+invariant_of-self g c = acted_alone c.self.invariant c.delete-done.ensures.adds
+    c.delete-done.ensures.idle

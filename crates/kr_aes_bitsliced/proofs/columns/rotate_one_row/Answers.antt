@@ -1,7 +1,0 @@
--- Each cell is read from the first of the two copies.
-use Rattle.std.proofs.Common.{rules}
-use Rattle.kr_aes_bitsliced.proofs.PlaneMoves.{one_below_cell}
-use Rattle.kr_aes_bitsliced.proofs.columns.rotate_one_row.Goals as goal
-
-pub returns : goal.returns
-returns c = one_below_cell c.args.plane (search rules)
