@@ -10,11 +10,14 @@ pub same16 : {x0 x1 x2 x3 x4 x5 x6 x7 x8 x9 x10 x11 x12 x13 x14 x15 y0 y1 y2 y3 
     → (x0 ∷ x1 ∷ x2 ∷ x3 ∷ x4 ∷ x5 ∷ x6 ∷ x7 ∷ x8 ∷ x9 ∷ x10 ∷ x11 ∷ x12 ∷ x13 ∷ x14 ∷ x15 ∷ []) ≡ (y0 ∷ y1 ∷ y2 ∷ y3 ∷ y4 ∷ y5 ∷ y6 ∷ y7 ∷ y8 ∷ y9 ∷ y10 ∷ y11 ∷ y12 ∷ y13 ∷ y14 ∷ y15 ∷ [])
 same16 p0 p1 p2 p3 p4 p5 p6 p7 p8 p9 p10 p11 p12 p13 p14 p15 = λ i. p0 i ∷ p1 i ∷ p2 i ∷ p3 i ∷ p4 i ∷ p5 i ∷ p6 i ∷ p7 i ∷ p8 i ∷ p9 i ∷ p10 i ∷ p11 i ∷ p12 i ∷ p13 i ∷ p14 i ∷ p15 i ∷ []
 
--- where the words have these bytes, each added to its key's, their block is this one with the keys added
-abbrev pub Comes : List ℕ → ℕ → ℕ → ℕ → ℕ → ℕ → (ℕ → ℕ) → (ℕ → ℕ) → (ℕ → ℕ) → (ℕ → ℕ) → List ℕ → Type 0
+-- where the words have these bytes, each added to its key's, their block is this one with the keys
+-- added
+abbrev pub Comes : List ℕ → ℕ → ℕ → ℕ → ℕ → ℕ → (ℕ → ℕ) → (ℕ → ℕ) → (ℕ → ℕ) → (ℕ → ℕ) → List ℕ
+    → Type 0
 Comes words round p q r s f g h k block =
     IsKeyed f (slice_index words (4 * round)) p → IsKeyed g (slice_index words (4 * round + 1)) q
-    → IsKeyed h (slice_index words (4 * round + 2)) r → IsKeyed k (slice_index words (4 * round + 3)) s
+    → IsKeyed h (slice_index words (4 * round + 2)) r
+    → IsKeyed k (slice_index words (4 * round + 3)) s
     → block_of_columns (p ∷ q ∷ r ∷ s ∷ []) ≡ add_round_key words round block
 
 of_bytes : (words : List ℕ) (round p q r s : ℕ) (f g h k : ℕ → ℕ)

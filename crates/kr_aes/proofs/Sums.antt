@@ -51,7 +51,8 @@ factored f g h k x y z w = sum4 (product f x) (product g y) (product h z) (produ
 abbrev pub twice : ℕ → ℕ → ℕ → ℕ → ℕ → ℕ → ℕ → ℕ → ℕ → ℕ
 twice p q r s f g h k b = factored p q r s (product f b) (product g b) (product h b) (product k b)
 
--- the sums with the second factors, each from one row further down, give the first byte by the first
+-- the sums with the second factors, each from one row further down, give the first byte by the
+-- first
 abbrev pub Undoes : ℕ → ℕ → ℕ → ℕ → ℕ → ℕ → ℕ → ℕ → Type 0
 Undoes p q r s f g h k = (x y z w : ℕ) → x < 256 → y < 256 → z < 256 → w < 256
     → factored p q r s (factored f g h k x y z w) (factored f g h k y z w x) (factored f g h k z w x y) (factored f g h k w x y z) ≡ x

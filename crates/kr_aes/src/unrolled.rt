@@ -4,7 +4,7 @@
 ghost use Rattle.std.specs.Prelude.{◌≡◌, ℕ, ◌<◌, ◌+◌, ◌-◌, List};
 ghost use Rattle.kr_aes.specs.Cipher.{round_count};
 ghost use Rattle.kr_aes.specs.EquivalentInverse.{after_equivalent_rounds, equivalent_inverse_cipher};
-ghost use Rattle.kr_aes.specs.inner.Columns.{GoesOn, block_of_columns};
+ghost use Rattle.kr_aes.specs.inner.Columns.{DoesRounds, block_of_columns};
 
 use crate::{Rounds, columns};
 
@@ -13,7 +13,7 @@ use crate::{Rounds, columns};
 fn next_inverse(inverse: &[u32; 60], last: usize, done: usize, state: [u32; 4]) -> [u32; 4]
     requires some { done + 1 < last }
     requires few { last < 15 }
-    ensures { GoesOn inverse.now last done 1 state result }
+    ensures { DoesRounds inverse.now last done 1 state result }
 {
     columns::inverse_round(inverse, last - (done + 1), state)
 }
@@ -28,7 +28,7 @@ pub(crate) fn two_inverse(
 ) -> [u32; 4]
     requires some { done + 2 < last }
     requires few { last < 15 }
-    ensures { GoesOn inverse.now last done 2 state result }
+    ensures { DoesRounds inverse.now last done 2 state result }
 {
     let one = next_inverse(inverse, last, done, state);
     next_inverse(inverse, last, done + 1, one)

@@ -10,20 +10,20 @@ use Rattle.kr_aes_bitsliced.proofs.PlaneSums.{IsPlane}
 -- ---- one product of halves
 
 -- the planes of its three coefficients
-abbrev pub Half : Type 0
-Half = List ℕ × List ℕ × List ℕ
+abbrev pub ThreePlanes : Type 0
+ThreePlanes = List ℕ × List ℕ × List ℕ
 
 -- at one bit they are those of x + y X times z + w X
-pub record IsHalf (half : Half) (b p x y z w : ℕ) : Type 0 where
-  pub are : IsPlane half.0 × IsPlane half.1 × IsPlane half.2
-  pub low : bit_in half.0 b p ≡ x * z
-  pub middle : bit_in half.1 b p ≡ (x * w + y * z) % 2
-  pub high : bit_in half.2 b p ≡ y * w
+pub record IsHalfProduct (planes : ThreePlanes) (b p x y z w : ℕ) : Type 0 where
+  pub are : IsPlane planes.0 × IsPlane planes.1 × IsPlane planes.2
+  pub low : bit_in planes.0 b p ≡ x * z
+  pub middle : bit_in planes.1 b p ≡ (x * w + y * z) % 2
+  pub high : bit_in planes.2 b p ≡ y * w
 
-pub IsHalf-same : (half : Half) (b p : ℕ) {x y z w x' y' z' w' : ℕ}
-    → IsHalf half b p x y z w → x ≡ x' → y ≡ y' → z ≡ z' → w ≡ w'
-    → IsHalf half b p x' y' z' w'
-IsHalf-same half b p is ex ey ez ew = record {
+pub IsHalfProduct-same : (planes : ThreePlanes) (b p : ℕ) {x y z w x' y' z' w' : ℕ}
+    → IsHalfProduct planes b p x y z w → x ≡ x' → y ≡ y' → z ≡ z' → w ≡ w'
+    → IsHalfProduct planes b p x' y' z' w'
+IsHalfProduct-same planes b p is ex ey ez ew = record {
   are = is.are;
   low = is.low ∙ (λ i. ex i * ez i);
   middle = is.middle ∙ (λ i. (ex i * ew i + ey i * ez i) % 2);
@@ -33,7 +33,7 @@ IsHalf-same half b p is ex ey ez ew = record {
 -- ---- the three, of the low halves, the high ones and the sums of the two
 
 -- plane k of the nine
-abbrev pub plane_of_halves : Half → Half → Half → ℕ → List ℕ
+abbrev pub plane_of_halves : ThreePlanes → ThreePlanes → ThreePlanes → ℕ → List ℕ
 plane_of_halves l h m zero = l.0
 plane_of_halves l h m (suc zero) = l.1
 plane_of_halves l h m (suc (suc zero)) = l.2
@@ -58,16 +58,16 @@ bit_of_halves x (suc (suc (suc (suc (suc (suc (suc zero))))))) =
 bit_of_halves x (suc (suc (suc (suc (suc (suc (suc (suc k)))))))) =
     (x 1 + x 3) % 2 * ((x 5 + x 7) % 2)
 
-pub record AreHalves (l h m : Half) (b p : ℕ) (x : ℕ → ℕ) : Type 0 where
-  pub low : IsHalf l b p (x 0) (x 1) (x 4) (x 5)
-  pub high : IsHalf h b p (x 2) (x 3) (x 6) (x 7)
-  pub sums : IsHalf m b p
+pub record AreHalfProducts (l h m : ThreePlanes) (b p : ℕ) (x : ℕ → ℕ) : Type 0 where
+  pub low : IsHalfProduct l b p (x 0) (x 1) (x 4) (x 5)
+  pub high : IsHalfProduct h b p (x 2) (x 3) (x 6) (x 7)
+  pub sums : IsHalfProduct m b p
       ((x 0 + x 2) % 2) ((x 1 + x 3) % 2) ((x 4 + x 6) % 2) ((x 5 + x 7) % 2)
 
 abbrev HasBit : List ℕ → ℕ → ℕ → ℕ → Type 0
 HasBit plane b p x = IsPlane plane × (bit_in plane b p ≡ x)
 
-halves_at : (l h m : Half) (b p : ℕ) (x : ℕ → ℕ) → AreHalves l h m b p x
+halves_at : (l h m : ThreePlanes) (b p : ℕ) (x : ℕ → ℕ) → AreHalfProducts l h m b p x
     → (k : ℕ) → HasBit (plane_of_halves l h m k) b p (bit_of_halves x k)
 halves_at l h m b p x are zero = (are.low.are.0, are.low.low)
 halves_at l h m b p x are (suc zero) = (are.low.are.1, are.low.middle)
@@ -93,8 +93,8 @@ product_gate (suc zero) = In 1 ⊕ upper ⊕ In 4
 product_gate (suc (suc zero)) = In 2 ⊕ In 6 ⊕ In 0 ⊕ In 3 ⊕ In 4 ⊕ In 5
 product_gate (suc (suc (suc k))) = In 7 ⊕ In 1 ⊕ In 4 ⊕ In 5
 
-pub product_at : (l h m : Half) (a b : Nibbles) (block p : ℕ)
-    → AreHalves l h m block p (bits (pair a b) block p) → block < 8 → p < 16
+pub product_at : (l h m : ThreePlanes) (a b : Nibbles) (block p : ℕ)
+    → AreHalfProducts l h m block p (bits (pair a b) block p) → block < 8 → p < 16
     → nibble_at (nibbles_by (plane_of_halves l h m) product_gate) block p
     ≡ nibble_product (nibble_at a block p) (nibble_at b block p)
 unfolding nibble_at nibble_product polynomial_product remainder

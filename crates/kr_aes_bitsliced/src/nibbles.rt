@@ -14,6 +14,13 @@ pub(crate) struct Nibbles(
     pub(crate) u8x16,
 );
 
+/// Polynomials of degree 1: the planes of their two coefficients.
+#[derive(Clone, Copy)]
+struct Half {
+    low: u8x16,
+    high: u8x16,
+}
+
 /// The sum of each two elements.
 #[inline(always)]
 pub(crate) fn sum(a: Nibbles, b: Nibbles) -> Nibbles
@@ -29,11 +36,11 @@ pub(crate) fn product(a: Nibbles, b: Nibbles) -> Nibbles
     ensures { (block p : ℕ) → block < 8 → p < 16
         → nibble_at result block p ≡ nibble_product (nibble_at a block p) (nibble_at b block p) }
 {
-    let Nibbles(a0, a1, a2, a3) = a;
-    let Nibbles(b0, b1, b2, b3) = b;
-    let (l0, l1, l2) = half_product(a0, a1, b0, b1);
-    let (h0, h1, h2) = half_product(a2, a3, b2, b3);
-    let (m0, m1, m2) = half_product(a0 ^ a2, a1 ^ a3, b0 ^ b2, b1 ^ b3);
+    let (a_low, a_high, a_sum) = halves(a);
+    let (b_low, b_high, b_sum) = halves(b);
+    let (l0, l1, l2) = half_product(a_low, b_low);
+    let (h0, h1, h2) = half_product(a_high, b_high);
+    let (m0, m1, m2) = half_product(a_sum, b_sum);
     let x4 = h0 ^ m2 ^ l2 ^ h2;
     Nibbles(
         l0 ^ x4,
@@ -43,19 +50,39 @@ pub(crate) fn product(a: Nibbles, b: Nibbles) -> Nibbles
     )
 }
 
+/// The low halves of elements, their high halves, and the sum of both.
+#[inline(always)]
+fn halves(whole: Nibbles) -> (Half, Half, Half)
+    ensures low { result.0 ≡ record { low = whole.0; high = whole.1 } }
+    ensures high { result.1 ≡ record { low = whole.2; high = whole.3 } }
+    ensures sum_low { (block p : ℕ) → block < 8 → p < 16 → bit_in result.2.low block p
+        ≡ (bit_in whole.0 block p + bit_in whole.2 block p) % 2 }
+    ensures sum_high { (block p : ℕ) → block < 8 → p < 16 → bit_in result.2.high block p
+        ≡ (bit_in whole.1 block p + bit_in whole.3 block p) % 2 }
+{
+    let Nibbles(x0, x1, x2, x3) = whole;
+    let sum = Half {
+        low: x0 ^ x2,
+        high: x1 ^ x3,
+    };
+    (Half { low: x0, high: x1 }, Half { low: x2, high: x3 }, sum)
+}
+
 /// The coefficients of the product of two polynomials of degree 1.
 #[inline(always)]
-fn half_product(a0: u8x16, a1: u8x16, b0: u8x16, b1: u8x16) -> (u8x16, u8x16, u8x16)
+fn half_product(a: Half, b: Half) -> (u8x16, u8x16, u8x16)
     ensures low { (block p : ℕ) → block < 8 → p < 16
-        → bit_in result.0 block p ≡ bit_in a0 block p * bit_in b0 block p }
+        → bit_in result.0 block p ≡ bit_in a.low block p * bit_in b.low block p }
     ensures middle { (block p : ℕ) → block < 8 → p < 16 → bit_in result.1 block p
-        ≡ (bit_in a0 block p * bit_in b1 block p + bit_in a1 block p * bit_in b0 block p) % 2 }
+        ≡ (bit_in a.low block p * bit_in b.high block p
+        + bit_in a.high block p * bit_in b.low block p) % 2 }
     ensures high { (block p : ℕ) → block < 8 → p < 16
-        → bit_in result.2 block p ≡ bit_in a1 block p * bit_in b1 block p }
+        → bit_in result.2 block p ≡ bit_in a.high block p * bit_in b.high block p }
 {
-    let low = a0 & b0;
-    let high = a1 & b1;
-    (low, ((a0 ^ a1) & (b0 ^ b1)) ^ low ^ high, high)
+    let low = a.low & b.low;
+    let high = a.high & b.high;
+    let middle = ((a.low ^ a.high) & (b.low ^ b.high)) ^ low ^ high;
+    (low, middle, high)
 }
 
 /// The inverse of each element, and 0 of 0.

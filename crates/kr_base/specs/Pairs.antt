@@ -43,6 +43,7 @@ pair_decides a b = (
 pub pairs_decide : (a b : Pairs) → Decides (pairs_eq a b) (a ≡ b)
 pairs_decide = pointwise_decides pair_decides
 
+-- the test of them is an equivalence
 pub pairs_equiv : IsEquivalence pairs_eq
 pairs_equiv = lists_equiv (and_equiv (on_equiv (λ pair. pair.0) nat_list_eq_equiv)
     (on_equiv (λ pair. pair.1) nat_list_eq_equiv))

@@ -41,6 +41,7 @@ pub fn hire<T: Tape, L: Kms, D: Dice>(
     let mut replies: List<List<Told>> = List::new(alloc);
     if workers.reserve(parts.len()).is_err() || replies.reserve(parts.len()).is_err() {
         workers.end();
+        drop(replies);
         return Err((NoMemory, outfits));
     }
     let mut outfits = in_turn(outfits);
@@ -51,7 +52,8 @@ pub fn hire<T: Tape, L: Kms, D: Dice>(
             replies,
         }),
         Err(NoMemory) => {
-            let (outfits, _replies) = let_go(workers, outfits, replies);
+            let (outfits, replies) = let_go(workers, outfits, replies);
+            drop(replies);
             Err((NoMemory, outfits))
         }
     }

@@ -89,9 +89,15 @@ pub fn fleet<R: Threads + Wait + Sync, W: World, O: Sink>(
     };
     let record = match run_fleet_over_store(rt, alloc, words.store.as_str(), &plan, false, world) {
         Ok(record) => record,
-        Err(stop) => return Err(stop),
+        Err(stop) => {
+            drop(plan);
+            return Err(stop);
+        }
     };
-    write_record(alloc, &plan.script, &record, output)
+    let written = write_record(alloc, &plan.script, &record, output);
+    drop(record);
+    drop(plan);
+    written
 }
 
 /// Runs the fleet over the store of this name, where someone may watch.
@@ -152,6 +158,7 @@ fn run_fleet_on_tape<R: Threads + Wait + Sync, W: World>(
         Err(why) => return (Err(budget_stop(why)), store.close()),
     };
     let (made, store) = run_outfitted_fleet(rt, alloc, plan, watched, &budgets, store, world);
+    drop(budgets);
     (made, store.close())
 }
 
@@ -289,13 +296,18 @@ fn run_core_and_workers<R: Threads + Wait + Sync, T: Tape + Send, L: Kms + Send,
 {
     let core = match start_core(alloc, plan, budgets, store, replicas) {
         Ok(core) => core,
-        Err((stop, store)) => return (Err(stop), store, outfits),
+        Err((stop, store)) => {
+            drop(start);
+            return (Err(stop), store, outfits);
+        }
     };
     let crew = match hire(alloc, plan.script.workers.as_slice(), outfits) {
         Ok(crew) => crew,
         Err((_, outfits)) => {
-            let (store, _lines) = core.close();
+            let (store, lines) = core.close();
             store.known();
+            drop(lines);
+            drop(start);
             return (Err(Stop::NoMemory), store, outfits);
         }
     };
@@ -347,8 +359,11 @@ fn run_crew<R: Threads + Wait + Sync, T: Tape + Send, L: Kms + Send, D: Dice + S
             (Ok(record), store, outfits)
         }
         Err((NoMemory, core)) => {
-            let (store, _lines) = core.close();
+            let (store, lines) = core.close();
             store.known();
+            drop(lines);
+            drop(replies);
+            drop(start);
             (Err(Stop::NoMemory), store, outfits)
         }
     }
@@ -480,7 +495,10 @@ fn start_core<T: Tape>(
 {
     let names = match program_plugins(alloc, plan.programs.as_slice()) {
         Ok(names) => names,
-        Err(NoMemory) => return Err((Stop::NoMemory, store)),
+        Err(NoMemory) => {
+            drop(replicas);
+            return Err((Stop::NoMemory, store));
+        }
     };
     let seats = plan.script.workers.as_slice().len() as u32;
     let room = budgets.entries.iter().sum::<u64>();

@@ -55,11 +55,19 @@ pub fn load_plan<W: World>(
     let mut files = List::new(alloc);
     match load_files(alloc, &script, &mut files, world) {
         Ok(()) => {}
-        Err(stop) => return Err(stop),
+        Err(stop) => {
+            drop(files);
+            drop(script);
+            return Err(stop);
+        }
     }
     let programs = match file_programs(alloc, options, files.as_slice()) {
         Ok(programs) => programs,
-        Err(stop) => return Err(stop),
+        Err(stop) => {
+            drop(files);
+            drop(script);
+            return Err(stop);
+        }
     };
     Ok(LoadedFleet {
         script,
@@ -94,11 +102,23 @@ fn load_script<W: World>(alloc: Global, world: &mut W, name: &str) -> Result<Scr
     let file: Bytes = match world.load(alloc, name, STORE_LIMIT) {
         Ok(file) => file,
         Err(FileNo::Absent) => return Err(Stop::Refused(Refusal::Absent(absent))),
-        Err(FileNo::TooLong) => return Err(Stop::Refused(Refusal::Limit(Limit::Script))),
-        Err(FileNo::Failed) => return Err(Stop::Fault(Object::Files, world.faults())),
-        Err(FileNo::NoMemory) => return Err(Stop::NoMemory),
+        Err(FileNo::TooLong) => {
+            drop(absent);
+            return Err(Stop::Refused(Refusal::Limit(Limit::Script)));
+        }
+        Err(FileNo::Failed) => {
+            drop(absent);
+            return Err(Stop::Fault(Object::Files, world.faults()));
+        }
+        Err(FileNo::NoMemory) => {
+            drop(absent);
+            return Err(Stop::NoMemory);
+        }
     };
-    script_from_bytes(alloc, file.as_slice())
+    drop(absent);
+    let script = script_from_bytes(alloc, file.as_slice());
+    drop(file);
+    script
 }
 
 /// The script by its bytes.
@@ -254,15 +274,25 @@ fn load_once<W: World>(
     };
     let name = match Text::copy(alloc, name) {
         Ok(name) => name,
-        Err(_) => return Err(Stop::NoMemory),
+        Err(_) => {
+            drop(settings);
+            return Err(Stop::NoMemory);
+        }
     };
     let settings = match Shared::new(alloc, settings) {
         Ok(settings) => settings,
-        Err(_) => return Err(Stop::NoMemory),
+        Err(refused) => {
+            drop(refused);
+            drop(name);
+            return Err(Stop::NoMemory);
+        }
     };
     match files.push(SettingsFile { name, settings }) {
         Ok(()) => {}
-        Err(_) => return Err(Stop::NoMemory),
+        Err(refused) => {
+            drop(refused);
+            return Err(Stop::NoMemory);
+        }
     }
     Ok(())
 }
@@ -278,11 +308,15 @@ fn file_programs(alloc: Global, options: &Options, files: &[SettingsFile]) -> Re
     let mut after = "";
     while let Some(plugin) = next_named_plugin(files, after) {
         let Some(file) = options.program(plugin) else {
+            drop(programs);
             return Err(without_program(alloc, plugin));
         };
         match programs.add(alloc, plugin, file) {
             Ok(()) => {}
-            Err(_) => return Err(Stop::NoMemory),
+            Err(_) => {
+                drop(programs);
+                return Err(Stop::NoMemory);
+            }
         }
         tell_text(plugin);
         after = plugin;

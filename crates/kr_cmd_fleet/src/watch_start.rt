@@ -92,13 +92,17 @@ pub(crate) fn read_first<T: Tape, L: Kms, D: Dice>(
     let published = first_published(replicas);
     let rows = match live_rows(alloc, store) {
         Ok(rows) => rows,
-        Err(NoMemory) => return (Err(Stop::NoMemory), outfits),
+        Err(NoMemory) => {
+            drop(start);
+            return (Err(Stop::NoMemory), outfits);
+        }
     };
     let mut outfits = in_turn(outfits);
     let Some(outfit) = outfits.pop() else {
         unreachable!();
     };
     let (read, outfit) = read_start_rows(alloc, rows.as_slice(), published, outfit);
+    drop(rows);
     outfits.push_in_room(outfit);
     let outfits = in_turn(outfits);
     match read {
@@ -106,7 +110,10 @@ pub(crate) fn read_first<T: Tape, L: Kms, D: Dice>(
             start.items = items;
             (Ok(start), outfits)
         }
-        Err(stop) => (Err(stop), outfits),
+        Err(stop) => {
+            drop(start);
+            (Err(stop), outfits)
+        }
     }
 }
 
@@ -180,7 +187,10 @@ fn read_start_rows<L: Kms, D: Dice>(
     let Outfit { links, dice } = outfit;
     let mut bench = match Bench::new(alloc, links, dice, PAGES, CACHE) {
         Ok(bench) => bench,
-        Err((_, links, dice)) => return (Err(Stop::NoMemory), Outfit { links, dice }),
+        Err((_, links, dice)) => {
+            drop(published);
+            return (Err(Stop::NoMemory), Outfit { links, dice });
+        }
     };
     let Ok(()) = bench.adopt(published) else {
         unreachable!();

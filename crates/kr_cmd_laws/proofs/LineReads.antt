@@ -232,21 +232,21 @@ module _ (path : List ℕ) (cache after : CacheState) (es : List Exchange) where
 -- ---- a rewrite
 
 -- by the first of the exchanges that were to come
-record GoesOn (old : Caller) (from : Ahead) (new : Caller) (to : Ahead) : Type 0 where
+record TakesFirst (old : Caller) (from : Ahead) (new : Caller) (to : Ahead) : Type 0 where
   first : List Exchange
   are : from.exchanges ≡ first ++ to.exchanges
   went : Went old new first
 
 goes_still : (old new : Caller) (from to : Ahead) → to ≡ from → Went old new []
-    → GoesOn old from new to
+    → TakesFirst old from new to
 goes_still old new from to same w = record {
   first = [];
   are = ap (λ (at : Ahead). at.exchanges) (sym same);
   went = w;
 }
 
-goes_then : (old between new : Caller) (from mids to : Ahead) → GoesOn old from between mids
-    → GoesOn between mids new to → GoesOn old from new to
+goes_then : (old between new : Caller) (from mids to : Ahead) → TakesFirst old from between mids
+    → TakesFirst between mids new to → TakesFirst old from new to
 goes_then old between new from mids to a b = record {
   first = a.first ++ b.first;
   are = a.are ∙ ap (λ more. a.first ++ more) b.are
@@ -255,8 +255,8 @@ goes_then old between new from mids to a b = record {
 }
 
 -- no exchange comes with these entries
-goes_quiet : (old between new : Caller) (from to : Ahead) → GoesOn old from between to
-    → Went between new [] → GoesOn old from new to
+goes_quiet : (old between new : Caller) (from to : Ahead) → TakesFirst old from between to
+    → Went between new [] → TakesFirst old from new to
 goes_quiet old between new from to a w =
     goes_then old between new from to to a (goes_still between new to to refl w)
 
@@ -298,7 +298,7 @@ module _ {D : Type 0} (left : D → Option (List ℕ)) (count : D → ℕ) (repl
       (from to : Ahead) (dice after : D) (result : Result Step CallNo)
       → AddsEntry old (event.After above) (answer.Found row) found
       → RewritesOver ReadsRow left count p row found from dice result new to after
-      → GoesOn old from new to
+      → TakesFirst old from new to
   row_goes p above row old found new from to dice after result a (inl o) =
       goes_quiet old found new from to (record {
         first = o.unseals.first;
@@ -314,14 +314,14 @@ module _ {D : Type 0} (left : D → Option (List ℕ)) (count : D → ℕ) (repl
   steps_go : (p : Publication) (above : List ℕ) (old new : Caller) (from to : Ahead)
       (dice after : D) (result : Result Step CallNo)
       → StepsOver ReadsRow left count p above old from dice result new to after
-      → GoesOn old from new to
+      → TakesFirst old from new to
   steps_go p above old new from to dice after result (inl n) =
       goes_still old new from to n.1 (none_went above old new result n.0)
   steps_go p above old new from to dice after result (inr f) =
       row_goes p above f.row old f.found new from to dice after result f.finds f.rewrites
 
   early_goes : (old new : Caller) (from to : Ahead) (dice after : D) (result : Result Step CallNo)
-      → EndsEarly replica ((to ≡ from) × (after ≡ dice)) old result new → GoesOn old from new to
+      → EndsEarly replica ((to ≡ from) × (after ≡ dice)) old result new → TakesFirst old from new to
   early_goes old new from to dice after (Ok done) e = absurd e
   early_goes old new from to dice after (Err why) e =
       goes_still old new from to e.1.0 (went_early replica old new why e.0)
@@ -329,7 +329,7 @@ module _ {D : Type 0} (left : D → Option (List ℕ)) (count : D → ℕ) (repl
   step_goes : (above : List ℕ) (old new : Caller) (from to : Ahead) (dice after : D)
       (result : Result Step CallNo)
       → IsStepOver ReadsRow left count replica above old from dice result new to after
-      → GoesOn old from new to
+      → TakesFirst old from new to
   step_goes above old new from to dice after result (inl e) =
       early_goes old new from to dice after result e
   step_goes above old new from to dice after result (inr h) =
@@ -342,7 +342,7 @@ module _ {D : Type 0} (left : D → Option (List ℕ)) (count : D → ℕ) (repl
   walks_go : (above : List ℕ) (steps : List Step) (old new : Caller) (from to : Ahead)
       (dice after : D)
       → WalksOver ReadsRow left count replica above steps old from dice new to after
-      → GoesOn old from new to
+      → TakesFirst old from new to
   walks_go above [] old new from to dice after w =
       goes_still old new from to w.1 (went_same old new w.0)
   walks_go above (taken ∷ steps) old new from to dice after w =
@@ -353,7 +353,7 @@ module _ {D : Type 0} (left : D → Option (List ℕ)) (count : D → ℕ) (repl
   ends_go : (above : List ℕ) (steps : List Step) (old new : Caller) (from to : Ahead)
       (dice after : D) (ended : Result Step CallNo) (report : Report)
       → EndsByOver ReadsRow (λ a b. ⊤) left count replica above steps old from dice ended report
-      new to after → GoesOn old from new to
+      new to after → TakesFirst old from new to
   ends_go above steps old new from to dice after ended report e =
       goes_then old e.middle new from e.mids to
       (walks_go above steps old e.middle from e.mids dice e.between e.walks)
@@ -361,7 +361,7 @@ module _ {D : Type 0} (left : D → Option (List ℕ)) (count : D → ℕ) (repl
 
   -- all that were to come
   all_went : (old new : Caller) (cache stays : CacheState) (es : List Exchange)
-      → GoesOn old (before cache es) new (behind stays) → Went old new es
+      → TakesFirst old (before cache es) new (behind stays) → Went old new es
   all_went old new cache stays es g =
       subst (Went old new) (sym (g.are ∙ append-nil g.first)) g.went
 

@@ -1,7 +1,7 @@
 -- What the words of a command line ask for.
-use Rattle.std.proofs.Common.{◌≡◌, ℕ, ◌≤◌, ◌⊎◌, List, [], length, codes, Option, None, Some, Result, Ok, Err, sym, ◌∙◌, ap, subst, inl, inr, arith}
-use Rattle.std.specs.Prelude.{IfOk, IfSome}
-use Rattle.kr_base.specs.declared.errors.NoMemory.{NoMemory}
+use Rattle.std.proofs.Common.{◌≡◌, ℕ, ◌≤◌, ◌⊎◌, List, [], length, codes, Option, None, Some, sym, ◌∙◌, ap, subst, inl, inr, arith}
+use Rattle.std.specs.Option.{option_map}
+use Rattle.std.specs.Prelude.{IfSome}
 use Rattle.kr_base.specs.Limits.{path_limit}
 use Rattle.kr_base.specs.Rules.{IsPath, IsResource}
 use Rattle.kr_words.specs.Grammar.{Means, HasFewReplicas, IsWithinPage, IsWithinSize}
@@ -26,13 +26,12 @@ short_path verb (Some v) value e (inr h) =
     let same : v ≡ value = cc in omega (arith, ap length h.1, ap length same)
 
 pub path_fits : {verb : Verb} {options : List (List ℕ × List ℕ)} → IsCommand verb options
-    → (read : Result (Option (List ℕ)) NoMemory)
-    → IfOk read (λ path. path ≡ value_of options (codes "path"))
-    → IfOk read (λ path. IfSome path (λ path. length path ≤ path_limit))
-path_fits {verb} {options} command (Ok None) e = tt
-path_fits {verb} {options} command (Ok (Some path)) e =
-    short_path verb _ path (sym e) (value_rule {verb = verb} {options = options} Path command)
-path_fits {verb} {options} command (Err why) e = tt
+    → {A : Type 0} (value : Option A) (now : A → List ℕ)
+    → option_map now value ≡ value_of options (codes "path")
+    → IfSome value (λ path. length (now path) ≤ path_limit)
+path_fits {verb} {options} command None now e = tt
+path_fits {verb} {options} command (Some path) now e = short_path verb _ (now path) (sym e)
+    (value_rule {verb = verb} {options = options} Path command)
 
 -- the path and the resource of a value that is put keep their rules
 is_path : {verb : Verb} → verb ≡ Put → (o : Option (List ℕ))

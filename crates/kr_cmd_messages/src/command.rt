@@ -1,5 +1,6 @@
 //! The commands that are done alone.
 ghost use Rattle.std.specs.Prelude.{◌≡◌, ◌≤◌, Some, IfOk, IfSome, codes, length};
+ghost use Rattle.std.specs.Option.{option_copied};
 ghost use Rattle.kr_base.specs.Limits.{path_limit};
 ghost use Rattle.kr_kms.specs.Outside.{same_name};
 ghost use Rattle.kr_words.specs.Grammar.{texts, HasFewReplicas};
@@ -14,12 +15,13 @@ ghost use Rattle.kr_cmd_messages.specs.inner.Asking.{IsReadAs, KeepsRules};
 use crate::options::Options;
 use crate::reading::command_words;
 use crate::refusal::{BadWords, Stop};
+use crate::text::{copy_three, copy_two};
 use kr_base::{NoMemory, Text};
 use kr_words::Verb;
 use std::alloc::Global;
 
 /// Which way an object goes.
-#[derive(Clone, Copy, Debug, PartialEq, Eq)]
+#[derive(Clone, Copy)]
 pub enum Direction {
     /// Its data are sealed.
     Encrypt,
@@ -87,7 +89,7 @@ pub struct JudgeWords {
 }
 
 /// Which settings of a plan are shown in place of its moves.
-#[derive(Clone, Copy, Debug, PartialEq, Eq)]
+#[derive(Clone, Copy)]
 pub enum ShownSettings {
     /// Those that all replicas take up first.
     Wide,
@@ -214,51 +216,40 @@ fn conversion_command(
         (value_of words.options.0 (codes "path"))) }
     ensures path { IfOk result KeepsRules }
 {
-    let config = copy_value(alloc, &words, "config")?;
-    let resource = copy_value(alloc, &words, "resource")?;
-    let path = copy_path(alloc, &words)?;
-    let Some(config) = config else {
+    let Some(config) = words.value("config") else {
+        drop(words);
         return Ok(None);
     };
-    let Some(resource) = resource else {
+    let Some(resource) = words.value("resource") else {
+        drop(words);
         return Ok(None);
     };
-    Ok(make_conversion(direction, config, resource, path, Options::new(words)))
-}
-
-/// A conversion of an object at a path, where there is one.
-fn make_conversion(
-    direction: Direction,
-    config: Text,
-    resource: Text,
-    path: Option<Text>,
-    options: Options,
-) -> Option<Command>
-    requires { IfSome path (λ path. length path ≤ path_limit) }
-    ensures command { result
-        ≡ conversion_command direction options (Some config) (Some resource) path }
-    ensures path { KeepsRules result }
-{
-    match path {
-        Some(path) => Some(Command::Convert(Conversion {
+    let Some(path) = path_value(&words) else {
+        drop(words);
+        return Ok(None);
+    };
+    match copy_three(alloc, config, resource, path) {
+        Ok((config, resource, path)) => Ok(Some(Command::Convert(Conversion {
             direction,
             config,
             resource,
             path,
-            options,
-        })),
-        None => None,
+            options: Options::new(words),
+        }))),
+        Err(NoMemory) => {
+            drop(words);
+            Err(NoMemory)
+        }
     }
 }
 
-/// A copy of the path, which keeps its rule.
-fn copy_path(alloc: Global, words: &kr_words::CommandWords) -> Result<Option<Text>, NoMemory>
+/// The path, which keeps its rule.
+fn path_value(words: &kr_words::CommandWords) -> Option<&str>
     requires { IsCommand words.now.verb words.now.options.0 }
-    ensures value { IfOk result
-        (λ path. path ≡ value_of words.now.options.0 (codes "path")) }
-    ensures short { IfOk result (λ path. IfSome path (λ path. length path ≤ path_limit)) }
+    ensures value { option_copied result ≡ value_of words.now.options.0 (codes "path") }
+    ensures short { IfSome result (λ path. length path.now ≤ path_limit) }
 {
-    copy_value(alloc, words, "path")
+    words.value("path")
 }
 
 /// The words of `check`.
@@ -268,11 +259,16 @@ fn check_command(alloc: Global, words: &kr_words::CommandWords) -> Result<Option
         (value_of words.now.options.0 (codes "resource"))) }
     ensures path { IfOk result KeepsRules }
 {
-    let config = copy_value(alloc, words, "config")?;
-    let resource = copy_value(alloc, words, "resource")?;
-    match config {
-        Some(config) => Ok(Some(Command::Check { config, resource })),
-        None => Ok(None),
+    let Some(config) = words.value("config") else {
+        return Ok(None);
+    };
+    let config = Text::copy(alloc, config)?;
+    match copy_value(alloc, words, "resource") {
+        Ok(resource) => Ok(Some(Command::Check { config, resource })),
+        Err(NoMemory) => {
+            drop(config);
+            Err(NoMemory)
+        }
     }
 }
 
@@ -338,32 +334,29 @@ fn lookup_command(alloc: Global, words: kr_words::CommandWords) -> Result<Option
         (value_of words.options.0 (codes "path"))) }
     ensures path { IfOk result KeepsRules }
 {
-    let config = copy_value(alloc, &words, "config")?;
-    let store = copy_value(alloc, &words, "store")?;
-    let path = copy_path(alloc, &words)?;
-    let Some(config) = config else {
+    let Some(config) = words.value("config") else {
+        drop(words);
         return Ok(None);
     };
-    let Some(store) = store else {
+    let Some(store) = words.value("store") else {
+        drop(words);
         return Ok(None);
     };
-    Ok(make_lookup(config, store, path, Options::new(words)))
-}
-
-/// A look-up of a path, where there is one.
-fn make_lookup(config: Text, store: Text, path: Option<Text>, options: Options) -> Option<Command>
-    requires { IfSome path (λ path. length path ≤ path_limit) }
-    ensures command { result ≡ lookup_command options (Some config) (Some store) path }
-    ensures path { KeepsRules result }
-{
-    match path {
-        Some(path) => Some(Command::Get(Lookup {
+    let Some(path) = path_value(&words) else {
+        drop(words);
+        return Ok(None);
+    };
+    match copy_three(alloc, config, store, path) {
+        Ok((config, store, path)) => Ok(Some(Command::Get(Lookup {
             config,
             store,
             path,
-            options,
-        })),
-        None => None,
+            options: Options::new(words),
+        }))),
+        Err(NoMemory) => {
+            drop(words);
+            Err(NoMemory)
+        }
     }
 }
 
@@ -377,19 +370,25 @@ fn verification_command(
         (value_of words.options.0 (codes "store"))) }
     ensures path { IfOk result KeepsRules }
 {
-    let config = copy_value(alloc, &words, "config")?;
-    let store = copy_value(alloc, &words, "store")?;
-    let Some(config) = config else {
+    let Some(config) = words.value("config") else {
+        drop(words);
         return Ok(None);
     };
-    let Some(store) = store else {
+    let Some(store) = words.value("store") else {
+        drop(words);
         return Ok(None);
     };
-    Ok(Some(Command::Verify(Verification {
-        config,
-        store,
-        options: Options::new(words),
-    })))
+    match copy_two(alloc, config, store) {
+        Ok((config, store)) => Ok(Some(Command::Verify(Verification {
+            config,
+            store,
+            options: Options::new(words),
+        }))),
+        Err(NoMemory) => {
+            drop(words);
+            Err(NoMemory)
+        }
+    }
 }
 
 /// The words of `migrate`.
@@ -403,37 +402,27 @@ fn migration_command(
         (value_of words.now.options.0 (codes "to"))) }
     ensures path { IfOk result KeepsRules }
 {
-    let config = copy_value(alloc, words, "config")?;
-    let store = copy_value(alloc, words, "store")?;
-    let to = copy_value(alloc, words, "to")?;
-    let Some(config) = config else {
+    let Some(config) = words.value("config") else {
         return Ok(None);
     };
-    let Some(store) = store else {
+    let Some(store) = words.value("store") else {
         return Ok(None);
     };
-    Ok(make_migration(config, store, to))
-}
-
-/// A migration into another store, where there is one.
-fn make_migration(config: Text, store: Text, to: Option<Text>) -> Option<Command>
-    ensures command { result ≡ migration_command (Some config) (Some store) to }
-    ensures path { KeepsRules result }
-{
-    let Some(to) = to else {
-        return None;
+    let Some(to) = words.value("to") else {
+        return Ok(None);
     };
-    if is_same(&store, &to) {
-        return None;
+    if is_same(store, to) {
+        return Ok(None);
     }
-    Some(Command::Migrate(Migration { config, store, to }))
+    let (config, store, to) = copy_three(alloc, config, store, to)?;
+    Ok(Some(Command::Migrate(Migration { config, store, to })))
 }
 
 /// Whether two names are the same.
-fn is_same(name: &Text, other: &Text) -> bool
+fn is_same(name: &str, other: &str) -> bool
     ensures { result ≡ same_name name.now other.now }
 {
-    name.as_str() == other.as_str()
+    name == other
 }
 
 /// The words of `list`.
@@ -445,10 +434,11 @@ fn listing_command(
         (value_of words.now.options.0 (codes "store"))) }
     ensures path { IfOk result KeepsRules }
 {
-    match copy_value(alloc, words, "store")? {
-        Some(store) => Ok(Some(Command::Rows { store })),
-        None => Ok(None),
-    }
+    let Some(store) = words.value("store") else {
+        return Ok(None);
+    };
+    let store = Text::copy(alloc, store)?;
+    Ok(Some(Command::Rows { store }))
 }
 
 /// The words of `judge`.
@@ -466,12 +456,19 @@ fn judgement_command(
     let Some(_reload) = words.reload() else {
         unreachable!();
     };
-    match copy_value(alloc, &words, "store")? {
-        Some(store) => Ok(Some(Command::Judge(JudgeWords {
+    let Some(store) = words.value("store") else {
+        drop(words);
+        return Ok(None);
+    };
+    match Text::copy(alloc, store) {
+        Ok(store) => Ok(Some(Command::Judge(JudgeWords {
             store,
             options: Options::new(words),
         }))),
-        None => Ok(None),
+        Err(_) => {
+            drop(words);
+            Err(NoMemory)
+        }
     }
 }
 
@@ -493,14 +490,13 @@ fn planning_command(
     let Some(replicas) = words.planned() else {
         unreachable!();
     };
-    let from = copy_value(alloc, words, "from")?;
-    let to = copy_value(alloc, words, "to")?;
-    let Some(from) = from else {
+    let Some(from) = words.value("from") else {
         return Ok(None);
     };
-    let Some(to) = to else {
+    let Some(to) = words.value("to") else {
         return Ok(None);
     };
+    let (from, to) = copy_two(alloc, from, to)?;
     Ok(Some(Command::Plan(Planning {
         from,
         to,
@@ -540,19 +536,25 @@ fn rewriting_command(
         (value_of words.options.0 (codes "store"))) }
     ensures path { IfOk result KeepsRules }
 {
-    let config = copy_value(alloc, &words, "config")?;
-    let store = copy_value(alloc, &words, "store")?;
-    let Some(config) = config else {
+    let Some(config) = words.value("config") else {
+        drop(words);
         return Ok(None);
     };
-    let Some(store) = store else {
+    let Some(store) = words.value("store") else {
+        drop(words);
         return Ok(None);
     };
-    Ok(Some(Command::Rewrite(Rewriting {
-        config,
-        store,
-        options: Options::new(words),
-    })))
+    match copy_two(alloc, config, store) {
+        Ok((config, store)) => Ok(Some(Command::Rewrite(Rewriting {
+            config,
+            store,
+            options: Options::new(words),
+        }))),
+        Err(NoMemory) => {
+            drop(words);
+            Err(NoMemory)
+        }
+    }
 }
 
 /// A copy of the first value at the name.

@@ -8,7 +8,7 @@ use kr_kms::Field;
 use kr_provider::ValueNo;
 
 /// An object of the outside, as a fault's line names it.
-#[derive(Debug, Drop, PartialEq, Eq)]
+#[derive(Drop)]
 pub enum Object {
     /// The input.
     Input,
@@ -27,7 +27,7 @@ pub enum Object {
 }
 
 /// Why the words stop before a step.
-#[derive(Clone, Copy, Debug, PartialEq, Eq)]
+#[derive(Clone, Copy)]
 pub enum BadWords {
     /// They mean no command, or a migration of a store to itself.
     Usage,
@@ -40,7 +40,7 @@ pub enum BadWords {
 }
 
 /// A limit, of bytes where nothing else is said.
-#[derive(Clone, Copy, Debug, PartialEq, Eq)]
+#[derive(Clone, Copy)]
 pub enum Limit {
     /// That of a configuration file: 1,048,576.
     Config,
@@ -61,7 +61,7 @@ pub enum Limit {
 }
 
 /// What the bytes of a store's file break first; the place is that of the row that breaks it.
-#[derive(Clone, Copy, Debug, PartialEq, Eq)]
+#[derive(Clone, Copy)]
 pub enum Breach {
     /// The first bytes name no format.
     Magic,
@@ -74,7 +74,7 @@ pub enum Breach {
 }
 
 /// Why a step of a command refuses what it saw.
-#[derive(Debug, Drop, PartialEq, Eq)]
+#[derive(Drop)]
 pub enum Refusal {
     /// There is no file of this name, which stands here as it is printed.
     Absent(Text),
@@ -112,7 +112,7 @@ pub enum Refusal {
 }
 
 /// Why a command wasn't done.
-#[derive(Debug, Drop, PartialEq, Eq)]
+#[derive(Drop)]
 pub enum Stop {
     /// Its words aren't those of a command, or pass a limit.
     Words(BadWords),
@@ -125,7 +125,7 @@ pub enum Stop {
 }
 
 /// What a command that is done says beside its output.
-#[derive(Clone, Copy, Debug, PartialEq, Eq)]
+#[derive(Clone, Copy)]
 pub enum Done {
     /// Nothing.
     Silent,
@@ -138,7 +138,7 @@ pub enum Done {
 }
 
 /// What a command makes: the bytes of its output, and what is said beside them.
-#[derive(Debug, Drop)]
+#[derive(Drop)]
 pub struct Outcome {
     /// The bytes of its output.
     pub bytes: Bytes,
@@ -147,7 +147,7 @@ pub struct Outcome {
 }
 
 /// How a command ended.
-#[derive(Debug, Drop)]
+#[derive(Drop)]
 pub struct Ended {
     /// What it makes, or why it stopped.
     pub made: Result<Outcome, Stop>,

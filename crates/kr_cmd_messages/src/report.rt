@@ -11,7 +11,7 @@ use kr_base::{Bytes, Failed, NoMemory, Sink};
 use std::alloc::Global;
 
 /// What became of the rows that a rewrite looked at.
-#[derive(Clone, Copy, Debug, PartialEq, Eq)]
+#[derive(Clone, Copy)]
 pub struct RewriteCounts {
     /// Written anew.
     pub rewritten: u64,

@@ -50,3 +50,38 @@ pub fn visible(alloc: Global, foreign: &str) -> Result<Text, NoMemory>
         Err(_) => unreachable!(),
     }
 }
+
+/// Copies of two texts.
+pub(crate) fn copy_two(alloc: Global, first: &str, second: &str) -> Result<(Text, Text), NoMemory>
+    ensures { IfOk result (λ copies. (copies.0 ≡ first.now) × (copies.1 ≡ second.now)) }
+{
+    let first = Text::copy(alloc, first)?;
+    match Text::copy(alloc, second) {
+        Ok(second) => Ok((first, second)),
+        Err(_) => {
+            drop(first);
+            Err(NoMemory)
+        }
+    }
+}
+
+/// Copies of three texts.
+pub(crate) fn copy_three(
+    alloc: Global,
+    first: &str,
+    second: &str,
+    third: &str,
+) -> Result<(Text, Text, Text), NoMemory>
+    ensures { IfOk result (λ copies. (copies.0 ≡ first.now) × (copies.1 ≡ second.now)
+        × (copies.2 ≡ third.now)) }
+{
+    let (first, second) = copy_two(alloc, first, second)?;
+    match Text::copy(alloc, third) {
+        Ok(third) => Ok((first, second, third)),
+        Err(_) => {
+            drop(first);
+            drop(second);
+            Err(NoMemory)
+        }
+    }
+}

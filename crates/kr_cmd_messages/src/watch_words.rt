@@ -53,9 +53,11 @@ fn watch_request(alloc: Global, words: CommandWords) -> Result<Option<WatchWords
     ensures { IfOk result (λ asked. IsWatchOf words.verb words.options.0 asked) }
 {
     let Verb::Watch = words.verb else {
+        drop(words);
         return Ok(None);
     };
     let Some(resource) = words.value("resource") else {
+        drop(words);
         return Ok(None);
     };
     let resource = Text::copy(alloc, resource)?;

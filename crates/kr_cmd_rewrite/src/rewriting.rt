@@ -30,9 +30,8 @@ use kr_cmd_messages::{
     Done, Ended, Limit, Object, Outcome, Refusal, RewriteCounts, Rewriting, Stop, report_text,
 };
 use kr_cmd_steps::{
-    Program, close_dice, close_link, configure, load_store, open_dice, open_link, open_tape,
-    program_plugins, publish_settings, settings_programs, settle_tape, split_first_program,
-    start_stop, take_last,
+    Program, close_dice, close_link, linked_settings, load_store, open_dice, open_link, open_tape,
+    program_plugins, publish_settings, settle_tape, split_first_program, start_stop, take_last,
 };
 use kr_config::Settings;
 use kr_history::{Acts, CallNo, Solo};
@@ -57,12 +56,8 @@ pub fn rewrite<W: World>(alloc: Global, words: &Rewriting, world: &mut W) -> End
         (saying result.said (with_world (W.told world.new) (with_exchanges es a)))
         result.made) }
 {
-    let settings = match configure(alloc, world, words.config.as_str()) {
-        Ok(settings) => settings,
-        Err(stop) => return stopped(stop),
-    };
-    let programs = match settings_programs(alloc, &words.options, &settings) {
-        Ok(programs) => programs,
+    let (settings, programs) = match linked_settings(alloc, world, &words.config, &words.options) {
+        Ok(read) => read,
         Err(stop) => return stopped(stop),
     };
     let name = words.store.as_str();

@@ -40,11 +40,17 @@ pub fn adopted<L: Kms, D: Dice>(
     published.known();
     let published = match Shared::new(alloc, published) {
         Ok(published) => published,
-        Err(_) => return Err((links, dice)),
+        Err(refused) => {
+            drop(refused);
+            return Err((links, dice));
+        }
     };
     let mut bench = match Bench::new(alloc, links, dice, PAGES, CACHE) {
         Ok(bench) => bench,
-        Err((_, links, dice)) => return Err((links, dice)),
+        Err((_, links, dice)) => {
+            drop(published);
+            return Err((links, dice));
+        }
     };
     let Ok(()) = bench.adopt(published) else {
         unreachable!();

@@ -3,7 +3,7 @@
 use kr_provider::ValueNo;
 
 /// What a value of a store reads as. Its data are no part of it.
-#[derive(Clone, Copy, Debug, PartialEq, Eq)]
+#[derive(Clone, Copy)]
 pub enum Finding {
     /// The writer of the resource would write the value so today.
     Fresh,

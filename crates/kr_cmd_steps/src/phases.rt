@@ -47,11 +47,23 @@ pub fn load_settings<W: World>(alloc: Global, world: &mut W, name: &str) -> Resu
     let file: Bytes = match world.load(alloc, name, CONFIG_LIMIT) {
         Ok(file) => file,
         Err(FileNo::Absent) => return Err(Stop::Refused(Refusal::Absent(absent))),
-        Err(FileNo::TooLong) => return Err(Stop::Refused(Refusal::Limit(Limit::Config))),
-        Err(FileNo::Failed) => return Err(Stop::Fault(Object::Files, world.faults())),
-        Err(FileNo::NoMemory) => return Err(Stop::NoMemory),
+        Err(FileNo::TooLong) => {
+            drop(absent);
+            return Err(Stop::Refused(Refusal::Limit(Limit::Config)));
+        }
+        Err(FileNo::Failed) => {
+            drop(absent);
+            return Err(Stop::Fault(Object::Files, world.faults()));
+        }
+        Err(FileNo::NoMemory) => {
+            drop(absent);
+            return Err(Stop::NoMemory);
+        }
     };
-    read_settings(alloc, file.as_slice())
+    drop(absent);
+    let settings = read_settings(alloc, file.as_slice());
+    drop(file);
+    settings
 }
 
 /// The configuration by its bytes.
@@ -198,7 +210,9 @@ fn write_value<O: Sink>(output: &mut O, made: Outcome) -> Result<Done, Stop>
     ensures later { O.count output.old ≤ O.count output.new }
 {
     let Outcome { bytes, done } = made;
-    match write_all(output, bytes.as_slice()) {
+    let written = write_all(output, bytes.as_slice());
+    drop(bytes);
+    match written {
         Ok(()) => Ok(done),
         Err(Failed) => Err(Stop::Fault(Object::Output, output.faults())),
     }

@@ -18,7 +18,7 @@ use std::alloc::Global;
 use std::marker::Model;
 
 /// The program that a plugin is.
-#[derive(Debug, Drop)]
+#[derive(Drop)]
 pub struct Program {
     /// The plugin's name.
     pub plugin: Text,
@@ -27,7 +27,7 @@ pub struct Program {
 }
 
 /// Programs, of which contracts see the list.
-#[derive(Debug, Drop)]
+#[derive(Drop)]
 pub struct Programs {
     items: Vec<Program>,
 }
@@ -59,13 +59,17 @@ impl Programs {
             (self.new ≡ self.old ++ record { plugin = plugin.now; file = file.now } ∷ []) }
         ensures kept { OnErr result (self.new ≡ self.old) }
     {
-        let program = Program {
-            plugin: Text::copy(alloc, plugin)?,
-            file: Text::copy(alloc, file)?,
+        let plugin = Text::copy(alloc, plugin)?;
+        let Ok(file) = Text::copy(alloc, file) else {
+            drop(plugin);
+            return Err(NoMemory);
         };
-        match self.items.push(program) {
+        match self.items.push(Program { plugin, file }) {
             Ok(()) => Ok(()),
-            Err(_) => Err(NoMemory),
+            Err(refused) => {
+                drop(refused);
+                Err(NoMemory)
+            }
         }
     }
 
@@ -93,11 +97,15 @@ pub fn settings_programs(
     let mut after = "";
     while let Some(plugin) = settings.next_plugin(after) {
         let Some(file) = options.program(plugin) else {
+            drop(programs);
             return Err(without_program(alloc, plugin));
         };
         match programs.add(alloc, plugin, file) {
             Ok(()) => {}
-            Err(_) => return Err(Stop::NoMemory),
+            Err(_) => {
+                drop(programs);
+                return Err(Stop::NoMemory);
+            }
         }
         tell_text(plugin);
         after = plugin;
@@ -124,7 +132,10 @@ pub fn linked_settings<W: World>(
     };
     let programs = match settings_programs(alloc, options, &settings) {
         Ok(programs) => programs,
-        Err(stop) => return Err(stop),
+        Err(stop) => {
+            drop(settings);
+            return Err(stop);
+        }
     };
     Ok((settings, programs))
 }

@@ -66,7 +66,10 @@ fn publish_stop<L: Kms, D: Dice>(alloc: Global, why: PublishNo, links: &Links<L>
         PublishNo::DiceFailed => Stop::Fault(Object::Dice(0), dice.faults()),
         PublishNo::Unhealthy { name, field, text } => match visible(alloc, text.as_str()) {
             Ok(text) => Stop::Refused(Refusal::Unhealthy(name, field, text)),
-            Err(_) => Stop::NoMemory,
+            Err(_) => {
+                drop(name);
+                Stop::NoMemory
+            }
         },
         PublishNo::NoMemory => Stop::NoMemory,
     }

@@ -39,10 +39,19 @@ pub fn open_tape<W: World>(
         Err(_) => return Err(Stop::NoMemory),
     };
     match world.tape(alloc, name, access) {
-        Ok(tape) => Ok(tape),
+        Ok(tape) => {
+            drop(absent);
+            Ok(tape)
+        }
         Err(FileNo::Absent) => Err(Stop::Refused(Refusal::Absent(absent))),
-        Err(FileNo::Failed) => Err(Stop::Fault(Object::Files, world.faults())),
-        Err(FileNo::NoMemory) => Err(Stop::NoMemory),
+        Err(FileNo::Failed) => {
+            drop(absent);
+            Err(Stop::Fault(Object::Files, world.faults()))
+        }
+        Err(FileNo::NoMemory) => {
+            drop(absent);
+            Err(Stop::NoMemory)
+        }
         Err(FileNo::TooLong) => unreachable!(),
     }
 }

@@ -27,7 +27,7 @@ use kr_provider::Links;
 use std::alloc::Global;
 
 /// What a bench is to make of some bytes.
-#[derive(Clone, Copy, Debug)]
+#[derive(Clone, Copy)]
 pub struct Task<'a> {
     /// Whether they are data or a stored value.
     pub direction: Direction,
@@ -63,7 +63,11 @@ pub fn make<W: World>(
 {
     let dice = match open_dice(alloc, world, 0) {
         Ok(dice) => dice,
-        Err(stop) => return Err(stop),
+        Err(stop) => {
+            drop(bytes);
+            drop(settings);
+            return Err(stop);
+        }
     };
     let links = Links::<W::Link>::new(alloc);
     let (made, links, dice) = make_linked(
@@ -121,12 +125,18 @@ fn make_linked<W: World>(
         program.file.as_str(),
     ) {
         Ok(link) => link,
-        Err(stop) => return (Err(stop), links, dice),
+        Err(stop) => {
+            drop(bytes);
+            drop(settings);
+            return (Err(stop), links, dice);
+        }
     };
     match links.add(link) {
         Ok(()) => {}
         Err((_, link)) => {
             close_link(world, 0, link);
+            drop(bytes);
+            drop(settings);
             return (Err(Stop::NoMemory), links, dice);
         }
     }
@@ -185,16 +195,26 @@ fn make_on_bench<L: Kms, D: Dice>(
 {
     let settings = match Shared::new(alloc, settings) {
         Ok(settings) => settings,
-        Err(_) => return (Err(Stop::NoMemory), links, dice),
+        Err(refused) => {
+            drop(refused);
+            drop(bytes);
+            return (Err(Stop::NoMemory), links, dice);
+        }
     };
     let published = match publish_settings(alloc, settings, &mut links, &mut dice) {
         Ok(published) => published,
-        Err(stop) => return (Err(stop), links, dice),
+        Err(stop) => {
+            drop(bytes);
+            return (Err(stop), links, dice);
+        }
     };
     links.known();
     let bench = match adopted(alloc, published, links, dice) {
         Ok(bench) => bench,
-        Err((links, dice)) => return (Err(Stop::NoMemory), links, dice),
+        Err((links, dice)) => {
+            drop(bytes);
+            return (Err(Stop::NoMemory), links, dice);
+        }
     };
     work(
         alloc,

@@ -165,9 +165,8 @@ found_group classes group s rest = by (list_any (is_group group) classes) refl
         (other_least group classes h)
 
 alone_least : (d : Class) → rest_test d ≡ true → IsBehind Rest d
-alone_least (Exact own) t = absurd (false≢true t)
-alone_least (Group own) t = absurd (false≢true t)
 alone_least Rest t = inl refl
+alone_least other t = absurd (false≢true t)
 
 pub made_list : (list : Class → List Who) (classes : List Class) (class : Class)
     → IsStrictlySortedBy class_cmp classes → Contains classes Rest

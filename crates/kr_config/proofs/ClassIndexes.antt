@@ -30,8 +30,7 @@ use Rattle.kr_config.proofs.Places.{exact_is, group_is}
 pub by_test : (rows : List ConfigEntry) (class : Class)
     → class_list rows class ≡ first_list (covers_class class) rows
 by_test rows (Exact text) = refl
-by_test rows (Group group) = refl
-by_test rows Rest = refl
+by_test rows other = refl
 
 pub first_begin : (entries : List Entry) (class : Class)
     → class_list (rows_of entries) class

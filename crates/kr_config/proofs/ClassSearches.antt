@@ -35,15 +35,10 @@ turned_back a b h = class_total.antisymm b a ∙ ap ordering_reverse h
 pub same_class : (a b : Class) → class_cmp a b ≡ Equal → a ≡ b
 same_class (Exact a) (Exact b) h =
     ap Exact ((bytes_eq-Decides a b).0 (sym (is_eq-slice_cmp a b) ∙ ap is_eq h))
-same_class (Exact a) (Group b) h = cc
-same_class (Exact a) Rest h = cc
-same_class (Group a) (Exact b) h = cc
 same_class (Group a) (Group b) h =
     ap Group ((bytes_eq-Decides a b).0 (sym (is_eq-slice_cmp a b) ∙ ap is_eq h))
-same_class (Group a) Rest h = cc
-same_class Rest (Exact b) h = cc
-same_class Rest (Group b) h = cc
 same_class Rest Rest h = refl
+same_class other another h = cc
 
 -- ---- classes in order, by their places
 
@@ -57,12 +52,11 @@ ascending : (index : List ClassPlace) → IsStrictlySortedBy class_cmp (map clas
     → (i j : ℕ) (d e : ClassPlace) → i < j → j < length index
     → class_cmp (get_or index i d).class (get_or index j e).class ≡ Less
 unfolding IsStrictlySortedBy
-ascending [] s i j d e h l = absurd (omega arith)
-ascending (x ∷ index) s i zero d e h l = absurd (omega arith)
 ascending (x ∷ index) s zero (suc j) d e h l =
     at_each (λ c. class_cmp x.class c ≡ Less) index s.0 j e (omega arith)
 ascending (x ∷ index) s (suc i) (suc j) d e h l =
     ascending index s.1 i j d e (omega arith) (omega arith)
+ascending other s i j d e h l = absurd (omega arith)
 
 -- ---- a search
 
@@ -89,11 +83,11 @@ split k i P h less same = by (nat_lt k i) refl
     by true t = less (ltb-true k i t)
     by false f = let over = ltb-false k i f in same (omega (arith, h, over))
 
-pub before_middle : (class : Class) (index : List ClassPlace) (low high middle : ℕ)
-    (own : ClassPlace) → IsSearchable index → Between class index low high → low ≤ middle
-    → middle < high → own ≡ get_or index middle own → class_cmp own.class class ≡ Less
-    → Between class index (middle + 1) high
-before_middle class index low high middle own sorted b from to is less = record {
+pub before_middle : {class : Class} {index : List ClassPlace} {low high : ℕ} (middle : ℕ)
+    {own : ClassPlace} → IsSearchable index → Between class index low high
+    → own ≡ get_or index middle own → class_cmp own.class class ≡ Less → low ≤ middle
+    → middle < high → Between class index (middle + 1) high
+before_middle {class} {index} {low} {high} middle {own} sorted b is less from to = record {
   ordered = omega (arith, to);
   within = b.within;
   before = λ k d z h. split k middle (class_cmp (get_or index k d).class class ≡ Less)
@@ -107,11 +101,11 @@ before_middle class index low high middle own sorted b from to is less = record 
   behind = b.behind;
 }
 
-pub behind_middle : (class : Class) (index : List ClassPlace) (low high middle : ℕ)
-    (own : ClassPlace) → IsSearchable index → Between class index low high → low ≤ middle
-    → middle < high → own ≡ get_or index middle own → class_cmp own.class class ≡ Greater
-    → Between class index low middle
-behind_middle class index low high middle own sorted b from to is greater =
+pub behind_middle : {class : Class} {index : List ClassPlace} {low high : ℕ} (middle : ℕ)
+    {own : ClassPlace} → IsSearchable index → Between class index low high
+    → own ≡ get_or index middle own → class_cmp own.class class ≡ Greater → low ≤ middle
+    → middle < high → Between class index low middle
+behind_middle {class} {index} {low} {high} middle {own} sorted b is greater from to =
     let after : class_cmp class own.class ≡ Less = turned own.class class greater in
     record {
       ordered = from;
@@ -148,10 +142,12 @@ pub lent_is : (index : List ClassPlace) (place : ℕ) (own : ClassPlace) (lent :
     → own ≡ get_or index place own → lent ≡ (get_or index place own).class → lent ≡ own.class
 lent_is index place own lent is same = same ∙ sym (ap class_at is)
 
--- the same order, of a class that is lent
-pub order_at : (a b class : Class) (order : Ordering) → order ≡ class_cmp a class → a ≡ b
-    → class_cmp b class ≡ order
-order_at a b class order is same = sym (is ∙ ap (λ c. class_cmp c class) same)
+-- the order of a place's class, by the class that is lent of it
+pub own_order : (class : Class) {own there : ClassPlace} {lent : Class} {order : Ordering}
+    → own ≡ there → lent ≡ there.class → order ≡ class_cmp lent class
+    → class_cmp own.class class ≡ order
+own_order class {own} {there} {lent} {order} is same ordered =
+    sym (ordered ∙ ap (λ c. class_cmp c class) (same ∙ sym (ap class_at is)))
 
 pub equal : (o : Ordering) → is_eq o ≡ true → o ≡ Equal
 equal Less h = cc
@@ -165,8 +161,7 @@ pub stands : (class : Class) (index : List ClassPlace) (place : ℕ) (own : Clas
     → result ≡ is_eq order → StandsAt index class place result
 stands class index place own lent order true h is same ordered told =
     found class index place own h is
-    (order_at lent own.class class order ordered (lent_is index place own lent is same)
-    ∙ equal order (sym told))
+    (own_order class is same ordered ∙ equal order (sym told))
 stands class index place own lent order false h is same ordered told = tt
 
 -- ---- what comes after a class

@@ -12,10 +12,11 @@ use Rattle.std.proofs.lemmas.Grind.{flat_map-append}
 use Rattle.std.proofs.lemmas.Bool.{false≢true}
 use Rattle.kr_config.specs.declared.pattern.Pattern.{Pattern}
 use Rattle.kr_config.specs.declared.pattern.Pattern.TheVariants as pattern
+use Rattle.kr_config.specs.declared.settings.Entry.{Entry}
 use Rattle.kr_config.specs.declared.class.Class.{Class}
 use Rattle.kr_config.specs.declared.class.Class.TheVariants.{Exact, Group, Rest}
 use Rattle.kr_config.specs.Patterns.{resource_group, matches, covers_group, covers_rest}
-use Rattle.kr_config.specs.Kept.{ConfigEntry}
+use Rattle.kr_config.specs.Kept.{ConfigEntry, rows_of}
 use Rattle.kr_config.specs.Lists.{first_list, list_of, class_list}
 use Rattle.kr_config.specs.Classes.{class_cmp, class_made, classes_made, classes_in, IsTableOf}
 use Rattle.kr_config.specs.Classes.{class_in, is_exact, is_group, is_rest}
@@ -111,6 +112,19 @@ rest_again (c ∷ cs) fresh new there same = λ class. (
     single : (class : Class) → Contains (Rest ∷ []) class → Rest ≡ class
     single class r = at_zero class r.0 r.1 r.2
 
+-- the rest and the classes of entries stand behind those of a table, and all of it is put in order
+pub with_fresh : (items new : List Class) {appended fresh : List Class} {lent entries : List Entry}
+    → appended ≡ items ++ fresh → fresh ≡ Rest ∷ classes_in (rows_of lent) → lent ≡ entries
+    → list_any is_rest (or_rest items) ≡ true
+    → ((class : Class) → Contains new class ↔ Contains appended class)
+    → (class : Class) → Contains new class
+    ↔ Contains (or_rest items ++ classes_in (rows_of entries)) class
+with_fresh items new {appended} {fresh} {lent} {entries} is made same there members =
+    let whole : appended ≡ items ++ Rest ∷ classes_in (rows_of entries) =
+    is ∙ ap (λ l. items ++ l) (made ∙ ap (λ l. Rest ∷ classes_in (rows_of l)) same) in
+    rest_again items (classes_in (rows_of entries)) new there
+    (subst (λ l. (class : Class) → Contains new class ↔ Contains l class) whole members)
+
 -- a list with the rest in it isn't empty, and keeps it
 pub rest_kept : (old fresh new : List Class) → list_any is_rest old ≡ true
     → ((class : Class) → Contains new class ↔ Contains (old ++ fresh) class)
@@ -127,26 +141,23 @@ rest_kept old fresh new there same =
     full (y ∷ l) x h = refl
 
 -- a class that no search finds isn't there
+not_found : (test : Class → Bool) (classes : List Class) (class : Class)
+    → list_any test classes ≡ false → Contains classes class → test class ≡ false
+not_found test classes class none h = by (test class) refl
+  where
+    by : (b : Bool) → test class ≡ b → test class ≡ false
+    by true t = absurd (false≢true
+        (sym none ∙ list_any_at test classes h.0 class h.1 (ap test h.2 ∙ t)))
+    by false t = t
+
 not_exact : (classes : List Class) (resource text : List ℕ)
     → list_any (is_exact resource) classes ≡ false → Contains classes (Exact text)
     → bytes_eq text resource ≡ false
-not_exact classes resource text none h = by (bytes_eq text resource) refl
-  where
-    by : (b : Bool) → bytes_eq text resource ≡ b → bytes_eq text resource ≡ false
-    by true t = absurd (false≢true
-        (sym none ∙ list_any_at (is_exact resource) classes h.0 (Exact text) h.1
-        (ap (is_exact resource) h.2 ∙ t)))
-    by false t = t
+not_exact classes resource text = not_found (is_exact resource) classes (Exact text)
 
 not_group : (classes : List Class) (group own : List ℕ) → list_any (is_group group) classes ≡ false
     → Contains classes (Group own) → bytes_eq own group ≡ false
-not_group classes group own none h = by (bytes_eq own group) refl
-  where
-    by : (b : Bool) → bytes_eq own group ≡ b → bytes_eq own group ≡ false
-    by true t = absurd (false≢true
-        (sym none ∙ list_any_at (is_group group) classes h.0 (Group own) h.1
-        (ap (is_group group) h.2 ∙ t)))
-    by false t = t
+not_group classes group own = not_found (is_group group) classes (Group own)
 
 -- two tests that answer alike at each pattern whose class the table has give one list
 same_any : (classes : List Class) (f g : Pattern → Bool)

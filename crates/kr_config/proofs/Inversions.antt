@@ -72,9 +72,8 @@ none_any f (x ∷ xs) h = none_step (f x) (list_any f xs) (list_all (λ y. not (
 
 neither_step : (a b c d e : Bool) → (a || c) ≡ false → (b || d) ≡ false
     → (c ≡ false → d ≡ false → e ≡ true) → (not (a || b) && e) ≡ true
-neither_step true b c d e h k m = absurd (cc)
-neither_step false true c d e h k m = absurd (cc)
 neither_step false false c d e h k m = m h k
+neither_step other b c d e h k m = absurd (cc)
 
 pub neither_any : {X : Type 0} (f g : X → Bool) (xs : List X) → list_any f xs ≡ false
     → list_any g xs ≡ false → list_all (λ x. not (f x || g x)) xs ≡ true

@@ -32,9 +32,8 @@ form_by : (a b c r : Bool) (group text : List ℕ) (p : Pattern) → is_group gr
     then Some (Exact text) else None) ≡ Some p → is_pattern p ≡ true
 form_by true true c r group text p g e h = ap is_pattern (sym (same_some All p h))
 form_by true false true r group text p g e h = ap is_pattern (sym (same_some (Group group) p h)) ∙ g
-form_by true false false r group text p g e h = absurd (cc)
 form_by false b c true group text p g e h = ap is_pattern (sym (same_some (Exact text) p h)) ∙ e
-form_by false b c false group text p g e h = absurd (cc)
+form_by other b c r group text p g e h = absurd (cc)
 
 form : (text : List ℕ) (p : Pattern) → spelled_pattern text ≡ Some p → is_pattern p ≡ true
 unfolding spelled_pattern star_pattern

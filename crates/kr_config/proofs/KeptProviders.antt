@@ -6,6 +6,7 @@ use Rattle.std.specs.Prelude.{if◌then◌else◌, ◌||◌, ◌==◌, nat_lt, c
 use Rattle.std.specs.List.{list_all, list_any}
 use Rattle.std.specs.Option.{option_map_or}
 use Rattle.std.specs.Result.{result_ok}
+use Rattle.std.proofs.lemmas.Bool.{ltb-true}
 use Rattle.std.proofs.lemmas.List.Sums.{sum_by-append}
 use Rattle.serde_json.specs.Data.{Data}
 use Rattle.serde_json.specs.Find.{get, as_null, as_array}
@@ -14,6 +15,7 @@ use Rattle.base64.specs.GeneralPurpose.{decode_of}
 use Rattle.kr_base.specs.Rules.{is_name}
 use Rattle.kr_config.specs.declared.who.Who.{Who}
 use Rattle.kr_config.specs.declared.refusal.Rule.TheVariants as rule
+use Rattle.kr_config.specs.declared.refusal.Counted.{Counted}
 use Rattle.kr_config.specs.declared.refusal.Counted.TheVariants.{Keys, Plugins}
 use Rattle.kr_config.specs.declared.place.ConfigPlace.{ConfigPlace}
 use Rattle.kr_config.specs.declared.who.Who.TheVariants.{Identity, Kms}
@@ -78,33 +80,36 @@ place_fits place before who after h =
     let a = if_not (list_any (λ w. rivals w who) before) _ _ after h in
     (a.0, same_ok (before ++ who ∷ []) after a.1)
 
+-- one that is counted is placed below its limit
+placed_below : (kind : Counted) (n limit : ℕ) (place : ConfigPlace) (before : List Who) (who : Who)
+    (after : List Who)
+    → then_unless_breach (place_provider place before who)
+    (λ new. if nat_lt n limit then Ok new else over_limit kind) ≡ Ok after
+    → (n < limit) × (list_any (λ w. rivals w who) before ≡ false) × (before ++ who ∷ [] ≡ after)
+placed_below kind n limit place before who after h =
+    let a = and_then_ok (place_provider place before who)
+    (λ new. if nat_lt n limit then Ok new else over_limit kind) after h in
+    let b = if_ok (nat_lt n limit) (Ok a.0) _ after a.2 in
+    let p = place_fits place before who a.0 a.1 in
+    (ltb-true n limit b.0, p.0, p.1 ∙ same_ok a.0 after b.1)
+
 key_placed : (keys plugins : ℕ) (place : ConfigPlace) (before : List Who) (who : Who) (after : List Who)
     → Providers keys plugins before → is_provider who ≡ true → is_kms who ≡ false
     → place_key keys place before who ≡ Ok after → Kept keys plugins after
 unfolding place_key
 key_placed keys plugins place before who after k f n h =
-    let a = and_then_ok (place_provider place before who)
-    (λ new. if nat_lt (keys + count_by is_key before) 64 then Ok new else over_limit Keys) after
-    h in
-    let b = if_ok (nat_lt (keys + count_by is_key before) 64) (Ok a.0) _ after a.2 in
-    let below : keys + count_by is_key before < 64 = grind (arith, b.0) in
-    let p = place_fits place before who a.0 a.1 in
-    subst (Kept keys plugins) (p.1 ∙ same_ok a.0 after b.1)
-    (push_keeps keys plugins before who k f p.0 (λ t. below) (λ t. absurd (cc)))
+    let p = placed_below Keys (keys + count_by is_key before) 64 place before who after h in
+    subst (Kept keys plugins) p.2
+    (push_keeps keys plugins before who k f p.1 (λ t. p.0) (λ t. absurd (cc)))
 
 plugin_placed : (keys plugins : ℕ) (place : ConfigPlace) (before : List Who) (who : Who)
     (after : List Who) → Providers keys plugins before → is_provider who ≡ true → is_key who ≡ false
     → place_plugin plugins place before who ≡ Ok after → Kept keys plugins after
 unfolding place_plugin
 plugin_placed keys plugins place before who after k f n h =
-    let a = and_then_ok (place_provider place before who)
-    (λ new. if nat_lt (plugins + count_by is_kms before) 16 then Ok new else over_limit Plugins)
-    after h in
-    let b = if_ok (nat_lt (plugins + count_by is_kms before) 16) (Ok a.0) _ after a.2 in
-    let below : plugins + count_by is_kms before < 16 = grind (arith, b.0) in
-    let p = place_fits place before who a.0 a.1 in
-    subst (Kept keys plugins) (p.1 ∙ same_ok a.0 after b.1)
-    (push_keeps keys plugins before who k f p.0 (λ t. absurd (cc)) (λ t. below))
+    let p = placed_below Plugins (plugins + count_by is_kms before) 16 place before who after h in
+    subst (Kept keys plugins) p.2
+    (push_keeps keys plugins before who k f p.1 (λ t. absurd (cc)) (λ t. p.0))
 
 identity_kept : (keys plugins : ℕ) (place : ConfigPlace) (before : List Who) (d : Data) (after : List Who)
     → Providers keys plugins before → identity_step place before d ≡ Ok after

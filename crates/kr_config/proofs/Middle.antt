@@ -45,21 +45,22 @@ either_other : (a b : Bool) → (a || b) ≡ false → b ≡ false
 either_other true b h = absurd (false≢true (sym h))
 either_other false b h = h
 
+-- where no element meets a test, none meets one that fails wherever it does
+any_less : {T : Type 0} (test less : T → Bool) → ((y : T) → test y ≡ false → less y ≡ false)
+    → (xs : List T) → list_any test xs ≡ false → list_any less xs ≡ false
+any_less test less fails [] h = refl
+any_less test less fails (x ∷ xs) h =
+    let rest = list_any test xs in
+    neither (less x) (list_any less xs) (fails x (either_one (test x) rest h))
+    (any_less test less fails xs (either_other (test x) rest h))
+
 pub any_one : {T : Type 0} (f g : T → Bool) (xs : List T) → list_any (λ y. f y || g y) xs ≡ false
     → list_any f xs ≡ false
-any_one f g [] h = refl
-any_one f g (x ∷ xs) h =
-    let rest = list_any (λ y. f y || g y) xs in
-    neither (f x) (list_any f xs) (either_one (f x) (g x) (either_one (f x || g x) rest h))
-    (any_one f g xs (either_other (f x || g x) rest h))
+any_one f g = any_less (λ y. f y || g y) f (λ y. either_one (f y) (g y))
 
 pub any_other : {T : Type 0} (f g : T → Bool) (xs : List T) → list_any (λ y. f y || g y) xs ≡ false
     → list_any g xs ≡ false
-any_other f g [] h = refl
-any_other f g (x ∷ xs) h =
-    let rest = list_any (λ y. f y || g y) xs in
-    neither (g x) (list_any g xs) (either_other (f x) (g x) (either_one (f x || g x) rest h))
-    (any_other f g xs (either_other (f x || g x) rest h))
+any_other f g = any_less (λ y. f y || g y) g (λ y. either_other (f y) (g y))
 
 -- where each item is put behind those before it, a walk over what was written of them gives them
 pub walk_back : {T : Type 0} (step : ℕ → List T → Data → Result (List T) ConfigNo)

@@ -28,8 +28,7 @@ below Greater h = cc
 
 not_below : (o : Ordering) → is_lt o ≡ false → o ≢ Less
 not_below Less h = λ e. cc
-not_below Equal h = λ e. cc
-not_below Greater h = λ e. cc
+not_below other h = λ e. cc
 
 not_behind : (o : Ordering) → ordering_reverse o ≢ Less → (o ≡ Less) ⊎ (o ≡ Equal)
 not_behind Less h = inl refl

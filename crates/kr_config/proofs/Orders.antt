@@ -25,14 +25,9 @@ equals a b = (eq.ghosts).eq a b
 
 same_order : (a b : Class) → derived_cmp a b ≡ class_cmp a b
 same_order (Exact a) (Exact b) = refl
-same_order (Exact a) (Group b) = refl
-same_order (Exact a) Rest = refl
 same_order (Group a) (Exact b) = refl
-same_order (Group a) (Group b) = refl
-same_order (Group a) Rest = refl
 same_order Rest (Exact b) = refl
-same_order Rest (Group b) = refl
-same_order Rest Rest = refl
+same_order other another = refl
 
 total : IsTotalOrder derived_cmp
 total = ord_laws.total-law
@@ -45,14 +40,9 @@ equivalence = eq_laws.laws-law
 
 alike : (a b : Class) → equals a b ≡ true → a ≡ b
 alike (Exact a) (Exact b) h = ap Exact ((bytes_eq-Decides a b).0 h)
-alike (Exact a) (Group b) h = cc
-alike (Exact a) Rest h = cc
-alike (Group a) (Exact b) h = cc
 alike (Group a) (Group b) h = ap Group ((bytes_eq-Decides a b).0 h)
-alike (Group a) Rest h = cc
-alike Rest (Exact b) h = cc
-alike Rest (Group b) h = cc
 alike Rest Rest h = refl
+alike other another h = cc
 
 pub class_total : IsTotalOrder class_cmp
 class_total = subst IsTotalOrder (λ i a b. same_order a b i) total

@@ -27,6 +27,7 @@ use Rattle.kr_config.specs.declared.pattern.Pattern.TheVariants.{Exact, Group, A
 use Rattle.kr_config.specs.declared.place.ConfigPlace.{ConfigPlace}
 use Rattle.kr_config.specs.declared.provider.Cipher.{Cipher}
 use Rattle.kr_config.specs.declared.provider.Cipher.TheVariants as cipher
+use Rattle.kr_config.specs.declared.refusal.Counted.{Counted}
 use Rattle.kr_config.specs.declared.refusal.Counted.TheVariants.{Entries, Patterns, Keys, Plugins}
 use Rattle.kr_config.specs.declared.refusal.Rule.TheVariants as rule
 use Rattle.kr_config.specs.declared.who.Who.{Who}
@@ -169,35 +170,20 @@ unfolding place_provider
 provider_placed place front who none =
     ap (λ b. if b then breach rule.SameProvider place else Ok (front ++ who ∷ [])) none
 
-key_placed : (counted : ℕ) (place : ConfigPlace) (front : List Who) (who : Who)
-    → list_any (λ x. rivals x who) front ≡ false → counted + count_by is_key front < 64
-    → place_key counted place front who ≡ Ok (front ++ who ∷ [])
-unfolding place_key
-key_placed counted place front who none room =
-    ap (λ r. then_unless_breach r (λ new. if nat_lt (counted + count_by is_key front) 64 then Ok new
-    else over_limit Keys)) (provider_placed place front who none)
-    ∙ ap (λ b. if b then Ok (front ++ who ∷ []) else over_limit Keys)
-    (lt-ltb (counted + count_by is_key front) 64 room)
+-- one that is counted, where its limit isn't met
+placed_within : (kind : Counted) (n limit : ℕ) (place : ConfigPlace) (front : List Who) (who : Who)
+    → list_any (λ x. rivals x who) front ≡ false → n < limit
+    → then_unless_breach (place_provider place front who)
+    (λ new. if nat_lt n limit then Ok new else over_limit kind) ≡ Ok (front ++ who ∷ [])
+placed_within kind n limit place front who none room =
+    ap (λ r. then_unless_breach r (λ new. if nat_lt n limit then Ok new else over_limit kind))
+    (provider_placed place front who none)
+    ∙ ap (λ b. if b then Ok (front ++ who ∷ []) else over_limit kind) (lt-ltb n limit room)
 
-plugin_placed : (counted : ℕ) (place : ConfigPlace) (front : List Who) (who : Who)
-    → list_any (λ x. rivals x who) front ≡ false → counted + count_by is_kms front < 16
-    → place_plugin counted place front who ≡ Ok (front ++ who ∷ [])
-unfolding place_plugin
-plugin_placed counted place front who none room =
-    ap (λ r. then_unless_breach r (λ new. if nat_lt (counted + count_by is_kms front) 16 then Ok new
-    else over_limit Plugins)) (provider_placed place front who none)
-    ∙ ap (λ b. if b then Ok (front ++ who ∷ []) else over_limit Plugins)
-    (lt-ltb (counted + count_by is_kms front) 16 room)
-
-name_back : (place : ConfigPlace) (name secret : List ℕ) → is_name name ≡ true
-    → name_at place (key_data name secret) ≡ Ok name
-unfolding name_at
-name_back place name secret h = ap (λ b. if b then Ok name else breach rule.Name place) h
-
-plugin_name_back : (place : ConfigPlace) (name : List ℕ) → is_name name ≡ true
-    → name_at place (plugin_data name) ≡ Ok name
-unfolding name_at
-plugin_name_back place name h = ap (λ b. if b then Ok name else breach rule.Name place) h
+name_back : (place : ConfigPlace) (d : Data) (name : List ℕ)
+    → name_at place d ≡ (if is_name name then Ok name else breach rule.Name place)
+    → is_name name ≡ true → name_at place d ≡ Ok name
+name_back place d name read h = read ∙ ap (λ b. if b then Ok name else breach rule.Name place) h
 
 as_bytes : (bytes : List ℕ) → All (λ byte. byte < 256) bytes → IsBytes bytes
 as_bytes bytes h i = by (nat_lt i (length bytes)) refl
@@ -222,13 +208,15 @@ key_back : (c : Cipher) (counted : ℕ) (place : ConfigPlace) (front : List Who)
     → counted + count_by is_key front < 64
     → key_step c counted place front (key_data name secret)
     ≡ Ok (front ++ of_cipher c name secret ∷ [])
-unfolding key_step
+unfolding key_step place_key name_at
 key_back c counted place front name secret n s bytes none room =
     ap (λ r. then_unless_breach r (λ own. then_unless_breach (secret_at place (key_data name secret))
-    (λ key. place_key counted place front (of_cipher c own key)))) (name_back place name secret n)
+    (λ key. place_key counted place front (of_cipher c own key))))
+    (name_back place (key_data name secret) name refl n)
     ∙ ap (λ r. then_unless_breach r (λ key. place_key counted place front (of_cipher c name key)))
     (secret_back place name secret s bytes)
-    ∙ key_placed counted place front (of_cipher c name secret) none room
+    ∙ placed_within Keys (counted + count_by is_key front) 64 place front (of_cipher c name secret)
+    none room
 
 keys_back : (c : Cipher) (counted : ℕ) (place : ConfigPlace) (front : List Who) (name secret : List ℕ)
     → is_name name ≡ true → is_secret secret ≡ true → All (λ byte. byte < 256) secret
@@ -248,11 +236,12 @@ plugin_back : (counted : ℕ) (place : ConfigPlace) (front : List Who) (name : L
     → is_name name ≡ true → list_any (λ x. rivals x (Kms name)) front ≡ false
     → counted + count_by is_kms front < 16
     → plugin_step counted place front (plugin_data name) ≡ Ok (front ++ Kms name ∷ [])
-unfolding plugin_step version_at endpoint_at
+unfolding plugin_step version_at endpoint_at place_plugin name_at
 plugin_back counted place front name n none room =
     ap (λ r. then_unless_breach r (λ own. then_unless_breach (endpoint_at place (plugin_data name))
-    (λ fine. place_plugin counted place front (Kms own)))) (plugin_name_back place name n)
-    ∙ plugin_placed counted place front (Kms name) none room
+    (λ fine. place_plugin counted place front (Kms own))))
+    (name_back place (plugin_data name) name refl n)
+    ∙ placed_within Plugins (counted + count_by is_kms front) 16 place front (Kms name) none room
 
 identity_back : (place : ConfigPlace) (front : List Who) → list_any (λ x. rivals x Identity) front ≡ false
     → identity_step place front (object no_members) ≡ Ok (front ++ Identity ∷ [])
@@ -429,9 +418,7 @@ items_deep write most (x ∷ xs) h = omega (arith, h x, items_deep write most xs
 
 element_deep : (who : Who) → depth (element_data who) ≤ 4
 element_deep Identity = omega arith
-element_deep (Aescbc name secret) = omega arith
-element_deep (Aesgcm name secret) = omega arith
-element_deep (Kms name) = omega arith
+element_deep other = omega arith
 
 entry_deep : (row : ConfigEntry) → depth (entry_data row) ≤ 6
 entry_deep row = omega (
@@ -451,9 +438,7 @@ items_whole write (x ∷ xs) h =
 
 element_whole : (who : Who) → has_float (element_data who) ≡ false
 element_whole Identity = refl
-element_whole (Aescbc name secret) = refl
-element_whole (Aesgcm name secret) = refl
-element_whole (Kms name) = refl
+element_whole other = refl
 
 entry_whole : (row : ConfigEntry) → has_float (entry_data row) ≡ false
 entry_whole row =

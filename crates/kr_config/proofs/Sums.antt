@@ -40,11 +40,11 @@ sum_fits test entries i entry sum n most was h is counted small =
     ap (λ (e : Entry). amount test (entry_lists e)) is in
     omega (arith, was, a, b, s, own, counted, small)
 
-pub sum_in_word : (test : Who → Bool) (entries : List Entry) (i : ℕ) (entry : Entry) (sum n : ℕ)
+pub sum_in_word : (test : Who → Bool) (entries : List Entry) (i : ℕ) {entry : Entry} {sum n : ℕ}
     → sum ≡ sum_by (amount test) (rows_of (take i entries)) → i < length entries
     → entry ≡ get_or entries i entry → n ≡ count_by test entry.providers.0
     → sum_by (amount test) (rows_of entries) < 2 ^ 32 → Fits w64 (sum + n)
-sum_in_word test entries i entry sum n was h is counted small =
+sum_in_word test entries i {entry} {sum} {n} was h is counted small =
     let fits = sum_fits test entries i entry sum n (2 ^ 32) was h is counted small in
     omega (arith, fits)
 

@@ -12,7 +12,7 @@ use std::alloc::Global;
 use std::cmp::Ordering;
 
 /// A class of resources, lent. Its order is that of `Class`.
-#[derive(Clone, Copy, Debug)]
+#[derive(Clone, Copy)]
 pub enum BorrowedClass<'a> {
     /// The one resource of this text.
     Exact(&'a str),

@@ -20,7 +20,7 @@ use std::alloc::Global;
 use std::cmp::Ordering;
 
 /// A class that settings tell apart, and where its list stands.
-#[derive(Debug, Drop)]
+#[derive(Drop)]
 pub struct ClassPlace {
     /// The class.
     pub class: Class,

@@ -20,7 +20,7 @@ use std::marker::Model;
 
 /// The classes of resources that some settings tell apart. Contracts see it as the list of its
 /// classes.
-#[derive(Debug, Drop)]
+#[derive(Drop)]
 pub struct ClassTable {
     /// None before the first settings, so that a new table takes no memory.
     classes: Vec<Class>,

@@ -9,7 +9,7 @@ use crate::borrowed_class::BorrowedClass;
 use kr_base::Text;
 
 /// Which resources an entry speaks of.
-#[derive(Debug, Drop, PartialEq, Eq)]
+#[derive(Drop)]
 pub enum Pattern {
     /// The resource of this text.
     Exact(Text),

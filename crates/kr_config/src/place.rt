@@ -13,7 +13,7 @@ pub struct ConfigPlace {
 }
 
 /// How many patterns, keys and plugins the entries so far have.
-#[derive(Clone, Copy, Debug)]
+#[derive(Clone, Copy)]
 pub struct Counts {
     /// Their patterns.
     pub patterns: usize,

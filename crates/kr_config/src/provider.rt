@@ -19,7 +19,7 @@ use serde_json::Value;
 use std::alloc::Global;
 
 /// The cipher of a provider of keys.
-#[derive(Clone, Copy, Debug)]
+#[derive(Clone, Copy)]
 pub enum Cipher {
     /// AES-CBC, of `aescbc`.
     Cbc,

@@ -88,7 +88,7 @@ pub enum ConfigNo {
 }
 
 /// Why a configuration wasn't read.
-#[derive(Clone, Copy, Debug, PartialEq, Eq)]
+#[derive(Clone, Copy)]
 pub enum ConfigErr {
     /// It breaks the rules.
     No(ConfigNo),

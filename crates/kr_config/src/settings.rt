@@ -16,7 +16,7 @@ use kr_base::{List, NoMemory};
 use std::alloc::Global;
 
 /// An entry of a configuration: its patterns, and the providers of the resources that they match.
-#[derive(Debug, Drop)]
+#[derive(Drop)]
 pub struct Entry {
     /// Which resources it speaks of, in the order of the file.
     pub patterns: List<Pattern>,
@@ -27,7 +27,7 @@ pub struct Entry {
 /// A configuration that keeps the rules: no list is empty; names, patterns and secrets are of their
 /// form; the patterns of a list stand apart; no list has two providers of one prefix; and no limit
 /// is passed.
-#[derive(Debug, Drop)]
+#[derive(Drop)]
 pub struct Settings {
     /// The entries in the order of the file.
     pub entries: List<Entry>,

@@ -47,6 +47,15 @@ cut_asking old new question before front rose is = record {
   broken = is;
 }
 
+-- the same of an answer that hands on why it wasn't written
+pub not_asked : {T E : Type 0} (result : Result T E) (old new : ExchangeEnds) (question : List ℕ)
+    → old.broken ≡ false → AppendsFront old.written new.written question
+    → Rose old.write_faults new.write_faults → new.broken ≡ true
+    → OnErr result (IsCutOff old new question)
+not_asked (Ok x) old new question before front rose is = tt
+not_asked (Err why) old new question before front rose is =
+    cut_asking old new question before front rose is
+
 pub cut_reading : (old new : ExchangeEnds) (question : List ℕ) (room : ℕ) → old.broken ≡ false
     → Appends old.written new.written question → room ≡ 131073
     → Rose old.read_faults new.read_faults ⊎ TakesNoLine room old.left new.left
@@ -147,3 +156,12 @@ unusable reply usable old new asked request found answer ((line, asks, is), _) s
 -- a failure that counts behind a call that counted none
 pub counts_behind : (old mid new : ℕ) → mid ≡ old → new ≡ next_number mid → new ≡ next_number old
 counts_behind old mid new same rises = rises ∙ ap next_number same
+
+-- what was asked once stands behind a call that keeps the ends
+pub answered_as : {T : Type 0} (reply : T → Reply) (usable : T → Type 0)
+    (old mid new : ExchangeEnds) (asked : Asked) (request : Request) (result other : Result T KmsNo)
+    → AnswersRequest reply usable old mid asked request other → new ≡ mid → other ≡ result
+    → AnswersRequest reply usable old new asked request result
+answered_as reply usable old mid new asked request result other h same is =
+    subst (λ e. AnswersRequest reply usable old e asked request result) (sym same)
+    (subst (AnswersRequest reply usable old mid asked request) is h)

@@ -115,12 +115,9 @@ impl ChildLink {
     pub fn close(self) -> u64
         ensures { result ≡ self.lines.faults }
     {
-        let ChildLink {
-            name: _name,
-            child,
-            lines,
-        } = self;
+        let ChildLink { name, child, lines } = self;
         let faults = lines.faults();
+        drop(name);
         drop(lines);
         end(child);
         faults

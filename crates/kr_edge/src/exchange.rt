@@ -40,7 +40,7 @@ impl<W: Write, R: Read> Exchange<W, R> {
     /// Asks a line, reads the answer to it, and tells how many bytes it has without its LF. One of
     /// more than 131,072 bytes, one without LF, bytes behind it, and a write that takes nothing are
     /// faults. What is broken asks nothing.
-    #[tactic(auto, using(crate::proofs::Asking::cut_before, crate::proofs::Asking::cut_asking, crate::proofs::Asking::cut_reading, crate::proofs::Asking::exchanged))]
+    #[tactic(auto, using(crate::proofs::Asking::exchanged))]
     pub fn ask(&mut self, question: &[u8]) -> Result<usize, Failed>
         ensures size { IfOk result (λ size. size ≤ 131072) }
         ensures broken { self.old.broken ≡ true → IsErr result × (self.new ≡ self.old) }

@@ -13,7 +13,7 @@ use std::io::{self, ErrorKind};
 use std::os::unix::fs::FileExt;
 
 /// Why a read or a write of a file did nothing, or may not have done all.
-#[derive(Clone, Copy, Debug, PartialEq, Eq)]
+#[derive(Clone, Copy)]
 pub enum PlacedNo {
     /// It was interrupted before it did anything.
     Interrupted,

@@ -54,7 +54,6 @@ impl<W: Write, R: Read> PluginLines<W, R> {
     }
 
     /// Asks for the status.
-    #[tactic(auto, using(crate::proofs::Asking::passes_on, crate::proofs::Asking::other_kind, crate::proofs::Asking::counts_behind))]
     pub fn status(&mut self, alloc: Global) -> Result<Status, KmsNo>
         ensures later { self.old.faults ≤ self.new.faults }
         ensures failed { IsErrOf result KmsNo.Failed → Rose self.old.faults self.new.faults }
@@ -80,7 +79,6 @@ impl<W: Write, R: Read> PluginLines<W, R> {
 
     /// Wraps plain bytes. Requests to wrap and to unwrap are numbered from 1 up to the greatest
     /// number.
-    #[tactic(auto, using(crate::proofs::Asking::passes_on, crate::proofs::Asking::other_kind, crate::proofs::Asking::counts_behind))]
     pub fn wrap(&mut self, alloc: Global, plain: &[u8]) -> Result<Wrapped, KmsNo>
         ensures later { self.old.faults ≤ self.new.faults }
         ensures failed { IsErrOf result KmsNo.Failed → Rose self.old.faults self.new.faults }
@@ -121,7 +119,6 @@ impl<W: Write, R: Read> PluginLines<W, R> {
     }
 
     /// Unwraps what was wrapped under its key id with its annotations.
-    #[tactic(auto, using(crate::proofs::Asking::passes_on, crate::proofs::Asking::other_kind, crate::proofs::Asking::counts_behind))]
     pub fn unwrap_source(&mut self, alloc: Global, wrapped: &WrappedRef<'_>) -> Result<Bytes, KmsNo>
         ensures later { self.old.faults ≤ self.new.faults }
         ensures failed { IsErrOf result KmsNo.Failed → Rose self.old.faults self.new.faults }

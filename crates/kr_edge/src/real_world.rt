@@ -351,13 +351,21 @@ where
         };
         let child = match start(&mut self.system, alloc, program) {
             Ok(child) => child,
-            Err(ProcessStartNo::NoMemory) => return Err(FileNo::NoMemory),
+            Err(ProcessStartNo::NoMemory) => {
+                drop(key);
+                drop((name, room));
+                return Err(FileNo::NoMemory);
+            }
             Err(ProcessStartNo::Failed) => {
+                drop(key);
+                drop((name, room));
                 self.faults.links.rise();
                 return Err(FileNo::Failed);
             }
         };
         let Some(ends) = take_ends(child) else {
+            drop(key);
+            drop((name, room));
             self.faults.links.rise();
             return Err(FileNo::Failed);
         };
@@ -404,10 +412,8 @@ where
         if at >= SEATS {
             unreachable!();
         }
-        let DeviceDice {
-            device: _device,
-            faults,
-        } = dice;
+        let DeviceDice { device, faults } = dice;
+        drop(device);
         self.dice_out[at] -= 1;
         self.dice_faults[at] = faults.count();
     }

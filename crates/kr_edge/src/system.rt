@@ -11,7 +11,7 @@ use std::fs::OpenOptions;
 use std::process::{Child, Command, SystemProcess};
 
 /// Why a file wasn't opened.
-#[derive(Clone, Copy, Debug, PartialEq, Eq)]
+#[derive(Clone, Copy)]
 pub enum OpenNo {
     /// There is no file of that name.
     Absent,
@@ -20,7 +20,7 @@ pub enum OpenNo {
 }
 
 /// Why a program wasn't started.
-#[derive(Clone, Copy, Debug, PartialEq, Eq)]
+#[derive(Clone, Copy)]
 pub enum ProcessStartNo {
     /// It failed.
     Failed,
@@ -29,7 +29,7 @@ pub enum ProcessStartNo {
 }
 
 /// What a stream of a program is.
-#[derive(Clone, Copy, Debug, PartialEq, Eq)]
+#[derive(Clone, Copy)]
 pub enum ChildStream {
     /// A pipe, whose other end this process has.
     Piped,
@@ -38,7 +38,7 @@ pub enum ChildStream {
 }
 
 /// What the streams of a program are.
-#[derive(Clone, Copy, Debug, PartialEq, Eq)]
+#[derive(Clone, Copy)]
 pub struct ChildStreams {
     /// What it reads.
     pub input: ChildStream,
@@ -49,7 +49,7 @@ pub struct ChildStreams {
 }
 
 /// What a name leads to, or what an open file is.
-#[derive(Clone, Copy, Debug, PartialEq, Eq)]
+#[derive(Clone, Copy)]
 pub enum Found {
     /// Nothing.
     Absent,

@@ -54,10 +54,11 @@ impl<F: PlacedFile> FileTape<F> {
         ensures { result ≡ self.faults }
     {
         let FileTape {
-            file: _file,
+            file,
             access: _access,
             faults,
         } = self;
+        drop(file);
         faults.count()
     }
 }

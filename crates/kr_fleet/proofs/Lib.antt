@@ -5,7 +5,7 @@ pub mod Allowed
 pub mod Asked
 pub mod Bare
 pub mod Beginning
-pub mod Bringing
+pub mod LoadAnswers
 pub mod Closing
 pub mod Finding
 pub mod Putting

@@ -33,7 +33,7 @@ use Rattle.kr_fleet.specs.LoadCalls.{IsKeyChanged, Refreshes, plugin_names, relo
 use Rattle.kr_fleet.specs.inner.Stages.{ComparesKeys, SharesPublished, load_done}
 use Rattle.kr_provider.proofs.AskedLists.{asked_then}
 use Rattle.kr_fleet.proofs.Asked.{asked_among}
-use Rattle.kr_fleet.proofs.Bringing.{not_shared, reload_cut}
+use Rattle.kr_fleet.proofs.LoadAnswers.{not_shared, reload_cut}
 use Rattle.kr_history.proofs.Nexts.{front_own, legal_now}
 
 -- ---- the generation that is held

@@ -1,5 +1,5 @@
--- A rewrite reads row by row: what each reading keeps of the exchanges that are still to come and of
--- the seeds that are kept, the whole keeps.
+-- A rewrite reads row by row: what each reading keeps of the exchanges that are still to come and
+-- of the seeds that are kept, the whole keeps.
 use Rattle.std.specs.Prelude.{⊤}
 use Rattle.std.proofs.Common.{◌≡◌, ℕ, List, [], ◌∷◌, Option, Result, Ok, Err, inl, inr}
 use Rattle.kr_kms.specs.Cache.{CacheState}

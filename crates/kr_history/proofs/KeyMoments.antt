@@ -1,5 +1,5 @@
 -- What happens to the keys of a bench, call after call.
-use Rattle.std.proofs.Common.{◌≡◌, ℕ, Bool, true, false, ◌||◌, List, [], ◌∷◌, ◌++◌, drop, length, Option, None, Some, Result, refl, sym, ap, subst, ◌∙◌, inl, inr, append-nil}
+use Rattle.std.proofs.Common.{◌≡◌, ℕ, Bool, true, false, ◌||◌, List, [], ◌∷◌, ◌++◌, drop, length, Option, None, Some, Result, Err, refl, sym, ap, subst, ◌∙◌, inl, inr, append-nil}
 use Rattle.std.proofs.lemmas.List.{append_assoc, drop_at}
 use Rattle.kr_base.specs.Walks.{Walk}
 use Rattle.kr_base.proofs.Walks.{walk_then}
@@ -20,7 +20,7 @@ use Rattle.kr_history.specs.Acting.{Caller, AddsEntry}
 use Rattle.kr_history.specs.CallerLaws.{LeavesHolding}
 use Rattle.kr_history.specs.Calls.{AdoptsNothing, LetsGo}
 use Rattle.kr_history.specs.KeyMoments.{Happens, KeysAtEachMoment, LaysDown, Moment, Said, TakesUp, added, adopts_in, call_moments, has_adopted, is_adoption, laid_down, moments_at, moments_of, taken_up}
-use Rattle.kr_history.specs.TakingUp.{HasTakenUp}
+use Rattle.kr_history.specs.TakingUp.{HasTakenUp, TakesUpCurrent}
 use Rattle.kr_history.specs.declared.call.CallNo.{CallNo}
 use Rattle.kr_history.proofs.Following.{released_law, stays_law}
 use Rattle.kr_history.proofs.NothingAdopted.{nothing_adopted}
@@ -156,11 +156,20 @@ pub in_turn_same : (c : Caller) (keys : Adoption) → holding c.mine ≡ None
 in_turn_same c keys idle = in_turn_quiet c c keys idle (quiet_none c c refl)
 
 -- nothing was adopted
-pub in_turn_early : (replica : ℕ) (old new : Caller) (why : CallNo) (keys : Adoption)
+in_turn_early : (replica : ℕ) (old new : Caller) (why : CallNo) (keys : Adoption)
     → holding old.mine ≡ None → AdoptsNothing replica old why new → TakesInTurn old keys new keys
 in_turn_early replica old new why keys idle a = in_turn_quiet old new keys idle
     (nothing_adopted replica old new (AddsQuietly old new) (quiet_none old new)
     (λ given stays e. quiet_one old new (event.Adopt replica) given stays e) why a)
+
+-- nothing was taken up
+pub untaken_turn : {L D : Type 0} (replica : ℕ) {old new : Caller} (why : CallNo)
+    {before after : BenchState L D} → holding old.mine ≡ None
+    → TakesUpCurrent replica old before (Err why) new after
+    → TakesInTurn old (adoption_of before) new (adoption_of after)
+untaken_turn {L} {D} replica {old} {new} why {before} {after} idle (nothing, same) =
+    subst (λ b. TakesInTurn old (adoption_of before) new (adoption_of b)) (sym same)
+    (in_turn_early replica old new why (adoption_of before) idle nothing)
 
 -- the bench was given a configuration
 pub adopts_published : {L D : Type 0} (p : Publication) (old new : BenchState L D)

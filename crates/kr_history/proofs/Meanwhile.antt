@@ -1,12 +1,13 @@
 -- A call that holds a generation meanwhile, by its stages.
-use Rattle.std.proofs.Common.{◌≡◌, ℕ, Option, None, Some, Result, ap, subst, sym}
-use Rattle.std.specs.Prelude.{IfSome}
+use Rattle.std.proofs.Common.{◌≡◌, ℕ, Option, None, Some, Result, ap, refl, subst, sym, ◌∙◌}
+use Rattle.std.specs.Prelude.{IfSome, IsSome}
 use Rattle.kr_provider.specs.BenchState.{BenchState}
 use Rattle.kr_provider.specs.Publication.{Publication}
 use Rattle.kr_rollout.specs.declared.answer.Answer.TheVariants as answer
 use Rattle.kr_rollout.specs.declared.event.Event.TheVariants as event
 use Rattle.kr_history.specs.Acting.{Caller, AddsEntry}
-use Rattle.kr_history.specs.Calls.{HoldsMeanwhile, LetsGo}
+use Rattle.kr_rollout.specs.Callers.{holding}
+use Rattle.kr_history.specs.Calls.{HoldsAdopted, HoldsMeanwhile, LetsGo}
 use Rattle.kr_history.specs.TakingUp.{HasTakenUp}
 use Rattle.kr_history.specs.declared.call.CallNo.{CallNo}
 
@@ -31,6 +32,21 @@ held_meanwhile Does replica held old adopted acted new done result a d g = recor
 
 module _ {L D : Type 0} {replica : ℕ} {old adopted : Caller} {before taken : BenchState L D}
     (t : HasTakenUp replica old before adopted taken) where
+  -- the seat holds a generation of the configuration that the bench has
+  pub holds_adopted : HoldsAdopted taken.published adopted.mine
+  holds_adopted = record {
+    number = t.number;
+    p = t.p;
+    adopted = ap (λ (b : BenchState L D). b.published) t.kept;
+    held = t.holds;
+  }
+
+  -- and still does where what it holds has stayed
+  pub still_holds : (later : Caller) → holding later.mine ≡ holding adopted.mine
+      → IsSome (holding later.mine)
+  still_holds later same =
+      subst (λ (o : Option (ℕ × Publication)). IsSome o) (sym (same ∙ t.holds)) refl
+
   -- what is so by the configuration that the bench has is so by the one that was taken up
   pub of_taken : (P : Publication → Type 0) → IfSome taken.published P → P t.p
   of_taken P so = subst (λ (o : Option Publication). IfSome o P)

@@ -97,7 +97,10 @@ pub fn put<A: Acts>(
         Ok(Answer::StoreFailed) => Err(CallNo::StoreFailed),
         Ok(Answer::StoreFull { needed }) => Err(CallNo::StoreFull { needed }),
         Ok(Answer::NoMemory) => Err(CallNo::NoMemory),
-        Ok(_) => unreachable!(),
+        Ok(other) => {
+            drop(other);
+            unreachable!()
+        }
         Err(Spent) => Err(CallNo::Spent),
     }
 }
@@ -118,7 +121,10 @@ pub fn delete<A: Acts>(acts: &mut A, path: Text) -> Result<Option<u64>, CallNo>
         Ok(Answer::StoreFailed) => Err(CallNo::StoreFailed),
         Ok(Answer::StoreFull { needed }) => Err(CallNo::StoreFull { needed }),
         Ok(Answer::NoMemory) => Err(CallNo::NoMemory),
-        Ok(_) => unreachable!(),
+        Ok(other) => {
+            drop(other);
+            unreachable!()
+        }
         Err(Spent) => Err(CallNo::Spent),
     }
 }
@@ -152,7 +158,10 @@ pub fn replace<A: Acts>(
         Ok(Answer::StoreFailed) => Err(CallNo::StoreFailed),
         Ok(Answer::StoreFull { needed }) => Err(CallNo::StoreFull { needed }),
         Ok(Answer::NoMemory) => Err(CallNo::NoMemory),
-        Ok(_) => unreachable!(),
+        Ok(other) => {
+            drop(other);
+            unreachable!()
+        }
         Err(Spent) => Err(CallNo::Spent),
     }
 }
@@ -231,7 +240,10 @@ pub fn leave<A: Acts>(acts: &mut A, replica: u32) -> Result<Option<u32>, CallNo>
     match ask(acts, Event::Leave { replica }) {
         Ok(Answer::Departed { generation }) => Ok(Some(generation)),
         Ok(Answer::Gone { replica: _gone }) => Ok(None),
-        Ok(_) => unreachable!(),
+        Ok(other) => {
+            drop(other);
+            unreachable!()
+        }
         Err(Spent) => Err(CallNo::Spent),
     }
 }

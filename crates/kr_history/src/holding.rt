@@ -1,12 +1,10 @@
 //! What calls do that hold a generation meanwhile.
 ghost use Rattle.std.specs.Prelude.{◌≡◌, ◌<◌, ◌≤◌, [], length, None, Some, IfOk, IfErr, IsSome};
-ghost use Rattle.kr_base.specs.Walks.{Walk};
-ghost use Rattle.kr_provider.specs.BenchKeys.{ClearsKeys, LeavesKeys, adoption_of};
+ghost use Rattle.kr_provider.specs.BenchKeys.{ClearsKeys, adoption_of};
 ghost use Rattle.kr_provider.specs.KeyPages.{HoldKeys, adopted_secrets, size_of};
 ghost use Rattle.kr_provider.specs.Names.{HasLinks, names_of};
 ghost use Rattle.kr_rollout.specs.Callers.{holding};
-ghost use Rattle.kr_history.specs.Calls.{Adopts, AreServed, HoldsAdopted, IsIdle, IsIdleAfter, KeepsHonesty, LetsGo};
-ghost use Rattle.kr_history.specs.KeyMoments.{Happens, call_moments, has_adopted};
+ghost use Rattle.kr_history.specs.Calls.{Adopts, AreServed, IsIdle, IsIdleAfter, KeepsHonesty, LetsGo};
 ghost use Rattle.kr_rollout.specs.Openings.{IsAdmitted};
 ghost use Rattle.kr_history.specs.Parts.{AddsWithin};
 ghost use Rattle.kr_history.specs.TakingUp.{TakesUpCurrent};
@@ -58,7 +56,7 @@ fn adopted(answer: Answer) -> Result<(u32, Shared<Published>), CallNo>
 
 /// Gives the bench an adopted configuration, in place of the one that it had. 64 pages are enough
 /// for each, so it takes no memory and is never refused.
-pub fn adopt_configuration<L: Kms, D: Dice>(bench: &mut Bench<L, D>, published: Shared<Published>)
+fn adopt_configuration<L: Kms, D: Dice>(bench: &mut Bench<L, D>, published: Shared<Published>)
     requires links { HasLinks (names_of L.link bench.old.links) published.rows }
     requires pages { 64 ≤ size_of bench.old.pages }
     ensures taken { bench.new
@@ -85,16 +83,9 @@ pub fn take_up<A: Acts, L: Kms, D: Dice>(
     requires pages { 64 ≤ size_of bench.old.pages }
     ensures takes_up { TakesUpCurrent replica (A.caller acts.old) bench.old result
         (A.caller acts.new) bench.new }
-    ensures held { IfOk result
-        (λ done. HoldsAdopted bench.new.published (A.caller acts.new).mine) }
-    ensures holds { IfOk result (λ done. IsSome (holding (A.caller acts.new).mine)) }
     ensures adds { AddsWithin 1 0 [] (A.caller acts.old) (A.caller acts.new) }
     ensures honest { KeepsHonesty (A.caller acts.old) (A.caller acts.new) }
     ensures idle { IfErr result (λ why. IsIdleAfter why (A.caller acts.new)) }
-    ensures keys { IfErr result (λ why. LeavesKeys (has_adopted (A.caller acts.old)
-        (A.caller acts.new)) (adoption_of bench.old) (adoption_of bench.new)) }
-    ensures moments { IfErr result (λ why. Walk Happens (adoption_of bench.old)
-        (call_moments (A.caller acts.old) (A.caller acts.new)) (adoption_of bench.new)) }
     ensures place { A.place acts.new ≡ A.place acts.old }
 {
     let held = match adopt(acts, replica) {

@@ -24,7 +24,7 @@ mod solo;
 pub use acts::Acts;
 pub use asking::{delete, fetch, join, leave, look_above, put, reload, replace};
 pub use call::CallNo;
-pub use holding::{adopt, adopt_configuration, hand_back, let_go, take_up};
+pub use holding::{adopt, hand_back, let_go, take_up};
 pub use laws_caller::{found_follows, holding_follows};
 pub use laws_calls::{
     budget_follows, caller_follows, found_is_known, held_is_known, honesty_follows,

@@ -6,7 +6,7 @@ use Rattle.std.proofs.lemmas.Bool.Decides.{Decides-eqb}
 use Rattle.std.proofs.lemmas.List.{length-append}
 use Rattle.std.proofs.lemmas.List.Elements.{filter-append}
 use Rattle.kr_config.specs.Kept.{ConfigEntry}
-use Rattle.kr_judge.specs.Boards.{GenerationState, left_by, without_current, is_replica_current, held_more, held_less, changed_at, HasOneCurrent}
+use Rattle.kr_judge.specs.Boards.{GenerationState, left_by, without_current, added_generation, given_to, is_replica_current, held_more, held_less, changed_at, HasOneCurrent}
 
 abbrev currents : ℕ → List GenerationState → ℕ
 currents replica generations = length (filter (is_replica_current replica) generations)
@@ -63,10 +63,10 @@ still_one replica generations new current own one other less = by (new.replica =
     by false e = omega (arith, with_new replica generations new other false (is ∙ e), fewer other replica generations, less)
 
 pub one_added : (replica : ℕ) (generations all : List GenerationState) (rows : List ConfigEntry) → HasOneCurrent generations
-    → all ≡ without_current replica generations ++ record { replica = replica; rows = rows; current = true; holders = 0 } ∷ [] → HasOneCurrent all
+    → all ≡ given_to replica rows generations → HasOneCurrent all
 unfolding HasOneCurrent
 one_added replica generations all rows one is = subst HasOneCurrent (sym is)
-    (λ other. still_one replica generations (record { replica = replica; rows = rows; current = true; holders = 0 }) refl refl (one replica) other (one other))
+    (λ other. still_one replica generations (added_generation replica rows) refl refl (one replica) other (one other))
 
 same_end : (u v : Bool) (x y : GenerationState) (xs ys : List GenerationState) → u ≡ v → length xs ≡ length ys → length (cond u (x ∷ xs) xs) ≡ length (cond v (y ∷ ys) ys)
 same_end true true x y xs ys e h = omega (arith, h)

@@ -14,9 +14,9 @@ use Rattle.kr_config.specs.Lists.{list_of, class_list}
 use Rattle.kr_config.proofs.Narrowing.{each_class_narrows}
 use Rattle.kr_judge.specs.declared.need.Need.{Need}
 use Rattle.kr_judge.specs.declared.verdict.Verdict.TheVariants.{Pass}
-use Rattle.kr_judge.specs.Boards.{GenerationState, is_live, left_by, without_current}
+use Rattle.kr_judge.specs.Boards.{GenerationState, is_live, left_by, without_current, added_generation, given_to}
 use Rattle.kr_judge.specs.Fits.{ReadsWriter, FitsBoard}
-use Rattle.kr_judge.specs.Lacks.{LacksStored, LacksWriter, LacksProvider, IsNeeded, IsLiveIn, IsLiveBeside, given_to}
+use Rattle.kr_judge.specs.Lacks.{LacksStored, LacksWriter, LacksProvider, IsNeeded, IsLiveIn, IsLiveBeside}
 use Rattle.kr_judge.specs.LackLaws.{RefusesExactly, PassesWhereAllFit}
 use Rattle.kr_judge.specs.LiveFits.{AreFit}
 use Rattle.kr_judge.specs.Providers.{has, unread_writer}
@@ -373,7 +373,7 @@ reads_own (own ∷ list) who e = head_is own who list (same_Some own who e)
 -- what is live once the replica has the settings: these, and what is live beside them
 module _ (generations : List GenerationState) (replica : ℕ) (rows : List ConfigEntry) where
   abbrev new_one : GenerationState
-  new_one = record { replica = replica; rows = rows; current = true; holders = 0 }
+  new_one = added_generation replica rows
 
   pub new_lives : IsLiveIn (given_to replica rows generations) rows
   new_lives = (

@@ -1,5 +1,5 @@
 -- The state of a board: the generations of settings, the needs of what is stored, and a proposal.
-use Rattle.std.specs.Prelude.{ℕ, zero, suc, ◌<◌, ◌≤◌, ◌+◌, ◌^◌, ◌-◌, ◌==◌, ◌&&◌, ◌||◌, nat_lt, not, Bool, true, false, IsTrue, if◌then◌else◌, List, [], ◌∷◌, length, Option, None, Some, map}
+use Rattle.std.specs.Prelude.{ℕ, zero, suc, ◌<◌, ◌≤◌, ◌+◌, ◌^◌, ◌-◌, ◌==◌, ◌&&◌, ◌||◌, nat_lt, not, Bool, true, false, IsTrue, if◌then◌else◌, List, [], ◌∷◌, ◌++◌, length, Option, None, Some, map}
 use Rattle.std.specs.List.{slice_get, filter, find}
 use Rattle.std.specs.List.Sorted.{IsStrictlySortedBy}
 use Rattle.std.specs.Option.{IsSomeAnd}
@@ -35,6 +35,17 @@ left_by replica generation =
 
 abbrev pub without_current : ℕ → List GenerationState → List GenerationState
 without_current replica generations = map (left_by replica) generations
+
+-- the generation that settings begin as: the replica's current one, which nothing holds
+abbrev pub added_generation : (replica : ℕ) → List ConfigEntry → GenerationState
+added_generation replica rows =
+    record { replica = replica; rows = rows; current = true; holders = 0 }
+
+-- the replica has the settings as its current ones
+abbrev pub given_to : (replica : ℕ) → List ConfigEntry → List GenerationState
+    → List GenerationState
+given_to replica rows generations =
+    without_current replica generations ++ added_generation replica rows ∷ []
 
 -- it is the replica's current one
 abbrev pub is_replica_current : ℕ → GenerationState → Bool

@@ -3,8 +3,8 @@ use Rattle.std.specs.Prelude.{◌≡◌, ◌≢◌, ◌↔◌, ℕ, List}
 use Rattle.kr_config.specs.Kept.{ConfigEntry}
 use Rattle.kr_judge.specs.declared.need.Need.{Need}
 use Rattle.kr_judge.specs.declared.verdict.Verdict.TheVariants.{Pass}
-use Rattle.kr_judge.specs.Boards.{GenerationState}
-use Rattle.kr_judge.specs.Lacks.{LacksProvider, IsNeeded, IsLiveIn, IsLiveBeside, given_to}
+use Rattle.kr_judge.specs.Boards.{GenerationState, given_to}
+use Rattle.kr_judge.specs.Lacks.{LacksProvider, IsNeeded, IsLiveIn, IsLiveBeside}
 use Rattle.kr_judge.specs.LiveFits.{AreFit}
 use Rattle.kr_judge.specs.Verdicts.{verdict_of}
 

@@ -1,5 +1,5 @@
 -- Who would lack a provider once a replica had new settings.
-use Rattle.std.specs.Prelude.{◌≡◌, ℕ, ◌⊎◌, true, IsTrue, List, [], ◌∷◌, ◌++◌, Contains, Some}
+use Rattle.std.specs.Prelude.{◌≡◌, ℕ, ◌⊎◌, IsTrue, List, Contains, Some}
 use Rattle.kr_config.specs.declared.class.Class.{Class}
 use Rattle.kr_config.specs.declared.who.Who.{Who}
 use Rattle.kr_config.specs.Kept.{ConfigEntry}
@@ -47,8 +47,3 @@ IsLiveIn generations rows = (own : GenerationState) × Contains generations own
 -- the same, once the replica's current generation is no longer current
 abbrev pub IsLiveBeside : (replica : ℕ) → List GenerationState → List ConfigEntry → Type 0
 IsLiveBeside replica generations rows = IsLiveIn (without_current replica generations) rows
-
--- the replica has the settings as its current ones
-abbrev pub given_to : ℕ → List ConfigEntry → List GenerationState → List GenerationState
-given_to replica rows generations = without_current replica generations
-    ++ record { replica = replica; rows = rows; current = true; holders = 0 } ∷ []

@@ -1,8 +1,8 @@
 //! The board: what a verdict on new settings stands on.
-ghost use Rattle.std.specs.Prelude.{◌≡◌, ◌<◌, ◌≤◌, ◌+◌, ◌^◌, [], ◌∷◌, ◌++◌, length, true, IsTrue, None, Some, IsSome, IfSome, IfNone, IfOk, OnOk, OnErr, MatchResult, ◌≢◌};
+ghost use Rattle.std.specs.Prelude.{◌≡◌, ◌<◌, ◌≤◌, [], length, true, IsTrue, None, Some, IsSome, IfSome, IfNone, IfOk, OnOk, OnErr, MatchResult, ◌≢◌};
 ghost use Rattle.std.specs.List.{list_any};
 ghost use Rattle.kr_config.specs.Kept.{rows_of};
-ghost use Rattle.kr_judge.specs.Boards.{without_current, is_replica_current, held_more, held_less, changed_at, MayHold, IsHeld, HasOneCurrent, AreByPath, set_need, drop_need, settle_need};
+ghost use Rattle.kr_judge.specs.Boards.{without_current, given_to, is_replica_current, held_more, held_less, changed_at, MayHold, IsHeld, HasOneCurrent, AreByPath, set_need, drop_need, settle_need};
 ghost use Rattle.kr_judge.specs.Scans.{live_numbers, paths_with};
 ghost use Rattle.kr_judge.specs.Verdicts.{verdict};
 ghost use Rattle.kr_judge.specs.declared.verdict.Verdict.TheVariants.{Pass};
@@ -107,13 +107,7 @@ impl Board {
         requires { length self.old.generations < self.old.room }
         ensures number { result ≡ length self.old.generations }
         ensures added { self.new ≡ record self.old {
-          generations = without_current replica self.old.generations
-              ++ record {
-                replica = replica;
-                rows = rows_of settings.entries.0;
-                current = true;
-                holders = 0;
-              } ∷ [];
+          generations = given_to replica (rows_of settings.entries.0) self.old.generations;
         } }
     {
         self.generations.add(replica, settings)

@@ -2,9 +2,8 @@
 ghost use Rattle.std.specs.Prelude.{◌≡◌, ◌<◌, ◌≤◌, [], length, IfOk, Some};
 ghost use Rattle.std.specs.List.{slice_get};
 ghost use Rattle.kr_config.specs.Kept.{rows_of};
-ghost use Rattle.kr_judge.specs.Boards.{HasOneCurrent, without_current, held_more, held_less, changed_at, MayHold, IsHeld};
+ghost use Rattle.kr_judge.specs.Boards.{HasOneCurrent, without_current, given_to, held_more, held_less, changed_at, MayHold, IsHeld};
 ghost use Rattle.kr_judge.specs.Scans.{live_numbers};
-ghost use Rattle.kr_judge.specs.inner.Lives.{with_added};
 ghost use Rattle.kr_judge.specs.inner.Views.{generation_of};
 
 use crate::generation::JudgedGeneration;
@@ -88,7 +87,9 @@ impl GenerationList {
     pub fn add(&mut self, replica: u32, settings: Shared<Settings>) -> u32
         requires { length self.old.generations < self.old.room }
         ensures number { result ≡ length self.old.generations }
-        ensures added { self.new ≡ with_added self.old replica (rows_of settings.entries.0) }
+        ensures added { self.new ≡ record self.old {
+          generations = given_to replica (rows_of settings.entries.0) self.old.generations;
+        } }
     {
         let number = self.all.len() as u32;
         holding::leave(&mut self.all, &mut self.live, replica);

@@ -3,7 +3,7 @@ ghost use Rattle.std.specs.Prelude.{◌≡◌, ◌<◌, ◌≤◌, ◌+◌, ◌^
 ghost use Rattle.std.specs.List.{filter, slice_get};
 ghost use Rattle.std.specs.Option.{IsSomeAnd};
 ghost use Rattle.kr_config.specs.Kept.{rows_of};
-ghost use Rattle.kr_judge.specs.Boards.{HasOneCurrent, is_live, without_current, is_replica_current, held_more, held_less, changed_at, MayHold, IsHeld};
+ghost use Rattle.kr_judge.specs.Boards.{HasOneCurrent, is_live, without_current, added_generation, is_replica_current, held_more, held_less, changed_at, MayHold, IsHeld};
 ghost use Rattle.kr_judge.specs.inner.Lives.{uncurrent};
 ghost use Rattle.kr_judge.specs.Scans.{live_numbers};
 ghost use Rattle.kr_judge.specs.inner.Views.{generations_of};
@@ -25,12 +25,7 @@ pub fn add(
     requires room { vec_len generations.old < vec_capacity generations.old }
     requires live_room { vec_len live.old < vec_capacity live.old }
     ensures added { generations_of generations.new.items ≡ generations_of generations.old.items
-        ++ record {
-          replica = replica;
-          rows = rows_of settings.entries.0;
-          current = true;
-          holders = 0;
-        } ∷ [] }
+        ++ added_generation replica (rows_of settings.entries.0) ∷ [] }
     ensures live { live.new.items ≡ live_numbers (generations_of generations.new.items) }
     ensures length { vec_len generations.new ≡ vec_len generations.old + 1 }
     ensures live_length { vec_len live.new ≡ vec_len live.old + 1 }

@@ -39,7 +39,10 @@ fn shared_provider(pairs: &[Pair], alloc: Global, who: &Who) -> Result<Shared<Wh
     }
     match Shared::new(alloc, who.copy(alloc)?) {
         Ok(own) => Ok(own),
-        Err(_) => Err(NoMemory),
+        Err(refused) => {
+            drop(refused);
+            Err(NoMemory)
+        }
     }
 }
 
@@ -59,9 +62,16 @@ pub fn give_place(
     ensures length { vec_len pairs.new ≡ vec_len pairs.old }
 {
     let from = pairs[place].resource.as_str();
-    groups.move_place(alloc, from, pair.resource.as_str(), place)?;
-    pairs[place] = pair;
-    Ok(())
+    match groups.move_place(alloc, from, pair.resource.as_str(), place) {
+        Ok(()) => {
+            pairs[place] = pair;
+            Ok(())
+        }
+        Err(NoMemory) => {
+            drop(pair);
+            Err(NoMemory)
+        }
+    }
 }
 
 /// One pair more, whose place is among those that may be free.
@@ -83,10 +93,28 @@ pub fn add_pair(
     ensures room { vec_len pairs.new ≤ vec_capacity free.new }
 {
     let place = pairs.len();
-    pairs.reserve(1)?;
+    match pairs.reserve(1) {
+        Ok(()) => {}
+        Err(_) => {
+            drop(pair);
+            return Err(NoMemory);
+        }
+    }
     let more = place + 1 - free.len();
-    free.reserve(more)?;
-    groups.add(alloc, pair.resource.as_str(), place)?;
+    match free.reserve(more) {
+        Ok(()) => {}
+        Err(_) => {
+            drop(pair);
+            return Err(NoMemory);
+        }
+    }
+    match groups.add(alloc, pair.resource.as_str(), place) {
+        Ok(()) => {}
+        Err(NoMemory) => {
+            drop(pair);
+            return Err(NoMemory);
+        }
+    }
     pairs.push_reserved(pair);
     free.push_reserved(place);
     Ok(())

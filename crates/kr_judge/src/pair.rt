@@ -32,12 +32,18 @@ impl Pair {
           listed = true;
         }) }
     {
-        Ok(Pair {
-            resource: Text::copy(alloc, resource)?,
-            who,
-            paths: PathSet::new(alloc),
-            listed: true,
-        })
+        match Text::copy(alloc, resource) {
+            Ok(resource) => Ok(Pair {
+                resource,
+                who,
+                paths: PathSet::new(alloc),
+                listed: true,
+            }),
+            Err(NoMemory) => {
+                drop(who);
+                Err(NoMemory)
+            }
+        }
     }
 
     /// Whether it is of this resource and this provider.

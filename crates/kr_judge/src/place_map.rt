@@ -52,7 +52,10 @@ impl PlaceMap {
         ensures there { IsSome (group_at self.old resource) → IsOk result }
     {
         match self.groups.insert(resource.into_string(), places) {
-            Ok(_) => Ok(()),
+            Ok(before) => {
+                drop(before);
+                Ok(())
+            }
             Err(_) => Err(NoMemory),
         }
     }
@@ -61,7 +64,8 @@ impl PlaceMap {
     fn remove(&mut self, resource: &str)
         ensures { IsPutAt resource.now None self.old self.new }
     {
-        let _places = self.groups.remove(resource);
+        let places = self.groups.remove(resource);
+        drop(places);
     }
 
     /// One more place at the resource.
@@ -105,6 +109,7 @@ impl PlaceMap {
     {
         if rest.is_empty() {
             self.remove(resource.as_str());
+            drop((resource, rest));
             return;
         }
         match self.put(resource, rest) {

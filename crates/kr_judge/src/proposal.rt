@@ -37,14 +37,29 @@ pub fn make_proposal(
 {
     let text = path.as_str();
     let kept = path.share()?;
-    let key = kept.share()?;
-    pairs.put_path(place, &kept)?;
+    let key = match kept.share() {
+        Ok(key) => key,
+        Err(NoMemory) => {
+            drop(kept);
+            return Err(NoMemory);
+        }
+    };
+    match pairs.put_path(place, &kept) {
+        Ok(()) => {}
+        Err(NoMemory) => {
+            drop((kept, key));
+            return Err(NoMemory);
+        }
+    }
     match places.get(text) {
-        Some(_own) => Ok(Proposal {
-            path: kept,
-            place,
-            fresh: false,
-        }),
+        Some(_own) => {
+            drop(key);
+            Ok(Proposal {
+                path: kept,
+                place,
+                fresh: false,
+            })
+        }
         None => match places.insert(key, place) {
             Ok(()) => Ok(Proposal {
                 path: kept,
@@ -53,6 +68,7 @@ pub fn make_proposal(
             }),
             Err(NoMemory) => {
                 pairs.take_path(place, text);
+                drop(kept);
                 Err(NoMemory)
             }
         },

@@ -10,7 +10,7 @@ use kr_config::{BorrowedClass, Class, Who, copy_class};
 use std::alloc::Global;
 
 /// Whether a replica may take new settings up, or the first reason why not.
-#[derive(Debug, Drop, PartialEq, Eq)]
+#[derive(Drop)]
 pub enum Verdict {
     /// It may.
     Pass,
@@ -38,10 +38,14 @@ impl Verdict {
     pub(crate) fn drops_stored(alloc: Global, path: &str, who: &Who) -> Result<Verdict, NoMemory>
         ensures { IfOk result (λ verdict. verdict ≡ DropsStored path.now who.now) }
     {
-        Ok(Verdict::DropsStored {
-            path: Text::copy(alloc, path)?,
-            who: who.copy(alloc)?,
-        })
+        let path = Text::copy(alloc, path)?;
+        match who.copy(alloc) {
+            Ok(who) => Ok(Verdict::DropsStored { path, who }),
+            Err(NoMemory) => {
+                drop(path);
+                Err(NoMemory)
+            }
+        }
     }
 
     /// The verdict on a class that one of two settings writes and the other doesn't read, of copies
@@ -57,7 +61,13 @@ impl Verdict {
             ≡ verdict_on_loss writer (generation, lent_class class.entry, who.now)) }
     {
         let class = copy_class(alloc, class)?;
-        let who = who.copy(alloc)?;
+        let who = match who.copy(alloc) {
+            Ok(who) => who,
+            Err(NoMemory) => {
+                drop(class);
+                return Err(NoMemory);
+            }
+        };
         match writer {
             Writer::Other => Ok(Verdict::DropsWriter {
                 generation,

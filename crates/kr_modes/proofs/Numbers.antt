@@ -107,11 +107,8 @@ block_of_number n = sym (polynomial_block-polynomial (to_le_bytes w128 n) (IsBlo
 -- ---- half bytes
 
 turned_bit : (x k : ℕ) → k < 4 → bit_at (turned x) k ≡ bit_at x (3 - k)
-turned_bit x zero lt = omega (arith, bit_at-lt x 0, bit_at-lt x 1, bit_at-lt x 2, bit_at-lt x 3)
-turned_bit x (suc zero) lt = omega (arith, bit_at-lt x 0, bit_at-lt x 1, bit_at-lt x 2, bit_at-lt x 3)
-turned_bit x (suc (suc zero)) lt = omega (arith, bit_at-lt x 0, bit_at-lt x 1, bit_at-lt x 2, bit_at-lt x 3)
-turned_bit x (suc (suc (suc zero))) lt = omega (arith, bit_at-lt x 0, bit_at-lt x 1, bit_at-lt x 2, bit_at-lt x 3)
 turned_bit x (suc (suc (suc (suc k)))) lt = absurd (omega arith)
+turned_bit x other lt = omega (arith, bit_at-lt x 0, bit_at-lt x 1, bit_at-lt x 2, bit_at-lt x 3)
 
 turned-lt : (x : ℕ) → turned x < 16
 turned-lt x = omega (arith, bit_at-lt x 0, bit_at-lt x 1, bit_at-lt x 2, bit_at-lt x 3)

@@ -15,10 +15,9 @@ length-xor (x ∷ xs) (y ∷ ys) = let before = length-xor xs ys in omega arith
 
 pub slice_index-xor : (xs ys : List ℕ) (k : ℕ) → k < length xs → k < length ys → slice_index (xor xs ys) k ≡ bit_xor (slice_index xs k) (slice_index ys k)
 unfolding xor
-slice_index-xor [] ys k hx hy = absurd (omega arith)
-slice_index-xor (x ∷ xs) [] k hx hy = absurd (omega arith)
 slice_index-xor (x ∷ xs) (y ∷ ys) zero hx hy = refl
 slice_index-xor (x ∷ xs) (y ∷ ys) (suc k) hx hy = slice_index-xor xs ys k (omega arith) (omega arith)
+slice_index-xor other ys k hx hy = absurd (omega arith)
 
 pub xor_of_bytes : (zs xs ys : List ℕ) (n : ℕ) → length zs ≡ n → length xs ≡ n → length ys ≡ n
     → ((k : ℕ) → k < n → slice_index zs k ≡ bit_xor (slice_index xs k) (slice_index ys k)) → zs ≡ xor xs ys
@@ -29,9 +28,8 @@ xor_of_bytes zs xs ys n lz lx ly each =
 pub xor-comm : (xs ys : List ℕ) → xor xs ys ≡ xor ys xs
 unfolding xor
 xor-comm [] [] = refl
-xor-comm [] (y ∷ ys) = refl
-xor-comm (x ∷ xs) [] = refl
 xor-comm (x ∷ xs) (y ∷ ys) = λ i. xor_comm x y i ∷ xor-comm xs ys i
+xor-comm other another = refl
 
 pub xor_nothing : (xs : List ℕ) → xor xs [] ≡ []
 unfolding xor
@@ -40,10 +38,8 @@ xor_nothing (x ∷ xs) = refl
 
 pub take-xor : (n : ℕ) (xs ys : List ℕ) → take n (xor xs ys) ≡ xor (take n xs) ys
 unfolding xor
-take-xor zero xs ys = refl
-take-xor (suc n) [] ys = refl
-take-xor (suc n) (x ∷ xs) [] = refl
 take-xor (suc n) (x ∷ xs) (y ∷ ys) = ap (λ (zs : List ℕ). bit_xor x y ∷ zs) (take-xor n xs ys)
+take-xor other xs ys = refl
 
 -- what goes past the second doesn't count
 pub xor_cut : (n : ℕ) (xs ys : List ℕ) → length ys ≤ n → xor xs ys ≡ xor (take n xs) ys

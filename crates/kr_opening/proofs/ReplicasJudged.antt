@@ -8,8 +8,8 @@ use Rattle.std.proofs.lemmas.Option.{none-some, same_Some, slice_get-get_or, sli
 use Rattle.kr_config.specs.declared.who.Who.{Who}
 use Rattle.kr_config.specs.Kept.{ConfigEntry}
 use Rattle.kr_judge.specs.declared.need.Need.{Need}
-use Rattle.kr_judge.specs.Boards.{GenerationState, is_live, left_by}
-use Rattle.kr_judge.specs.Lacks.{LacksProvider, IsNeeded, IsLiveIn, IsLiveBeside, given_to}
+use Rattle.kr_judge.specs.Boards.{GenerationState, is_live, left_by, added_generation, given_to}
+use Rattle.kr_judge.specs.Lacks.{LacksProvider, IsNeeded, IsLiveIn, IsLiveBeside}
 use Rattle.kr_judge.specs.LiveFits.{AreFit}
 use Rattle.kr_judge.proofs.Lacking.{beside_lives, image, lives_then, mapped, new_lives, passes_where_all_fit, refuses_exactly}
 use Rattle.kr_config.proofs.ListParts.{cases, here, there}
@@ -17,9 +17,6 @@ use Rattle.kr_opening.specs.ReplicaLaws.{AreOfAnother, JudgesReplicas}
 use Rattle.kr_opening.specs.Starts.{opening_generations}
 
 -- ---- the replicas' generations
-
-abbrev opened : ℕ → List ConfigEntry → GenerationState
-opened replica rows = record { replica = replica; rows = rows; current = true; holders = 0 }
 
 contained : {X : Type 0} (xs : List X) (i : ℕ) (x : X) → slice_get xs i ≡ Some x → Contains xs x
 contained [] i x e = absurd (none-some x e)
@@ -31,14 +28,14 @@ record IsOpened (k : ℕ) (replicas : List (Option (List ConfigEntry))) (own : G
     : Type 0 where
   place : ℕ
   there_is : slice_get replicas place ≡ Some (Some own.rows)
-  is : opened (k + place) own.rows ≡ own
+  is : added_generation (k + place) own.rows ≡ own
 
 further : (k : ℕ) (first : Option (List ConfigEntry)) (replicas : List (Option (List ConfigEntry)))
     (own : GenerationState) → IsOpened (k + 1) replicas own → IsOpened k (first ∷ replicas) own
 further k first replicas own r = record {
   place = suc r.place;
   there_is = r.there_is;
-  is = ap (λ (n : ℕ). opened n own.rows) (omega arith) ∙ r.is;
+  is = ap (λ (n : ℕ). added_generation n own.rows) (omega arith) ∙ r.is;
 }
 
 is_opened : (k : ℕ) (replicas : List (Option (List ConfigEntry))) (own : GenerationState)
@@ -47,20 +44,20 @@ is_opened k [] own m = absurd (omega (arith, m.1))
 is_opened k (None ∷ replicas) own m =
     further k None replicas own (is_opened (k + 1) replicas own m)
 is_opened k (Some rows ∷ replicas) own m =
-    elim (cases (opened k rows) own (opening_generations (k + 1) replicas) m) [
+    elim (cases (added_generation k rows) own (opening_generations (k + 1) replicas) m) [
       | inl e ↦ (let same : rows ≡ own.rows = ap (λ (x : GenerationState). x.rows) e in
           record {
             place = 0;
             there_is = ap (λ (x : List ConfigEntry). Some (Some x)) same;
-            is = ap (λ (x : List ConfigEntry). opened (k + 0) x) (sym same)
-                ∙ ap (λ (n : ℕ). opened n rows) (omega arith) ∙ e;
+            is = ap (λ (x : List ConfigEntry). added_generation (k + 0) x) (sym same)
+                ∙ ap (λ (n : ℕ). added_generation n rows) (omega arith) ∙ e;
           })
       | inr n ↦ further k (Some rows) replicas own (is_opened (k + 1) replicas own n)
     ]
 
 opened_there : (k i : ℕ) (replicas : List (Option (List ConfigEntry))) (rows : List ConfigEntry)
     → slice_get replicas i ≡ Some (Some rows)
-    → Contains (opening_generations k replicas) (opened (k + i) rows)
+    → Contains (opening_generations k replicas) (added_generation (k + i) rows)
 opened_there k i [] rows e = absurd (none-some (Some rows) e)
 opened_there k zero (None ∷ replicas) rows e = absurd (none_is (same_Some None (Some rows) e))
   where
@@ -68,24 +65,27 @@ opened_there k zero (None ∷ replicas) rows e = absurd (none_is (same_Some None
     none_is e = none-some rows e
 opened_there k zero (Some own ∷ replicas) rows e =
     subst (Contains (opening_generations k (Some own ∷ replicas)))
-    (ap (λ (x : List ConfigEntry). opened k x)
+    (ap (λ (x : List ConfigEntry). added_generation k x)
     (same_Some own rows (same_Some (Some own) (Some rows) e))
-    ∙ ap (λ (n : ℕ). opened n rows) (omega arith))
-    (here (opened k own) (opening_generations (k + 1) replicas))
+    ∙ ap (λ (n : ℕ). added_generation n rows) (omega arith))
+    (here (added_generation k own) (opening_generations (k + 1) replicas))
 opened_there k (suc i) (None ∷ replicas) rows e =
-    subst (λ (n : ℕ). Contains (opening_generations (k + 1) replicas) (opened n rows)) (omega arith)
+    subst (λ (n : ℕ). Contains (opening_generations (k + 1) replicas) (added_generation n rows))
+    (omega arith)
     (opened_there (k + 1) i replicas rows e)
 opened_there k (suc i) (Some own ∷ replicas) rows e =
-    subst (λ (n : ℕ). Contains (opening_generations k (Some own ∷ replicas)) (opened n rows))
+    subst (λ (n : ℕ). Contains (opening_generations k (Some own ∷ replicas))
+    (added_generation n rows))
     (omega arith)
-    (there (opened k own) (opened (k + 1 + i) rows) (opening_generations (k + 1) replicas)
+    (there (added_generation k own) (added_generation (k + 1 + i) rows)
+    (opening_generations (k + 1) replicas)
     (opened_there (k + 1) i replicas rows e))
 
 -- ---- beside a replica's new settings
 
 -- one that has left is its replica's, and one that hasn't is another's
 left_apart : (replica place : ℕ) (rows : List ConfigEntry)
-    → is_live (left_by replica (opened (0 + place) rows)) ≡ true → place ≡ replica → ⊥
+    → is_live (left_by replica (added_generation (0 + place) rows)) ≡ true → place ≡ replica → ⊥
 left_apart replica place rows live same = by ((0 + place) == replica) refl live
   where
     by : (v : Bool) → ((0 + place) == replica) ≡ v → (not v || nat_lt 0 0) ≡ true → ⊥
@@ -109,8 +109,8 @@ module _ (replicas : List (Option (List ConfigEntry))) (replica : ℕ) where
   by_another : (rows : List ConfigEntry) → AreOfAnother replicas replica rows
       → IsLiveBeside replica (opening_generations 0 replicas) rows
   by_another rows (other, apart, is) = (
-    left_by replica (opened (0 + other) rows),
-    image (left_by replica) (opening_generations 0 replicas) (opened (0 + other) rows)
+    left_by replica (added_generation (0 + other) rows),
+    image (left_by replica) (opening_generations 0 replicas) (added_generation (0 + other) rows)
         (opened_there 0 other replicas rows is),
     ap (λ v. not v || nat_lt 0 0)
         (ne_eqb (0 + other) replica (λ e. apart (omega (arith, e)))),

@@ -179,7 +179,3 @@ pub made_all : (rs : List (Option Publication)) (generations kept later : List G
     → AreMade rs generations i → length rs ≤ i → kept ≡ generations → later ≡ kept
     → later ≡ generations_from 0 rs
 made_all rs generations kept later i a l e f = f ∙ e ∙ a.is ∙ ap (generations_from 0) (take_all i rs l)
-
-pub made_end : (rs : List (Option Publication)) (generations : List Generation) (i : ℕ)
-    → AreMade rs generations i → length rs ≤ i → generations ≡ generations_from 0 rs
-made_end rs generations i a l = a.is ∙ ap (generations_from 0) (take_all i rs l)

@@ -12,7 +12,7 @@ use Rattle.kr_config.specs.Kept.{ConfigEntry, rows_of}
 use Rattle.kr_config.specs.Lists.{list_of, class_list}
 use Rattle.kr_judge.specs.Fits.{ReadsWriter}
 use Rattle.kr_judge.specs.declared.need.Need.{Need}
-use Rattle.kr_judge.specs.Boards.{GenerationState, BoardState, left_by, without_current}
+use Rattle.kr_judge.specs.Boards.{GenerationState, BoardState, left_by, without_current, added_generation, given_to}
 use Rattle.kr_judge.specs.Verdicts.{is_other}
 use Rattle.kr_judge.proofs.Parts.{take_at_more}
 use Rattle.kr_opening.specs.declared.opening_board.StartNo.{StartNo}
@@ -23,21 +23,19 @@ use Rattle.kr_judge.proofs.Lacking.{reads_own}
 use Rattle.kr_opening.proofs.Passing.{passed, AreReadable}
 use Rattle.kr_opening.specs.Replicas.{rows_in, settings_rows}
 
-abbrev pub fresh : ℕ → List ConfigEntry → GenerationState
-fresh replica rows = record { replica = replica; rows = rows; current = true; holders = 0 }
-
 taken_none : (k : ℕ) (rs : List (Option (List ConfigEntry)))
     → opening_generations k (rs ++ None ∷ []) ≡ opening_generations k rs
 taken_none k [] = refl
 taken_none k (None ∷ rs) = taken_none (k + 1) rs
-taken_none k (Some rows ∷ rs) = ap (λ ts. fresh k rows ∷ ts) (taken_none (k + 1) rs)
+taken_none k (Some rows ∷ rs) = ap (λ ts. added_generation k rows ∷ ts) (taken_none (k + 1) rs)
 
 taken_some : (k : ℕ) (rs : List (Option (List ConfigEntry))) (rows : List ConfigEntry) (n : ℕ) → k + length rs ≡ n
-    → opening_generations k (rs ++ Some rows ∷ []) ≡ opening_generations k rs ++ fresh n rows ∷ []
-taken_some k [] rows n e = ap (λ m. fresh m rows ∷ []) (omega (arith, e))
+    → opening_generations k (rs ++ Some rows ∷ [])
+    ≡ opening_generations k rs ++ added_generation n rows ∷ []
+taken_some k [] rows n e = ap (λ m. added_generation m rows ∷ []) (omega (arith, e))
 taken_some k (None ∷ rs) rows n e = taken_some (k + 1) rs rows n (omega (arith, e))
 taken_some k (Some first ∷ rs) rows n e =
-    ap (λ ts. fresh k first ∷ ts) (taken_some (k + 1) rs rows n (omega (arith, e)))
+    ap (λ ts. added_generation k first ∷ ts) (taken_some (k + 1) rs rows n (omega (arith, e)))
 
 pub taken_few : (k : ℕ) (rs : List (Option (List ConfigEntry)))
     → length (opening_generations k rs) ≤ length rs
@@ -51,7 +49,7 @@ left_alone : (k i : ℕ) (rs : List (Option (List ConfigEntry))) → k + length 
 left_alone k i [] l = refl
 left_alone k i (None ∷ rs) l = left_alone (k + 1) i rs (omega arith)
 left_alone k i (Some rows ∷ rs) l =
-    let head : left_by i (fresh k rows) ≡ fresh k rows =
+    let head : left_by i (added_generation k rows) ≡ added_generation k rows =
     ap (λ b. record { replica = k; rows = rows; current = true && not b; holders = 0 })
     (ne_eqb k i (λ e. omega (arith, e))) in
     let tail = left_alone (k + 1) i rs (omega arith) in
@@ -66,7 +64,7 @@ taken_there k i (None ∷ rs) rows l (zero, w, e) = absurd (none-some rows e)
 taken_there k i (None ∷ rs) rows l (suc p, w, e) =
     taken_there (k + 1) i rs rows (omega arith) (p, omega arith, e)
 taken_there k i (Some first ∷ rs) rows l (zero, w, e) = (
-  fresh k first,
+  added_generation k first,
   (0, omega arith, refl),
   ap (λ b. not (b && true))
       (ne_eqb k i (λ d. omega (arith, d))),
@@ -191,9 +189,9 @@ taken_more replicas old now next i s t l e takes =
     let size : length rs ≡ i = omega (arith, length-take i (rows_in replicas), rows_long replicas)
     in
     let w = subst (λ (b : BoardState). Admits i rows b next (Ok tt)) t.board_is takes in
-    let board : without_current i (opening_generations 0 rs) ++ fresh i rows ∷ []
+    let board : given_to i rows (opening_generations 0 rs)
     ≡ opening_generations 0 (take (i + 1) (rows_in replicas)) =
-    ap (λ gs. gs ++ fresh i rows ∷ []) (left_alone 0 i rs (omega (arith, size)))
+    ap (λ gs. gs ++ added_generation i rows ∷ []) (left_alone 0 i rs (omega (arith, size)))
     ∙ sym (ap (opening_generations 0) more ∙ taken_some 0 rs rows i (omega (arith, size))) in
     record {
       board_is = w.1 ∙ ap (λ gs. record old { generations = gs }) board;

@@ -1,5 +1,5 @@
 -- When a rollout may start, and why not.
-use Rattle.std.specs.Prelude.{◌≡◌, ◌≢◌, ℕ, ◌+◌, true, List, [], ◌∷◌, take, Contains, Option, None, Some, Result, Ok, Err, ⊤}
+use Rattle.std.specs.Prelude.{◌≡◌, ◌≢◌, ℕ, ◌+◌, List, [], ◌∷◌, take, Contains, Option, None, Some, Result, Ok, Err, ⊤}
 use Rattle.std.specs.List.{slice_get}
 use Rattle.std.specs.declared.cmp.Ordering.TheVariants.{Less}
 use Rattle.kr_store.specs.declared.rows.LogRow.{LogRow}
@@ -10,7 +10,7 @@ use Rattle.kr_config.specs.Nexts.{name_cmp}
 use Rattle.kr_judge.specs.declared.need.Need.{Need}
 use Rattle.kr_judge.specs.declared.verdict.Verdict.{Verdict}
 use Rattle.kr_judge.specs.declared.verdict.Verdict.TheVariants.{Pass}
-use Rattle.kr_judge.specs.Boards.{BoardState, GenerationState}
+use Rattle.kr_judge.specs.Boards.{BoardState, GenerationState, added_generation}
 use Rattle.kr_judge.specs.Verdicts.{verdict_of}
 use Rattle.kr_opening.specs.declared.opening_board.StartNo.{StartNo}
 use Rattle.kr_opening.specs.declared.opening_board.StartNo.TheVariants.{Stray, OtherSecret, Unfit, NoMemory}
@@ -23,12 +23,7 @@ abbrev pub opening_generations : ℕ → List (Option (List ConfigEntry)) → Li
 opening_generations replica [] = []
 opening_generations replica (None ∷ replicas) = opening_generations (replica + 1) replicas
 opening_generations replica (Some rows ∷ replicas) =
-    record {
-      replica = replica;
-      rows = rows;
-      current = true;
-      holders = 0;
-    } ∷ opening_generations (replica + 1) replicas
+    added_generation replica rows ∷ opening_generations (replica + 1) replicas
 
 -- ---- the causes, in their order
 

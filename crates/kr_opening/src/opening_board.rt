@@ -14,7 +14,7 @@ use kr_store::{Row, Store};
 use std::alloc::Global;
 
 /// Why a rollout doesn't start.
-#[derive(Debug, Drop)]
+#[derive(Drop)]
 pub enum StartNo {
     /// No provider of the first replica reads the live row of this path, the least such path.
     Stray { path: Text },

@@ -92,7 +92,7 @@ fn replica_settings(
 }
 
 /// The generations of the replicas that are in, with room for so many more.
-#[tactic(auto, using(crate::proofs::Sharing::made_begin, crate::proofs::Sharing::made_step, crate::proofs::Sharing::made_end, crate::proofs::Sharing::made_all))]
+#[tactic(auto, using(crate::proofs::Sharing::made_begin))]
 fn share_generations(
     alloc: Global,
     replicas: &[Option<Shared<Published>>],

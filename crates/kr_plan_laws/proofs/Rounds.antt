@@ -14,8 +14,8 @@ use Rattle.kr_config.specs.Lists.{list_of, class_list}
 use Rattle.kr_config.proofs.Inversions.{both, left, right}
 use Rattle.kr_judge.specs.declared.need.Need.{Need}
 use Rattle.kr_judge.specs.declared.verdict.Verdict.TheVariants.{Pass}
-use Rattle.kr_judge.specs.Boards.{GenerationState, is_live, left_by, without_current, is_replica_current}
-use Rattle.kr_judge.specs.Lacks.{IsLiveIn, IsLiveBeside, given_to}
+use Rattle.kr_judge.specs.Boards.{GenerationState, is_live, left_by, without_current, added_generation, given_to, is_replica_current}
+use Rattle.kr_judge.specs.Lacks.{IsLiveIn, IsLiveBeside}
 use Rattle.kr_judge.specs.LiveFits.{AreFit}
 use Rattle.kr_judge.specs.Verdicts.{first, verdict_of}
 use Rattle.kr_judge.proofs.Lacking.{mapped, image, passes_where_all_fit}
@@ -136,7 +136,7 @@ module _ (one other : List ConfigEntry) (replicas : ℕ) (needs : List Need)
   module _ (k : ℕ) (generations : List GenerationState) (h : k < replicas)
       (mixed : IsMixed one other k replicas needs generations) where
     abbrev New : GenerationState
-    New = record { replica = k; rows = other; current = true; holders = 0 }
+    New = added_generation k other
 
     abbrev Given : List GenerationState
     Given = given_to k other generations

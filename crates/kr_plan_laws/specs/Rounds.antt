@@ -7,8 +7,8 @@ use Rattle.kr_config.specs.Kept.{ConfigEntry, keeps}
 use Rattle.kr_config.specs.Lists.{list_of, class_list}
 use Rattle.kr_judge.specs.declared.need.Need.{Need}
 use Rattle.kr_judge.specs.declared.verdict.Verdict.TheVariants.{Pass}
-use Rattle.kr_judge.specs.Boards.{GenerationState, is_replica_current}
-use Rattle.kr_judge.specs.Lacks.{IsLiveIn, given_to}
+use Rattle.kr_judge.specs.Boards.{GenerationState, is_replica_current, given_to}
+use Rattle.kr_judge.specs.Lacks.{IsLiveIn}
 use Rattle.kr_judge.specs.LiveFits.{AreFit}
 use Rattle.kr_judge.specs.Verdicts.{first, verdict_of}
 use Rattle.kr_plan.specs.Merges.{wide_rows, turned_rows}

@@ -55,6 +55,7 @@ impl Adoption {
         ensures size { size_of self.new.pages ≡ size_of self.old.pages }
     {
         if self.pages.size() < count_keys(published.get().entries()) {
+            drop(published);
             return Err(PagesFull);
         }
         self.pages.clear();

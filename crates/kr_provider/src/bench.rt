@@ -86,7 +86,10 @@ impl<L: Kms, D: Dice> Bench<L, D> {
                 adoption,
                 cache,
             }),
-            Err(why) => Err((why, links, dice)),
+            Err(why) => {
+                drop(cache);
+                Err((why, links, dice))
+            }
         }
     }
 
@@ -349,17 +352,29 @@ fn grown(plain: Bytes, beside: usize) -> Result<Bytes, NoMemory>
     ensures { IfOk result (λ same. same ≡ plain) }
 {
     let mut bytes = plain.into_vec();
-    bytes.reserve_exact(beside)?;
-    Ok(Bytes::from_vec(bytes))
+    match bytes.reserve_exact(beside) {
+        Ok(()) => Ok(Bytes::from_vec(bytes)),
+        Err(_) => {
+            drop(bytes);
+            Err(NoMemory)
+        }
+    }
 }
 
 /// A copy of the data, with room for so many bytes beside them.
 fn with_room(alloc: Global, plain: &[u8], beside: usize) -> Result<Bytes, NoMemory>
     ensures { IfOk result (λ copy. copy ≡ plain.now) }
 {
-    let mut copy = Vec::with_capacity(alloc, plain.len().saturating_add(beside))?;
-    copy.extend_from_slice(plain)?;
-    Ok(Bytes::from_vec(copy))
+    let Ok(mut copy) = Vec::with_capacity(alloc, plain.len().saturating_add(beside)) else {
+        return Err(NoMemory);
+    };
+    match copy.extend_from_slice(plain) {
+        Ok(()) => Ok(Bytes::from_vec(copy)),
+        Err(_) => {
+            drop(copy);
+            Err(NoMemory)
+        }
+    }
 }
 
 /// The id of the key that the plugin of this name wraps with now.

@@ -37,10 +37,20 @@ pub(crate) fn make_seeds<L: Kms, D: Dice>(
     let mut made = List::new(alloc);
     let mut after = "";
     while let Some(name) = settings.next_plugin(after) {
-        let row = make_one(alloc, name, links, dice)?;
+        let row = match make_one(alloc, name, links, dice) {
+            Ok(row) => row,
+            Err(why) => {
+                drop(made);
+                return Err(why);
+            }
+        };
         match made.push(row) {
             Ok(()) => {}
-            Err(_) => return Err(PublishNo::NoMemory),
+            Err(refused) => {
+                drop(refused);
+                drop(made);
+                return Err(PublishNo::NoMemory);
+            }
         }
         tell_text(name);
         after = name;
@@ -81,7 +91,10 @@ pub(crate) fn plugin_refusal(alloc: Global, name: &str, why: SeedNo) -> PublishN
         SeedNo::DiceFailed => PublishNo::DiceFailed,
         SeedNo::Unhealthy { field, text } => match Text::copy(alloc, name) {
             Ok(name) => PublishNo::Unhealthy { name, field, text },
-            Err(_) => PublishNo::NoMemory,
+            Err(_) => {
+                drop(text);
+                PublishNo::NoMemory
+            }
         },
         SeedNo::NoMemory => PublishNo::NoMemory,
     }

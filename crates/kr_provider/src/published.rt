@@ -139,7 +139,13 @@ pub fn publish<L: Kms, D: Dice>(
     ensures exchanged { Talk (Among L.step) links.old links.new
         (PublishesBy D.left D.count (rows_of settings.entries.0) dice.old result dice.new) }
 {
-    let seeds = make_seeds(alloc, settings.get(), links, dice)?;
+    let seeds = match make_seeds(alloc, settings.get(), links, dice) {
+        Ok(seeds) => seeds,
+        Err(why) => {
+            drop(settings);
+            return Err(why);
+        }
+    };
     Ok(Published { settings, seeds })
 }
 

@@ -6,7 +6,7 @@ use kr_base::{Bytes, Text};
 use kr_kms::Field;
 
 /// Why data aren't sealed.
-#[derive(Clone, Copy, Debug, PartialEq, Eq)]
+#[derive(Clone, Copy)]
 pub enum SealNo {
     /// Identity would write data that begin as a value of another provider does, which it couldn't
     /// read back.
@@ -20,7 +20,7 @@ pub enum SealNo {
 }
 
 /// What a stored value holds.
-#[derive(Debug, Drop)]
+#[derive(Drop)]
 pub struct Opened {
     /// The data.
     pub plain: Bytes,
@@ -113,7 +113,7 @@ impl ValueNo {
 }
 
 /// Why a stored value isn't read.
-#[derive(Debug, Drop)]
+#[derive(Drop)]
 pub enum UnsealNo {
     /// By its prefix, its body or its encrypted object.
     Refused(ValueNo),
@@ -124,7 +124,7 @@ pub enum UnsealNo {
 }
 
 /// Why settings weren't published.
-#[derive(Debug, Drop)]
+#[derive(Drop)]
 pub enum PublishNo {
     /// The plugin of this name failed; its link's count of faults tells so.
     PluginFailed {
@@ -143,5 +143,5 @@ pub enum PublishNo {
 }
 
 /// The settings have more keys than there are pages for them.
-#[derive(Clone, Copy, Debug, PartialEq, Eq)]
+#[derive(Clone, Copy)]
 pub struct PagesFull;

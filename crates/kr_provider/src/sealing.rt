@@ -175,11 +175,18 @@ fn prefixed(alloc: Global, kind: Kind, name: &Text, zeros: usize) -> Option<Vec<
     requires { zeros ≤ 64 }
     ensures { IfSome result (λ front. front.items ≡ prefix kind name.now ++ replicate zeros 0) }
 {
-    let mut front = Vec::with_capacity(alloc, prefix_and(kind, name, zeros)).ok()?;
-    push_prefix(&mut front, kind, name.as_str()).ok()?;
+    let Ok(mut front) = Vec::with_capacity(alloc, prefix_and(kind, name, zeros)) else {
+        return None;
+    };
+    match push_prefix(&mut front, kind, name.as_str()) {
+        Ok(()) => {}
+        Err(_) => return None,
+    }
     let start = front.len();
-    front.resize(start + zeros, 0).ok()?;
-    Some(front)
+    match front.resize(start + zeros, 0) {
+        Ok(()) => Some(front),
+        Err(_) => None,
+    }
 }
 
 /// The length of the prefix of a provider's values and of so many bytes more.

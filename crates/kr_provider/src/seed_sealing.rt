@@ -104,21 +104,35 @@ fn object_frame(alloc: Global, name: &Text, row: &SeedRow, plain: Bytes) -> Opti
         × (framed.0.items ≡ front ++ (replicate 44 0 ++ (plain ++ replicate 16 0)
         ++ fields_behind row.now.key_id row.now.source row.now.annotations SourceKind.Seed))) }
 {
-    let mut front = Vec::with_capacity(alloc, FRONT).ok()?;
-    push_prefix(&mut front, Kind::Kms, name.as_str()).ok()?;
-    push_data_size(&mut front, SEED + NONCE + plain.as_slice().len() + TAG).ok()?;
+    let Ok(mut front) = Vec::with_capacity(alloc, FRONT) else {
+        return None;
+    };
+    match push_prefix(&mut front, Kind::Kms, name.as_str()) {
+        Ok(()) => {}
+        Err(_) => return None,
+    }
+    match push_data_size(&mut front, SEED + NONCE + plain.as_slice().len() + TAG) {
+        Ok(()) => {}
+        Err(_) => return None,
+    }
     let start = front.len();
-    front.resize(start + SEED + NONCE, 0).ok()?;
-    let mut value = framed(front.as_slice(), plain, TAG)?;
-    push_last_fields(
+    match front.resize(start + SEED + NONCE, 0) {
+        Ok(()) => {}
+        Err(_) => return None,
+    }
+    let Some(mut value) = framed(front.as_slice(), plain, TAG) else {
+        return None;
+    };
+    match push_last_fields(
         &mut value,
         row.key_id.as_str(),
         row.source.as_slice(),
         &row.annotations,
         SourceKind::Seed,
-    )
-    .ok()?;
-    Some((value, start))
+    ) {
+        Ok(()) => Some((value, start)),
+        Err(_) => None,
+    }
 }
 
 /// Writes the sealed bytes from `start` on, where the data stand behind the places of the info and

@@ -16,7 +16,7 @@ use Rattle.kr_rewrite.specs.Rewrites.{IsStepOver, IsStepTo, ReadsFoundRow}
 use Rattle.kr_rewrite.specs.declared.outcome.Report.{Report}
 use Rattle.kr_rewrite.specs.declared.outcome.Step.{Step}
 use Rattle.kr_rewrite.specs.declared.outcome.Step.TheVariants as step
-use Rattle.kr_rewrite.specs.inner.Stages.{CountsStep, GoesOnOver}
+use Rattle.kr_rewrite.specs.inner.Stages.{CountsStep, DrivesFromOver}
 use Rattle.kr_rewrite.proofs.Covering.{IsCovered, covered_begin, covered_end, covered_more}
 use Rattle.kr_rewrite.proofs.Growing.{StepLooks, TakesStep, at_end, at_row, takes_step}
 use Rattle.kr_rewrite.proofs.Walking.{counts_more, ends_there, finds_row, last_is, settles, walks_more}
@@ -209,7 +209,7 @@ asked_still link olds mids news a b =
 pub drives_on : {S D : Type 0} (Reads : ReadsFoundRow S) (Meanwhile : S → S → Type 0)
     (left : D → Option (List ℕ)) (count : D → ℕ) (replica : ℕ) (above : List ℕ) (old new : Caller)
     (from to : S) (dice after : D) (result : Result Report (Report × CallNo))
-    → GoesOnOver Reads Meanwhile left count replica above old from dice result new to after
+    → DrivesFromOver Reads Meanwhile left count replica above old from dice result new to after
     → IsDriveOver Reads Meanwhile left count replica above old from dice result new to after
 drives_on Reads Meanwhile left count replica above old new from to dice after (Ok report) g = g
 drives_on Reads Meanwhile left count replica above old new from to dice after (Err cut) g = inl g

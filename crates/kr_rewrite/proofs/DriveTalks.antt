@@ -19,7 +19,7 @@ use Rattle.kr_rewrite.specs.Drives.{report_at}
 use Rattle.kr_rewrite.specs.Rewrites.{IsStepOver, RewritesOver, ReadsFoundRow, StepsOver}
 use Rattle.kr_rewrite.specs.declared.outcome.Report.{Report}
 use Rattle.kr_rewrite.specs.declared.outcome.Step.{Step}
-use Rattle.kr_rewrite.specs.inner.Stages.{CountsStep, GoesOnBy}
+use Rattle.kr_rewrite.specs.inner.Stages.{CountsStep, DrivesFromBy}
 use Rattle.kr_rewrite.proofs.BetweenSteps.{IsWalked, drives_on, walked_begin, walked_cut, walked_end, walked_more}
 
 -- ---- the same steps, over something else that answers
@@ -128,7 +128,7 @@ module _ {D : Type 0} (left : D → Option (List ℕ)) (count : D → ℕ) (repl
     Next ended = IsStepBy left count replica at now so_far drawn ended new kept after
 
     abbrev Ends : Result Report (Report × CallNo) → List Exchange → Type 0
-    Ends result = GoesOnBy left count replica above old cache dice result new kept after
+    Ends result = DrivesFromBy left count replica above old cache dice result new kept after
 
     pub talk_more : (taken : Step) (found : Bool) (next : Report)
         → CountsStep report taken found next → found ≡ true
@@ -168,14 +168,14 @@ module _ {D : Type 0} (left : D → Option (List ℕ)) (count : D → ℕ) (repl
   pub talk_drives : {L : Type 0} (step : L → Exchange → L → Type 0) (links news : L)
       (above last : List ℕ) (old new : Caller) (cache kept : CacheState) (dice after : D)
       (result : Result Report (Report × CallNo)) → last ≡ above
-      → Talk step links news (GoesOnBy left count replica last old cache dice result new kept after)
+      → Talk step links news (DrivesFromBy left count replica last old cache dice result new kept after)
       → Talk step links news
       (IsDriveBy left count replica above old cache dice result new kept after)
   talk_drives step links news above last old new cache kept dice after result is t =
-      let Goes = GoesOnBy left count replica above old cache dice result new kept after in
+      let Goes = DrivesFromBy left count replica above old cache dice result new kept after in
       talk_so step Goes (IsDriveBy left count replica above old cache dice result new kept after)
       links news
       (subst (λ q. Talk step links news
-      (GoesOnBy left count replica q old cache dice result new kept after)) is t)
+      (DrivesFromBy left count replica q old cache dice result new kept after)) is t)
       (λ es g. drives_on ReadsRow (λ from to. ⊤) left count replica above old new
       (before cache es) (behind kept) dice after result g)

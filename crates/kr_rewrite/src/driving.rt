@@ -11,7 +11,7 @@ ghost use Rattle.kr_history.specs.Calls.{AreServed};
 ghost use Rattle.kr_history.specs.KeyMoments.{Happens, call_moments, has_adopted};
 ghost use Rattle.kr_rewrite.specs.DriveExchanges.{IsDriveBy};
 ghost use Rattle.kr_rewrite.specs.Drives.{IsDrive, IsIdleAtEnd, report_at};
-ghost use Rattle.kr_rewrite.specs.inner.Stages.{GoesOn, GoesOnBy};
+ghost use Rattle.kr_rewrite.specs.inner.Stages.{DrivesFrom, DrivesFromBy};
 
 use crate::outcome::Report;
 use crate::step::rewrite_next;
@@ -71,10 +71,10 @@ fn take_steps<A: Acts, L: Kms, D: Dice>(
     requires none { report ≡ report_at report.last }
     requires links { AreServed (A.caller acts.old).opening.names (names_of L.link bench.old.links) }
     requires pages { 64 ≤ size_of bench.old.pages }
-    ensures goes_on { GoesOn L.link D.left D.count replica report.last
+    ensures goes_on { DrivesFrom L.link D.left D.count replica report.last
         (A.caller acts.old) bench.old.links bench.old.dice result (A.caller acts.new)
         bench.new.links bench.new.dice }
-    ensures exchanged { Talk (Among L.step) bench.old.links bench.new.links (GoesOnBy D.left
+    ensures exchanged { Talk (Among L.step) bench.old.links bench.new.links (DrivesFromBy D.left
         D.count replica report.last (A.caller acts.old) bench.old.cache bench.old.dice result
         (A.caller acts.new) bench.new.cache bench.new.dice) }
     ensures idle { IsIdleAtEnd result (A.caller acts.new) }

@@ -9,7 +9,7 @@ use Rattle.kr_provider.specs.Publication.{Publication}
 use Rattle.kr_rollout.specs.declared.event.Event.{Event}
 use Rattle.kr_rollout.specs.declared.event.Event.TheVariants as event
 use Rattle.kr_rollout.specs.declared.line.Did.{Did}
-use Rattle.kr_rollout.specs.declared.line.Did.TheVariants.{Adopt, Reload, Join}
+use Rattle.kr_rollout.specs.declared.line.Did.TheVariants.{Adopt}
 use Rattle.kr_rollout.specs.declared.line.Gave.{Gave}
 use Rattle.kr_rollout.specs.declared.line.Gave.TheVariants.{Reloaded, Joined}
 use Rattle.kr_rollout.specs.declared.opening.Entry.{Entry}

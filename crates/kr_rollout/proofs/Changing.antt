@@ -10,7 +10,7 @@ use Rattle.std.proofs.lemmas.List.Sums.{sum_by-cons}
 use Rattle.std.proofs.lemmas.Option.{none-some, same_Some, slice_get_within}
 use Rattle.kr_provider.specs.Publication.{Publication}
 use Rattle.kr_store.specs.Stores.{Kept}
-use Rattle.kr_judge.specs.Boards.{BoardState, GenerationState, without_current, is_replica_current}
+use Rattle.kr_judge.specs.Boards.{BoardState, without_current, added_generation, given_to, is_replica_current}
 use Rattle.kr_opening.specs.declared.generation.Generation.{Generation}
 use Rattle.kr_rollout.specs.declared.opening.Opening.{Opening}
 use Rattle.kr_rollout.specs.States.{State, number_at, is_number, judged_generation, judged_generations}
@@ -165,13 +165,9 @@ judged_more current held k (h ∷ gs) g = ap (λ l. judged_generation current he
     ++ judged_generation current held n g ∷ [])
     (let e : k + 1 + length gs ≡ k + length (h ∷ gs) = omega arith in e))
 
--- as it is judged
-abbrev pub newest : ℕ → Publication → GenerationState
-newest replica p = record { replica = replica; rows = p.rows; current = true; holders = 0 }
-
 is_newest : (current held : List (Option ℕ)) (gs : List Generation) (replica : ℕ) (p : Publication)
     → replica < length current → AreNumbers held gs
-    → newest replica p
+    → added_generation replica p.rows
     ≡ judged_generation (slice_set current replica (Some (length gs))) held (length gs)
     (record { replica = replica; published = p })
 is_newest current held gs replica p l k =
@@ -183,13 +179,13 @@ is_newest current held gs replica p l k =
     let free : count_by (is_number m) held ≡ 0 =
     none_counted m held (λ place e. omega (arith, k place m e)) in
     let judged : judged_generation (slice_set current replica (Some m)) held m
-    (record { replica = replica; published = p }) ≡ newest replica p =
+    (record { replica = replica; published = p }) ≡ added_generation replica p.rows =
     (λ i. record { replica = replica; rows = p.rows; current = live i; holders = free i }) in
     sym judged
 
 pub board_grown : (current held : List (Option ℕ)) (gs : List Generation) (replica : ℕ)
     (p : Publication) → replica < length current → AreOwn current gs → AreNumbers held gs
-    → without_current replica (judged_generations current held 0 gs) ++ newest replica p ∷ []
+    → given_to replica p.rows (judged_generations current held 0 gs)
     ≡ judged_generations (slice_set current replica (Some (length gs))) held 0
     (gs ++ record { replica = replica; published = p } ∷ [])
 board_grown current held gs replica p l own k =
@@ -330,7 +326,7 @@ module _ (o : Opening) (store : Kept) (kept next : BoardState) (gs : List Genera
     (k : IsRollout o (state_with store kept gs current held) kept) where
   pub rollout_grown : (replica : ℕ) (p : Publication) → replica < length o.replicas
       → next ≡ record kept {
-        generations = without_current replica kept.generations ++ newest replica p ∷ [];
+        generations = given_to replica p.rows kept.generations;
       }
       → IsRollout o (state_with store next (gs ++ record { replica = replica; published = p } ∷ [])
       (slice_set current replica (Some (length gs))) held) next
@@ -343,7 +339,7 @@ module _ (o : Opening) (store : Kept) (kept next : BoardState) (gs : List Genera
       record {
         board_is = e
             ∙ ap (λ (b : BoardState). record b {
-              generations = without_current replica b.generations ++ newest replica p ∷ [];
+              generations = given_to replica p.rows b.generations;
             }) k.board_is
             ∙ ap (λ l. record (board o (state_with store kept gs current held)) {
               generations = l;

@@ -20,9 +20,9 @@ use Rattle.kr_rollout.specs.declared.answer.Answer.TheVariants as answer
 use Rattle.kr_rollout.specs.declared.event.Event.{Event}
 use Rattle.kr_rollout.specs.declared.event.Event.TheVariants as event
 use Rattle.kr_opening.specs.declared.generation.Generation.{Generation}
-use Rattle.kr_rollout.specs.declared.line.Did.TheVariants.{Put, Delete, Replace}
+use Rattle.kr_rollout.specs.declared.line.Did.TheVariants.{Delete}
 use Rattle.kr_rollout.specs.declared.line.Gave.{Gave}
-use Rattle.kr_rollout.specs.declared.line.Gave.TheVariants.{Absent, Written, Changed, StoreFailed, StoreFull, Nothing}
+use Rattle.kr_rollout.specs.declared.line.Gave.TheVariants.{Written, StoreFailed, StoreFull, Nothing}
 use Rattle.kr_rollout.specs.declared.line.Line.{Line}
 use Rattle.kr_rollout.specs.declared.opening.Entry.{Entry}
 use Rattle.kr_rollout.specs.Entries.{entry_of, published_at, generation_named_by, generation_adopted_in, revision_in, revision_replaced_in, HasWhatItNames}

@@ -38,13 +38,24 @@ pub(crate) fn judge(
     let settings = &published.get().settings;
     let told = board.judge(replica, settings.get())?;
     if is_refusal(&told) {
-        let kept = told.copy(alloc)?;
-        return Ok(Judgement::Refused { told, kept });
+        match told.copy(alloc) {
+            Ok(kept) => return Ok(Judgement::Refused { told, kept }),
+            Err(NoMemory) => {
+                drop(told);
+                return Err(NoMemory);
+            }
+        }
     }
+    drop(told);
     let settings = settings.share()?;
-    let published = published.share()?;
-    Ok(Judgement::Fits {
-        settings,
-        published,
-    })
+    match published.share() {
+        Ok(published) => Ok(Judgement::Fits {
+            settings,
+            published,
+        }),
+        Err(NoMemory) => {
+            drop(settings);
+            Err(NoMemory)
+        }
+    }
 }

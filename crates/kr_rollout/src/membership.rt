@@ -95,7 +95,7 @@ impl<T: Tape> Rollout<T> {
             let line = self.line(seat, did, Gave::Moved { generation });
             return (Answer::Moved { generation }, line);
         }
-        self.take_up(seat, replica, published, bringing)
+        self.bring(seat, replica, published, bringing)
     }
 
     /// Gives a replica that isn't in a configuration.
@@ -111,12 +111,12 @@ impl<T: Tape> Rollout<T> {
             let line = self.line(seat, did, Gave::Present { generation });
             return (Answer::Present { generation }, line);
         }
-        self.take_up(seat, replica, published, Bringing::Join)
+        self.bring(seat, replica, published, Bringing::Join)
     }
 
     /// Judges the configuration for a replica that awaits it, which takes it up where it fits. All
     /// that this needs is made before anything changes.
-    fn take_up(
+    fn bring(
         &mut self,
         seat: u32,
         replica: u32,

@@ -33,7 +33,10 @@ impl<T: Tape> Rollout<T> {
         store.known();
         let made = match make(alloc, replicas.as_slice(), seats, reloads) {
             Ok(made) => made,
-            Err(NoMemory) => return Err((StartNo::NoMemory, store)),
+            Err(NoMemory) => {
+                drop((replicas, names));
+                return Err((StartNo::NoMemory, store));
+            }
         };
         let board = match make_opening_board(alloc, &store, &made.settings, made.room) {
             Ok(board) => board,

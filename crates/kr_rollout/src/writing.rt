@@ -309,12 +309,13 @@ fn put_value<T: Tape>(
         }
     };
     let who = configured_writer(published, resource);
-    write_value(store, board, &own, resource, None, who, stored)
+    let wrote = write_value(store, board, &own, resource, None, who, stored);
+    drop(own);
+    wrote
 }
 
 /// Puts a value in the place of the row with this revision, for the same resource, where that is
 /// still the path's last one. The value needs the provider by which the configuration writes.
-#[tactic(auto, using(crate::proofs::Replacing::replaced_here, crate::proofs::Replacing::own_path))]
 fn replace_live<T: Tape>(
     store: &mut Store<T>,
     board: &mut Board,
@@ -339,10 +340,11 @@ fn replace_live<T: Tape>(
     };
     let resource = row.get().resource.as_str();
     if row.get().revision != revision {
+        drop(row);
         return Err(refuse_replacing(published, store, path, revision, stored));
     }
     let who = configured_writer(published, resource);
-    write_value(
+    let wrote = write_value(
         store,
         board,
         &row.get().path,
@@ -350,5 +352,7 @@ fn replace_live<T: Tape>(
         Some(revision),
         who,
         stored,
-    )
+    );
+    drop(row);
+    wrote
 }

@@ -120,10 +120,12 @@ impl Draft {
         if !self.may_be_replica(name, file) {
             return Err(ScriptLineError::Form);
         }
-        Ok(Statement::Replica {
-            name: Text::copy(alloc, name)?,
-            file: Text::copy(alloc, file)?,
-        })
+        let name = Text::copy(alloc, name)?;
+        let Ok(file) = Text::copy(alloc, file) else {
+            drop(name);
+            return Err(ScriptLineError::NoMemory);
+        };
+        Ok(Statement::Replica { name, file })
     }
 
     fn may_be_replica(&self, name: &str, file: &str) -> bool
@@ -197,11 +199,16 @@ impl Draft {
             (passes (draft_of self.old) (Replica name file))) (draft_of self.new) result }
     {
         if self.replicas.as_slice().len() >= REPLICA_LIMIT {
+            drop(name);
+            drop(file);
             return Err(ScriptLineError::Replicas);
         }
         match self.replicas.push((name, file)) {
             Ok(()) => Ok(()),
-            Err(_) => Err(ScriptLineError::NoMemory),
+            Err(refused) => {
+                drop(refused);
+                Err(ScriptLineError::NoMemory)
+            }
         }
     }
 
@@ -211,6 +218,7 @@ impl Draft {
     {
         self.close_last()?;
         if self.workers.as_slice().len() >= WORKER_LIMIT {
+            drop(name);
             return Err(ScriptLineError::Workers);
         }
         self.last = Some(Part {
@@ -228,7 +236,10 @@ impl Draft {
         match self.last.take() {
             Some(worker) => match self.workers.push(worker) {
                 Ok(()) => Ok(()),
-                Err(_) => Err(ScriptLineError::NoMemory),
+                Err(refused) => {
+                    drop(refused);
+                    Err(ScriptLineError::NoMemory)
+                }
             },
             None => Ok(()),
         }
@@ -239,14 +250,21 @@ impl Draft {
             (passes (draft_of self.old) (Line line))) (draft_of self.new) result }
     {
         if line.is_long() {
+            drop(line);
             return Err(ScriptLineError::TooLarge);
         }
         match &mut self.last {
             Some(worker) => match worker.lines.push(line) {
                 Ok(()) => Ok(()),
-                Err(_) => Err(ScriptLineError::NoMemory),
+                Err(refused) => {
+                    drop(refused);
+                    Err(ScriptLineError::NoMemory)
+                }
             },
-            None => Ok(()),
+            None => {
+                drop(line);
+                Ok(())
+            }
         }
     }
 
@@ -255,18 +273,23 @@ impl Draft {
         ensures { Gives (fleet_at_end line (draft_of self)) result }
     {
         if self.last.is_none() {
+            drop(self);
             return Err(ScriptNo::Breach { line });
         }
         match self.close_last() {
             Ok(()) => {}
-            Err(_) => return Err(ScriptNo::NoMemory),
+            Err(_) => {
+                drop(self);
+                return Err(ScriptNo::NoMemory);
+            }
         }
         let Draft {
             begun: _,
             replicas,
             workers,
-            last: _,
+            last,
         } = self;
+        drop(last);
         Ok(Script { replicas, workers })
     }
 }

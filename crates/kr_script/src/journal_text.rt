@@ -110,8 +110,7 @@ fn add_write(text: &mut LineText, word: &str, did: &Did, revision: u64) -> Resul
     ensures { IfOk result (λ done. text.new.bytes.items ≡ text.old.bytes.items
         ++ three word.now (did_object did.now) (decimal revision)) }
 {
-    text.add(word)?;
-    text.add(" ")?;
+    text.add_spaced(word)?;
     add_object(text, did)?;
     text.add(" ")?;
     text.add_number(revision)
@@ -183,8 +182,7 @@ fn add_seen(text: &mut LineText, script: &Script, line: &Line) -> Result<(), NoM
         ++ two (seat_worker (fleet_of script.now).workers line.now.seat)
         (event_text (fleet_of script.now).replicas line.now.did line.now.gave)) }
 {
-    text.add(seat_worker(script.workers.as_slice(), line.seat))?;
-    text.add(" ")?;
+    text.add_spaced(seat_worker(script.workers.as_slice(), line.seat))?;
     add_event(text, script.replicas.as_slice(), &line.did, &line.gave)
 }
 

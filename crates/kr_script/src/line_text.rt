@@ -75,13 +75,21 @@ impl LineText {
         self.add(buffer.format(number))
     }
 
+    /// Adds the word and a space.
+    pub fn add_spaced(&mut self, word: &str) -> Result<(), NoMemory>
+        ensures { IfOk result (λ done. self.new.bytes.items
+            ≡ self.old.bytes.items ++ (word.now ++ codes " ")) }
+    {
+        self.add(word)?;
+        self.add(" ")
+    }
+
     /// Adds the word and a number behind it.
     pub fn add_counted(&mut self, word: &str, number: u64) -> Result<(), NoMemory>
         ensures { IfOk result (λ done. self.new.bytes.items
             ≡ self.old.bytes.items ++ two word.now (decimal number)) }
     {
-        self.add(word)?;
-        self.add(" ")?;
+        self.add_spaced(word)?;
         self.add_number(number)
     }
 
@@ -90,8 +98,7 @@ impl LineText {
         ensures { IfOk result (λ done. self.new.bytes.items
             ≡ self.old.bytes.items ++ two first.now second.now) }
     {
-        self.add(first)?;
-        self.add(" ")?;
+        self.add_spaced(first)?;
         self.add(second)
     }
 
@@ -100,8 +107,7 @@ impl LineText {
         ensures { IfOk result (λ done. self.new.bytes.items
             ≡ self.old.bytes.items ++ three word.now name.now (decimal number)) }
     {
-        self.add(word)?;
-        self.add(" ")?;
+        self.add_spaced(word)?;
         self.add_counted(name, number)
     }
 
@@ -110,8 +116,7 @@ impl LineText {
         ensures { IfOk result (λ done. self.new.bytes.items
             ≡ self.old.bytes.items ++ three first.now second.now third.now) }
     {
-        self.add(first)?;
-        self.add(" ")?;
+        self.add_spaced(first)?;
         self.add_two(second, third)
     }
 

@@ -30,11 +30,17 @@ fn read_lines(alloc: Global, bytes: &[u8]) -> Result<Script, ScriptNo>
     while let Some((line, more)) = next_line(rest) {
         let line = match str::from_utf8(line) {
             Ok(line) => line,
-            Err(_) => return Err(ScriptNo::Breach { line: number }),
+            Err(_) => {
+                drop(draft);
+                return Err(ScriptNo::Breach { line: number });
+            }
         };
         match draft.take_line(alloc, line) {
             Ok(()) => {}
-            Err(why) => return Err(why.refusal_on_line(number)),
+            Err(why) => {
+                drop(draft);
+                return Err(why.refusal_on_line(number));
+            }
         }
         rest = more;
         number += 1;

@@ -126,8 +126,7 @@ fn add_field(text: &mut LineText, field: &Field, answered: &str) -> Result<(), N
     ensures { IfOk result (λ done. text.new.bytes.items ≡ text.old.bytes.items
         ++ two (field_text field.now) (visible answered.now)) }
 {
-    text.add(field_text(field))?;
-    text.add(" ")?;
+    text.add_spaced(field_text(field))?;
     text.add_visible(answered)
 }
 

@@ -5,7 +5,7 @@ ghost use Rattle.kr_script.specs.Rules.{is_long};
 use kr_base::{Bytes, DATA_LIMIT, List, Text};
 
 /// A line of a worker. Replicas are named by their numbers, from 0.
-#[derive(Debug, Drop)]
+#[derive(Drop)]
 pub enum ScriptLine {
     /// Write the data under the path, as an object of the resource.
     Put {
@@ -52,7 +52,7 @@ impl ScriptLine {
 }
 
 /// A worker at a replica, with the lines that it does in order.
-#[derive(Debug, Drop)]
+#[derive(Drop)]
 pub struct Part {
     pub name: Text,
     pub replica: u32,
@@ -61,14 +61,14 @@ pub struct Part {
 
 /// What a fleet file says. A replica is its name and its file; the file `-` says that it isn't in
 /// at the opening.
-#[derive(Debug, Drop)]
+#[derive(Drop)]
 pub struct Script {
     pub replicas: List<(Text, Text)>,
     pub workers: List<Part>,
 }
 
 /// Why a fleet file isn't read.
-#[derive(Clone, Copy, Debug, PartialEq, Eq)]
+#[derive(Clone, Copy)]
 pub enum ScriptNo {
     /// The line, counted from 1, can't stand there; the line behind the last one where a replica or
     /// a worker is missing.

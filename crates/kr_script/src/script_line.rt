@@ -1,12 +1,11 @@
 //! Reading the lines of workers.
-ghost use Rattle.std.specs.Prelude.{◌≡◌, ◌≤◌, length, if◌then◌else◌, Some, None};
-ghost use Rattle.kr_base.specs.Rules.{is_path};
-ghost use Rattle.std.specs.Option.{option_map};
+ghost use Rattle.std.specs.Prelude.{◌≡◌, ◌≤◌, length, option_and_then};
 ghost use Rattle.kr_script.specs.Rows.{words_of};
 ghost use Rattle.kr_script.specs.Statements.{data_of};
-ghost use Rattle.kr_script.specs.inner.Drafts.{place_from, replica_number, put_in};
+ghost use Rattle.kr_script.specs.inner.Drafts.{one_word, two_words, place_from, replica_number};
+ghost use Rattle.kr_script.specs.inner.Drafts.{put_in, get_in, delete_in, reload_in, join_in};
 ghost use Rattle.kr_script.specs.inner.Drafts.{leave_in, line_in};
-ghost use Rattle.kr_script.specs.inner.Reading.{Finds};
+ghost use Rattle.kr_script.specs.inner.Reading.{Finds, FindsAs};
 
 use crate::line_error::ScriptLineError;
 use crate::script::ScriptLine;
@@ -33,24 +32,24 @@ pub fn read_line(
             Some((resource, path, word)) => read_put(alloc, resource, path, word),
             None => Err(ScriptLineError::Form),
         },
-        Keyword::Get => match one_word(rest) {
-            Some(path) => read_of_path(alloc, false, path),
-            None => Err(ScriptLineError::Form),
-        },
-        Keyword::Delete => match one_word(rest) {
-            Some(path) => read_of_path(alloc, true, path),
-            None => Err(ScriptLineError::Form),
-        },
+        Keyword::Get => {
+            let path = read_path(alloc, rest)?;
+            Ok(ScriptLine::Get { path })
+        }
+        Keyword::Delete => {
+            let path = read_path(alloc, rest)?;
+            Ok(ScriptLine::Delete { path })
+        }
         Keyword::Rewrite if is_blank(rest) => Ok(ScriptLine::Rewrite),
-        Keyword::Reload => match two_words(rest) {
-            Some((name, file)) => read_member(alloc, replicas, false, name, file),
-            None => Err(ScriptLineError::Form),
-        },
+        Keyword::Reload => {
+            let (replica, file) = read_replica_file(alloc, replicas, rest)?;
+            Ok(ScriptLine::Reload { replica, file })
+        }
         Keyword::Refresh if is_blank(rest) => Ok(ScriptLine::Refresh),
-        Keyword::Join => match two_words(rest) {
-            Some((name, file)) => read_member(alloc, replicas, true, name, file),
-            None => Err(ScriptLineError::Form),
-        },
+        Keyword::Join => {
+            let (replica, file) = read_replica_file(alloc, replicas, rest)?;
+            Ok(ScriptLine::Join { replica, file })
+        }
         Keyword::Leave => match one_word(rest) {
             Some(name) => read_leave(replicas, name),
             None => Err(ScriptLineError::Form),
@@ -71,9 +70,18 @@ fn read_put(
         return Err(ScriptLineError::Form);
     }
     let plain = read_data(alloc, word)?;
+    let Ok(resource) = Text::copy(alloc, resource) else {
+        drop(plain);
+        return Err(ScriptLineError::NoMemory);
+    };
+    let Ok(path) = Text::copy(alloc, path) else {
+        drop(resource);
+        drop(plain);
+        return Err(ScriptLineError::NoMemory);
+    };
     Ok(ScriptLine::Put {
-        resource: Text::copy(alloc, resource)?,
-        path: Text::copy(alloc, path)?,
+        resource,
+        path,
         plain,
     })
 }
@@ -92,43 +100,41 @@ fn read_data(alloc: Global, word: &str) -> Result<Bytes, ScriptLineError>
     }
 }
 
-/// A get or a delete of the path.
-fn read_of_path(alloc: Global, deletes: bool, path: &str) -> Result<ScriptLine, ScriptLineError>
-    ensures { Finds (if is_path path.now then Some (if deletes then ScriptLine.Delete path.now
-        else ScriptLine.Get path.now) else None) result }
+/// The path that a get or a delete names.
+fn read_path(alloc: Global, rest: &str) -> Result<Text, ScriptLineError>
+    ensures get { FindsAs ScriptLine.Get
+        (option_and_then get_in (one_word (words_of rest.now))) result }
+    ensures delete { FindsAs ScriptLine.Delete
+        (option_and_then delete_in (one_word (words_of rest.now))) result }
 {
+    let Some(path) = one_word(rest) else {
+        return Err(ScriptLineError::Form);
+    };
     if !path_ok(path) {
         return Err(ScriptLineError::Form);
     }
-    let path = Text::copy(alloc, path)?;
-    if deletes {
-        Ok(ScriptLine::Delete { path })
-    } else {
-        Ok(ScriptLine::Get { path })
-    }
+    Ok(Text::copy(alloc, path)?)
 }
 
-/// A reload or a join of the replica of this name, with the name of its file.
-fn read_member(
+/// The replica that a reload or a join names, and the name of its file.
+fn read_replica_file(
     alloc: Global,
     replicas: &[(Text, Text)],
-    joins: bool,
-    name: &str,
-    file: &str,
-) -> Result<ScriptLine, ScriptLineError>
+    rest: &str,
+) -> Result<(u32, Text), ScriptLineError>
     requires { length replicas.now ≤ 16 }
-    ensures { Finds (option_map (λ replica. if joins then ScriptLine.Join replica file.now
-        else ScriptLine.Reload replica file.now) (replica_number replicas.now name.now)) result }
+    ensures reload { FindsAs (λ named. ScriptLine.Reload named.0 named.1)
+        (option_and_then (reload_in replicas.now) (two_words (words_of rest.now))) result }
+    ensures join { FindsAs (λ named. ScriptLine.Join named.0 named.1)
+        (option_and_then (join_in replicas.now) (two_words (words_of rest.now))) result }
 {
+    let Some((name, file)) = two_words(rest) else {
+        return Err(ScriptLineError::Form);
+    };
     let Some(replica) = replica_number(replicas, name) else {
         return Err(ScriptLineError::Form);
     };
-    let file = Text::copy(alloc, file)?;
-    if joins {
-        Ok(ScriptLine::Join { replica, file })
-    } else {
-        Ok(ScriptLine::Reload { replica, file })
-    }
+    Ok((replica, Text::copy(alloc, file)?))
 }
 
 fn read_leave(replicas: &[(Text, Text)], name: &str) -> Result<ScriptLine, ScriptLineError>

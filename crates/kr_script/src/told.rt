@@ -6,7 +6,7 @@ use kr_kms::Field;
 use kr_provider::ValueNo;
 
 /// What a worker tells of a line that it did.
-#[derive(Debug, Drop)]
+#[derive(Drop)]
 pub enum Told {
     Put {
         revision: u64,
@@ -81,7 +81,7 @@ pub enum Told {
 }
 
 /// Why the output isn't written.
-#[derive(Clone, Copy, Debug, PartialEq, Eq)]
+#[derive(Clone, Copy)]
 pub enum WriteNo {
     /// The sink failed.
     Failed,

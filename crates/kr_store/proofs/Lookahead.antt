@@ -1,10 +1,13 @@
 -- Bytes that were read ahead.
-use Rattle.std.proofs.Common.{◌≡◌, ℕ, ◌+◌, ◌-◌, ◌<◌, ◌≤◌, min, List, ◌++◌, length, take, drop, Option, None, Some, IfSome, sym, ◌∙◌, ap, subst, arith, length-take, length-drop}
+use Rattle.std.proofs.Common.{◌≡◌, ℕ, ◌+◌, ◌-◌, ◌<◌, ◌≤◌, min, List, [], ◌++◌, length, take, drop, Option, None, Some, IfSome, Result, IsErrOf, refl, sym, ◌∙◌, ap, subst, arith, length-take, length-drop}
 use Rattle.std.proofs.lemmas.List.{take-append-drop, drop-drop, drop-take, take-take, length-take-le}
 use Rattle.std.specs.Io.KnownBytes.{Consumes}
 use Rattle.kr_base.specs.Tapes.{ReadsAt}
-use Rattle.kr_store.specs.inner.Reading.{Takes}
-use Rattle.kr_store.proofs.Steps.{rest_of, seen}
+use Rattle.kr_base.specs.Faults.{Rose}
+use Rattle.kr_store.specs.declared.answers.LoadStop.{LoadStop}
+use Rattle.kr_store.specs.declared.answers.LoadStop.TheVariants.{Failed}
+use Rattle.kr_store.specs.inner.Reading.{Ahead, Advances, Takes}
+use Rattle.kr_store.proofs.Steps.{left_known, rest_of, seen}
 
 -- the next bytes were taken
 pub takes_next : (told now : Option (List ℕ)) (place end count later n : ℕ) (into : List ℕ)
@@ -33,7 +36,7 @@ window u f n xs ys e h =
     ∙ drop-take u n ys
 
 -- how many bytes are handed out of those that were read ahead
-handed : (u f n size : ℕ) (ahead : List ℕ) → u < f → f ≤ length ahead → 0 < size
+pub handed : (u f n size : ℕ) (ahead : List ℕ) → u < f → f ≤ length ahead → 0 < size
     → n ≡ min (length (take (f - u) (drop u ahead))) size → (0 < n) × (u + n ≤ f) × (n ≤ size)
 handed u f n size ahead l m s is =
     let a = length-take (f - u) (drop u ahead) in
@@ -43,6 +46,45 @@ handed u f n size ahead l m s is =
       omega
           (arith, a, b, l, m, s, is),
     )
+
+-- the reader goes on within what the tape still holds
+pub goes_on : (told now : Option (List ℕ)) (place to end count later : ℕ)
+    (result : Result ℕ LoadStop) (old : Ahead) → now ≡ told
+    → IfSome told (λ bytes. end ≡ length bytes) → to ≤ end → count ≤ later
+    → (IsErrOf result Failed → Rose count later) → seen told place end count ≡ old
+    → Advances Failed old (seen now to end later) result
+goes_on told now place to end count later result old same e w l f is =
+    subst (λ (a : Ahead). Advances Failed a (seen now to end later) result) is (record {
+      moves = record {
+        told = same;
+        end = refl;
+        within = w;
+        known = left_known now to end
+            (subst (λ t. IfSome t (λ bytes. end ≡ length bytes)) (sym same) e) w;
+        later = l;
+      };
+      failed = f;
+    })
+
+-- no bytes are read ahead
+pub none_ahead : (told now : Option (List ℕ)) (place end size : ℕ) → now ≡ told → place ≤ end
+    → IfSome told (λ bytes. end ≡ length bytes) → 0 < size
+    → (place ≤ end) × IfSome now (λ bytes. end ≡ length bytes) × (place ≤ place)
+    × (place ≤ place + 0) × (0 < size) × (0 ≤ size)
+    × IfSome now (λ (bytes : List ℕ). ◌≡◌ {A = List ℕ} [] [])
+none_ahead told now place end size same w e s = (
+  w,
+  subst (λ t. IfSome t (λ bytes. end ≡ length bytes)) (sym same) e,
+  omega arith,
+  omega arith,
+  s,
+  omega arith,
+  nothing now,
+)
+  where
+    nothing : (t : Option (List ℕ)) → IfSome t (λ (bytes : List ℕ). ◌≡◌ {A = List ℕ} [] [])
+    nothing None = tt
+    nothing (Some bytes) = refl
 
 -- bytes are handed out of those that were read ahead
 pub hands_on : (told now : Option (List ℕ)) (place end count later start f n size : ℕ)

@@ -26,11 +26,11 @@ abbrev pub rest_of : ℕ → Option (List ℕ) → Option (List ℕ)
 rest_of place told = option_map (λ bytes. drop place bytes) told
 
 -- nothing was read although the tape doesn't end there: it tells nothing
-pub untold : (told : Option (List ℕ)) (place end : ℕ) (into : List ℕ)
-    → IfSome told (λ bytes. end ≡ length bytes) → place + length into ≤ end → 0 < length into
-    → ReadsAt told place 0 into → rest_of place told ≡ None
-untold None place end into e w s r = refl
-untold (Some bytes) place end into e w s r = absurd (omega (arith, r.0))
+pub untold : (told : Option (List ℕ)) (place end : ℕ) (into : List ℕ) (n : ℕ)
+    → IfSome told (λ bytes. end ≡ length bytes) → place < end → 0 < length into → n ≡ 0
+    → ReadsAt told place n into → rest_of place told ≡ None
+untold None place end into n e w s z r = refl
+untold (Some bytes) place end into n e w s z r = absurd (omega (arith, e, w, s, z, r.0))
 
 -- any bytes may be left where none are told; else those that are
 pub any_left : (told : Option (List ℕ)) (place end : ℕ) → IfSome told (λ bytes. end ≡ length bytes)

@@ -21,7 +21,7 @@ pub enum StoreNo {
 }
 
 /// Why a row wasn't written.
-#[derive(Clone, Copy, Debug, PartialEq, Eq)]
+#[derive(Clone, Copy, PartialEq, Eq)]
 pub enum PutNo {
     /// The tape failed.
     Failed,
@@ -34,7 +34,7 @@ pub enum PutNo {
 }
 
 /// What is wrong at a row, apart from its place.
-#[derive(Clone, Copy, Debug, PartialEq, Eq)]
+#[derive(Drop)]
 pub(crate) enum Cause {
     Torn,
     BadRow,
@@ -42,7 +42,7 @@ pub(crate) enum Cause {
 }
 
 /// Why reading stops.
-#[derive(Clone, Copy, Debug, PartialEq, Eq)]
+#[derive(Drop)]
 pub(crate) enum LoadStop {
     Breach(Cause),
     Failed,

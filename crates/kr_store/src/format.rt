@@ -10,7 +10,7 @@ pub(crate) const STORE_NAME: &[u8] = b"KRSTORE";
 pub(crate) const MAGIC_LENGTH: usize = 8;
 
 /// How a store's file is written. A new store has the second format.
-#[derive(Clone, Copy, Debug, PartialEq, Eq)]
+#[derive(Clone, Copy, PartialEq, Eq)]
 pub enum Format {
     /// `KRSTORE1`: puts have no check.
     One,
@@ -20,7 +20,7 @@ pub enum Format {
 
 /// Tells the secret that sealed a value from another secret under the same name: 8 bytes, kept as
 /// the number that they are with the highest byte first.
-#[derive(Clone, Copy, Debug, PartialEq, Eq)]
+#[derive(Clone, Copy, PartialEq, Eq)]
 pub struct Check {
     pub value: u64,
 }

@@ -11,7 +11,7 @@ use kr_paths::Path;
 use std::alloc::Global;
 
 /// What a row does, as its first byte says.
-#[derive(Clone, Copy, Debug, PartialEq, Eq)]
+#[derive(Clone, Copy)]
 pub(crate) enum RowKind {
     Put,
     Delete,
@@ -54,7 +54,10 @@ impl KeptRow {
         };
         match Shared::new(alloc, row) {
             Ok(row) => Ok(KeptRow::Put(row)),
-            Err(_) => Err(NoMemory),
+            Err(refused) => {
+                drop(refused);
+                Err(NoMemory)
+            }
         }
     }
 

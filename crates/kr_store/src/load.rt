@@ -7,7 +7,7 @@ use crate::format::Format;
 use crate::index::Index;
 use crate::kept_row::KeptRow;
 use crate::reader::Reader;
-use kr_base::{List, Tape};
+use kr_base::{List, NoMemory, Tape};
 use std::alloc::Global;
 
 /// What a file holds: its rows, and the index of the last ones of their paths.
@@ -24,9 +24,9 @@ pub(crate) fn load_rows<T: Tape>(alloc: Global, reader: &mut Reader<T>) -> Resul
     ensures advances { Advances StoreNo.Failed reader.old reader.new result }
     ensures loads { LoadsRows reader.old result }
 {
-    let mut rows = List::new(alloc);
-    let mut index = Index::new(alloc);
     if reader.is_at_end() {
+        let rows = List::new(alloc);
+        let index = Index::new(alloc);
         return Ok(Contents {
             format: Format::Two,
             rows,
@@ -34,23 +34,38 @@ pub(crate) fn load_rows<T: Tape>(alloc: Global, reader: &mut Reader<T>) -> Resul
         });
     }
     let format = reader.magic()?;
+    let mut rows = List::new(alloc);
+    let mut index = Index::new(alloc);
     while !reader.is_at_end() {
         let at = reader.place();
         let revision = rows.as_slice().len() as u64 + 1;
         let row = match reader.row(alloc, format, revision) {
             Ok(row) => row,
-            Err(stop) => return Err(load_refusal(stop, at)),
+            Err(stop) => {
+                drop((rows, index));
+                return Err(load_refusal(stop, at));
+            }
         };
         if !index.allows(&row) {
+            drop((rows, index));
+            drop(row);
             return Err(StoreNo::BadRow { at });
         }
         match index.note(&row, revision) {
             Ok(()) => {}
-            Err(_) => return Err(StoreNo::NoMemory),
+            Err(NoMemory) => {
+                drop((rows, index));
+                drop(row);
+                return Err(StoreNo::NoMemory);
+            }
         }
         match rows.push(row) {
             Ok(()) => {}
-            Err(_) => return Err(StoreNo::NoMemory),
+            Err(refused) => {
+                drop((rows, index));
+                drop(refused);
+                return Err(StoreNo::NoMemory);
+            }
         }
     }
     Ok(Contents {

@@ -6,7 +6,7 @@ use kr_paths::Path;
 
 /// A value that was put for a resource at a path, with its revision: the number of its row, from 1.
 /// A store of the first format has no checks.
-#[derive(Debug, Drop)]
+#[derive(Drop)]
 pub struct Row {
     pub path: Path,
     pub resource: Text,
@@ -16,14 +16,14 @@ pub struct Row {
 }
 
 /// A row of a store, lent: a put, or a delete by its path.
-#[derive(Clone, Copy, Debug)]
+#[derive(Clone, Copy)]
 pub enum RowRef<'a> {
     Put(&'a Row),
     Delete(&'a str),
 }
 
 /// What a row does at its path.
-#[derive(Debug, Drop)]
+#[derive(Drop)]
 pub enum Change {
     /// It puts a value for a resource.
     Put {
@@ -36,7 +36,7 @@ pub enum Change {
 }
 
 /// A row of the file. Its revision is its place, from 1.
-#[derive(Debug, Drop)]
+#[derive(Drop)]
 pub struct LogRow {
     pub path: Text,
     pub change: Change,

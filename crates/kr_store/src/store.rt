@@ -241,6 +241,7 @@ impl<T: Tape> Store<T> {
             return Err(PutNo::NoMemory);
         };
         let Ok(stored) = row.stored.share() else {
+            drop(own);
             return Err(PutNo::NoMemory);
         };
         self.put_own(row.path.as_str(), own, row.resource.as_str(), stored, check)
@@ -393,11 +394,15 @@ impl<T: Tape> Store<T> {
         let empty = at == 0;
         let needed = at + row_length(self.format, empty, path, &change);
         if needed > self.limit {
+            drop((own, change));
             return Err(PutNo::Full { needed });
         }
         match self.rows.reserve(1) {
             Ok(()) => {}
-            Err(NoMemory) => return Err(PutNo::NoMemory),
+            Err(NoMemory) => {
+                drop((own, change));
+                return Err(PutNo::NoMemory);
+            }
         }
         let revision = self.rows.as_slice().len() as u64 + 1;
         let made = match make_row(self.alloc, self.format, empty, revision, path, own, change) {

@@ -3,7 +3,6 @@ ghost use Rattle.std.specs.Prelude.{◌≡◌, IfOk};
 
 use kr_base::{Bytes, NoMemory, Shared};
 use std::alloc::Global;
-use std::fmt::{Debug, Formatter, Result as FormatResult, Write};
 use std::marker::Model;
 
 /// A value as it is stored, which several owners hold. Contracts see it as the list of its bytes.
@@ -27,7 +26,10 @@ impl Stored {
     {
         match Shared::new(alloc, bytes) {
             Ok(bytes) => Ok(Stored { bytes }),
-            Err(_) => Err(NoMemory),
+            Err(refused) => {
+                drop(refused);
+                Err(NoMemory)
+            }
         }
     }
 
@@ -45,12 +47,5 @@ impl Stored {
         ensures { result.now ≡ self.now }
     {
         self.bytes.get().as_slice()
-    }
-}
-
-impl Debug for Stored {
-    fn fmt<W: Write>(&self, f: &mut Formatter<W>) -> FormatResult {
-        let bytes = self.as_slice();
-        Debug::fmt(&bytes, f)
     }
 }

@@ -10,7 +10,7 @@ use kr_base::{Failed, NoMemory, Tape};
 use kr_paths::Path;
 
 /// Why a row wasn't written.
-#[derive(Clone, Copy, Debug, PartialEq, Eq)]
+#[derive(Drop)]
 pub(crate) enum RowWriteNo {
     Failed,
     NoMemory,

@@ -17,7 +17,7 @@ use std::thread::Threads;
 
 /// What several workers are asked for.
 #[derive(Drop)]
-pub enum TeamWords {
+pub(crate) enum TeamWords {
     /// A fleet.
     Fleet(FleetWords),
     /// A generated load.
@@ -28,7 +28,7 @@ pub enum TeamWords {
 
 /// What the words ask several workers for, if they do.
 #[tactic(auto, using(crate::proofs::Reading::no_fleet_read, crate::proofs::Reading::no_load_read, crate::proofs::Reading::no_watch_read))]
-pub fn read_team(alloc: Global, words: &[String]) -> Result<Option<TeamWords>, Stop>
+pub(crate) fn read_team(alloc: Global, words: &[String]) -> Result<Option<TeamWords>, Stop>
     ensures { IsTeamAsked (texts words.now) result }
 {
     if let Some(fleet) = read_fleet(alloc, words)? {
@@ -44,7 +44,7 @@ pub fn read_team(alloc: Global, words: &[String]) -> Result<Option<TeamWords>, S
 }
 
 /// Lets the workers do it, and writes what they made.
-pub fn run_team<R: Threads + Wait + Sync, W: World, O: Sink>(
+pub(crate) fn run_team<R: Threads + Wait + Sync, W: World, O: Sink>(
     rt: &R,
     alloc: Global,
     words: &TeamWords,

@@ -45,7 +45,7 @@ name_at-text other = refl
 pub name_once : (a b : OptionName) → option_text a ≡ option_text b → a ≡ b
 name_once a b e = sym (name_at-text a) ∙ ap name_at e ∙ name_at-text b
 
-option_rule : (verb : Verb) (replicas : ℕ) (name : OptionName) (option : List ℕ × List ℕ)
+pub option_rule : (verb : Verb) (replicas : ℕ) (name : OptionName) (option : List ℕ × List ℕ)
     → IsOption verb replicas option → option.0 ≡ option_text name → IsValue verb replicas name option.1
 option_rule verb replicas name option is e =
     subst (λ n. IsValue verb replicas n option.1) (name_once is.0 name (sym is.1 ∙ e)) is.3

@@ -1,12 +1,12 @@
 //! What the options of a command give beyond first values: programs, replicas, a reload, numbers.
 ghost use Rattle.std.specs.Prelude.{◌≡◌, ◌^◌, ◌<◌, ◌≤◌, ℕ, List, MatchOption, IsSome, IsSomeAnd};
-ghost use Rattle.std.specs.Prelude.{Contains, codes, slice_get};
+ghost use Rattle.std.specs.Prelude.{codes, slice_get};
 ghost use Rattle.std.specs.Option.{option_copied};
 ghost use Rattle.kr_words.specs.Options.{value_of, values_of, count_options};
 ghost use Rattle.kr_words.specs.Arguments.{is_plugin, plugin_program, ReadsNumberAt, IsReloadOf};
 ghost use Rattle.kr_words.specs.Arguments.{IsReloadAt};
 ghost use Rattle.kr_words.specs.Names.{option_text};
-ghost use Rattle.kr_words.specs.Rules.{before_equals, after_equals, IsCommand};
+ghost use Rattle.kr_words.specs.Rules.{after_equals, IsCommand};
 ghost use Rattle.kr_words.specs.Grammar.{replica_limit, replicas_of, HasFewReplicas, IsWithinPage};
 ghost use Rattle.kr_words.specs.Grammar.{IsWithinSize};
 ghost use Rattle.kr_words.specs.declared.command.Verb.{Verb};
@@ -14,11 +14,11 @@ ghost use Rattle.kr_words.specs.declared.command.Verb.{Verb};
 use crate::command::{CommandWords, count_named, first_value};
 use crate::name::OptionName;
 use crate::numeral::parse_numeral;
-use crate::rules::name_before_equals;
+use crate::rules::{name_before_equals, split_at_equals};
 use kr_base::Text;
 
 /// A reload of one replica.
-#[derive(Clone, Copy, Debug)]
+#[derive(Clone, Copy)]
 pub struct Reload<'a> {
     /// The replica's number, counted from 0.
     pub replica: u64,
@@ -143,19 +143,6 @@ fn parse_reload(value: &str) -> Option<Reload<'_>>
             Some(replica) => Some(Reload { replica, file }),
             None => None,
         },
-        None => None,
-    }
-}
-
-/// What stands before and behind the first `=`.
-fn split_at_equals(value: &str) -> Option<(&str, &str)>
-    ensures { MatchOption result
-        (Contains value.now 0x3D → ⊥)
-        (λ parts. Contains value.now 0x3D × (parts.0.now ≡ before_equals value.now)
-        × (parts.1.now ≡ after_equals value.now)) }
-{
-    match value.split_once('=') {
-        Some((before, after)) => Some((before, after)),
         None => None,
     }
 }

@@ -8,7 +8,7 @@ use crate::name::OptionName;
 use kr_base::{List, Text};
 
 /// A command of the program.
-#[derive(Clone, Copy, Debug, PartialEq, Eq)]
+#[derive(Clone, Copy)]
 pub enum Verb {
     /// Encrypts the input.
     Encrypt,
@@ -44,7 +44,7 @@ pub enum Verb {
 
 /// What a command line means: a command and its options as pairs of a name without dashes and a
 /// value, in the order of the words.
-#[derive(Debug, Drop)]
+#[derive(Drop)]
 pub struct CommandWords {
     /// Which command.
     pub verb: Verb,
@@ -53,7 +53,7 @@ pub struct CommandWords {
 }
 
 /// Why words weren't read.
-#[derive(Clone, Copy, Debug, PartialEq, Eq)]
+#[derive(Clone, Copy)]
 pub enum WordsNo {
     /// The words mean no command.
     Usage,

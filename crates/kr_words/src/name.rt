@@ -5,7 +5,7 @@ ghost use Rattle.kr_words.specs.Names.{word_of, option_text, required_options, o
 use crate::command::Verb;
 
 /// The name of an option.
-#[derive(Clone, Copy, Debug, PartialEq, Eq)]
+#[derive(Clone, Copy, PartialEq, Eq)]
 pub enum OptionName {
     /// A configuration's file.
     Config,

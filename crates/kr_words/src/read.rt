@@ -41,15 +41,19 @@ pub fn read_words(alloc: Global, words: &[String]) -> Result<CommandWords, Words
         Err(SpellingNo::NoMemory) => return Err(WordsNo::NoMemory),
     };
     if !is_command(verb, options.as_slice()) {
+        drop(options);
         return Err(WordsNo::Usage);
     }
     if !has_few_replicas(options.as_slice()) {
+        drop(options);
         return Err(WordsNo::Replicas);
     }
     if !fits_limit(options.as_slice(), OptionName::Size, SIZE_LIMIT) {
+        drop(options);
         return Err(WordsNo::Size);
     }
     if !fits_limit(options.as_slice(), OptionName::Limit, PAGE_LIMIT) {
+        drop(options);
         return Err(WordsNo::Page);
     }
     Ok(CommandWords { verb, options })

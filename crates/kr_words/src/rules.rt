@@ -1,8 +1,8 @@
 //! The rules for the options of a command.
-ghost use Rattle.std.specs.Prelude.{◌≡◌, ◌↔◌, ◌⊎◌, ◌≤◌, ◌<◌, ℕ, IsTrue, Contains, All, AllPairs};
+ghost use Rattle.std.specs.Prelude.{◌≡◌, ◌↔◌, ◌⊎◌, ◌≤◌, ◌<◌, ℕ, IsTrue, MatchOption, Contains, All, AllPairs};
 ghost use Rattle.kr_words.specs.Names.{option_text, required_options, optional, IsRepeatable};
 ghost use Rattle.kr_words.specs.Options.{count_options};
-ghost use Rattle.kr_words.specs.Rules.{before_equals, IsPlugin, IsReload, MayBeShown};
+ghost use Rattle.kr_words.specs.Rules.{before_equals, after_equals, IsPlugin, IsReload, MayBeShown};
 ghost use Rattle.kr_words.specs.Rules.{MayHaveEmptyPath};
 ghost use Rattle.kr_words.specs.Rules.{IsValue, IsOption, HaveTwoNames, IsCommand};
 ghost use Rattle.kr_words.specs.Numerals.{IsDecimal};
@@ -97,7 +97,7 @@ fn may_have_empty_path(verb: Verb) -> bool
 fn is_plugin(value: &str) -> bool
     ensures { IsTrue result ↔ IsPlugin value.now }
 {
-    match value.split_once('=') {
+    match split_at_equals(value) {
         Some((name, program)) => name_ok(name) && !program.is_empty(),
         None => false,
     }
@@ -107,7 +107,7 @@ fn is_plugin(value: &str) -> bool
 fn is_reload(replicas: usize, value: &str) -> bool
     ensures { IsTrue result ↔ IsReload replicas value.now }
 {
-    match value.split_once('=') {
+    match split_at_equals(value) {
         Some((replica, _)) => is_below(replica, replicas),
         None => false,
     }
@@ -190,6 +190,19 @@ fn have_two_names(a: &(Text, Text), b: &(Text, Text)) -> bool
     a.0.as_str() != plugin
         || b.0.as_str() != plugin
         || name_before_equals(a.1.as_str()) != name_before_equals(b.1.as_str())
+}
+
+/// What stands before and behind the first `=`.
+pub(crate) fn split_at_equals(value: &str) -> Option<(&str, &str)>
+    ensures { MatchOption result
+        (Contains value.now 0x3D → ⊥)
+        (λ parts. Contains value.now 0x3D × (parts.0.now ≡ before_equals value.now)
+        × (parts.1.now ≡ after_equals value.now)) }
+{
+    match value.split_once('=') {
+        Some((before, after)) => Some((before, after)),
+        None => None,
+    }
 }
 
 /// What stands before the first `=`.

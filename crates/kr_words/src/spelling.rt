@@ -22,11 +22,15 @@ pub fn read_options(alloc: Global, words: &[String]) -> Result<List<(Text, Text)
     let mut rest = words;
     while !rest.is_empty() {
         let Some((name, value, tail)) = first_option(rest) else {
+            drop(options);
             return Err(SpellingNo::Usage);
         };
         match push_option(alloc, &mut options, name, value) {
             Ok(()) => {}
-            Err(NoMemory) => return Err(SpellingNo::NoMemory),
+            Err(NoMemory) => {
+                drop(options);
+                return Err(SpellingNo::NoMemory);
+            }
         }
         rest = tail;
     }
@@ -60,10 +64,18 @@ fn push_option(
 ) -> Result<(), NoMemory>
     ensures { OnOk result (options.new.0 ≡ options.old.0 ++ (name.now, value.now) ∷ []) }
 {
-    let name = Text::copy(alloc, name)?;
-    let value = Text::copy(alloc, value)?;
+    let Ok(name) = Text::copy(alloc, name) else {
+        return Err(NoMemory);
+    };
+    let Ok(value) = Text::copy(alloc, value) else {
+        drop(name);
+        return Err(NoMemory);
+    };
     match options.push((name, value)) {
         Ok(()) => Ok(()),
-        Err(_) => Err(NoMemory),
+        Err(refused) => {
+            drop(refused);
+            Err(NoMemory)
+        }
     }
 }

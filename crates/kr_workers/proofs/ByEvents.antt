@@ -1,5 +1,5 @@
--- What the events of a call keep between a caller and what it becomes, the call keeps: for calls that
--- read alone, for what holds a generation meanwhile, and for drives.
+-- What the events of a call keep between a caller and what it becomes, the call keeps: for calls
+-- that read alone, for what holds a generation meanwhile, and for drives.
 use Rattle.std.specs.Prelude.{◌⊎◌, ⊤}
 use Rattle.std.proofs.Common.{◌≡◌, ℕ, List, [], ◌∷◌, Option, Result, Ok, Err, inl, inr, ap}
 use Rattle.kr_kms.specs.Calls.{Link}

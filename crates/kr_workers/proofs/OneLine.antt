@@ -43,7 +43,7 @@ use Rattle.kr_history.proofs.AskedReaders.{asked_all}
 use Rattle.kr_workers.specs.ScriptLines.{BringsFile, Does, MayBringFile, WasRead}
 use Rattle.kr_workers.specs.declared.line.Way.{Way}
 use Rattle.kr_workers.specs.declared.line.Way.TheVariants as way
-use Rattle.kr_workers.specs.inner.Bringing.{line_by}
+use Rattle.kr_workers.specs.inner.Ways.{line_by}
 use Rattle.kr_workers.specs.inner.Serving.{AddsFor, EndsFor, IsIdleAt, IsReadyFor, MovesKeys, Serves, place_of}
 use Rattle.kr_workers.specs.LineMoments.{adopts_published}
 use Rattle.kr_workers.proofs.MovedKeys.{moves_nothing}

@@ -1,5 +1,5 @@
 -- Definitions that serve inner contracts alone.
-pub mod Bringing
+pub mod Ways
 pub mod Serving
 pub mod WholeRuns
 pub mod Going

@@ -3,7 +3,7 @@ ghost use Rattle.std.specs.Prelude.{◌≡◌, IfOk, IsSome, Some};
 ghost use Rattle.kr_config.specs.Kept.{rows_of};
 ghost use Rattle.kr_script.specs.declared.script.ScriptLine.TheVariants as line;
 ghost use Rattle.kr_workers.specs.Files.{rows_at};
-ghost use Rattle.kr_workers.specs.inner.Bringing.{line_by};
+ghost use Rattle.kr_workers.specs.inner.Ways.{line_by};
 ghost use Rattle.kr_workers.specs.inner.Serving.{IsReadyFor, Serves};
 
 use crate::files::{SettingsFile, file_settings};

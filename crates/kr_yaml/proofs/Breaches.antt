@@ -35,12 +35,12 @@ within_within s t u h k = record {
 some_same : {X : Type 0} (x y : X) → Some x ≡ Some y → x ≡ y
 some_same x y e = ap (λ o. unwrap_or o x) e
 
-abbrev pub GoesOn : List Token → Type 0
-GoesOn qs = (ts : List Token) (st new : State) (s : Shape) → Stands 0 ts st.0 st.1 s
+abbrev pub WentBy : List Token → Type 0
+WentBy qs = (ts : List Token) (st new : State) (s : Shape) → Stands 0 ts st.0 st.1 s
     → run qs st ≡ Some new → Went (ts ++ qs) s new
 
 went_at : (t : Token) (qs ts : List Token) (st new : State) (s : Shape) (r : Option State)
-    → put t st.0 st.1 ≡ r → GoesOn qs → Stands 0 ts st.0 st.1 s → option_and_then (run qs) r
+    → put t st.0 st.1 ≡ r → WentBy qs → Stands 0 ts st.0 st.1 s → option_and_then (run qs) r
     ≡ Some new → Went (ts ++ t ∷ qs) s new
 went_at t qs ts st new s None q rest h e = cc
 went_at t qs ts st new s (Some mid) q rest h e =
@@ -52,7 +52,7 @@ went_at t qs ts st new s (Some mid) q rest h e =
       more = within_within s g.shape w.shape g.more w.more;
     }
 
-pub went : (qs : List Token) → GoesOn qs
+pub went : (qs : List Token) → WentBy qs
 went [] = λ ts st new s h e. subst (Went (ts ++ []) s) (some_same st new e)
     (record {
       shape = s;

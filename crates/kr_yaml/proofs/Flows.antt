@@ -1,6 +1,6 @@
 -- The steps of reading a flow list.
 use Rattle.std.proofs.Common.{◌≡◌, ℕ, ◌+◌, ◌-◌, ◌<◌, ◌≤◌, List, [], ◌∷◌, ◌++◌, Option, None, Some}
-use Rattle.std.proofs.Common.{refl, sym, ap, ◌∙◌, arith, suc}
+use Rattle.std.proofs.Common.{refl, sym, ap, ◌∙◌, arith, suc, Err}
 use Rattle.std.specs.Option.{option_map, option_map_or}
 use Rattle.std.proofs.lemmas.List.{append-nil}
 use Rattle.kr_yaml.specs.Bytes.{behind, skip}
@@ -11,6 +11,10 @@ use Rattle.kr_yaml.specs.Shown.{view, views}
 use Rattle.kr_yaml.specs.declared.tree.Tree.{Tree}
 use Rattle.kr_yaml.specs.declared.scalar.Scalar.{Scalar}
 use Rattle.kr_yaml.specs.declared.scalar.Context.TheVariants.{Flow}
+use Rattle.kr_yaml.specs.declared.line_error.LineError.{LineError}
+use Rattle.kr_yaml.specs.declared.line_error.LineError.TheVariants.{Form, NoMemory}
+use Rattle.kr_yaml.specs.inner.Gives.{Gives, with_rest}
+use Rattle.kr_yaml.specs.inner.Seen.{lent_trees}
 use Rattle.kr_yaml.proofs.Quotes.{nil_bytes, join_bytes}
 
 abbrev pub next : ℕ → List ℕ → Option (List Data × List ℕ)
@@ -38,6 +42,14 @@ pub scalars_refused : (n i : ℕ) (text rest : List ℕ) (ds : List Data) → i 
     → scalars n text ≡ with_front ds (scalars (n - i) rest) → leading_scalar Flow (skip rest) ≡ None
     → scalars n text ≡ None
 scalars_refused n i text rest ds h inv e = scalars_step n i text rest ds None h inv e
+
+pub scalars_why : (n i : ℕ) (text rest front : List ℕ) (ds : List Data) (why : LineError) → i < n
+    → scalars n text ≡ with_front ds (scalars (n - i) rest) → front ≡ skip rest
+    → Gives with_rest (leading_scalar Flow front) (Err why) → Gives lent_trees (scalars n text)
+    (Err why)
+scalars_why n i text rest front ds Form h inv e none = scalars_refused n i text rest ds h inv
+    (sym (ap (leading_scalar Flow) e) ∙ none)
+scalars_why n i text rest front ds NoMemory h inv e none = tt
 
 scalars_read : (n i : ℕ) (text rest : List ℕ) (ds : List Data) (s : Scalar) (after : List ℕ) → i < n
     → scalars n text ≡ with_front ds (scalars (n - i) rest) → leading_scalar Flow (skip rest)
@@ -87,3 +99,8 @@ pub views_push : (trees : List Tree) (tree : Tree) → views (trees ++ tree ∷ 
     ≡ views trees ++ view tree ∷ []
 views_push [] tree = refl
 views_push (t ∷ trees) tree = ap (λ l. view t ∷ l) (views_push trees tree)
+
+pub views_more : (trees more : List Tree) (tree : Tree) (d : Data) → more ≡ trees ++ tree ∷ []
+    → view tree ≡ d → views more ≡ views trees ++ d ∷ []
+views_more trees more tree d is seen = ap views is ∙ views_push trees tree
+    ∙ ap (λ e. views trees ++ e ∷ []) seen

@@ -24,8 +24,7 @@ use Rattle.kr_yaml.specs.declared.tree.Tree.{Tree}
 use Rattle.kr_yaml.specs.declared.progress.Progress.{Progress}
 use Rattle.kr_yaml.specs.declared.progress.Progress.TheVariants.{Going, Broken}
 use Rattle.kr_yaml.specs.declared.yaml_no.YamlNo.{YamlNo}
-use Rattle.kr_yaml.specs.declared.yaml_no.YamlNo.TheVariants.{Outside, Indent, DuplicateKey, Deep}
-use Rattle.kr_yaml.specs.declared.yaml_no.YamlNo.TheVariants.{NoMemory}
+use Rattle.kr_yaml.specs.declared.yaml_no.YamlNo.TheVariants.{Indent, DuplicateKey, Deep}
 use Rattle.kr_yaml.proofs.Grown.{grows, stands_node, frames_levels}
 use Rattle.kr_yaml.proofs.Putting.{frames_length}
 use Rattle.kr_yaml.proofs.Breaches.{first_none}

@@ -5,9 +5,9 @@ use Rattle.std.proofs.Common.{subst, arith}
 use Rattle.std.specs.Prelude.{if◌then◌else◌, ◌==◌, option_and_then}
 use Rattle.std.proofs.lemmas.List.{append-nil}
 use Rattle.kr_yaml.specs.Data.{Data}
-use Rattle.kr_yaml.specs.Lines.{Token, dash, pair, leaf}
+use Rattle.kr_yaml.specs.Lines.{Token, pair}
 use Rattle.kr_yaml.specs.Forms.{Shape, flat, Form}
-use Rattle.kr_yaml.specs.inner.Open.{Frame, items, members, State, belongs_to_node, is_repeated, next}
+use Rattle.kr_yaml.specs.inner.Open.{Frame, members, State, belongs_to_node, is_repeated, next}
 use Rattle.kr_yaml.specs.inner.Open.{under, put, doubles, run, closed_value}
 use Rattle.kr_yaml.specs.inner.Standing.{Stands, empty}
 use Rattle.kr_yaml.specs.Shown.{view}

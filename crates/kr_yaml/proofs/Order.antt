@@ -3,8 +3,8 @@ use Rattle.std.proofs.Common.{◌≡◌, ℕ, ◌+◌, ◌<◌, ◌≤◌, Bool,
 use Rattle.std.proofs.Common.{Option, None, Some, refl, sym, ap, ◌∙◌, subst, arith, suc}
 use Rattle.std.specs.Prelude.{if◌then◌else◌, ◌==◌, ◌||◌, nat_lt, option_and_then}
 use Rattle.kr_yaml.specs.Data.{Data}
-use Rattle.kr_yaml.specs.Lines.{Token, dash, pair, leaf, AreContentTokens, empty_item, item, empty_member}
-use Rattle.kr_yaml.specs.Lines.{member, value, IsLine, empty_line, comment_line, content_line}
+use Rattle.kr_yaml.specs.Lines.{Token, dash, pair, leaf, AreContentTokens, empty_item, item}
+use Rattle.kr_yaml.specs.Lines.{IsLine, empty_line, comment_line, content_line}
 use Rattle.kr_yaml.specs.Forms.{Shape, flat, Form}
 use Rattle.kr_yaml.specs.Laws.{OnALine}
 use Rattle.kr_yaml.specs.inner.Open.{Frame, items, members, State, token_column, is_dash_in_column, belongs_to_node}

@@ -13,7 +13,7 @@ use Rattle.kr_yaml.specs.inner.Open.{Frame, members, State, belongs_to_node, clo
 use Rattle.kr_yaml.specs.inner.Open.{first_state, begin, next, under, put, doubles, is_repeated}
 use Rattle.kr_yaml.specs.inner.Open.{place}
 use Rattle.kr_yaml.specs.inner.Frames.{frame_view, frame_views, state_view}
-use Rattle.kr_yaml.specs.inner.Puts.{GoesOn, Puts}
+use Rattle.kr_yaml.specs.inner.Puts.{Continues, Puts}
 use Rattle.kr_yaml.specs.inner.Adds.{Adds}
 use Rattle.kr_yaml.specs.declared.tree.Tree.{Tree}
 use Rattle.kr_yaml.specs.declared.open.OpenNode.{OpenNode}
@@ -168,7 +168,7 @@ next_node t all rest node n o at h e =
 pub next_refused : (t : Token) (all rest : List OpenNode) (node : OpenNode) (n : ℕ)
     (o : Option Data) (tree : Tree) (why : PlaceError) → Next t all rest node n o
     → view tree ≡ closed_value (frame_views (drop (n + 1) all)) o
-    → GoesOn (next t (frame_view node) (view tree)) (is_repeated t (frame_view node)) (Err why)
+    → Continues (next t (frame_view node) (view tree)) (is_repeated t (frame_view node)) (Err why)
     → Puts (put t (frame_views all) o) (doubles t (frame_views all)) (Err why)
 next_refused t all rest node n o tree Indent h e g = h.puts
     ∙ ap (λ d. onto (frame_views rest) (next t (frame_view node) d)) (sym e)
@@ -213,7 +213,7 @@ equal c = grind arith
 
 pub added : (c : ℕ) (ms : List (List ℕ × Data)) (l k : List ℕ) (v : Option Data) (d : Data)
     (why : PlaceError) → Adds (members c ms l) d k (Err why)
-    → GoesOn (next (pair c k v) (members c ms l) d) (is_repeated (pair c k v) (members c ms l))
+    → Continues (next (pair c k v) (members c ms l) d) (is_repeated (pair c k v) (members c ms l))
     (Err why)
 added c ms l k v d DuplicateKey h = (
   (members c (ms ++ (l, d) ∷ []) k ∷ [], v),
@@ -225,7 +225,7 @@ added c ms l k v d NoMemory h = tt
 added c ms l k v d other h = absurd h
 
 pub goes : (t u : Token) (f g : Frame) (d : Data) (why : PlaceError) → t ≡ u → f ≡ g
-    → GoesOn (next u g d) (is_repeated u g) (Err why)
-    → GoesOn (next t f d) (is_repeated t f) (Err why)
-goes t u f g d why e h x = subst (λ t. GoesOn (next t f d) (is_repeated t f) (Err why)) (sym e)
-    (subst (λ f. GoesOn (next u f d) (is_repeated u f) (Err why)) (sym h) x)
+    → Continues (next u g d) (is_repeated u g) (Err why)
+    → Continues (next t f d) (is_repeated t f) (Err why)
+goes t u f g d why e h x = subst (λ t. Continues (next t f d) (is_repeated t f) (Err why)) (sym e)
+    (subst (λ f. Continues (next u f d) (is_repeated u f) (Err why)) (sym h) x)

@@ -6,8 +6,7 @@ use Rattle.std.specs.Prelude.{if◌then◌else◌}
 use Rattle.std.proofs.lemmas.List.{drop_all, take_all, length-drop}
 use Rattle.kr_yaml.specs.inner.Stops.{stops, length_before_stop, at_stop}
 use Rattle.kr_yaml.specs.declared.bytes.ScanStop.{ScanStop}
-use Rattle.kr_yaml.specs.declared.bytes.ScanStop.TheVariants.{Colon, Comment, KeyEnd, FlowSign}
-use Rattle.kr_yaml.specs.declared.bytes.ScanStop.TheVariants.{SingleQuote, DoubleQuote}
+use Rattle.kr_yaml.specs.declared.bytes.ScanStop.TheVariants.{Colon}
 
 more_at : (t : List ℕ → Bool) (b : ℕ) (r w : List ℕ) → w ≡ b ∷ r → t w ≡ false
     → length_before_stop t w ≡ suc (length_before_stop t r)

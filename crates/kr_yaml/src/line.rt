@@ -20,7 +20,6 @@ use kr_base::{List, NoMemory, Text};
 use std::alloc::Global;
 
 /// The scalars of a flow list, and what stands behind its closing bracket.
-#[tactic(auto, using(crate::proofs::Flows::scalars_begin, crate::proofs::Flows::scalars_refused, crate::proofs::Flows::scalars_go_on, crate::proofs::Flows::scalars_end, crate::proofs::Flows::scalars_open, crate::proofs::Flows::scalars_out))]
 fn scalars(alloc: Global, text: &str) -> Result<(List<Tree>, &str), LineError>
     ensures { Gives lent_trees (scalars (length text.now) text.now) result }
 {
@@ -29,21 +28,32 @@ fn scalars(alloc: Global, text: &str) -> Result<(List<Tree>, &str), LineError>
     'scalars: for step in 0..text.len() {
         let (scalar, after) = match leading_scalar(alloc, Context::Flow, skip(rest)) {
             Ok(found) => found,
-            Err(why) => return Err(why),
+            Err(why) => {
+                drop(trees);
+                return Err(why);
+            }
         };
         match trees.push(scalar_tree(scalar)) {
             Ok(()) => {}
-            Err(_) => return Err(LineError::NoMemory),
+            Err(refused) => {
+                drop(refused);
+                drop(trees);
+                return Err(LineError::NoMemory);
+            }
         }
         let after = skip(after);
         match strip_mark(after, ',') {
             Some(more) => rest = more,
             None => match strip_mark(after, ']') {
                 Some(more) => return Ok((trees, more)),
-                None => return Err(LineError::Form),
+                None => {
+                    drop(trees);
+                    return Err(LineError::Form);
+                }
             },
         }
     }
+    drop(trees);
     Err(LineError::Form)
 }
 

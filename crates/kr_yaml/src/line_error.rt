@@ -1,7 +1,7 @@
 //! Why a part of a line wasn't read.
 
 /// Why a part of a line wasn't read.
-#[derive(Clone, Copy, Debug, PartialEq, Eq)]
+#[derive(Clone, Copy)]
 pub enum LineError {
     /// It isn't of the profile.
     Form,

@@ -8,7 +8,7 @@ ghost use Rattle.kr_yaml.specs.inner.Open.{Frame, items, members, token_column, 
 ghost use Rattle.kr_yaml.specs.inner.Open.{close, closed_value, first_state, next, put};
 ghost use Rattle.kr_yaml.specs.inner.Open.{is_repeated, doubles, place};
 ghost use Rattle.kr_yaml.specs.inner.Frames.{frame_view, frame_views, state_view};
-ghost use Rattle.kr_yaml.specs.inner.Puts.{GoesOn, Puts};
+ghost use Rattle.kr_yaml.specs.inner.Puts.{Continues, Puts};
 
 use crate::open_mapping::OpenMapping;
 use crate::place_error::PlaceError;

@@ -1,5 +1,5 @@
 //! A mapping that is open.
-ghost use Rattle.std.specs.Prelude.{◌≡◌, ℕ, List, [], ◌∷◌, ◌++◌};
+ghost use Rattle.std.specs.Prelude.{◌≡◌, ℕ, IfOk, List, [], ◌∷◌, ◌++◌};
 ghost use Rattle.std.specs.List.{list_any};
 ghost use Rattle.std.specs.Ordering.{nat_cmp};
 ghost use Rattle.std.specs.Cmp.Lexicographic.{slice_cmp};
@@ -30,7 +30,7 @@ pub struct OpenMapping {
 }
 
 impl OpenMapping {
-    ghost use Rattle.std.specs.Prelude.{IfOk, MatchResult, true, false};
+    ghost use Rattle.std.specs.Prelude.{MatchResult, true, false};
     ghost use Rattle.kr_yaml.specs.Shown.{view};
     ghost use Rattle.kr_yaml.specs.inner.Open.{members, close};
     ghost use Rattle.kr_yaml.specs.inner.Frames.{mapping_frame};
@@ -43,11 +43,20 @@ impl OpenMapping {
         let mut keys = BTreeSet::new(alloc);
         let copy = match Text::copy(alloc, key.as_str()) {
             Ok(copy) => copy,
-            Err(_) => return Err(NoMemory),
+            Err(_) => {
+                drop(keys);
+                drop(key);
+                return Err(NoMemory);
+            }
         };
         match keys.insert(copy) {
             Ok(_) => {}
-            Err(_) => return Err(NoMemory),
+            Err(refused) => {
+                drop(refused);
+                drop(keys);
+                drop(key);
+                return Err(NoMemory);
+            }
         }
         Ok(OpenMapping {
             column,
@@ -61,31 +70,44 @@ impl OpenMapping {
     pub fn add(self, alloc: Global, value: Tree, key: Text) -> Result<OpenMapping, PlaceError>
         ensures { Adds (mapping_frame self) (view value) key result }
     {
+        let Ok(copy) = Text::copy(alloc, key.as_str()) else {
+            drop(self);
+            drop(value);
+            drop(key);
+            return Err(PlaceError::NoMemory);
+        };
         let OpenMapping {
             column,
-            mut done,
+            done,
             key: last,
             mut keys,
         } = self;
-        let copy = match Text::copy(alloc, key.as_str()) {
-            Ok(copy) => copy,
-            Err(_) => return Err(PlaceError::NoMemory),
+        let member = Member { key: last, value };
+        let is_new = match keys.insert(copy) {
+            Ok(is_new) => is_new,
+            Err(refused) => {
+                drop(refused);
+                drop((done, member, key, keys));
+                return Err(PlaceError::NoMemory);
+            }
         };
-        match keys.insert(copy) {
-            Ok(true) => {}
-            Ok(false) => return Err(PlaceError::DuplicateKey),
-            Err(_) => return Err(PlaceError::NoMemory),
+        if !is_new {
+            drop((done, member, key, keys));
+            return Err(PlaceError::DuplicateKey);
         }
-        match done.push(Member { key: last, value }) {
-            Ok(()) => {}
-            Err(_) => return Err(PlaceError::NoMemory),
+        match with_member(done, member) {
+            Ok(done) => Ok(OpenMapping {
+                column,
+                done,
+                key,
+                keys,
+            }),
+            Err(NoMemory) => {
+                drop(key);
+                drop(keys);
+                Err(PlaceError::NoMemory)
+            }
         }
-        Ok(OpenMapping {
-            column,
-            done,
-            key,
-            keys,
-        })
     }
 
     /// Closes the mapping with the value of its last member.
@@ -94,13 +116,29 @@ impl OpenMapping {
     {
         let OpenMapping {
             column: _column,
-            mut done,
+            done,
             key,
-            keys: _keys,
+            keys,
         } = self;
-        match done.push(Member { key, value }) {
-            Ok(()) => Ok(Tree::Members(done)),
-            Err(_) => Err(NoMemory),
+        drop(keys);
+        match with_member(done, Member { key, value }) {
+            Ok(done) => Ok(Tree::Members(done)),
+            Err(NoMemory) => Err(NoMemory),
+        }
+    }
+}
+
+/// The members with one more.
+fn with_member(done: List<Member>, member: Member) -> Result<List<Member>, NoMemory>
+    ensures { IfOk result (λ more. more.0 ≡ done.0 ++ member ∷ []) }
+{
+    let mut more = done;
+    match more.push(member) {
+        Ok(()) => Ok(more),
+        Err(refused) => {
+            drop(refused);
+            drop(more);
+            Err(NoMemory)
         }
     }
 }

@@ -1,7 +1,7 @@
 //! Why a token wasn't put.
 
 /// Why a token wasn't put.
-#[derive(Clone, Copy, Debug, PartialEq, Eq)]
+#[derive(Clone, Copy)]
 pub enum PlaceError {
     /// It can't go on with the tree.
     Indent,

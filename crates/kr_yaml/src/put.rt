@@ -3,12 +3,13 @@ ghost use Rattle.std.specs.Prelude.{◌≡◌, ◌<◌, ◌≤◌, ◌+◌, true
 ghost use Rattle.std.specs.Prelude.{IfOk, OnOk, None, unwrap_or};
 ghost use Rattle.std.specs.Option.{option_map};
 ghost use Rattle.kr_yaml.specs.Data.{null};
-ghost use Rattle.kr_yaml.specs.Shown.{view};
+ghost use Rattle.kr_yaml.specs.Lines.{dash};
+ghost use Rattle.kr_yaml.specs.Shown.{view, views};
 ghost use Rattle.kr_yaml.specs.inner.Seen.{token_view};
-ghost use Rattle.kr_yaml.specs.inner.Open.{closed_value, first_state, next, put, is_repeated};
+ghost use Rattle.kr_yaml.specs.inner.Open.{closed_value, first_state, next, put, is_repeated, items};
 ghost use Rattle.kr_yaml.specs.inner.Open.{doubles, place};
 ghost use Rattle.kr_yaml.specs.inner.Frames.{frame_view, frame_views, state_view};
-ghost use Rattle.kr_yaml.specs.inner.Puts.{GoesOn, Begins, Puts};
+ghost use Rattle.kr_yaml.specs.inner.Puts.{Continues, Begins, Puts};
 
 use crate::open::{OpenNode, close, place};
 use crate::open_mapping::OpenMapping;
@@ -55,6 +56,31 @@ pub fn close_nodes(
     Ok(tree)
 }
 
+/// Goes on with a list in this column, where a dash stands in its own.
+fn continue_list(
+    column: usize,
+    own: usize,
+    done: List<Tree>,
+    value: Tree,
+) -> Result<(OpenNode, Option<Tree>), PlaceError>
+    ensures { Continues (next (dash own) (items column (views done.0)) (view value)) false result }
+{
+    let mut done = done;
+    if own != column {
+        drop(done);
+        drop(value);
+        return Err(PlaceError::Indent);
+    }
+    match done.push(value) {
+        Ok(()) => Ok((OpenNode::Items { column, done }, None)),
+        Err(refused) => {
+            drop(refused);
+            drop(done);
+            Err(PlaceError::NoMemory)
+        }
+    }
+}
+
 /// Goes on with an open node, whose last item or member has this value.
 fn continue_node(
     alloc: Global,
@@ -62,36 +88,47 @@ fn continue_node(
     value: Tree,
     token: LineToken,
 ) -> Result<(OpenNode, Option<Tree>), PlaceError>
-    ensures { GoesOn (next (token_view token) (frame_view node) (view value))
+    ensures { Continues (next (token_view token) (frame_view node) (view value))
         (is_repeated (token_view token) (frame_view node)) result }
 {
-    match (node, token) {
-        (OpenNode::Items { column, mut done }, LineToken::Dash { column: own }) => {
-            if own != column {
-                return Err(PlaceError::Indent);
+    match node {
+        OpenNode::Items { column, done } => match token {
+            LineToken::Dash { column: own } => continue_list(column, own, done, value),
+            other => {
+                drop(other);
+                drop(done);
+                drop(value);
+                Err(PlaceError::Indent)
             }
-            match done.push(value) {
-                Ok(()) => Ok((OpenNode::Items { column, done }, None)),
-                Err(_) => Err(PlaceError::NoMemory),
-            }
-        }
-        (
-            OpenNode::Members(mapping),
+        },
+        OpenNode::Members(mapping) => match token {
             LineToken::Pair {
                 column: own,
                 key,
                 value: beside,
-            },
-        ) => {
-            if own != mapping.column {
-                return Err(PlaceError::Indent);
+            } => {
+                if own != mapping.column {
+                    drop(mapping);
+                    drop(value);
+                    drop(key);
+                    drop(beside);
+                    return Err(PlaceError::Indent);
+                }
+                match mapping.add(alloc, value, key) {
+                    Ok(mapping) => Ok((OpenNode::Members(mapping), beside)),
+                    Err(why) => {
+                        drop(beside);
+                        Err(why)
+                    }
+                }
             }
-            match mapping.add(alloc, value, key) {
-                Ok(mapping) => Ok((OpenNode::Members(mapping), beside)),
-                Err(why) => Err(why),
+            other => {
+                drop(other);
+                drop(mapping);
+                drop(value);
+                Err(PlaceError::Indent)
             }
-        }
-        _ => Err(PlaceError::Indent),
+        },
     }
 }
 
@@ -129,21 +166,35 @@ fn put_innermost(
 {
     let mut nodes = nodes;
     let None = value else {
+        drop(nodes);
+        drop(value);
+        drop(token);
         return Err(PlaceError::Indent);
     };
     let (node, value) = match begin(alloc, token) {
         Ok(begun) => begun,
-        Err(_) => return Err(PlaceError::NoMemory),
+        Err(_) => {
+            drop(nodes);
+            return Err(PlaceError::NoMemory);
+        }
     };
     let Some(node) = node else {
         return Ok((nodes, value));
     };
     if nodes.len() >= LEVELS {
+        drop(nodes);
+        drop(node);
+        drop(value);
         return Err(PlaceError::Deep);
     }
     match nodes.push(node) {
         Ok(()) => Ok((nodes, value)),
-        Err(_) => Err(PlaceError::NoMemory),
+        Err(refused) => {
+            drop(refused);
+            drop(nodes);
+            drop(value);
+            Err(PlaceError::NoMemory)
+        }
     }
 }
 

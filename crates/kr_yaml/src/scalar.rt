@@ -16,7 +16,7 @@ use kr_base::Text;
 use std::alloc::Global;
 
 /// A scalar as it is written.
-#[derive(Debug, Drop)]
+#[derive(Drop)]
 pub struct Scalar {
     /// Its text, with what its quotes and escapes stand for.
     pub text: Text,

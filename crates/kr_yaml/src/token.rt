@@ -3,7 +3,7 @@ use crate::tree::Tree;
 use kr_base::Text;
 
 /// A token of a line. Its column is the number of bytes before it.
-#[derive(Debug, Drop)]
+#[derive(Drop)]
 pub enum LineToken {
     /// A `-` that begins an item.
     Dash {

@@ -3,7 +3,7 @@ use kr_base::{List, Text};
 
 /// What a text of the profile says.
 #[cycle(tree)]
-#[derive(Debug, Drop)]
+#[derive(Drop)]
 pub enum Tree {
     /// Nothing, `null` or `~`.
     Null,
@@ -17,7 +17,7 @@ pub enum Tree {
 
 /// A member of a mapping.
 #[cycle(tree)]
-#[derive(Debug, Drop)]
+#[derive(Drop)]
 pub struct Member {
     /// Its key, which no other member of the mapping has.
     pub key: Text,

@@ -1,7 +1,7 @@
 //! Why a text wasn't read.
 
 /// Why a text wasn't read. A line's number counts from 1.
-#[derive(Clone, Copy, Debug, PartialEq, Eq)]
+#[derive(Clone, Copy)]
 pub enum YamlNo {
     /// A line isn't of the profile. It is looked for in all lines before anything else.
     Outside {

@@ -71,14 +71,9 @@ fn list_of_one<T: Drop>(alloc: Global, item: T) -> Result<List<T>, NoMemory> {
 
 /// The list with the item at its end.
 fn list_with<T: Drop>(mut all: List<T>, item: T) -> Result<List<T>, NoMemory> {
-    match all.push(item) {
-        Ok(()) => Ok(all),
-        Err(refused) => {
-            drop(refused);
-            drop(all);
-            Err(NoMemory)
-        }
-    }
+    all.reserve(1)?;
+    all.push_in_room(item);
+    Ok(all)
 }
 
 fn owned(alloc: Global, words: &str) -> Result<Vec<String>, NoMemory> {

@@ -3,15 +3,15 @@ use Rattle.kr_aes.specs.Cipher.{add_round_key, round_count}
 use Rattle.kr_aes.specs.declared.Rounds.{Rounds}
 use Rattle.kr_aes.specs.InverseCipher.{inverse_cipher}
 use Rattle.kr_aes.specs.EquivalentInverse.{after_equivalent_rounds, equivalent_inverse_cipher, inverse_schedule}
-use Rattle.kr_aes.specs.inner.Columns.{GoesOn, block_of_columns}
+use Rattle.kr_aes.specs.inner.Columns.{DoesRounds, block_of_columns}
 use Rattle.kr_aes.proofs.Equivalent.{equivalent_is_inverse}
 use Rattle.kr_aes.proofs.decrypt_block_by_inverse.Goals as goal
 
 -- the first eight rounds
 eight : (inverse block : List ℕ) (last : ℕ) (s t u v w : List ℕ)
     → block_of_columns s ≡ add_round_key inverse last block
-    → GoesOn inverse last 0 2 s t → GoesOn inverse last 2 2 t u → GoesOn inverse last 4 2 u v
-    → GoesOn inverse last 6 2 v w → block_of_columns w ≡ after_equivalent_rounds inverse last block 8
+    → DoesRounds inverse last 0 2 s t → DoesRounds inverse last 2 2 t u → DoesRounds inverse last 4 2 u v
+    → DoesRounds inverse last 6 2 v w → block_of_columns w ≡ after_equivalent_rounds inverse last block 8
 unfolding after_equivalent_rounds
 eight inverse block last s t u v w first one two three four =
     four block (three block (two block (one block first)))

@@ -28,7 +28,7 @@ inverse_byte a b c d row =
     column_sum (0xe ∷ 0xb ∷ 0xd ∷ 0x9 ∷ []) (sbox_column inverse_sbox a b c d) row 0
 
 -- from the columns after some rounds of the equivalent inverse cipher to those after so many more
-abbrev pub GoesOn : List ℕ → ℕ → ℕ → ℕ → List ℕ → List ℕ → Type 0
-GoesOn inverse last done more columns next = (block : List ℕ)
+abbrev pub DoesRounds : List ℕ → ℕ → ℕ → ℕ → List ℕ → List ℕ → Type 0
+DoesRounds inverse last done more columns next = (block : List ℕ)
     → block_of_columns columns ≡ after_equivalent_rounds inverse last block done
     → block_of_columns next ≡ after_equivalent_rounds inverse last block (done + more)

@@ -1,13 +1,13 @@
 -- How the opening's board is made: from the live rows one by one, then from the replicas one by
 -- one.
-use Rattle.std.specs.Prelude.{◌≡◌, ◌≢◌, ℕ, ◌+◌, List, [], ◌∷◌, ◌++◌, Bool, true, false, Option, None, Some, Result, Ok, Err, ⊤}
+use Rattle.std.specs.Prelude.{◌≡◌, ◌≢◌, ℕ, ◌+◌, List, [], ◌∷◌, Bool, true, false, Option, None, Some, Result, Ok, Err, ⊤}
 use Rattle.kr_store.specs.declared.rows.LogRow.{LogRow}
 use Rattle.kr_store.specs.declared.rows.Row as stored_row
 use Rattle.kr_config.specs.declared.who.Who.{Who}
 use Rattle.kr_config.specs.Kept.{ConfigEntry}
 use Rattle.kr_judge.specs.declared.verdict.Verdict.{Verdict}
 use Rattle.kr_judge.specs.declared.verdict.Verdict.TheVariants.{Pass, DropsStored, DropsWriter, Unread}
-use Rattle.kr_judge.specs.Boards.{BoardState, set_need, without_current}
+use Rattle.kr_judge.specs.Boards.{BoardState, set_need, given_to}
 use Rattle.kr_judge.specs.Verdicts.{verdict_of}
 use Rattle.kr_opening.specs.declared.opening_board.StartNo.{StartNo}
 use Rattle.kr_opening.specs.declared.opening_board.StartNo.TheVariants.{Stray, OtherSecret, Unfit, NoMemory}
@@ -77,10 +77,7 @@ is_refusal (Unread generation class who) = true
 abbrev pub Admits : ℕ → List ConfigEntry → BoardState → BoardState → Result (Unit {0}) StartNo
     → Type 0
 Admits replica rows old new (Ok done) = (verdict_of old.needs old.generations replica rows ≡ Pass)
-    × (new ≡ record old {
-      generations = without_current replica old.generations
-          ++ record { replica = replica; rows = rows; current = true; holders = 0 } ∷ [];
-    })
+    × (new ≡ record old { generations = given_to replica rows old.generations })
 Admits replica rows old new (Err (Stray path)) = ⊥
 Admits replica rows old new (Err (OtherSecret path)) = ⊥
 Admits replica rows old new (Err (Unfit other verdict)) = (other ≡ replica)

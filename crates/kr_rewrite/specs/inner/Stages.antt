@@ -49,18 +49,18 @@ CountsStep old (step.Left path) result new = (result ≡ true)
 -- steps up to the end, or to the one that was cut short
 module _ {S D : Type 0} (Reads : ReadsFoundRow S) (Meanwhile : S → S → Type 0)
     (left : D → Option (List ℕ)) (count : D → ℕ) (replica : ℕ) where
-  abbrev pub GoesOnOver : (above : List ℕ) → Caller → S → D → Result Report (Report × CallNo)
+  abbrev pub DrivesFromOver : (above : List ℕ) → Caller → S → D → Result Report (Report × CallNo)
       → Caller → S → D → Type 0
-  GoesOnOver above old from dice (Ok report) new to after =
+  DrivesFromOver above old from dice (Ok report) new to after =
       DrivesOver Reads Meanwhile left count replica above old from dice report new to after
-  GoesOnOver above old from dice (Err cut) new to after =
+  DrivesFromOver above old from dice (Err cut) new to after =
       IsCutOver Reads Meanwhile left count replica above old from dice cut.1 cut.0 new to after
 
 module _ {L D : Type 0} (link : L → Link) (left : D → Option (List ℕ))
     (count : D → ℕ) (replica : ℕ) where
-  abbrev pub GoesOn : (above : List ℕ) → Caller → List L → D → Result Report (Report × CallNo)
+  abbrev pub DrivesFrom : (above : List ℕ) → Caller → List L → D → Result Report (Report × CallNo)
       → Caller → List L → D → Type 0
-  GoesOn above old olds dice result new news after = GoesOnOver (UnsealsRow link)
+  DrivesFrom above old olds dice result new news after = DrivesFromOver (UnsealsRow link)
       (StayLinks link) left count replica above old olds dice result new news after
 
 -- ---- by which exchanges
@@ -79,8 +79,8 @@ module _ {D : Type 0} (left : D → Option (List ℕ)) (count : D → ℕ) where
       above old (before cache exchanges) dice result new (behind kept) after
 
   -- steps up to the end, or to the one that was cut short
-  abbrev pub GoesOnBy : (replica : ℕ) → (above : List ℕ) → Caller → CacheState → D
+  abbrev pub DrivesFromBy : (replica : ℕ) → (above : List ℕ) → Caller → CacheState → D
       → Result Report (Report × CallNo) → Caller → CacheState → D → List Exchange → Type 0
-  GoesOnBy replica above old cache dice result new kept after exchanges = GoesOnOver ReadsRow
+  DrivesFromBy replica above old cache dice result new kept after exchanges = DrivesFromOver ReadsRow
       (λ from to. ⊤) left count replica above old (before cache exchanges) dice result new
       (behind kept) after

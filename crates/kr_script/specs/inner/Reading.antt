@@ -1,6 +1,7 @@
 -- How a text is read line by line.
 use Rattle.std.specs.Prelude.{◌≡◌, ℕ, ◌+◌, ⊤, List, [], ◌∷◌, Option, None, Some, Result, Ok, Err}
 use Rattle.std.specs.Prelude.{if◌then◌else◌, is_some}
+use Rattle.std.specs.Result.{result_map_both}
 use Rattle.std.specs.Str.{is_utf8}
 use Rattle.kr_script.specs.declared.script.Script.{Script}
 use Rattle.kr_script.specs.declared.script.ScriptNo.{ScriptNo}
@@ -66,6 +67,10 @@ Finds wanted (Err line_error.Replicas) = ⊥
 Finds wanted (Err line_error.Workers) = ⊥
 Finds wanted (Err line_error.TooLarge) = ⊥
 Finds wanted (Err line_error.NoMemory) = ⊤
+
+-- the same, of what is made of the value
+abbrev pub FindsAs : {S T : Type 0} → (S → T) → Option T → Result S ScriptLineError → Type 0
+FindsAs make wanted result = Finds wanted (result_map_both make (λ why. why) result)
 
 -- the draft moves on, or the line is refused
 abbrev pub Moves : {T : Type 0} → Result Draft ScriptLineError → Draft → Result T ScriptLineError

@@ -18,8 +18,8 @@ after_hearing heard a = record a { heard = heard }
 
 -- by these exchanges this holds of what is around before and behind, whatever was told before
 abbrev pub HoldsBy : (old new : Around) → (Around → Around → Type 0) → List Exchange → Type 0
-HoldsBy old new Are exchanges = (heard : Option (List Exchange))
-    → Are (after_hearing heard old) (with_exchanges exchanges (after_hearing heard new))
+HoldsBy old new Relates exchanges = (heard : Option (List Exchange))
+    → Relates (after_hearing heard old) (with_exchanges exchanges (after_hearing heard new))
 
 -- a command came up to its value
 abbrev pub IsPerformed : Command → Ended → (before behind : Around) → Type 0
@@ -30,9 +30,10 @@ module _ {L : Type 0} (link : L → Link) (step : L → Exchange → L → Type 
     (lent took : ℕ → L → Type 0) where
   -- by exchanges with the links of seat 0
   abbrev pub HearsBetween : (old new : Around) → (Around → Around → Type 0) → Type 0
-  HearsBetween old new Are =
-      Heard link lent took step 0 old.world new.world [] [] (HoldsBy old new Are)
+  HearsBetween old new Relates =
+      Heard link lent took step 0 old.world new.world [] [] (HoldsBy old new Relates)
 
+  -- by exchanges with them a command came up to its value
   abbrev pub Performs : Command → (old new : Around) → Ended → Type 0
   Performs command old new ended = HearsBetween old new (IsPerformed command ended)
 

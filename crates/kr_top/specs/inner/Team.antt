@@ -18,6 +18,7 @@ use Rattle.kr_cmd_watch.specs.Watchings.{DidWatch}
 use Rattle.kr_top.specs.declared.team.TeamWords.{TeamWords}
 use Rattle.kr_top.specs.declared.team.TeamWords.TheVariants.{Fleet, Load, Watch}
 
+-- the words ask several workers for this
 abbrev pub AsksTeam : List (List ℕ) → TeamWords → Type 0
 AsksTeam words (Fleet asked) = AsksFleet words asked
 AsksTeam words (Load asked) = AsksLoad words asked

@@ -13,14 +13,15 @@ use Rattle.kr_yaml.specs.declared.place_error.PlaceError.{PlaceError}
 use Rattle.kr_yaml.specs.declared.place_error.PlaceError.TheVariants.{Indent, DuplicateKey}
 use Rattle.kr_yaml.specs.declared.place_error.PlaceError.TheVariants.{Deep, NoMemory}
 
-abbrev pub GoesOn : Option State → Bool → Result (OpenNode × Option Tree) PlaceError → Type 0
-GoesOn wanted twice (Ok x) =
+-- an open node goes on with what a token makes of it, which is this or a breach
+abbrev pub Continues : Option State → Bool → Result (OpenNode × Option Tree) PlaceError → Type 0
+Continues wanted twice (Ok x) =
     (wanted ≡ Some (frame_view x.0 ∷ [], option_map view x.1)) × (twice ≡ false)
-GoesOn wanted twice (Err Indent) = wanted ≡ None
-GoesOn wanted twice (Err DuplicateKey) = (s : State) × (wanted ≡ Some s) × (twice ≡ true)
-GoesOn wanted twice (Err Deep) =
+Continues wanted twice (Err Indent) = wanted ≡ None
+Continues wanted twice (Err DuplicateKey) = (s : State) × (wanted ≡ Some s) × (twice ≡ true)
+Continues wanted twice (Err Deep) =
     (s : State) × (wanted ≡ Some s) × (16 < length s.0) × (twice ≡ false)
-GoesOn wanted twice (Err NoMemory) = ⊤
+Continues wanted twice (Err NoMemory) = ⊤
 
 abbrev pub Puts : Option State → Bool → Result (Vec OpenNode Global × Option Tree) PlaceError
     → Type 0

@@ -3,13 +3,13 @@ use Rattle.kr_aes.specs.declared.Rounds.{Rounds}
 use Rattle.kr_aes.specs.Cipher.{add_round_key, round_count}
 use Rattle.kr_aes.specs.EquivalentInverse.{after_equivalent_rounds, equivalent_inverse_cipher}
 use Rattle.kr_aes.specs.InverseCipher.{inverse_shift_rows, inverse_sub_bytes}
-use Rattle.kr_aes.specs.inner.Columns.{GoesOn, block_of_columns}
+use Rattle.kr_aes.specs.inner.Columns.{DoesRounds, block_of_columns}
 use Rattle.kr_aes.proofs.RoundCounts.{more_rounds}
 use Rattle.kr_aes.proofs.unrolled.last_two_inverse.Goals as goal
 
 -- the last round's block, behind one more round
 ends : (inverse : List ℕ) (rounds : Rounds) (block : List ℕ) (last : ℕ) (columns mixed : List ℕ)
-    → last ≡ round_count rounds → GoesOn inverse last (last - 2) 1 columns mixed
+    → last ≡ round_count rounds → DoesRounds inverse last (last - 2) 1 columns mixed
     → block_of_columns columns
     ≡ after_equivalent_rounds inverse (round_count rounds) block (round_count rounds - 2)
     → add_round_key inverse 0 (inverse_shift_rows (inverse_sub_bytes (block_of_columns mixed)))

@@ -28,17 +28,17 @@ high = In 1 ⊗ In 3
 pub returns-clause-low : goal.returns-clause-low
 returns-clause-low c block p small lt =
     bit_by_gate low (λ x. x 0 * x 2) refl
-    (inputs c.args.a0 c.args.a1 c.args.b0 c.args.b1) block p
+    (inputs c.args.a.low c.args.a.high c.args.b.low c.args.b.high) block p
     (inputs_are _ _ _ _ (search rules) (search rules) (search rules) (search rules)) small lt
 
 pub returns-clause-middle : goal.returns-clause-middle
 returns-clause-middle c block p small lt =
     bit_by_gate ((In 0 ⊕ In 1) ⊗ (In 2 ⊕ In 3) ⊕ low ⊕ high) (λ x. (x 0 * x 3 + x 1 * x 2) % 2) refl
-    (inputs c.args.a0 c.args.a1 c.args.b0 c.args.b1) block p
+    (inputs c.args.a.low c.args.a.high c.args.b.low c.args.b.high) block p
     (inputs_are _ _ _ _ (search rules) (search rules) (search rules) (search rules)) small lt
 
 pub returns-clause-high : goal.returns-clause-high
 returns-clause-high c block p small lt =
     bit_by_gate high (λ x. x 1 * x 3) refl
-    (inputs c.args.a0 c.args.a1 c.args.b0 c.args.b1) block p
+    (inputs c.args.a.low c.args.a.high c.args.b.low c.args.b.high) block p
     (inputs_are _ _ _ _ (search rules) (search rules) (search rules) (search rules)) small lt

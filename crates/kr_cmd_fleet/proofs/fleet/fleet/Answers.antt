@@ -62,5 +62,5 @@ returns-clause-did g c =
     let start = c.in-Ok-run_fleet_over_store.ensures in (
       start.exchanges,
       λ a. fleet_ran (planned g here a) refl (asked g here start.exchanges start.asked)
-          c.in-Ok-run_fleet_over_store.record (start.done a) c.write_record.ensures.written,
+          c.in-Ok-run_fleet_over_store.record (start.done a) c.write_record-written.ensures.written,
     )

@@ -2,15 +2,17 @@
 use Rattle.std.proofs.Common.{◌≡◌, ◌<◌, ◌∙◌, ℕ, List, [], Result, Ok, Err, refl, sym, subst}
 use Rattle.kr_kms.specs.declared.world.Access.TheVariants.{ToWrite}
 use Rattle.kr_config.specs.Kept.{ConfigEntry, rows_of}
+use Rattle.kr_config.specs.declared.settings.Settings.{Settings}
+use Rattle.kr_kms.specs.Outside.{Outside}
 use Rattle.kr_provider.specs.PluginOrder.{plugin_order}
 use Rattle.kr_cmd_steps.specs.Around.{Around, with_exchanges, with_world}
 use Rattle.kr_cmd_steps.specs.Heard.{Heard}
 use Rattle.kr_cmd_steps.proofs.HeardLinks.{heard_nothing, heard_so, heard_within}
 use Rattle.kr_cmd_steps.proofs.Hearing.{none_heard}
-use Rattle.kr_cmd_steps.specs.Phases.{configuration, linking_programs, settled_for}
+use Rattle.kr_cmd_steps.specs.Phases.{settled_for}
 use Rattle.kr_cmd_steps.specs.RewriteSteps.{rewriting_on}
 use Rattle.kr_cmd_steps.specs.Commands.{steps}
-use Rattle.kr_cmd_steps.specs.Steps.{Steps, and_then}
+use Rattle.kr_cmd_steps.specs.Steps.{Steps}
 use Rattle.kr_cmd_messages.specs.declared.command.Command.TheVariants.{Rewrite}
 use Rattle.kr_cmd_messages.specs.declared.command.Rewriting.{Rewriting}
 use Rattle.kr_cmd_steps.specs.declared.programs.Program.{Program}
@@ -19,11 +21,12 @@ use Rattle.kr_cmd_messages.specs.declared.refusal.Object.TheVariants.{Store}
 use Rattle.kr_cmd_messages.specs.declared.refusal.Outcome.{Outcome}
 use Rattle.kr_cmd_messages.specs.declared.refusal.Stop.{Stop}
 use Rattle.kr_cmd_steps.specs.inner.Lent.{with_lent_tape}
-use Rattle.kr_cmd_steps.specs.inner.Phases.{Does}
+use Rattle.kr_cmd_steps.specs.inner.Phases.{Does, HasPrograms}
 use Rattle.kr_cmd_steps.specs.inner.Reporting.{DoesAll, saying}
 use Rattle.kr_cmd_steps.specs.inner.Tapes.{ReturnsSettled}
 use Rattle.kr_cmd_rewrite.proofs.Closing.{closed, ended_of}
-use Rattle.kr_cmd_steps.proofs.Goes.{goes_on, stops, by_bytes}
+use Rattle.kr_cmd_steps.proofs.Configured.{configured, unconfigured}
+use Rattle.kr_cmd_steps.proofs.Goes.{by_bytes}
 use Rattle.kr_cmd_steps.proofs.NamedPrograms.{names_in}
 use Rattle.kr_cmd_rewrite.proofs.Said.{saying_tape, stopped_all}
 use Rattle.kr_cmd_steps.proofs.Settling.{settled_links}
@@ -38,69 +41,52 @@ on_tape rows programs name = settled_for Store name ToWrite (rewriting_on name r
 abbrev passed : Rewriting → List ConfigEntry → List Program → Steps Outcome
 passed words rows programs = on_tape rows programs words.store
 
-abbrev loaded : Rewriting → List ConfigEntry → Steps Outcome
-loaded words rows = and_then (linking_programs words.options rows) (passed words rows)
-
 -- from the tape on
-whole_by : (words : Rewriting) (rows : List ConfigEntry) (programs : List Program)
-    {old configured linked : Around} {name : List ℕ}
-    → Does (configuration words.config) old configured (Ok rows)
-    → Does (linking_programs words.options rows) configured linked (Ok programs)
+whole_by : (words : Rewriting) (settings : Settings) (programs : List Program)
+    (old linked : Outside) {name : List ℕ}
+    → HasPrograms old linked words.config words.options (Ok (settings, programs)) → (a : Around)
     → name ≡ words.store → (end : Around) (made : Result Outcome Stop)
-    → Does (on_tape rows programs name) linked end made
-    → Does (steps (Rewrite words)) old end made
-whole_by words rows programs reads links is end made d =
-    goes_on (configuration words.config) (loaded words) rows reads
-    (goes_on (linking_programs words.options rows) (passed words rows) programs links
-    (by_bytes (on_tape rows programs) is d))
+    → Does (on_tape (rows_of settings.entries.0) programs name) (with_world linked a) end made
+    → Does (steps (Rewrite words)) (with_world old a) end made
+whole_by words settings programs old linked has a is end made d =
+    configured words.config words.options old linked (passed words) settings programs has a
+    (by_bytes (on_tape (rows_of settings.entries.0) programs) is d)
 
 pub returns-in-Err : goal.returns-in-Err
 returns-in-Err g c =
     heard_nothing g.W.Link.Kms.link g.W.World.lent g.W.World.took g.W.Link.Kms.step 0
     (λ i. (c.in-Err.ensures.links i).handed) [] _ (λ a silent.
     let words = c.args.words.now in
+    let old = g.W.World.told c.args.world.now in
+    let linked = g.W.World.told c.linked_settings.new.world in
     stopped_all c.in-Err.stop c.stopped.result c.stopped.ensures silent
-    (none_heard (with_world (g.W.World.told c.configure.new.world) a)
-    (stops (configuration words.config) (loaded words) c.in-Err.stop
-    (by_bytes configuration c.as_str.ensures (c.in-Err.ensures.does a)))))
-
-pub returns-in-Err-settings_programs : goal.returns-in-Err-settings_programs
-returns-in-Err-settings_programs g c =
-    heard_nothing g.W.Link.Kms.link g.W.World.lent g.W.World.took g.W.Link.Kms.step 0
-    (λ i. (c.in-Ok.ensures.links i).handed) [] _ (λ a silent.
-    let words = c.args.words.now in
-    let rows = rows_of c.in-Ok.settings.entries.0 in
-    stopped_all c.in-Err-settings_programs.stop c.stopped-in-Err-settings_programs.result
-    c.stopped-in-Err-settings_programs.ensures silent
-    (none_heard (with_world (g.W.World.told c.configure.new.world) a)
-    (goes_on (configuration words.config) (loaded words) rows
-    (by_bytes configuration c.as_str.ensures (c.in-Ok.ensures.does a))
-    (stops (linking_programs words.options rows) (passed words rows) c.in-Err-settings_programs.stop
-    (c.in-Err-settings_programs.ensures.does (with_world (g.W.World.told c.configure.new.world) a))))))
+    (none_heard (with_world linked a)
+    (unconfigured words.config words.options old linked (passed words) c.in-Err.stop
+    c.in-Err.ensures.does a)))
 
 pub returns-in-Err-open_tape : goal.returns-in-Err-open_tape
 returns-in-Err-open_tape g c =
     heard_nothing g.W.Link.Kms.link g.W.World.lent g.W.World.took g.W.Link.Kms.step 0
     (λ i. ((c.in-Err-open_tape.ensures.objects.links ∙ c.in-Ok.ensures.links) i).handed) [] _ (λ a silent.
     let words = c.args.words.now in
-    let rows = rows_of c.in-Ok.settings.entries.0 in
-    let programs = c.in-Ok-settings_programs.programs in
+    let settings = c.in-Ok.read.0 in
+    let programs = c.in-Ok.read.1 in
+    let old = g.W.World.told c.args.world.now in
+    let linked = g.W.World.told c.linked_settings.new.world in
     stopped_all c.in-Err-open_tape.stop c.stopped-in-Err-open_tape.result
     c.stopped-in-Err-open_tape.ensures silent
     (none_heard (with_world (g.W.World.told c.open_tape.new.world) a)
-    (goes_on (configuration words.config) (loaded words) rows
-    (by_bytes configuration c.as_str.ensures (c.in-Ok.ensures.does a))
-    (goes_on (linking_programs words.options rows) (passed words rows) programs
-    (c.in-Ok-settings_programs.ensures.does (with_world (g.W.World.told c.configure.new.world) a))
-    (by_bytes (on_tape rows programs) c.as_str-name.ensures
+    (configured words.config words.options old linked (passed words) settings programs
+    c.in-Ok.ensures.does a
+    (by_bytes (on_tape (rows_of settings.entries.0) programs) c.as_str-name.ensures
     (not_lent c.in-Err-open_tape.ensures.files c.in-Err-open_tape.ensures.objects a
     c.as_str-name.result.now ToWrite c.in-Err-open_tape.stop c.in-Err-open_tape.ensures.why
-    c.in-Err-open_tape.ensures.asked))))))
+    c.in-Err-open_tape.ensures.asked)))))
 
 pub rewrite_on_tape-ended-requires-clause-programs : goal.rewrite_on_tape-ended-requires-clause-programs
 rewrite_on_tape-ended-requires-clause-programs g c κs within = subst (λ p. names_in p
-    ≡ plugin_order (rows_of c.in-Ok.settings.entries.0)) (sym c.as_slice.ensures)
-    c.in-Ok-settings_programs.ensures.names
+    ≡ plugin_order (rows_of c.in-Ok.read.0.entries.0)) (sym c.as_slice.ensures)
+    c.in-Ok.ensures.names
 
 pub settle_tape-requires-clause-out : goal.settle_tape-requires-clause-out
 settle_tape-requires-clause-out g c = λ κs lives. subst (λ t. 0 < t.out c.as_str-name.result.now)
@@ -124,8 +110,9 @@ settled_so g c settled ended is came =
     let link = g.W.Link.Kms.link in
     let step = g.W.Link.Kms.step in
     let words = c.args.words.now in
-    let rows = rows_of c.in-Ok.settings.entries.0 in
-    let programs = c.in-Ok-settings_programs.programs in
+    let settings = c.in-Ok.read.0 in
+    let rows = rows_of settings.entries.0 in
+    let programs = c.in-Ok.read.1 in
     let name = c.as_str-name.result.now in
     let work = c.rewrite_on_tape-ended.result.0 in
     let mid = g.W.World.told c.rewrite_on_tape-ended.new.world in
@@ -140,7 +127,6 @@ settled_so g c settled ended is came =
     (heard_so link g.W.World.lent g.W.World.took step 0 [] [] _ _
     c.rewrite_on_tape-ended.ensures.ended (λ es does a silent.
     let then = with_exchanges es a in
-    let now = with_world (g.W.World.told c.configure.new.world) a in
     let out = with_lent_tape name (g.W.Tap.Tape.told c.in-Ok-open_tape.tape)
     (g.W.Tap.Tape.count c.in-Ok-open_tape.tape)
     (with_world (g.W.World.told c.open_tape.new.world) a) in
@@ -151,8 +137,8 @@ settled_so g c settled ended is came =
     c.as_slice.ensures (does name a)) in
     closed (Rewrite words) name c.as_str-name.ensures ToWrite (rewriting_on name rows programs)
     a then silent
-    (whole_by words rows programs (by_bytes configuration c.as_str.ensures (c.in-Ok.ensures.does a))
-    (c.in-Ok-settings_programs.ensures.does now) c.as_str-name.ensures)
+    (whole_by words settings programs (g.W.World.told c.args.world.now)
+    (g.W.World.told c.linked_settings.new.world) c.in-Ok.ensures.does a c.as_str-name.ensures)
     c.in-Ok-open_tape.ensures.lent mid new told count work.said work.made settled ended is
     (subst (λ m. ReturnsSettled name Store mid new told count m settled) c.to_settle.ensures came)
     works))

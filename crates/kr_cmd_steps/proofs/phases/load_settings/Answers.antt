@@ -5,4 +5,4 @@ use Rattle.kr_cmd_steps.proofs.phases.load_settings.Goals as goal
 pub returns-clause-asked : goal.returns-clause-asked
 returns-clause-asked g c =
     asked_for (g.W.World.told c.args.world.now).asked
-    (File c.args.name.now) c.read_settings.result c.in-Ok-load.ensures.asked
+    (File c.args.name.now) c.read_settings-settings.result c.in-Ok-load.ensures.asked

@@ -5,7 +5,5 @@ use Rattle.kr_config.proofs.counts.count_entry_keys.Goals as goal
 
 pub overflow_add-keys : goal.overflow_add-keys
 overflow_add-keys c =
-    let among = c.count_provider_keys-keys in
-    sum_in_word is_key c.args.entries.now c.loop-entry.entry-index c.entry-item.result
-    c.loop-entry.keys among.result c.loop-entry.invariant c.loop-entry-test.true c.entry-item.is
-    (among.ensures ∙ ap (count_by is_key) c.as_slice.ensures) c.requires
+    sum_in_word is_key _ _ c.loop-entry.invariant c.loop-entry-test.true c.entry-item.is
+    (c.count_provider_keys-keys.ensures ∙ ap (count_by is_key) c.as_slice.ensures) c.requires

@@ -10,7 +10,7 @@ use Rattle.kr_rollout.specs.declared.event.Event.TheVariants as event
 use Rattle.kr_rollout.specs.Openings.{NamesAmong}
 use Rattle.kr_history.proofs.Nexts.{serves}
 use Rattle.kr_history.proofs.PartsAdd.{nothing_within}
-use Rattle.kr_fleet.proofs.Bringing.{join_answered, not_joined, not_shared}
+use Rattle.kr_fleet.proofs.LoadAnswers.{join_answered, not_joined, not_shared}
 use Rattle.kr_fleet.proofs.loading.join.Goals as goal
 
 pub publish-requires : goal.publish-requires

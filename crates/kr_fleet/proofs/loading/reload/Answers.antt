@@ -10,7 +10,7 @@ use Rattle.kr_rollout.specs.Openings.{NamesAmong}
 use Rattle.kr_history.proofs.Nexts.{serves}
 use Rattle.kr_history.proofs.PartsAdd.{nothing_within}
 use Rattle.kr_fleet.specs.CallForms.{reload_of}
-use Rattle.kr_fleet.proofs.Bringing.{not_shared, reload_answered}
+use Rattle.kr_fleet.proofs.LoadAnswers.{not_shared, reload_answered}
 use Rattle.kr_fleet.proofs.loading.reload.Goals as goal
 
 pub publish-requires : goal.publish-requires

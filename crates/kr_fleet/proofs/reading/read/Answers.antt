@@ -13,8 +13,8 @@ use Rattle.kr_fleet.proofs.Finding.{reads_held}
 use Rattle.kr_fleet.proofs.ReadTalks.{read_talk}
 use Rattle.kr_history.proofs.PartsAdd.{held_within, nothing_within, within_more}
 use Rattle.kr_provider.specs.BenchKeys.{adoption_of}
-use Rattle.kr_history.proofs.KeyMoments.{held_turn, in_turn_same}
-use Rattle.kr_history.proofs.Meanwhile.{by_stages}
+use Rattle.kr_history.proofs.KeyMoments.{held_turn, in_turn_same, untaken_turn}
+use Rattle.kr_history.proofs.Meanwhile.{by_stages, holds_adopted, still_holds}
 use Rattle.kr_fleet.proofs.Quiet.{finds_quietly}
 use Rattle.kr_fleet.proofs.reading.read.Goals as goal
 
@@ -60,6 +60,23 @@ returns-in-Err-clause-asked g c =
     let names = names_of g.L.Kms.link c.args.bench.now.links in
     subst (λ n. AskedOnly g.L.Kms.link names c.args.bench.now.links n.links)
     (sym c.in-Err.ensures.takes_up.1) (asked_none g.L.Kms.link names c.args.bench.now.links)
+
+pub returns-in-Err-clause-keys : goal.returns-in-Err-clause-keys
+returns-in-Err-clause-keys g c =
+    (untaken_turn c.args.replica c.in-Err.why c.requires.idle c.in-Err.ensures.takes_up).leaves
+
+pub returns-in-Err-clause-moments : goal.returns-in-Err-clause-moments
+returns-in-Err-clause-moments g c =
+    (untaken_turn c.args.replica c.in-Err.why c.requires.idle c.in-Err.ensures.takes_up).happens
+
+pub find-found-requires-clause-held : goal.find-found-requires-clause-held
+find-found-requires-clause-held g c = holds_adopted c.in-Ok-take_up.ensures.takes_up
+
+pub hand_back-requires : goal.hand_back-requires
+hand_back-requires g c = record {
+  holds = still_holds c.in-Ok-take_up.ensures.takes_up (g.A.Acts.caller c.find-found.new.acts)
+      c.find-found.ensures.holds;
+}
 
 pub find-found-requires-clause-path : goal.find-found-requires-clause-path
 find-found-requires-clause-path g c = subst IsPath (sym c.in-Ok.ensures) c.requires.path

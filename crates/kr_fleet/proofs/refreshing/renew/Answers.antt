@@ -10,7 +10,7 @@ use Rattle.kr_provider.specs.AskedLinks.{Among}
 use Rattle.kr_provider.specs.Exchanges.{PublishesBy}
 use Rattle.kr_fleet.specs.CallForms.{reload_of}
 use Rattle.kr_fleet.specs.LoadCalls.{plugin_names}
-use Rattle.kr_fleet.proofs.Bringing.{not_shared}
+use Rattle.kr_fleet.proofs.LoadAnswers.{not_shared}
 use Rattle.kr_fleet.proofs.RenewTalks.{renewed_talk, unchanged_talk, unowned_talk, untold_talk}
 use Rattle.kr_fleet.proofs.Renewed.{brought_anew, compared_asks, not_brought, renew_answered, renewed_asks}
 use Rattle.kr_history.proofs.PartsAdd.{nothing_within}

@@ -8,8 +8,8 @@ use Rattle.kr_rollout.specs.declared.line.Did.TheVariants.{Put}
 use Rattle.kr_history.specs.Parts.{AddsWithin}
 use Rattle.kr_history.proofs.PartsAdd.{held_within, nothing_within, within_more}
 use Rattle.kr_provider.specs.BenchKeys.{adoption_of}
-use Rattle.kr_history.proofs.KeyMoments.{TakesInTurn, held_turn, in_turn_same}
-use Rattle.kr_history.proofs.Meanwhile.{by_stages}
+use Rattle.kr_history.proofs.KeyMoments.{TakesInTurn, held_turn, in_turn_same, untaken_turn}
+use Rattle.kr_history.proofs.Meanwhile.{by_stages, holds_adopted, still_holds}
 use Rattle.kr_fleet.proofs.Quiet.{puts_quietly}
 use Rattle.kr_fleet.proofs.writing.write.Given.{Over}
 use Rattle.kr_fleet.proofs.writing.write.Goals.{Start}
@@ -21,6 +21,23 @@ returns-in_default-clause-writes g c = inl (inl refl, refl)
 pub returns-in-Err-clause-writes : goal.returns-in-Err-clause-writes
 returns-in-Err-clause-writes g c =
     inl (c.in-Err.ensures.takes_up.0, ap (λ b. b.dice) c.in-Err.ensures.takes_up.1)
+
+pub returns-in-Err-clause-keys : goal.returns-in-Err-clause-keys
+returns-in-Err-clause-keys g c =
+    (untaken_turn c.args.replica c.in-Err.why c.requires.idle c.in-Err.ensures.takes_up).leaves
+
+pub returns-in-Err-clause-moments : goal.returns-in-Err-clause-moments
+returns-in-Err-clause-moments g c =
+    (untaken_turn c.args.replica c.in-Err.why c.requires.idle c.in-Err.ensures.takes_up).happens
+
+pub put-written-requires-clause-held : goal.put-written-requires-clause-held
+put-written-requires-clause-held g c = holds_adopted c.in-Ok-take_up.ensures.takes_up
+
+pub hand_back-requires : goal.hand_back-requires
+hand_back-requires g c = record {
+  holds = still_holds c.in-Ok-take_up.ensures.takes_up (g.A.Acts.caller c.put-written.new.acts)
+      c.put-written.ensures.holds;
+}
 
 pub put-written-requires-clause-path : goal.put-written-requires-clause-path
 put-written-requires-clause-path g c =

@@ -14,13 +14,13 @@ push_reserved-requires-2 c = omega (
   c.len-place.ensures,
   c.args.free.now.ok.0,
   c.args.pairs.now.ok.0,
-  c.in_ok-reserve-2.ensures.ok,
+  c.in-Ok-reserve.ensures.ok,
   c.reserve-2.ensures.len,
 )
 
 pub returns-clause-grouped : goal.returns-clause-grouped
 returns-clause-grouped c = grouped_added c.args.groups.now c.add.new.self c.args.pairs.now.items c.push_reserved.new.self.items c.args.pair c.as_str.result.now c.len-place.result c.requires.grouped c.as_str.ensures
-    (omega (arith, c.len-place.ensures, c.args.pairs.now.ok.0)) c.in_ok-add.ensures.ok (c.push_reserved.ensures.items ∙ ap (λ l. l ++ c.args.pair ∷ []) c.reserve.ensures.items)
+    (omega (arith, c.len-place.ensures, c.args.pairs.now.ok.0)) c.in-Ok-add.ensures.ok (c.push_reserved.ensures.items ∙ ap (λ l. l ++ c.args.pair ∷ []) c.reserve.ensures.items)
 
 pub returns-clause-free : goal.returns-clause-free
 returns-clause-free c = free_added c.args.free.now.items c.push_reserved-2.new.self.items c.args.pairs.now.items c.push_reserved.new.self.items c.args.pair c.len-place.result c.requires.free c.requires.listed

@@ -1,5 +1,5 @@
 -- `make_seeds`: each turn makes the seed of the next name.
-use Rattle.std.proofs.Common.{[], ℕ, List, arith, refl, sym, subst, ap, length, rules}
+use Rattle.std.proofs.Common.{[], ℕ, List, arith, refl, sym, subst, ap, length}
 use Rattle.std.specs.Prelude.{Ok}
 use Rattle.kr_config.specs.Kept.{plugins_in, rows_of}
 use Rattle.kr_provider.proofs.AskedLists.{links_stay}
@@ -33,46 +33,46 @@ loop-name-init g c =
 pub next_plugin-requires-text-after : goal.next_plugin-requires-text-after
 next_plugin-requires-text-after g c = λ κs. c.loop-name.invariant.1
 
-pub returns-in_err-row-clause-made : goal.returns-in_err-row-clause-made
-returns-in_err-row-clause-made g c = let stop = ends g.L.Kms.link g.D.Dice.left g.D.Dice.count
+pub returns-in-Err-clause-made : goal.returns-in-Err-clause-made
+returns-in-Err-clause-made g c = ends g.L.Kms.link g.D.Dice.left g.D.Dice.count
     (rows_of c.args.settings.now.entries.0) c.args.links.now c.args.dice.now c.loop-name.after.now
     c.in-Some.name.now c.loop-name.made.0 c.loop-name.links c.make_one.new.links c.loop-name.dice
-    c.make_one.new.dice c.in_err-row.field-0.0 c.in-Some.ensures c.loop-name.invariant.0 c.in_err-row.ensures.made in search (rules, stop)
+    c.make_one.new.dice c.in-Err.why c.in-Some.ensures c.loop-name.invariant.0 c.in-Err.ensures.made
 
-pub returns-in_err-row-clause-asked : goal.returns-in_err-row-clause-asked
-returns-in_err-row-clause-asked g c = asked_next g.L.Kms.link g.D.Dice.left g.D.Dice.count
+pub returns-in-Err-clause-asked : goal.returns-in-Err-clause-asked
+returns-in-Err-clause-asked g c = asked_next g.L.Kms.link g.D.Dice.left g.D.Dice.count
     (rows_of c.args.settings.now.entries.0) c.args.links.now c.args.dice.now c.loop-name.after.now
     c.in-Some.name.now c.loop-name.made.0 c.loop-name.links c.make_one.new.links c.loop-name.dice
     c.make_one.new.dice c.make_one.result c.in-Some.ensures c.loop-name.invariant.0
     c.make_one.ensures.made
 
-pub returns-in_err-row-clause-none : goal.returns-in_err-row-clause-none
-returns-in_err-row-clause-none g c = λ e. absurd (omega (
+pub returns-in-Err-clause-none : goal.returns-in-Err-clause-none
+returns-in-Err-clause-none g c = λ e. absurd (omega (
   arith,
   c.in-Some.ensures.0.1,
   ap (λ (l : List (List ℕ)). length l)
       (no_names (rows_of c.args.settings.now.entries.0) e),
 ))
 
-pub returns-in-Err-clause-made : goal.returns-in-Err-clause-made
-returns-in-Err-clause-made g c = (
+pub returns-in-Err-push-clause-made : goal.returns-in-Err-push-clause-made
+returns-in-Err-push-clause-made g c = (
   c.in-Some.name.now,
   within g.L.Kms.link g.D.Dice.left g.D.Dice.count
       (rows_of c.args.settings.now.entries.0) c.args.links.now c.args.dice.now c.loop-name.after.now
       c.in-Some.name.now c.loop-name.made.0 c.loop-name.links c.make_one.new.links c.loop-name.dice
-      c.make_one.new.dice (Ok c.in_ok-row.row) c.in-Some.ensures c.loop-name.invariant.0
-      c.in_ok-row.ensures.made,
+      c.make_one.new.dice (Ok c.in-Ok.row) c.in-Some.ensures c.loop-name.invariant.0
+      c.in-Ok.ensures.made,
 )
 
-pub returns-in-Err-clause-asked : goal.returns-in-Err-clause-asked
-returns-in-Err-clause-asked g c = asked_next g.L.Kms.link g.D.Dice.left
+pub returns-in-Err-push-clause-asked : goal.returns-in-Err-push-clause-asked
+returns-in-Err-push-clause-asked g c = asked_next g.L.Kms.link g.D.Dice.left
     g.D.Dice.count (rows_of c.args.settings.now.entries.0) c.args.links.now c.args.dice.now
     c.loop-name.after.now c.in-Some.name.now c.loop-name.made.0 c.loop-name.links
     c.make_one.new.links c.loop-name.dice c.make_one.new.dice c.make_one.result c.in-Some.ensures
     c.loop-name.invariant.0 c.make_one.ensures.made
 
-pub returns-in-Err-clause-none : goal.returns-in-Err-clause-none
-returns-in-Err-clause-none g c = λ e. absurd
+pub returns-in-Err-push-clause-none : goal.returns-in-Err-push-clause-none
+returns-in-Err-push-clause-none g c = λ e. absurd
     (omega (
       arith,
       c.in-Some.ensures.0.1,
@@ -90,11 +90,11 @@ loop-name-preserved g c =
     let to = goes_on g.L.Kms.link g.D.Dice.left g.D.Dice.count
     (rows_of c.args.settings.now.entries.0) c.args.links.now c.args.dice.now
     c.loop-name.after.now c.in-Some.name.now c.loop-name.made.0 c.loop-name.links
-    c.make_one.new.links c.loop-name.dice c.make_one.new.dice c.in_ok-row.row c.in-Some.ensures
-    c.loop-name.invariant.0 c.make_one.ensures.later c.in_ok-row.ensures.made in (
+    c.make_one.new.links c.loop-name.dice c.make_one.new.dice c.in-Ok.row c.in-Some.ensures
+    c.loop-name.invariant.0 c.make_one.ensures.later c.in-Ok.ensures.made in (
       subst (λ l. ComesTo g.L.Kms.link g.D.Dice.left g.D.Dice.count rows
           c.args.links.now c.args.dice.now c.in-Some.name.now l c.make_one.new.links
-          c.make_one.new.dice) (sym c.in-Ok.ensures.ok) to,
+          c.make_one.new.dice) (sym c.in-Ok-push.ensures.ok) to,
       c.tell_text.ensures,
       links_stay g.L.Kms.link (plugins_in rows) c.args.links.now c.make_one.new.links rows to.asked
           c.requires.links,
@@ -106,12 +106,12 @@ loop-name-preserved g c =
       )),
       subst (λ l. Talk (Among g.L.Kms.step) c.args.links.now c.make_one.new.links
           (Completes (Among g.L.Kms.step) g.D.Dice.left g.D.Dice.count (plugins_in rows)
-          c.args.dice.now c.in-Some.name.now l c.make_one.new.dice)) (sym c.in-Ok.ensures.ok)
+          c.args.dice.now c.in-Some.name.now l c.make_one.new.dice)) (sym c.in-Ok-push.ensures.ok)
           (talk_goes_on (Among g.L.Kms.step) g.D.Dice.left g.D.Dice.count (plugins_in rows)
           c.args.dice.now c.loop-name.after.now c.loop-name.made.0 c.loop-name.dice
           c.args.links.now c.loop-name.links c.loop-name.invariant.4 c.in-Some.name.now
-          c.in-Some.ensures c.make_one.new.dice c.make_one.new.links c.in_ok-row.row
-          c.in_ok-row.ensures.exchanged),
+          c.in-Some.ensures c.make_one.new.dice c.make_one.new.links c.in-Ok.row
+          c.in-Ok.ensures.exchanged),
     )
 
 pub returns-clause-made : goal.returns-clause-made
@@ -120,19 +120,19 @@ returns-clause-made g c = all_made g.L.Kms.link g.D.Dice.left g.D.Dice.count
     c.loop-name.made.0 c.loop-name.links c.loop-name.dice c.in_default.ensures
     c.loop-name.invariant.0
 
-pub returns-in_err-row-clause-exchanged : goal.returns-in_err-row-clause-exchanged
-returns-in_err-row-clause-exchanged g c = let stop = talk_stops (Among g.L.Kms.step) g.D.Dice.left
-    g.D.Dice.count (plugins_in (rows_of c.args.settings.now.entries.0)) c.args.dice.now
-    c.loop-name.after.now c.loop-name.made.0 c.loop-name.dice c.args.links.now c.loop-name.links
-    c.loop-name.invariant.4 c.in-Some.name.now c.in-Some.ensures c.make_one.new.dice
-    c.make_one.new.links c.in_err-row.field-0.0 c.in_err-row.ensures.exchanged in search (rules, stop)
-
 pub returns-in-Err-clause-exchanged : goal.returns-in-Err-clause-exchanged
-returns-in-Err-clause-exchanged g c = talk_lacks (Among g.L.Kms.step) g.D.Dice.left
+returns-in-Err-clause-exchanged g c = talk_stops (Among g.L.Kms.step) g.D.Dice.left
     g.D.Dice.count (plugins_in (rows_of c.args.settings.now.entries.0)) c.args.dice.now
     c.loop-name.after.now c.loop-name.made.0 c.loop-name.dice c.args.links.now c.loop-name.links
     c.loop-name.invariant.4 c.in-Some.name.now c.in-Some.ensures c.make_one.new.dice
-    c.make_one.new.links c.in_ok-row.row c.in_ok-row.ensures.exchanged
+    c.make_one.new.links c.in-Err.why c.in-Err.ensures.exchanged
+
+pub returns-in-Err-push-clause-exchanged : goal.returns-in-Err-push-clause-exchanged
+returns-in-Err-push-clause-exchanged g c = talk_lacks (Among g.L.Kms.step) g.D.Dice.left
+    g.D.Dice.count (plugins_in (rows_of c.args.settings.now.entries.0)) c.args.dice.now
+    c.loop-name.after.now c.loop-name.made.0 c.loop-name.dice c.args.links.now c.loop-name.links
+    c.loop-name.invariant.4 c.in-Some.name.now c.in-Some.ensures c.make_one.new.dice
+    c.make_one.new.links c.in-Ok.row c.in-Ok.ensures.exchanged
 
 pub returns-clause-exchanged : goal.returns-clause-exchanged
 returns-clause-exchanged g c = talk_ends (Among g.L.Kms.step) g.D.Dice.left

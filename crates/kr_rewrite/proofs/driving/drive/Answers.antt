@@ -10,7 +10,7 @@ use Rattle.kr_rewrite.specs.DriveExchanges.{IsDriveBy}
 use Rattle.kr_rewrite.specs.Drives.{StayLinks, report_at}
 use Rattle.kr_rewrite.specs.Rewrites.{UnsealsRow}
 use Rattle.kr_rewrite.specs.declared.outcome.Report.{Report}
-use Rattle.kr_rewrite.specs.inner.Stages.{GoesOn}
+use Rattle.kr_rewrite.specs.inner.Stages.{DrivesFrom}
 use Rattle.kr_rewrite.proofs.BetweenSteps.{drives_on}
 use Rattle.kr_rewrite.proofs.DriveTalks.{talk_drives}
 use Rattle.kr_provider.specs.BenchKeys.{adoption_of}
@@ -44,7 +44,7 @@ returns-clause-drives g c = drives_on (UnsealsRow g.L.Kms.link)
     (g.A.Acts.caller c.args.acts.now)
     (g.A.Acts.caller c.take_steps.new.acts) c.args.bench.now.links c.take_steps.new.bench.links
     c.args.bench.now.dice c.take_steps.new.bench.dice c.take_steps.result
-    (subst (λ q. GoesOn g.L.Kms.link g.D.Dice.left g.D.Dice.count c.args.replica q
+    (subst (λ q. DrivesFrom g.L.Kms.link g.D.Dice.left g.D.Dice.count c.args.replica q
     (g.A.Acts.caller c.args.acts.now) c.args.bench.now.links c.args.bench.now.dice c.take_steps.result
     (g.A.Acts.caller c.take_steps.new.acts) c.take_steps.new.bench.links c.take_steps.new.bench.dice)
     (ap (λ (r : Report). r.last) c.without_steps-2.ensures ∙ c.in-Ok.ensures) c.take_steps.ensures.goes_on)

@@ -14,8 +14,8 @@ use Rattle.kr_rewrite.proofs.Rewriting.{let_go_to, step_held}
 use Rattle.kr_rewrite.specs.DriveExchanges.{IsStepBy}
 use Rattle.kr_rewrite.specs.Rewrites.{IsStep, Steps, UnsealsRow}
 use Rattle.kr_provider.specs.BenchKeys.{adoption_of}
-use Rattle.kr_history.proofs.KeyMoments.{held_turn, in_turn_same}
-use Rattle.kr_history.proofs.Meanwhile.{by_stages, of_taken}
+use Rattle.kr_history.proofs.KeyMoments.{held_turn, in_turn_same, untaken_turn}
+use Rattle.kr_history.proofs.Meanwhile.{by_stages, holds_adopted, of_taken, still_holds}
 use Rattle.kr_rewrite.proofs.Quiet.{steps_quietly}
 use Rattle.kr_rewrite.proofs.step.rewrite_next.Goals as goal
 
@@ -72,6 +72,23 @@ returns-in-Err-clause-exchanged g c =
     (talk_none (Among g.L.Kms.step) (IsStepBy g.D.Dice.left g.D.Dice.count c.args.replica
     c.args.after.now old b.cache b.dice (Err c.in-Err.why) new b.cache b.dice) b.links
     (inl (c.in-Err.ensures.takes_up.0, (refl, refl))))
+
+pub returns-in-Err-clause-keys : goal.returns-in-Err-clause-keys
+returns-in-Err-clause-keys g c =
+    (untaken_turn c.args.replica c.in-Err.why c.requires.idle c.in-Err.ensures.takes_up).leaves
+
+pub returns-in-Err-clause-moments : goal.returns-in-Err-clause-moments
+returns-in-Err-clause-moments g c =
+    (untaken_turn c.args.replica c.in-Err.why c.requires.idle c.in-Err.ensures.takes_up).happens
+
+pub step-done-requires-clause-held : goal.step-done-requires-clause-held
+step-done-requires-clause-held g c = holds_adopted c.in-Ok-take_up.ensures.takes_up
+
+pub hand_back-requires : goal.hand_back-requires
+hand_back-requires g c = record {
+  holds = still_holds c.in-Ok-take_up.ensures.takes_up (g.A.Acts.caller c.step-done.new.acts)
+      c.step-done.ensures.holds;
+}
 
 pub step-done-requires-clause-path : goal.step-done-requires-clause-path
 step-done-requires-clause-path g c =

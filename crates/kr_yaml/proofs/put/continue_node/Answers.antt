@@ -7,12 +7,13 @@ use Rattle.kr_yaml.specs.inner.Frames.{frame_view, mapping_frame}
 use Rattle.kr_yaml.proofs.Putting.{added, goes}
 use Rattle.kr_yaml.proofs.put.continue_node.Goals as goal
 
-pub returns-in-Err-add : goal.returns-in-Err-add
-returns-in-Err-add c =
-    let m = c.in-Members-Pair in
-    goes (token_view c.args.token) (pair m.mapping.column m.key (option_map view m.beside))
-    (frame_view c.args.node) (mapping_frame m.mapping) (view c.args.value) c.in-Err-add.why
-    (ap token_view m.is-1 ∙ ap (λ n. pair n m.key (option_map view m.beside))
-    c.if-own-mapping.false) (ap frame_view m.is-0)
-    (added m.mapping.column (member_views m.mapping.done.0) m.mapping.key m.key
-    (option_map view m.beside) (view c.args.value) c.in-Err-add.why c.in-Err-add.ensures)
+pub returns-in-Err : goal.returns-in-Err
+returns-in-Err c =
+    let m = c.in-Members.mapping in
+    let p = c.in-Pair in
+    goes (token_view c.args.token) (pair m.column p.key (option_map view p.beside))
+    (frame_view c.args.node) (mapping_frame m) (view c.args.value) c.in-Err.why
+    (ap token_view p.is ∙ ap (λ n. pair n p.key (option_map view p.beside))
+    c.if-own-mapping.false) (ap frame_view c.in-Members.is)
+    (added m.column (member_views m.done.0) m.key p.key
+    (option_map view p.beside) (view c.args.value) c.in-Err.why c.in-Err.ensures)

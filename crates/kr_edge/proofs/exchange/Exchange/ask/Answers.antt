@@ -1,7 +1,14 @@
--- An answer that isn't read cuts the exchange off.
+-- An exchange that was broken before, one that is cut off, and one that is whole.
 use Rattle.std.proofs.Common.{length, refl, arith}
-use Rattle.kr_edge.proofs.Asking.{not_read}
+use Rattle.kr_edge.proofs.Asking.{cut_before, not_asked, not_read}
 use Rattle.kr_edge.proofs.exchange.Exchange.ask.Goals as goal
+
+pub returns-then-self-clause-err : goal.returns-then-self-clause-err
+returns-then-self-clause-err g c = cut_before _ _ c.if-self.true
+
+pub returns-in_err-write_all-clause-err : goal.returns-in_err-write_all-clause-err
+returns-in_err-write_all-clause-err g c = not_asked c.from_residual.result _ _ _
+    c.if-self.false c.in_err-write_all.ensures.err c.in_err-write_all.ensures.cause.failed refl
 
 pub returns-in_err-size-clause-err : goal.returns-in_err-size-clause-err
 returns-in_err-size-clause-err g c = not_read c.from_residual-in_err-size.result _ _ _

@@ -1,8 +1,10 @@
 -- The count of the tape of the name goes out, or a new one.
-use Rattle.std.proofs.Common.{ℕ, List, None, inl, is_some, refl, sym, ◌∙◌, ap}
+use Rattle.std.proofs.Common.{ℕ, List, None, inl, inr, is_some, refl, sym, ◌∙◌, ap}
 use Rattle.kr_kms.specs.Outside.{same_name}
 use Rattle.kr_edge.specs.RealWorld.{shelf_key, count_of}
 use Rattle.kr_kms.proofs.Lent.{lent, made, names_decide, none_out, of_key, placed}
+use Rattle.kr_edge.specs.declared.system.OpenNo.TheVariants.{Absent, Failed}
+use Rattle.kr_edge.proofs.Lending.{opened_as, refused_as}
 use Rattle.kr_edge.proofs.real_world.RealWorldWorld.tape.Goals as goal
 
 pub returns-then-is_some-clause-calls : goal.returns-then-is_some-clause-calls
@@ -35,3 +37,41 @@ pub returns-in-Ok-add-clause-alone : goal.returns-in-Ok-add-clause-alone
 returns-in-Ok-add-clause-alone g c =
     none_out (λ o. same_name o c.args.name.now) c.name_place.ensures.first c.taken_keys.ensures
     c.is_some.ensures c.if-is_some.false
+
+pub returns-in-Err-Absent-clause-calls : goal.returns-in-Err-Absent-clause-calls
+returns-in-Err-Absent-clause-calls g c =
+    let calls = g.S.System.calls in
+    refused_as c.args.name.now c.in-Ok-Ok.opened c.args.access (calls c.args.self.now.system)
+    (calls c.open_store.new.system) _ Absent c.in-Ok-Ok.ensures' c.in-Err-Absent.field-0-is
+    c.in-Err-Absent.ensures.calls
+
+pub returns-in-Err-Failed-clause-calls : goal.returns-in-Err-Failed-clause-calls
+returns-in-Err-Failed-clause-calls g c =
+    let calls = g.S.System.calls in
+    inr (refused_as c.args.name.now c.in-Ok-Ok.opened c.args.access (calls c.args.self.now.system)
+    (calls c.open_store.new.system) _ Failed c.in-Ok-Ok.ensures' c.in-Err-Failed.field-0-is
+    c.in-Err-Failed.ensures.calls)
+
+pub returns-in-Ok-lend-clause-calls : goal.returns-in-Ok-lend-clause-calls
+returns-in-Ok-lend-clause-calls g c =
+    let calls = g.S.System.calls in
+    opened_as c.args.name.now c.in-Ok-Ok.opened c.args.access (calls c.args.self.now.system)
+    (calls c.open_store.new.system) c.in-Ok.file c.in-Ok-Ok.ensures' c.in-Ok.ensures.calls
+
+pub returns-in-Ok-add-clause-calls : goal.returns-in-Ok-add-clause-calls
+returns-in-Ok-add-clause-calls g c =
+    let calls = g.S.System.calls in
+    opened_as c.args.name.now c.in-Ok-Ok.opened c.args.access (calls c.args.self.now.system)
+    (calls c.open_store.new.system) c.in-Ok.file c.in-Ok-Ok.ensures' c.in-Ok.ensures.calls
+
+pub returns-in-Err-clause-calls : goal.returns-in-Err-clause-calls
+returns-in-Err-clause-calls g c =
+    let calls = g.S.System.calls in
+    inr (opened_as c.args.name.now c.in-Ok-Ok.opened c.args.access (calls c.args.self.now.system)
+    (calls c.open_store.new.system) c.in-Ok.file c.in-Ok-Ok.ensures' c.in-Ok.ensures.calls)
+
+pub returns-in-Err-add-clause-calls : goal.returns-in-Err-add-clause-calls
+returns-in-Err-add-clause-calls g c =
+    let calls = g.S.System.calls in
+    inr (opened_as c.args.name.now c.in-Ok-Ok.opened c.args.access (calls c.args.self.now.system)
+    (calls c.open_store.new.system) c.in-Ok.file c.in-Ok-Ok.ensures' c.in-Ok.ensures.calls)

@@ -1,6 +1,6 @@
 use Rattle.std.proofs.Common.{◌≡◌, ◌<◌, ◌+◌, ◌++◌, ◌∷◌, [], List, length, Some, sym, ap, subst, ◌∙◌, arith, length-append}
-use Rattle.std.specs.Prelude.{sum, true, slice_set}
-use Rattle.kr_judge.specs.Boards.{BoardState, without_current}
+use Rattle.std.specs.Prelude.{sum, slice_set}
+use Rattle.kr_judge.specs.Boards.{BoardState, given_to}
 use Rattle.kr_opening.specs.declared.generation.Generation.{Generation}
 use Rattle.kr_rollout.specs.Openings.{room_of}
 use Rattle.kr_rollout.specs.inner.Rollouts.{RolloutState, IsRollout, opening_of, state_with}
@@ -35,16 +35,10 @@ invariant_of-self g c =
     let number : c.add-number.result ≡ length c.self.inside.generations.0 =
     c.add-number.ensures.number ∙ board_long _ _ c.self.inside.board c.self.invariant.0 in
     let added : c.add-number.new.self ≡ record c.self.inside.board {
-      generations = without_current c.args.replica c.self.inside.board.generations
-          ++ record {
-            replica = c.args.replica;
-            rows = c.args.published.rows;
-            current = true;
-            holders = 0;
-          } ∷ [];
+      generations = given_to c.args.replica c.args.published.rows
+          c.self.inside.board.generations;
     } = c.add-number.ensures.added ∙ ap (λ rows. record c.self.inside.board {
-      generations = without_current c.args.replica c.self.inside.board.generations
-          ++ record { replica = c.args.replica; rows = rows; current = true; holders = 0 } ∷ [];
+      generations = given_to c.args.replica rows c.self.inside.board.generations;
     }) c.requires.same in
     let o = opening_of c.self.inside.store c.self.inside.first_rows c.self.inside.replicas.0
     c.self.inside.names.0 c.self.inside.reloads.items c.self.inside.first_faults

@@ -5,8 +5,8 @@ use Rattle.kr_rollout.specs.inner.Rollouts.{RolloutState}
 use Rattle.kr_rollout.proofs.Keeping.{may_before, read_current}
 use Rattle.kr_rollout.proofs.rollout.Rollout.reload.Goals as goal
 
-pub take_up-requires-clause-awaited : goal.take_up-requires-clause-awaited
-take_up-requires-clause-awaited g c =
+pub bring-requires-clause-awaited : goal.bring-requires-clause-awaited
+bring-requires-clause-awaited g c =
     let may = may_before c.self.view_is c.args.seat
     (event.Reload c.args.replica c.args.published c.args.expect) c.requires.may in
     let is = read_current c.self.invariant.0 c.args.replica c.index.result.now may.0 c.index.ensures

@@ -1,9 +1,11 @@
 -- Answers of Reader::some.
-use Rattle.std.proofs.Common.{◌+◌, ◌<◌, ◌≤◌, length, take, refl, ◌∙◌, subst, arith}
+use Rattle.std.proofs.Common.{◌≡◌, ◌+◌, ◌-◌, ◌<◌, ◌≤◌, min, length, take, drop, None, Ok, Err, refl, sym, ◌∙◌, ap, subst, arith}
 use Rattle.std.proofs.lemmas.List.{take_at}
+use Rattle.kr_store.specs.declared.answers.Cause.TheVariants.{Torn}
+use Rattle.kr_store.specs.declared.answers.LoadStop.TheVariants.{Breach, Failed}
 use Rattle.kr_store.specs.inner.Reading.{Ahead, Takes}
-use Rattle.kr_store.proofs.Steps.{seen}
-use Rattle.kr_store.proofs.Lookahead.{takes_next, reads_front, hands_on, hands_first}
+use Rattle.kr_store.proofs.Steps.{rest_of, seen, untold}
+use Rattle.kr_store.proofs.Lookahead.{takes_next, reads_front, handed, goes_on, none_ahead, hands_on, hands_first}
 use Rattle.kr_store.proofs.reader.Reader.some.Goals as goal
 
 pub returns-then-used-self-clause-read : goal.returns-then-used-self-clause-read
@@ -55,3 +57,156 @@ returns-clause-read g c =
     (c.read_at-2.auto.into ∙ c.deref_mut.ensures.len)) c.in-Ok-read_at.ensures.bytes
     c.requires.some c.fill_front-n-2.auto.into c.fill_front-n-2.ensures.count
     c.fill_front-n-2.ensures.same)
+
+pub invariant_of-self : goal.invariant_of-self
+invariant_of-self g c =
+    let r = c.self.inside in
+    let i = c.self.invariant in
+    let h = handed (r.place - r.start) r.filled c.fill_front-n.result (length c.args.into.now)
+    r.ahead.items c.if-used-self.true i.5 c.requires.some (c.fill_front-n.ensures.count
+    ∙ ap (λ xs. min (length (take (r.filled - (r.place - r.start)) (drop (r.place - r.start) xs)))
+    (length c.args.into.now)) c.deref.ensures.value) in
+    let within : r.place + length c.args.into.now ≤ r.end =
+    subst (λ (a : Ahead). a.place + length c.args.into.now ≤ a.end) (sym c.self.view_is)
+    c.requires.within in (
+      omega (arith, h.2, within),
+      i.1,
+      omega (arith, i.2),
+      omega (arith, h.1, i.2, i.3),
+      i.4,
+      i.5,
+      i.6,
+    )
+
+pub returns-then-used-self-clause-advances : goal.returns-then-used-self-clause-advances
+returns-then-used-self-clause-advances g c =
+    let r = c.self.inside in
+    let told = g.T.Tape.told r.tape in
+    let count = g.T.Tape.count r.tape in
+    let n = c.fill_front-n.result in
+    let within : r.place + length c.args.into.now ≤ r.end =
+    subst (λ (a : Ahead). a.place + length c.args.into.now ≤ a.end) (sym c.self.view_is)
+    c.requires.within in
+    goes_on told told r.place (r.place + n) r.end count count (Ok n) c.args.self.now refl
+    c.self.invariant.1 (omega (arith, within, c.fill_front-n.ensures.count)) (omega arith)
+    (λ e. cc) c.self.view_is
+
+pub returns-in-Err-clause-advances : goal.returns-in-Err-clause-advances
+returns-in-Err-clause-advances g c =
+    let r = c.self.inside in
+    let now = c.read_at.new.self in
+    goes_on (g.T.Tape.told r.tape) (g.T.Tape.told now) r.place r.place r.end
+    (g.T.Tape.count r.tape) (g.T.Tape.count now) (Err Failed) c.args.self.now
+    c.in-Err.ensures.same c.self.invariant.1
+    c.self.invariant.0
+    c.in-Err.ensures.cause.later (λ _. c.in-Err.ensures.cause.failed) c.self.view_is
+
+pub returns-then-n-eq0-clause-advances : goal.returns-then-n-eq0-clause-advances
+returns-then-n-eq0-clause-advances g c =
+    let r = c.self.inside in
+    let now = c.read_at.new.self in
+    goes_on (g.T.Tape.told r.tape) (g.T.Tape.told now) r.place r.place r.end
+    (g.T.Tape.count r.tape) (g.T.Tape.count now) (Err (Breach Torn)) c.args.self.now
+    c.in-Ok.ensures.same c.self.invariant.1
+    c.self.invariant.0
+    c.in-Ok.ensures.cause.later (λ e. cc) c.self.view_is
+
+pub returns-then-into-len-clause-advances : goal.returns-then-into-len-clause-advances
+returns-then-into-len-clause-advances g c =
+    let r = c.self.inside in
+    let now = c.read_at.new.self in
+    let n = c.in-Ok.n in
+    let within : r.place + length c.args.into.now ≤ r.end =
+    subst (λ (a : Ahead). a.place + length c.args.into.now ≤ a.end) (sym c.self.view_is)
+    c.requires.within in
+    goes_on (g.T.Tape.told r.tape) (g.T.Tape.told now) r.place (r.place + n) r.end
+    (g.T.Tape.count r.tape) (g.T.Tape.count now) (Ok n) c.args.self.now
+    c.in-Ok.ensures.same c.self.invariant.1
+    (omega (arith, within, c.in-Ok.ensures.bound.0, c.read_at.auto.into))
+    c.in-Ok.ensures.cause.later (λ e. cc) c.self.view_is
+
+pub returns-in-Err-read_at-clause-advances : goal.returns-in-Err-read_at-clause-advances
+returns-in-Err-read_at-clause-advances g c =
+    let r = c.self.inside in
+    let now = c.read_at-2.new.self in
+    goes_on (g.T.Tape.told r.tape) (g.T.Tape.told now) r.place r.place r.end
+    (g.T.Tape.count r.tape) (g.T.Tape.count now) (Err Failed) c.args.self.now
+    c.in-Err-read_at.ensures.same c.self.invariant.1
+    c.self.invariant.0
+    c.in-Err-read_at.ensures.cause.later (λ _. c.in-Err-read_at.ensures.cause.failed) c.self.view_is
+
+pub returns-then-found-eq0-clause-advances : goal.returns-then-found-eq0-clause-advances
+returns-then-found-eq0-clause-advances g c =
+    let r = c.self.inside in
+    let now = c.read_at-2.new.self in
+    goes_on (g.T.Tape.told r.tape) (g.T.Tape.told now) r.place r.place r.end
+    (g.T.Tape.count r.tape) (g.T.Tape.count now) (Err (Breach Torn)) c.args.self.now
+    c.in-Ok-read_at.ensures.same c.self.invariant.1
+    c.self.invariant.0
+    c.in-Ok-read_at.ensures.cause.later (λ e. cc) c.self.view_is
+
+pub returns-clause-advances : goal.returns-clause-advances
+returns-clause-advances g c =
+    let r = c.self.inside in
+    let now = c.read_at-2.new.self in
+    let n = c.fill_front-n-2.result in
+    let within : r.place + length c.args.into.now ≤ r.end =
+    subst (λ (a : Ahead). a.place + length c.args.into.now ≤ a.end) (sym c.self.view_is)
+    c.requires.within in
+    goes_on (g.T.Tape.told r.tape) (g.T.Tape.told now) r.place (r.place + n) r.end
+    (g.T.Tape.count r.tape) (g.T.Tape.count now) (Ok n) c.args.self.now
+    c.in-Ok-read_at.ensures.same c.self.invariant.1
+    (omega (arith, within, c.fill_front-n-2.ensures.count))
+    c.in-Ok-read_at.ensures.cause.later (λ e. cc) c.self.view_is
+
+pub invariant_of-self-in-Err : goal.invariant_of-self-in-Err
+invariant_of-self-in-Err g c =
+    let r = c.self.inside in
+    let i = c.self.invariant in
+    none_ahead (g.T.Tape.told r.tape) (g.T.Tape.told c.read_at.new.self) r.place r.end
+    (length r.ahead.items) c.in-Err.ensures.same i.0 i.1 i.4
+
+pub invariant_of-self-then-n-eq0 : goal.invariant_of-self-then-n-eq0
+invariant_of-self-then-n-eq0 g c =
+    let r = c.self.inside in
+    let i = c.self.invariant in
+    none_ahead (g.T.Tape.told r.tape) (g.T.Tape.told c.read_at.new.self) r.place r.end
+    (length r.ahead.items) c.in-Ok.ensures.same i.0 i.1 i.4
+
+pub invariant_of-self-then-into-len : goal.invariant_of-self-then-into-len
+invariant_of-self-then-into-len g c =
+    let r = c.self.inside in
+    let i = c.self.invariant in
+    let within : r.place + length c.args.into.now ≤ r.end =
+    subst (λ (a : Ahead). a.place + length c.args.into.now ≤ a.end) (sym c.self.view_is)
+    c.requires.within in
+    none_ahead (g.T.Tape.told r.tape) (g.T.Tape.told c.read_at.new.self) (r.place + c.in-Ok.n)
+    r.end (length r.ahead.items) c.in-Ok.ensures.same
+    (omega (arith, within, c.in-Ok.ensures.bound.0, c.read_at.auto.into)) i.1 i.4
+
+pub returns-then-n-eq0-clause-read : goal.returns-then-n-eq0-clause-read
+returns-then-n-eq0-clause-read g c =
+    let r = c.self.inside in
+    let i = c.self.invariant in
+    let within : r.place + length c.args.into.now ≤ r.end =
+    subst (λ (a : Ahead). a.place + length c.args.into.now ≤ a.end) (sym c.self.view_is)
+    c.requires.within in
+    let left : rest_of r.place (g.T.Tape.told r.tape) ≡ None =
+    untold (g.T.Tape.told r.tape) r.place r.end c.read_at.new.into c.in-Ok.n i.1
+    (omega (arith, within, c.requires.some)) (omega (arith, c.read_at.auto.into, c.requires.some))
+    c.if-n-eq0.true c.in-Ok.ensures.bytes in
+    (sym (ap (λ (a : Ahead). a.left) c.self.view_is) ∙ left, refl)
+
+pub returns-then-found-eq0-clause-read : goal.returns-then-found-eq0-clause-read
+returns-then-found-eq0-clause-read g c =
+    let r = c.self.inside in
+    let i = c.self.invariant in
+    let within : r.place + length c.args.into.now ≤ r.end =
+    subst (λ (a : Ahead). a.place + length c.args.into.now ≤ a.end) (sym c.self.view_is)
+    c.requires.within in
+    let left : rest_of r.place (g.T.Tape.told r.tape) ≡ None =
+    untold (g.T.Tape.told r.tape) r.place r.end c.read_at-2.new.into c.in-Ok-read_at.n i.1
+    (omega (arith, within, c.requires.some))
+    (omega (arith, c.read_at-2.auto.into, c.deref_mut.ensures.len, i.4)) c.if-found-eq0.true
+    c.in-Ok-read_at.ensures.bytes in
+    (sym (ap (λ (a : Ahead). a.left) c.self.view_is) ∙ left, refl)

@@ -1,4 +1,4 @@
--- `take_up`: the replica takes it up, or nothing but the journal changes.
+-- `bring`: the replica takes it up, or nothing but the journal changes.
 use Rattle.std.proofs.Common.{◌∙◌, ap, sym, subst}
 use Rattle.kr_provider.specs.Publication.{Publication, IsPublished}
 use Rattle.kr_rollout.specs.declared.line.Gave.TheVariants.{Refused, Nothing}
@@ -6,7 +6,7 @@ use Rattle.kr_rollout.specs.Callers.{gave_of}
 use Rattle.kr_rollout.specs.inner.Membership.{IsJudgement}
 use Rattle.kr_rollout.specs.inner.Rollouts.{line_now}
 use Rattle.kr_rollout.proofs.Reloading.{refused_at, taken_at, unread_at}
-use Rattle.kr_rollout.proofs.rollout.Rollout.take_up.Goals as goal
+use Rattle.kr_rollout.proofs.rollout.Rollout.bring.Goals as goal
 
 pub returns-in-Ok-Fits : goal.returns-in-Ok-Fits
 returns-in-Ok-Fits g c =

@@ -2,7 +2,7 @@
 use Rattle.std.proofs.Common.{None, ◌∙◌, arith}
 use Rattle.std.proofs.lemmas.List.{get_or_default}
 use Rattle.std.proofs.lemmas.Str.Pattern.{split_parts}
-use Rattle.kr_words.proofs.arguments.split_at_equals.Goals as goal
+use Rattle.kr_words.proofs.rules.split_at_equals.Goals as goal
 
 pub returns-in-None : goal.returns-in-None
 returns-in-None c = λ has. split_parts 61 c.args.value.now None c.in-None.ensures.cases
