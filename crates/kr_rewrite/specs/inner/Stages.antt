@@ -81,6 +81,7 @@ module _ {D : Type 0} (left : D → Option (List ℕ)) (count : D → ℕ) where
   -- steps up to the end, or to the one that was cut short
   abbrev pub DrivesFromBy : (replica : ℕ) → (above : List ℕ) → Caller → CacheState → D
       → Result Report (Report × CallNo) → Caller → CacheState → D → List Exchange → Type 0
-  DrivesFromBy replica above old cache dice result new kept after exchanges = DrivesFromOver ReadsRow
+  DrivesFromBy replica above old cache dice result new kept after exchanges =
+      DrivesFromOver ReadsRow
       (λ from to. ⊤) left count replica above old (before cache exchanges) dice result new
       (behind kept) after
