@@ -1,6 +1,7 @@
 -- The live rows, as the first replica's configuration reads them with the first worker's outfit.
-use Rattle.std.proofs.Common.{◌≡◌, ℕ, ◌≤◌, Bool, true, false, List, [], ◌∷◌, ◌++◌, length, Option, None, Some, Result, Ok, Err, refl, sym, ◌∙◌, ap, subst, inl, inr, arith, Contains}
+use Rattle.std.proofs.Common.{◌≡◌, ℕ, suc, ◌-◌, ◌<◌, ◌≤◌, Bool, true, false, List, [], ◌∷◌, ◌++◌, length, get_or, Option, None, Some, Result, Ok, Err, refl, sym, ◌∙◌, ap, subst, inl, inr, arith, Contains}
 use Rattle.std.specs.Prelude.{All, IfOk, IfSome, reverse}
+use Rattle.std.specs.List.{last_or}
 use Rattle.kr_base.specs.Walks.{Talk, Walk}
 use Rattle.std.proofs.lemmas.List.{reverse-append, reverse-reverse}
 use Rattle.std.proofs.lemmas.List.Elements.{All-append, All-contains, All-cons, All-head, All-nil}
@@ -11,6 +12,7 @@ use Rattle.kr_provider.specs.AskedLinks.{Among, AskedOnly}
 use Rattle.kr_provider.specs.Names.{names_of}
 use Rattle.kr_provider.specs.Publication.{Publication}
 use Rattle.kr_rollout.specs.Openings.{NamesAmong}
+use Rattle.kr_opening.proofs.Walking as walking
 use Rattle.kr_store.specs.Laws.{FollowEachOther}
 use Rattle.kr_store.specs.Rows.{AreRows, IsRow}
 use Rattle.kr_store.specs.Stores.{IsListing, IsNext}
@@ -36,6 +38,7 @@ use Rattle.kr_cmd_fleet.specs.inner.Outfits.{AreLater, AreNamed, links_of, with_
 use Rattle.kr_cmd_fleet.specs.inner.Plans.{IsWholePlan, named, plan_of}
 use Rattle.kr_cmd_fleet.specs.inner.Readings.{AreReadOf, HasFirst, IsFirst, IsReadable, KnowsItems, first_in, items_in, read_in}
 use Rattle.kr_cmd_steps.specs.Steps.{Steps, find, give}
+use Rattle.kr_cmd_steps.specs.inner.Tapes.{walk_path}
 use Rattle.kr_cmd_steps.proofs.Goes.{given, goes_on, home_refl, reach}
 use Rattle.kr_cmd_fleet.proofs.Plans.{plan_names}
 use Rattle.kr_cmd_steps.proofs.Hearing.{around_none}
@@ -90,29 +93,72 @@ follow rows from path [] e end = subst (λ p. IsNext rows p None) e end
 follow rows from path (first ∷ passed) p end =
     (p.0, follow rows first.path path passed p.1 end)
 
--- the rows up to this path, each readable
-pub record IsPassed (rows : List LogRow) (path : List ℕ) (passed : List Row) : Type 0 where
-  pub passes : Passes rows [] passed path
+-- where a walk is that has passed these rows
+abbrev pub end_of : List Row → List ℕ
+end_of passed = walk_path (last_or None passed)
+
+-- its last row stands at the end
+last_stands : (first : Row) (more : List Row) (d : Row)
+    → last_or None (first ∷ more) ≡ Some (get_or (first ∷ more) (length more) d)
+last_stands first [] d = refl
+last_stands first (next ∷ more) d = last_stands next more d
+
+pub end_is : (passed : List Row) (row : Row) → 0 < length passed
+    → row ≡ get_or passed (length passed - 1) row → row.path ≡ end_of passed
+end_is [] row some is = absurd (omega (arith, some))
+end_is (first ∷ more) row some is =
+    let place : suc (length more) - 1 ≡ length more = omega arith in
+    ap (λ (r : Row). r.path) (is ∙ ap (λ n. get_or (first ∷ more) n row) place)
+    ∙ sym (ap walk_path (last_stands first more row))
+
+end_push : (first : Option Row) (passed : List Row) (row : Row)
+    → walk_path (last_or first (passed ++ row ∷ [])) ≡ row.path
+end_push first [] row = refl
+end_push first (other ∷ passed) row = end_push (Some other) passed row
+
+end_more : (passed all : List Row) (row : Row) → all ≡ passed ++ row ∷ []
+    → end_of all ≡ row.path
+end_more passed all row e = ap end_of e ∙ end_push None passed row
+
+-- the row that was asked for by this path is the next one
+pub next_to : (rows : List LogRow) (passed asked : List Row) (path : List ℕ)
+    {found : Option Row} (next : Option Row) → path ≡ end_of asked → asked ≡ passed → found ≡ next
+    → IsNext rows path found → IsNext rows (end_of passed) next
+next_to rows passed asked path next at same is so =
+    subst (λ p. IsNext rows p next) (at ∙ ap end_of same)
+    (subst (λ o. IsNext rows path o) is so)
+
+-- so many rows, each readable
+pub record IsPassed (rows : List LogRow) (passed : List Row) : Type 0 where
+  pub passes : Passes rows [] passed (end_of passed)
   pub readable : All IsReadable passed
 
-pub passed_none : (rows : List LogRow) → IsPassed rows [] []
+pub passed_none : (rows : List LogRow) → IsPassed rows []
 passed_none rows = record { passes = refl; readable = All-nil IsReadable }
 
-pub passed_more : (rows : List LogRow) (path : List ℕ) (passed all : List Row) (row : Row)
-    → IsPassed rows path passed → IsNext rows path (Some row) → IsReadable row
-    → all ≡ passed ++ row ∷ [] → IsPassed rows row.path all
-passed_more rows path passed all row so_far next may e =
-    subst (IsPassed rows row.path) (sym e) (record {
-      passes = passes_more rows [] path passed row so_far.passes next;
-      readable = All-append IsReadable passed (row ∷ []) so_far.readable
-          (All-cons IsReadable row [] may (All-nil IsReadable));
-    })
+module _ (rows : List LogRow) (passed all : List Row) (row : Row)
+    (next : IsNext rows (end_of passed) (Some row)) (e : all ≡ passed ++ row ∷ []) where
+  pub passed_more : IsPassed rows passed → IsReadable row → IsPassed rows all
+  passed_more so_far may = record {
+    passes = subst (λ p. Passes rows [] all p) (sym (end_more passed all row e))
+        (subst (λ l. Passes rows [] l row.path) (sym e)
+        (passes_more rows [] (end_of passed) passed row so_far.passes next));
+    readable = subst (All IsReadable) (sym e)
+        (All-append IsReadable passed (row ∷ []) so_far.readable
+        (All-cons IsReadable row [] may (All-nil IsReadable)));
+  }
 
-pub passed_all : (format : Format) (rows : List LogRow) (path : List ℕ) (passed : List Row)
-    → AreRows format rows → IsPassed rows path passed → IsNext rows path None
+  pub fewer_left : walking.left_after (end_of all) rows
+      < walking.left_after (end_of passed) rows
+  fewer_left = subst (λ p. walking.left_after p rows
+      < walking.left_after (end_of passed) rows)
+      (sym (end_more passed all row e)) (walking.goes_on rows (end_of passed) row next)
+
+pub passed_all : (format : Format) (rows : List LogRow) (passed : List Row)
+    → AreRows format rows → IsPassed rows passed → IsNext rows (end_of passed) None
     → IsListing rows passed
-passed_all format rows path passed are so_far end = nexts_are_listing format rows passed are
-    (follow rows [] path passed so_far.passes end)
+passed_all format rows passed are so_far end = nexts_are_listing format rows passed are
+    (follow rows [] (end_of passed) passed so_far.passes end)
 
 -- ---- the steps
 

@@ -360,6 +360,7 @@ module _ {L D : Type 0} (link : L → Link) (step : L → Exchange → L → Typ
           asked = stays (λ b. b.world.asked) (λ seat outfit b. refl) refl;
           input = stays (λ b. b.input) (λ seat outfit b. refl) refl;
           said = stays (λ b. b.said) (λ seat outfit b. refl) refl;
+          heard = stays (λ b. b.heard) (λ seat outfit b. refl) refl;
         }
 
         stored : (rows : List LogRow) → KeepsStore o rows kept

@@ -90,6 +90,7 @@ settled_run link step left count store begun mid new history ended r = record {
     asked = ap (with_call (Settled store)) r.rest.asked;
     input = r.rest.input;
     said = r.rest.said;
+    heard = r.rest.heard;
   };
 }
 
@@ -151,6 +152,7 @@ module _ (T : Type 0) {L D : Type 0} (link : L → Link)
             asked = refl;
             input = refl;
             said = refl;
+            heard = refl;
           };
         };
         begins = l.begins;

@@ -232,6 +232,7 @@ pub record LeavesRest (store : List ℕ) (seats : ℕ) (mid new : Around) : Type
   pub asked : new.world.asked ≡ mid.world.asked
   pub input : new.input ≡ mid.input
   pub said : new.said ≡ mid.said
+  pub heard : new.heard ≡ mid.heard
 
 -- One history: that of a core which began with the store's rows and what the replicas published,
 -- in order the settings of their files, a gap for one that isn't in; their seeds were made by what

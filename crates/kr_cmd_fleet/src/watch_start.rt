@@ -1,6 +1,7 @@
 //! What a watch begins with: the live rows of the opening, as the first replica's configuration
 //! reads them.
-ghost use Rattle.std.specs.Prelude.{◌≡◌, ◌≤◌, All, Err, IfOk, IfSome, IsSome, Some, [], length};
+ghost use Rattle.std.specs.Prelude.{◌≡◌, ◌≤◌, All, Err, IfOk, IfSome, IsSome, None, Some, [], length};
+ghost use Rattle.std.specs.List.{last_or};
 ghost use Rattle.kr_base.specs.Walks.{Talk};
 ghost use Rattle.kr_provider.specs.Names.{AreDistinct, HasLinks, names_of as plugin_names};
 ghost use Rattle.kr_provider.specs.AskedLinks.{Among, AskedOnly};
@@ -85,17 +86,13 @@ pub(crate) fn read_first<T: Tape, L: Kms, D: Dice>(
     ensures revision { IfOk result.0 (λ start. start.revision ≡ length store.now.rows) }
     ensures later { AreLater L.link D.count outfits.0 result.1.0 }
 {
-    let mut start = WatchStart::unread(alloc, store);
     if !watched {
-        return (Ok(start), outfits);
+        return (Ok(WatchStart::unread(alloc, store)), outfits);
     }
     let published = first_published(replicas);
     let rows = match live_rows(alloc, store) {
         Ok(rows) => rows,
-        Err(NoMemory) => {
-            drop(start);
-            return (Err(Stop::NoMemory), outfits);
-        }
+        Err(NoMemory) => return (Err(Stop::NoMemory), outfits),
     };
     let mut outfits = in_turn(outfits);
     let Some(outfit) = outfits.pop() else {
@@ -107,13 +104,13 @@ pub(crate) fn read_first<T: Tape, L: Kms, D: Dice>(
     let outfits = in_turn(outfits);
     match read {
         Ok(items) => {
-            start.items = items;
+            let start = WatchStart {
+                items,
+                revision: store.revision(),
+            };
             (Ok(start), outfits)
         }
-        Err(stop) => {
-            drop(start);
-            (Err(stop), outfits)
-        }
+        Err(stop) => (Err(stop), outfits),
     }
 }
 
@@ -135,27 +132,24 @@ fn live_rows<T: Tape>(alloc: Global, store: &Store<T>) -> Result<List<Shared<Row
 {
     store.known();
     let mut rows = List::new(alloc);
-    let mut last = None;
     loop {
-        let row = match store.successor(walk_path(&last)) {
+        let row = match store.successor(walk_path(rows.as_slice())) {
             Ok(Some(row)) => row,
             Ok(None) => return Ok(rows),
             Err(_) => return Err(NoMemory),
         };
-        let kept = row.share()?;
-        match rows.push(kept) {
+        match rows.push(row) {
             Ok(()) => {}
             Err(_) => return Err(NoMemory),
         }
-        last = Some(row);
     }
 }
 
-/// The path of the row where the walk is; the empty one at its begin.
-fn walk_path(last: &Option<Shared<Row>>) -> &str
-    ensures { result.now ≡ walk_path last.now }
+/// The path where a walk is that has passed these rows; the empty one at its begin.
+fn walk_path(passed: &[Shared<Row>]) -> &str
+    ensures { result.now ≡ walk_path (last_or None passed.now) }
 {
-    match last {
+    match passed.last() {
         Some(row) => row.get().path.as_str(),
         None => "",
     }

@@ -1,5 +1,5 @@
 -- Steps that ask plugins nothing but this, and what is heard by them.
-use Rattle.std.proofs.Common.{◌≡◌, ℕ, List, [], ◌∷◌, length, All, Option, None, Some, Result, Ok, Err, subst, sym, inl, inr}
+use Rattle.std.proofs.Common.{◌≡◌, ℕ, List, [], ◌∷◌, length, Option, None, Some, Result, Ok, Err, subst, sym, inl, inr}
 use Rattle.std.specs.Io.KnownBytes.{Consumes, IsAtEnd}
 use Rattle.std.proofs.lemmas.List.Elements.{All-append, All-cons, All-nil}
 use Rattle.kr_base.specs.Told.{Agrees}
@@ -11,6 +11,7 @@ use Rattle.kr_kms.specs.declared.plugin.Status.{Status}
 use Rattle.kr_kms.specs.declared.plugin.Wrapped.{Wrapped}
 use Rattle.kr_kms.specs.declared.world.WorldCall.TheVariants.{File, Link, RandomSource, Settled, Tape, Returned}
 use Rattle.kr_cmd_steps.specs.Steps.{Steps, load, take_input, borrow_dice, borrow_tape, read_tape, write_row, keep_rows, settle, give_back, draw, borrow_link, ask_status, wrap, unwrap, note, find, refuse, give, and_then, Point, Left, Goes, hearing, with_asked, with_dice, with_input, with_said, with_tape, with_told}
+use Rattle.kr_cmd_laws.specs.FleetPlugins.{AllHeard}
 use Rattle.kr_cmd_laws.proofs.Plain.{IsPlain}
 
 -- from what is left on, whatever is drawn, found and answered, they ask plugins only this
@@ -53,14 +54,9 @@ OnlyAsks P (give x) left = Unit {0}
 
 -- ---- what was heard
 
--- all that is told
-abbrev pub AllHeard : (Exchange → Type 0) → Option (List Exchange) → Type 0
-AllHeard P None = Unit {0}
-AllHeard P (Some heard) = All P heard
-
 one_more : (P : Exchange → Type 0) (e : Exchange) (h : Option (List Exchange)) → P e
     → AllHeard P h → AllHeard P (hearing (e ∷ []) h)
-one_more P e None p a = tt
+one_more P e None p a = absurd a
 one_more P e (Some heard) p a = All-append P heard (e ∷ []) a (All-cons P e [] p (All-nil P))
 
 module _ {A : Type 0} (P : Exchange → Type 0) (point : Point A) (end : Left) where

@@ -52,7 +52,6 @@ use Rattle.kr_cmd_messages.specs.declared.refusal.Object.TheVariants.{Store, Tar
 use Rattle.kr_cmd_messages.specs.declared.refusal.Outcome.{Outcome}
 use Rattle.kr_cmd_messages.specs.declared.refusal.Refusal.{Refusal}
 use Rattle.kr_cmd_steps.specs.Around.{Around, left_of, with_what_is_said}
-use Rattle.kr_cmd_steps.specs.Check.{listing}
 use Rattle.kr_cmd_steps.specs.Phases.{adding, by_result, configuration, input_of, linking_programs, settled_for, silently, stored_on, tape_for, with_memory, within_limit, read_for}
 use Rattle.kr_cmd_steps.specs.ValueSteps.{bench_steps, data_steps, draw_some, opening, published_source, reading_given, source_steps, value_read, value_sealed, value_steps, value_with, working, working_by, fetching, none_kept}
 use Rattle.kr_cmd_steps.specs.StoreSteps.{copied_into, copying, live_on, migrated_line, migrated_row, migrating_into, new_row, revision_line, row_finding, row_findings, row_found, row_on, sealed_into, source_on, stored_into, target_on, target_read, telling_findings, verifying_by, verifying_with}
@@ -66,13 +65,14 @@ use Rattle.kr_cmd_steps.specs.StoreFiles.{IsStored, Stored, none_there, with_row
 use Rattle.kr_cmd_steps.specs.declared.programs.Program.{Program}
 use Rattle.kr_cmd_laws.specs.VerifyLaws.{AreLive}
 use Rattle.kr_cmd_laws.specs.PluginLaws.{IsInput, IsLiveOf, IsQuestion, IsRowOf, PluginsSee, Sees, verified_as}
-use Rattle.kr_cmd_laws.proofs.OnlyAsks.{plain_asks, AllHeard, OnlyAsks, only_asked, only_then}
+use Rattle.kr_cmd_laws.specs.FleetPlugins.{AllHeard}
+use Rattle.kr_cmd_laws.proofs.OnlyAsks.{plain_asks, OnlyAsks, only_asked, only_then}
 use Rattle.kr_cmd_laws.proofs.Plain.{plain}
 
 -- ---- phases that ask nothing
 
 module _ (P : Exchange → Type 0) where
-  results_only : {A B : Type 0} (r : Result A Refusal) (others : A → Steps B) (left : Left)
+  pub results_only : {A B : Type 0} (r : Result A Refusal) (others : A → Steps B) (left : Left)
       → ((x : A) → OnlyAsks P (others x) left) → OnlyAsks P (and_then (by_result r) others) left
   results_only (Ok x) others left o = o x
   results_only (Err why) others left o = tt
@@ -233,7 +233,7 @@ module _ (IsHeld : List ℕ → Type 0) where
       left (given_only P (value_reading envelope list path bytes)
       (is_stale envelope seeds list bytes) left)
 
-  value_only : (seeds : List SeedRow) (list : List Who) (path bytes : List ℕ) (kept : CacheState)
+  pub value_only : (seeds : List SeedRow) (list : List Who) (path bytes : List ℕ) (kept : CacheState)
       (left : Left) → IsHeld bytes → OnlyAsks P (value_read seeds list path bytes kept) left
   value_only seeds list path bytes kept left held = λ object has.
       opened_only seeds (reader_in list bytes) bytes object kept

@@ -1,6 +1,6 @@
-//! What plugins see of a fleet, up to its workers and of their lines, and that they made its seeds.
-//! The functions do nothing.
-ghost use Rattle.kr_cmd_laws.specs.FleetPlugins.{StartsAskSeeds, StartsMakeSeeds};
+//! What plugins see of a fleet and of a watch, up to their workers and of these workers' lines, and
+//! that they made its seeds. The functions do nothing.
+ghost use Rattle.kr_cmd_laws.specs.FleetPlugins.{StartsAskSeeds, StartsMakeSeeds, StoppedStartsAsk, WatchesAsk};
 ghost use Rattle.kr_cmd_laws.specs.LineQuestions.{LinesAsk, LinesWrapDrawn};
 
 use kr_kms::World;
@@ -9,6 +9,16 @@ use kr_kms::World;
 pub fn starts_ask_seeds<W: World>()
     ensures { StartsAskSeeds W.Tap W.Link.link W.Link.step W.lent W.took W.Rand.left
         W.Rand.count }
+{}
+
+/// Up to its workers a watch asks that, and to unwrap the source of a live row's value.
+pub fn watches_ask()
+    ensures { WatchesAsk }
+{}
+
+/// Nor does a fleet or a watch ask more that ends before its workers.
+pub fn stopped_starts_ask<W: World>()
+    ensures { StoppedStartsAsk W.Tap W.Link.link W.Link.step W.Rand.left W.Rand.count }
 {}
 
 /// The seeds at the start are what plugins wrapped, each with the key that its plugin answered.

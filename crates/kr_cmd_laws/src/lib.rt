@@ -14,7 +14,10 @@ mod verifications;
 
 pub use commands::{commands_are_read, tapes_are_left};
 pub use draws::told_draws;
-pub use fleet_plugins::{lines_ask, lines_wrap_drawn, starts_ask_seeds, starts_make_seeds};
+pub use fleet_plugins::{
+    lines_ask, lines_wrap_drawn, starts_ask_seeds, starts_make_seeds, stopped_starts_ask,
+    watches_ask,
+};
 pub use fleets::fleets_are_read;
 pub use headlines::{each_run_is_wrong, runs_have_headlines};
 pub use plugins::plugins_see;

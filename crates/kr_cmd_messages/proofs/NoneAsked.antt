@@ -1,6 +1,9 @@
 -- What words ask for that are refused, are another command's or lack an option: nothing.
-use Rattle.std.proofs.Common.{◌≡◌, ℕ, List, [], ◌∷◌, codes, Option, None, Some, Ok, Err, inl, inr, sym, ◌∙◌, ap, subst}
+use Rattle.std.proofs.Common.{◌≡◌, ℕ, Bool, true, false, not, List, [], ◌∷◌, codes, Option, None, Some, Ok, Err, inl, inr, sym, ◌∙◌, ap, subst}
+use Rattle.std.proofs.lemmas.Bool.{both_ways, not-false}
+use Rattle.std.proofs.lemmas.Slice.Eq.{bytes_eq-Decides}
 use Rattle.std.specs.Prelude.{slice_get}
+use Rattle.std.specs.Str.{bytes_eq}
 use Rattle.std.specs.String.{string_bytes}
 use Rattle.std.specs.declared.alloc.Global.{Global}
 use Rattle.std.specs.declared.string.String.{String}
@@ -21,7 +24,7 @@ use Rattle.kr_cmd_messages.specs.declared.refusal.Stop.TheVariants.{Words, NoMem
 use Rattle.kr_cmd_messages.specs.inner.Asking.{IsReadAs}
 use Rattle.kr_cmd_messages.specs.inner.FleetAnswers.{IsFleetAsked, NamesFleet}
 use Rattle.kr_cmd_messages.specs.inner.LoadAnswers.{IsLoadAsked}
-use Rattle.kr_cmd_messages.specs.inner.Reading.{AreRead, AreReadBehind, refusal_of}
+use Rattle.kr_cmd_messages.specs.inner.Reading.{AreRead, AreReadBehind, BeginWith, refusal_of}
 use Rattle.kr_cmd_messages.specs.inner.WatchAnswers.{IsWatchAsked}
 use Rattle.kr_cmd_messages.proofs.OneCommand.{means_none_within}
 
@@ -83,18 +86,38 @@ module _ {words : List (List ℕ)} {verb : Verb} {options : List (List ℕ × Li
 
 -- ---- the first word
 
-pub first_text : (words : List (String Global)) (first : String Global) (name : List ℕ)
-    (rest : List (List ℕ)) → Some first ≡ slice_get words 0 → texts words ≡ name ∷ rest
-    → string_bytes first ≡ name
-first_text [] first name rest is e = absurd (let none : Some first ≡ None = is in cc)
-first_text (word ∷ words) first name rest is e =
-    let same : first ≡ word = cc in ap string_bytes same ∙ cc
+first_is : (words : List (String Global)) (first : String Global) → Some first ≡ slice_get words 0
+    → BeginWith (string_bytes first) (texts words)
+first_is [] first is = absurd (let none : Some first ≡ None = is in cc)
+first_is (word ∷ words) first is =
+    let same : word ≡ first = cc in (texts words, ap (λ w. string_bytes w ∷ texts words) same)
+
+one_first : {words : List (List ℕ)} {name other : List ℕ} → BeginWith name words
+    → BeginWith other words → name ≡ other
+one_first {words} {name} {other} (rest, is) (more, so) =
+    let same : name ∷ rest ≡ other ∷ more = sym is ∙ so in cc
+
+-- words whose first text is tested against a name
+module _ (words : List (String Global)) {first : String Global}
+    (is : Some first ≡ slice_get words 0) {text : List ℕ} (text_is : text ≡ string_bytes first)
+    (name : List ℕ) {ne : Bool} (tested : ne ≡ not (bytes_eq text name)) where
+  text_first : BeginWith text (texts words)
+  text_first = subst (λ t. BeginWith t (texts words)) (sym text_is) (first_is words first is)
+
+  pub begin_with : ne ≡ false → BeginWith name (texts words)
+  begin_with same = subst (λ t. BeginWith t (texts words))
+      ((bytes_eq-Decides text name).0 (not-false (bytes_eq text name) (sym tested ∙ same)))
+      text_first
+
+  pub begin_otherwise : ne ≡ true → BeginWith name (texts words) → ⊥
+  begin_otherwise other begin = both_ways ne
+      (tested ∙ ap not ((bytes_eq-Decides text name).1 (one_first text_first begin))) other
 
 module _ {words : List (List ℕ)} {read : Option CommandWords} where
   pub read_so : (name : List ℕ) → AreReadBehind name words (Ok read) → {command : CommandWords}
       → read ≡ Some command → ReadsWords words (Ok command)
-  read_so name are is = subst (λ o. AreReadBehind name words (Ok o)) is are
+  read_so name are is = (subst (λ o. AreReadBehind name words (Ok o)) is are).1
 
   pub unread : {name : List ℕ} → AreReadBehind name words (Ok read) → read ≡ None
-      → (rest : List (List ℕ)) → words ≡ name ∷ rest → ⊥
+      → BeginWith name words → ⊥
   unread {name} are is = subst (λ o. AreReadBehind name words (Ok o)) is are

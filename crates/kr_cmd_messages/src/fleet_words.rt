@@ -51,7 +51,10 @@ fn fleet_request(alloc: Global, words: CommandWords) -> Result<Option<FleetWords
 }
 
 /// The fleet that options name, if they name one.
-pub fn named_fleet(alloc: Global, words: CommandWords) -> Result<Option<FleetWords>, NoMemory>
+pub(crate) fn named_fleet(
+    alloc: Global,
+    words: CommandWords,
+) -> Result<Option<FleetWords>, NoMemory>
     ensures { IfOk result (λ fleet. NamesFleet words.options.0 fleet) }
 {
     let Some(file) = words.value("file") else {

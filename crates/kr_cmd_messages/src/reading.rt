@@ -7,7 +7,7 @@ use kr_words::{CommandWords, WordsNo, read_words};
 use std::alloc::Global;
 
 /// The command of the words with its options.
-pub fn command_words(alloc: Global, words: &[String]) -> Result<CommandWords, Stop>
+pub(crate) fn command_words(alloc: Global, words: &[String]) -> Result<CommandWords, Stop>
     ensures { AreRead (texts words.now) result }
 {
     match read_words(alloc, words) {
@@ -21,7 +21,7 @@ pub fn command_words(alloc: Global, words: &[String]) -> Result<CommandWords, St
 }
 
 /// The same where the first word is `name`; other words aren't read.
-pub fn words_behind(
+pub(crate) fn words_behind(
     alloc: Global,
     name: &str,
     words: &[String],

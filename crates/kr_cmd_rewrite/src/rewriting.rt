@@ -63,7 +63,10 @@ pub fn rewrite<W: World>(alloc: Global, words: &Rewriting, world: &mut W) -> End
     let name = words.store.as_str();
     let tape = match open_tape(alloc, world, name, Access::ToWrite) {
         Ok(tape) => tape,
-        Err(stop) => return stopped(stop),
+        Err(stop) => {
+            drop(settings);
+            return stopped(stop);
+        }
     };
     let (ended, tape) = rewrite_on_tape(alloc, settings, programs.as_slice(), world, tape);
     match settle_tape(world, name, Object::Store, tape, to_settle(ended)) {
@@ -111,19 +114,29 @@ fn rewrite_on_tape<W: World>(
 {
     let store = match load_counted(alloc, tape) {
         Ok(store) => store,
-        Err((stop, tape)) => return (stopped(stop), tape),
+        Err((stop, tape)) => {
+            drop(settings);
+            return (stopped(stop), tape);
+        }
     };
     let Some(room) = rewrite_room(&store) else {
+        drop(settings);
         let limit = Stop::Refused(Refusal::Limit(Limit::Journal));
         return (stopped(limit), store.close());
     };
     let names = match program_plugins(alloc, programs) {
         Ok(names) => names,
-        Err(NoMemory) => return (stopped(Stop::NoMemory), store.close()),
+        Err(NoMemory) => {
+            drop(settings);
+            return (stopped(Stop::NoMemory), store.close());
+        }
     };
     let dice = match open_dice(alloc, world, 0) {
         Ok(dice) => dice,
-        Err(stop) => return (stopped(stop), store.close()),
+        Err(stop) => {
+            drop(settings);
+            return (stopped(stop), store.close());
+        }
     };
     let links = Links::<W::Link>::new(alloc);
     let rollout = LoneStart { store, names, room };
@@ -245,11 +258,15 @@ fn rewrite_linked<W: World, T: Tape>(
         program.file.as_str(),
     ) {
         Ok(link) => link,
-        Err(stop) => return (stopped(stop), rollout.into_store(), links, dice),
+        Err(stop) => {
+            drop(settings);
+            return (stopped(stop), rollout.into_store(), links, dice);
+        }
     };
     match links.add(link) {
         Ok(()) => {}
         Err((_, link)) => {
+            drop(settings);
             close_link(world, 0, link);
             return (stopped(Stop::NoMemory), rollout.into_store(), links, dice);
         }
@@ -289,7 +306,10 @@ fn rewrite_by_settings<T: Tape, L: Kms, D: Dice>(
 {
     let settings = match Shared::new(alloc, settings) {
         Ok(settings) => settings,
-        Err(_) => return (stopped(Stop::NoMemory), rollout.into_store(), links, dice),
+        Err(refused) => {
+            drop(refused);
+            return (stopped(Stop::NoMemory), rollout.into_store(), links, dice);
+        }
     };
     let published = match publish_settings(alloc, settings, &mut links, &mut dice) {
         Ok(published) => published,
@@ -298,12 +318,10 @@ fn rewrite_by_settings<T: Tape, L: Kms, D: Dice>(
     links.known();
     let bench = match Bench::new(alloc, links, dice, PAGES, CACHE) {
         Ok(bench) => bench,
-        Err((_, links, dice)) => return (
-            stopped(Stop::NoMemory),
-            rollout.into_store(),
-            links,
-            dice,
-        ),
+        Err((_, links, dice)) => {
+            drop(published);
+            return (stopped(Stop::NoMemory), rollout.into_store(), links, dice);
+        }
     };
     let core = match start(alloc, rollout, published) {
         Ok(core) => core,
@@ -379,7 +397,8 @@ fn drive_all<T: Tape, L: Kms, D: Dice>(
     solo.known();
     let driven = drive(alloc, &mut solo, 0, &mut bench, "");
     solo.known();
-    let (store, _lines) = solo.into_core().close();
+    let (store, lines) = solo.into_core().close();
+    drop(lines);
     store.known();
     let _faults = store.faults();
     let (links, dice) = bench.close();

@@ -182,7 +182,7 @@ fn read_rows<L: Kms, D: Dice>(
 }
 
 /// Why a row wasn't read to its end.
-#[derive(Debug, Drop)]
+#[derive(Drop)]
 enum Unread {
     /// The plugin of this name failed.
     PluginFailed { name: Text },

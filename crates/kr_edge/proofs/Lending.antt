@@ -1,6 +1,6 @@
 -- The calls of the system by which a store is lent, and a link.
 use Rattle.std.proofs.Common.{◌≡◌, Bool, true, List, ℕ, Option, sym, ◌∙◌, ap, subst}
-use Rattle.std.specs.Prelude.{Result, Ok, Err}
+use Rattle.std.specs.Prelude.{Ok, Err}
 use Rattle.kr_kms.specs.declared.world.Access.{Access}
 use Rattle.kr_edge.specs.SystemCalls.{with_note}
 use Rattle.kr_edge.specs.Stores.{OpensStore, plugin_start}

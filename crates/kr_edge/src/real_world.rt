@@ -11,16 +11,16 @@ ghost use Rattle.kr_kms.specs.Outside.{has_failed, makes, link_at, same_link, sa
 ghost use Rattle.kr_kms.specs.declared.world.WorldCall.{WorldCall};
 ghost use Rattle.kr_edge.specs.Opened.{EndsBefore, FailsToRead, ReaderHolds};
 ghost use Rattle.kr_edge.specs.Plugins.{line_link};
-ghost use Rattle.kr_edge.specs.RealWorld.{seen};
+ghost use Rattle.kr_edge.specs.RealWorld.{counted_links, seen};
 ghost use Rattle.kr_edge.specs.Stores.{DrawsFrom, LendsLink, LendsStore, LoadsBy};
 
 use crate::answer_room::AnswerRoom;
-use crate::child_link::{ChildLink, take_ends};
+use crate::child_link::{ChildEnds, ChildLink, take_ends};
 use crate::opening::{open_store, start};
 use crate::placed::DiskFile;
 use crate::system::{OpenNo, ProcessStartNo, System};
 use crate::tape::FileTape;
-use kr_base::{Bytes, Dice, Failed, FaultCount, List, ReadNo, Source, Text, read_all};
+use kr_base::{Bytes, Dice, Failed, FaultCount, List, NoMemory, ReadNo, Source, Text, read_all};
 use kr_kms::{Access, FileFaults, FileNo, Kms, Shelf, World, name_place, plugin_place};
 use std::alloc::Global;
 
@@ -369,26 +369,9 @@ where
             self.faults.links.rise();
             return Err(FileNo::Failed);
         };
-        match link_place(self.links.items(), seat, plugin) {
-            Some(at) => match self.links.lend(at, (seat, key)) {
-                Ok((key, count)) => {
-                    drop(key);
-                    Ok(ChildLink::new(name, ends, room, count))
-                }
-                Err(_) => {
-                    drop((name, room));
-                    ends.close();
-                    Err(FileNo::NoMemory)
-                }
-            },
-            None => match self.links.add((seat, key)) {
-                Ok(()) => Ok(ChildLink::first(name, ends, room)),
-                Err(_) => {
-                    drop((name, room));
-                    ends.close();
-                    Err(FileNo::NoMemory)
-                }
-            },
+        match lent_link(&mut self.links, (seat, key), name, ends, room) {
+            Ok(link) => Ok(link),
+            Err(NoMemory) => Err(FileNo::NoMemory),
         }
     }
 
@@ -443,4 +426,41 @@ fn link_place(counts: &[((u32, Text), u64)], seat: u32, plugin: &str) -> Option<
     counts
         .iter()
         .position(|entry| entry.0.0 == seat && entry.0.1.as_str() == plugin)
+}
+
+/// The link over a started child that goes out: with the count of the first of its key, or with no
+/// fault so far.
+fn lent_link(
+    links: &mut Shelf<(u32, Text), ((u32, Text), u64)>,
+    key: (u32, Text),
+    name: Text,
+    ends: ChildEnds,
+    room: AnswerRoom,
+) -> Result<ChildLink, NoMemory>
+    ensures ok { IfOk result (λ link. HandsOut same_link (counted_links links.old)
+        (counted_links links.new) key link.lines.faults) }
+    ensures name { IfOk result (λ link. link.name ≡ name) }
+    ensures err { OnErr result (links.new ≡ links.old) }
+{
+    match link_place(links.items(), key.0, key.1.as_str()) {
+        Some(at) => match links.lend(at, key) {
+            Ok((key, count)) => {
+                drop(key);
+                Ok(ChildLink::new(name, ends, room, count))
+            }
+            Err(NoMemory) => {
+                drop((name, room));
+                ends.close();
+                Err(NoMemory)
+            }
+        },
+        None => match links.add(key) {
+            Ok(()) => Ok(ChildLink::first(name, ends, room)),
+            Err(NoMemory) => {
+                drop((name, room));
+                ends.close();
+                Err(NoMemory)
+            }
+        },
+    }
 }

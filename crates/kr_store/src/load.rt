@@ -1,5 +1,8 @@
 //! Loading the rows of a file.
-ghost use Rattle.std.specs.Prelude.{◌≡◌};
+ghost use Rattle.std.specs.Prelude.{◌≡◌, [], ◌∷◌, ◌++◌, OnOk};
+ghost use Rattle.kr_store.specs.declared.format.Format.TheVariants.{Two};
+ghost use Rattle.kr_store.specs.inner.Index.{Adds, IsIndexOf};
+ghost use Rattle.kr_store.specs.inner.KeptRows.{log_row_of};
 ghost use Rattle.kr_store.specs.inner.Reading.{Advances, LoadsRows, load_refusal};
 
 use crate::answers::{Cause, LoadStop, StoreNo};
@@ -25,13 +28,7 @@ pub(crate) fn load_rows<T: Tape>(alloc: Global, reader: &mut Reader<T>) -> Resul
     ensures loads { LoadsRows reader.old result }
 {
     if reader.is_at_end() {
-        let rows = List::new(alloc);
-        let index = Index::new(alloc);
-        return Ok(Contents {
-            format: Format::Two,
-            rows,
-            index,
-        });
+        return Ok(no_rows(alloc));
     }
     let format = reader.magic()?;
     let mut rows = List::new(alloc);
@@ -51,19 +48,10 @@ pub(crate) fn load_rows<T: Tape>(alloc: Global, reader: &mut Reader<T>) -> Resul
             drop(row);
             return Err(StoreNo::BadRow { at });
         }
-        match index.note(&row, revision) {
+        match add_row(&mut rows, &mut index, row, revision) {
             Ok(()) => {}
             Err(NoMemory) => {
                 drop((rows, index));
-                drop(row);
-                return Err(StoreNo::NoMemory);
-            }
-        }
-        match rows.push(row) {
-            Ok(()) => {}
-            Err(refused) => {
-                drop((rows, index));
-                drop(refused);
                 return Err(StoreNo::NoMemory);
             }
         }
@@ -73,6 +61,45 @@ pub(crate) fn load_rows<T: Tape>(alloc: Global, reader: &mut Reader<T>) -> Resul
         rows,
         index,
     })
+}
+
+/// What a file without a byte holds.
+fn no_rows(alloc: Global) -> Contents
+    ensures format { result.format ≡ Two }
+    ensures rows { result.rows.0 ≡ [] }
+    ensures index { IsIndexOf [] result.index }
+{
+    Contents {
+        format: Format::Two,
+        rows: List::new(alloc),
+        index: Index::new(alloc),
+    }
+}
+
+/// Puts a row that may stand there behind the others, and notes it in their index.
+fn add_row(
+    rows: &mut List<KeptRow>,
+    index: &mut Index,
+    row: KeptRow,
+    revision: u64,
+) -> Result<(), NoMemory>
+    ensures rows { OnOk result (rows.new.0 ≡ rows.old.0 ++ row ∷ []) }
+    ensures index { OnOk result (Adds index.old index.new revision (log_row_of row)) }
+{
+    match index.note(&row, revision) {
+        Ok(()) => {}
+        Err(NoMemory) => {
+            drop(row);
+            return Err(NoMemory);
+        }
+    }
+    match rows.push(row) {
+        Ok(()) => Ok(()),
+        Err(refused) => {
+            drop(refused);
+            Err(NoMemory)
+        }
+    }
 }
 
 /// Why a row that begins at this place can't be loaded.

@@ -26,30 +26,37 @@ use test_support::{
 /// A call with its arguments.
 #[derive(Drop)]
 pub enum Call {
+    /// The value at a path.
     Read {
         replica: u32,
         path: Text,
     },
+    /// A value is put at a path.
     Write {
         replica: u32,
         path: Text,
         resource: Text,
         plain: Bytes,
     },
+    /// The row of a path is deleted.
     Delete {
         path: Text,
     },
+    /// A replica goes out.
     Leave {
         replica: u32,
     },
+    /// A replica that is in takes other settings up.
     Reload {
         replica: u32,
         settings: Shared<Settings>,
     },
+    /// A replica comes in with settings.
     Join {
         replica: u32,
         settings: Shared<Settings>,
     },
+    /// The settings of a replica are published anew where a plugin has another key id.
     Refresh {
         replica: u32,
     },
@@ -81,14 +88,26 @@ impl Call {
                 let replica = parse_number(rest)?;
                 Ok(Call::Leave { replica })
             }
-            Key::Reload => parse_load(&names.settings, rest, true),
-            Key::Join => parse_load(&names.settings, rest, false),
+            Key::Reload => {
+                let (replica, settings) = parse_load(&names.settings, rest)?;
+                Ok(Call::Reload { replica, settings })
+            }
+            Key::Join => {
+                let (replica, settings) = parse_load(&names.settings, rest)?;
+                Ok(Call::Join { replica, settings })
+            }
             Key::Refresh => {
                 let replica = parse_number(rest)?;
                 Ok(Call::Refresh { replica })
             }
-            Key::Step => parse_rewrite(alloc, rest, false),
-            Key::Drive => parse_rewrite(alloc, rest, true),
+            Key::Step => {
+                let (replica, after) = parse_rewrite(alloc, rest)?;
+                Ok(Call::Step { replica, after })
+            }
+            Key::Drive => {
+                let (replica, after) = parse_rewrite(alloc, rest)?;
+                Ok(Call::Drive { replica, after })
+            }
         }
     }
 }
@@ -151,23 +170,18 @@ fn parse_write(alloc: Global, words: &str) -> Result<Call, Wrong> {
 }
 
 /// `REPLICA NAME`.
-fn parse_load(named: &NamedValues<Settings>, words: &str, again: bool) -> Result<Call, Wrong> {
+fn parse_load(
+    named: &NamedValues<Settings>,
+    words: &str,
+) -> Result<(u32, Shared<Settings>), Wrong> {
     let (replica, name) = split_number(words)?;
-    let settings = named.share(name)?;
-    if again {
-        return Ok(Call::Reload { replica, settings });
-    }
-    Ok(Call::Join { replica, settings })
+    Ok((replica, named.share(name)?))
 }
 
 /// `REPLICA AFTER`.
-fn parse_rewrite(alloc: Global, words: &str, all: bool) -> Result<Call, Wrong> {
+fn parse_rewrite(alloc: Global, words: &str) -> Result<(u32, Text), Wrong> {
     let (replica, after) = split_number(words)?;
-    let after = own_text_or_empty(alloc, after)?;
-    if all {
-        return Ok(Call::Drive { replica, after });
-    }
-    Ok(Call::Step { replica, after })
+    Ok((replica, own_text_or_empty(alloc, after)?))
 }
 
 /// Makes the call, and prints what it answered, or `line` where it can't be made.

@@ -11,7 +11,9 @@ const REPLICAS: u32 = 2;
 /// Settings that lines named, and where the texts of lines are put.
 #[derive(Drop)]
 pub struct Names {
+    /// Where the texts of lines are put.
     pub alloc: Global,
+    /// The settings by their names.
     pub settings: NamedValues<Settings>,
 }
 

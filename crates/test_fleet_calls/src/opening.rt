@@ -18,15 +18,20 @@ use test_support::{NamedValues, Wrong, shared, split_number, two_words};
 /// How many configurations each seat may bring, and how many lines the journal may have.
 #[derive(Clone, Copy)]
 pub struct Budget {
+    /// How many configurations each seat may bring.
     pub reloads: u32,
+    /// How many lines the journal may have.
     pub room: u32,
 }
 
 /// What a core is started with.
 #[derive(Drop)]
 pub struct Terms {
+    /// The settings of the first replica, which is in.
     pub first: Shared<Settings>,
+    /// The settings of the second one, if it is in.
     pub second: Option<Shared<Settings>>,
+    /// What may be brought and noted.
     pub budget: Budget,
     /// Whether there is a second caller.
     pub with_rival: bool,

@@ -14,8 +14,22 @@ pub fn parse_verdict(alloc: Global, text: &str) -> Result<Verdict, Wrong> {
     let (word, rest) = two_words(text)?;
     match word {
         "drops-stored" => stored(alloc, rest),
-        "drops-writer" => numbered(alloc, true, rest),
-        "unread" => numbered(alloc, false, rest),
+        "drops-writer" => {
+            let (generation, class, who) = numbered(alloc, rest)?;
+            Ok(Verdict::DropsWriter {
+                generation,
+                class,
+                who,
+            })
+        }
+        "unread" => {
+            let (generation, class, who) = numbered(alloc, rest)?;
+            Ok(Verdict::Unread {
+                generation,
+                class,
+                who,
+            })
+        }
         _ => Err(Wrong::Form),
     }
 }
@@ -30,28 +44,13 @@ fn stored(alloc: Global, rest: &str) -> Result<Verdict, Wrong> {
 }
 
 /// `GENERATION CLASS WHO`.
-fn numbered(alloc: Global, is_writer: bool, rest: &str) -> Result<Verdict, Wrong> {
+fn numbered(alloc: Global, rest: &str) -> Result<(u32, Class, Who), Wrong> {
     let (generation, rest) = two_words(rest)?;
     let generation = parse_number(generation)?;
     let (class, who) = two_words(rest)?;
     match both(parse_class(alloc, class), parse_provider(alloc, who)) {
-        Ok((class, who)) => Ok(placed(is_writer, generation, class, who)),
+        Ok((class, who)) => Ok((generation, class, who)),
         Err(why) => Err(why),
-    }
-}
-
-fn placed(is_writer: bool, generation: u32, class: Class, who: Who) -> Verdict {
-    if is_writer {
-        return Verdict::DropsWriter {
-            generation,
-            class,
-            who,
-        };
-    }
-    Verdict::Unread {
-        generation,
-        class,
-        who,
     }
 }
 

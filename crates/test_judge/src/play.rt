@@ -12,6 +12,7 @@ use test_support::Wrong;
 /// What comes behind it where a replica takes settings up.
 #[derive(Clone, Copy)]
 pub enum Then {
+    /// Nothing.
     Stays,
     /// One holds them.
     IsHeld,

@@ -14,7 +14,7 @@ use kr_base::Text;
 use kr_rollout::{Event, Gave};
 use std::alloc::Global;
 use test_support::{
-    Page, Wrong, add_parts, first_word, own_text_or_empty, parse_number, parse_option,
+    Checks, Page, Wrong, add_parts, first_word, own_text_or_empty, parse_number, parse_option,
     split_number, split_put, two_words,
 };
 
@@ -139,7 +139,7 @@ fn add_last(alloc: Global, page: &mut Page, table: &Table, seat: u32) -> Result<
     };
     add_line(alloc, page, line);
     if let Gave::Found { .. } = &line.gave {
-        add_parts(page, table.found(seat)?, true);
+        add_parts(page, table.found(seat)?, Checks::Told);
     }
     page.end_line();
     Ok(())

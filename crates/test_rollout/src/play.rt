@@ -29,6 +29,15 @@ pub enum Stage {
     Alone(Alone),
 }
 
+/// Who calls a core.
+#[derive(Clone, Copy)]
+pub enum Callers {
+    /// All its seats.
+    Several,
+    /// Seat 0 alone.
+    Only,
+}
+
 /// The configurations that were named, and the stage.
 #[derive(Drop)]
 pub struct Play {
@@ -110,13 +119,13 @@ impl Play {
         &mut self,
         alloc: Global,
         page: &mut Page,
-        is_alone: bool,
+        callers: Callers,
         rest: &str,
     ) -> Result<(), Wrong> {
         let terms = self.terms(alloc, rest)?;
         match self.take_store() {
             Ok(store) => {
-                self.start_over_store(alloc, page, store, terms, is_alone);
+                self.start_over_store(alloc, page, store, terms, callers);
                 Ok(())
             }
             Err(why) => {
@@ -148,11 +157,11 @@ impl Play {
         page: &mut Page,
         store: Store<MemTape>,
         terms: Terms,
-        is_alone: bool,
+        callers: Callers,
     )
         requires { AreTerms terms.replicas.0 terms.reloads.items terms.room }
     {
-        match started(alloc, store, terms, is_alone) {
+        match started(alloc, store, terms, callers) {
             Ok(stage) => {
                 self.put(stage);
                 page.word("started");
@@ -220,18 +229,18 @@ fn end_store(store: Store<MemTape>) {
 }
 
 /// A core over the store.
-fn started(alloc: Global, store: Store<MemTape>, terms: Terms, is_alone: bool) -> Started<Stage>
+fn started(alloc: Global, store: Store<MemTape>, terms: Terms, callers: Callers) -> Started<Stage>
     requires { AreTerms terms.replicas.0 terms.reloads.items terms.room }
 {
-    if is_alone {
-        return match Alone::start(alloc, store, terms) {
+    match callers {
+        Callers::Several => match Table::start(alloc, store, terms) {
+            Ok(table) => Ok(Stage::Running(table)),
+            Err(refused) => Err(refused),
+        },
+        Callers::Only => match Alone::start(alloc, store, terms) {
             Ok(alone) => Ok(Stage::Alone(alone)),
             Err(refused) => Err(refused),
-        };
-    }
-    match Table::start(alloc, store, terms) {
-        Ok(table) => Ok(Stage::Running(table)),
-        Err(refused) => Err(refused),
+        },
     }
 }
 

@@ -18,7 +18,7 @@
 //!     close                            gives the store back, and prints its rows; before them, of
 //!                                      an only caller, its lines
 //!     # TEXT                           says nothing
-use crate::play::Play;
+use crate::play::{Callers, Play};
 use crate::stored::put_row;
 use std::alloc::{AllocError, Global};
 use test_support::{Answers, Page, Wrong, answer_or_line, first_word, load_store};
@@ -54,8 +54,8 @@ fn act(alloc: Global, play: &mut Play, page: &mut Page, line: &str) -> Result<()
             Ok(())
         }
         "row" => put_row(alloc, play.store()?, page, rest),
-        "start" => play.start(alloc, page, false, rest),
-        "solo" => play.start(alloc, page, true, rest),
+        "start" => play.start(alloc, page, Callers::Several, rest),
+        "solo" => play.start(alloc, page, Callers::Only, rest),
         "board" => play.board(alloc, page, rest),
         "do" => play.once(alloc, page, rest),
         "turns" => play.turns(alloc, page, rest),

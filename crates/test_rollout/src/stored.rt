@@ -2,7 +2,7 @@
 use kr_base::{Bytes, MemTape, VALUE_LIMIT, path_ok, resource_ok};
 use kr_store::{Check, PutNo, Store};
 use std::alloc::Global;
-use test_support::{Page, Wrong, add_row_lines, parse_hex, parse_long, two_words};
+use test_support::{Checks, Page, Wrong, add_row_lines, parse_hex, parse_long, two_words};
 
 /// `PATH RESOURCE CHECK HEX`: writes the row as it stands.
 pub fn put_row(
@@ -38,7 +38,7 @@ pub fn put_row(
 /// The rows, and then how many there are, how long the file is, how often the tape failed and
 /// whether a write is broken off.
 pub fn add_rows(page: &mut Page, store: &Store<MemTape>) {
-    add_row_lines(page, store, true);
+    add_row_lines(page, store, Checks::Told);
     page.counted("rows", store.revision());
     page.number(store.length());
     page.number(store.faults());

@@ -15,8 +15,11 @@ use test_support::Wrong;
 /// The replicas, how many configurations each seat may bring, and the journal's room.
 #[derive(Drop)]
 pub struct Terms {
+    /// Each replica's configuration, or nothing for one that is out.
     pub replicas: List<Option<Shared<Published>>>,
+    /// How many configurations each seat may bring.
     pub reloads: Vec<u32>,
+    /// How many lines the journal may have.
     pub room: u64,
 }
 

@@ -13,18 +13,29 @@ use std::thread::Threads;
 /// What a call left.
 #[derive(Drop)]
 pub struct Left {
+    /// The status that it ended with.
     pub status: u8,
+    /// What stands in the output.
     pub output: Bytes,
+    /// What stands in the errors.
     pub errors: Bytes,
     /// How many bytes of the input weren't taken.
     pub input: usize,
+    /// The random sources of the case's seats.
     pub dice: List<DiceLeft>,
+    /// The case's tapes, and then those of the names that it says aren't there.
     pub tapes: List<TapeLeft>,
+    /// The links to the case's plugins.
     pub links: List<LinkLeft>,
+    /// The links that were asked for, one behind another.
     pub asked: List<LinkAsked>,
+    /// How often the input failed.
     pub input_faults: u64,
+    /// How often the output failed.
     pub output_faults: u64,
+    /// How often the errors failed.
     pub error_faults: u64,
+    /// How often the files of the world failed.
     pub file_faults: u64,
 }
 
@@ -32,14 +43,18 @@ pub struct Left {
 /// back.
 #[derive(Drop)]
 pub struct DiceLeft {
+    /// Whose it is.
     pub seat: u32,
+    /// How many bytes are left, and how often it failed.
     pub home: Option<(usize, u64)>,
 }
 
 /// A tape: its bytes and how often it failed, or nothing where it isn't there.
 #[derive(Drop)]
 pub struct TapeLeft {
+    /// Its name.
     pub name: Text,
+    /// Its bytes, and how often it failed.
     pub home: Option<(Bytes, u64)>,
 }
 
@@ -47,16 +62,22 @@ pub struct TapeLeft {
 /// isn't back.
 #[derive(Drop)]
 pub struct LinkLeft {
+    /// Whose it is.
     pub seat: u32,
+    /// The plugin's name.
     pub name: Text,
+    /// How many calls were made on it, and how often it failed.
     pub home: Option<(u64, u64)>,
 }
 
 /// A link that the world was asked for.
 #[derive(Drop)]
 pub struct LinkAsked {
+    /// Which seat asked for it.
     pub seat: u32,
+    /// The plugin's name.
     pub name: Text,
+    /// The name of the program that the plugin is.
     pub program: Text,
 }
 

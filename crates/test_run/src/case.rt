@@ -5,28 +5,41 @@ use std::alloc::{AllocError, Global};
 /// An object of the outside whose calls may fail.
 #[derive(Clone, Copy, PartialEq, Eq)]
 pub enum Object {
+    /// What the call reads.
     Input,
+    /// What it writes.
     Output,
+    /// Where it writes what went wrong.
     Errors,
+    /// The world, in calls of every kind.
     Files,
+    /// The random source of a seat.
     Dice(u32),
 }
 
 /// A tape's calls: those that read it, or those that write it.
 #[derive(Clone, Copy, PartialEq, Eq)]
 pub enum TapeCalls {
+    /// To read bytes.
     Reads,
+    /// To put bytes.
     Writes,
 }
 
 /// A plugin in memory, to which there is a link of a seat.
 #[derive(Drop)]
 pub struct Plugin {
+    /// The seat of the link.
     pub seat: u32,
+    /// The plugin's name.
     pub name: String,
+    /// The key id that it has at first.
     pub key_id: String,
+    /// What it masks by, beside its key id.
     pub salt: u8,
+    /// The version that its status tells.
     pub version: String,
+    /// What its status tells of its health.
     pub healthz: String,
     /// Further key ids, each with the number of the call from which on it has them.
     pub key_ids: Vec<(u64, String)>,
@@ -37,15 +50,21 @@ pub struct Plugin {
 /// A call: its words, the named files and tapes, the input, the random bytes of seats, and plugins.
 #[derive(Drop)]
 pub struct Case {
+    /// The case's name.
     pub name: String,
+    /// The words of the call.
     pub words: Vec<String>,
+    /// The files by their names.
     pub files: Vec<(String, Vec<u8>)>,
+    /// The bytes of the input.
     pub input: Vec<u8>,
+    /// The random bytes of each seat.
     pub dice: Vec<(u32, Vec<u8>)>,
     /// The tapes by their names.
     pub tapes: Vec<(String, Vec<u8>)>,
     /// Names of tapes that aren't there, which the call may make.
     pub absent: Vec<String>,
+    /// The plugins, each with the seat of its link.
     pub plugins: Vec<Plugin>,
     /// Which calls fail, by their numbers from 1.
     pub fails: Vec<(Object, u64)>,

@@ -11,8 +11,11 @@ use std::alloc::Global;
 /// The streams of a case's call.
 #[derive(Drop)]
 pub struct Streams {
+    /// What the call reads.
     pub input: Stepped<MemSource>,
+    /// What it writes.
     pub output: Stepped<MemSink>,
+    /// Where it writes what went wrong.
     pub errors: Stepped<MemSink>,
 }
 

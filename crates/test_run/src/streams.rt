@@ -8,7 +8,9 @@ use kr_base::{Failed, MemSink, MemSource, Sink, Source};
 /// A source or a sink of which one call carries at most `step` bytes, and one at least.
 #[derive(Drop)]
 pub struct Stepped<S> {
+    /// The source or the sink that its calls go to.
     pub inner: S,
+    /// How many bytes one call carries at most.
     pub step: usize,
 }
 

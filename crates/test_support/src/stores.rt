@@ -6,6 +6,15 @@ use kr_base::{Bytes, List, MemTape, both};
 use kr_store::{Row, RowRef, Store};
 use std::alloc::Global;
 
+/// What a row's line says of the row's check.
+#[derive(Clone, Copy)]
+pub enum Checks {
+    /// Whether it has one: `checked` or `bare`.
+    Told,
+    /// Nothing.
+    Untold,
+}
+
 /// `HEX LIMIT FAILS`: a store of the tape's bytes, on a tape that has room for so many; the writes
 /// of these numbers fail.
 pub fn load_store(alloc: Global, words: &str, room: usize) -> Result<Store<MemTape>, Wrong> {
@@ -39,20 +48,20 @@ fn failing_tape(
 
 /// Adds a line for each row of the store: its revision and path, and that it was deleted, or its
 /// parts as `add_parts` tells them.
-pub fn add_row_lines(page: &mut Page, store: &Store<MemTape>, with_checks: bool) {
+pub fn add_row_lines(page: &mut Page, store: &Store<MemTape>, checks: Checks) {
     for before in 0..store.revision() {
         let revision = before + 1;
         match store.row_by_revision(revision) {
-            Some(RowRef::Put(row)) => add_put(page, row, with_checks),
+            Some(RowRef::Put(row)) => add_put(page, row, checks),
             Some(RowRef::Delete(path)) => add_delete(page, revision, path),
             None => {}
         }
     }
 }
 
-fn add_put(page: &mut Page, row: &Row, with_check: bool) {
+fn add_put(page: &mut Page, row: &Row, checks: Checks) {
     page.counted("row", row.revision);
-    add_parts(page, row, with_check);
+    add_parts(page, row, checks);
     page.end_line();
 }
 
@@ -64,14 +73,15 @@ fn add_delete(page: &mut Page, revision: u64, path: &str) {
 
 /// Adds a row's path and resource, the length of its value, and, where that is wanted, whether it
 /// has a check.
-pub fn add_parts(page: &mut Page, row: &Row, with_check: bool) {
+pub fn add_parts(page: &mut Page, row: &Row, checks: Checks) {
     page.named(row.path.as_str(), row.resource.as_str());
     page.number(row.stored.as_slice().len() as u64);
-    if with_check {
-        page.word(if row.check.is_some() {
+    match checks {
+        Checks::Told => page.word(if row.check.is_some() {
             "checked"
         } else {
             "bare"
-        });
+        }),
+        Checks::Untold => {}
     }
 }

@@ -16,6 +16,7 @@ pub const MOST_OUTPUT: usize = 8_160;
 /// A string of bytes that isn't longer than the modes take.
 #[derive(Drop)]
 pub struct Operand {
+    /// The bytes.
     pub bytes: Vec<u8>,
     ghost fits: { length bytes.items ≤ 4194304 },
 }
@@ -23,6 +24,7 @@ pub struct Operand {
 /// A string of bytes of a length that the key wrap takes.
 #[derive(Drop)]
 pub struct KeyData {
+    /// The bytes.
     pub bytes: Vec<u8>,
     ghost wrappable: { IsWrappable (length bytes.items) },
 }
@@ -30,32 +32,40 @@ pub struct KeyData {
 /// An operation under a key of AES, with its operands.
 #[derive(Drop)]
 pub enum Operation {
+    /// One block is encrypted.
     Encrypt {
         block: [u8; 16],
     },
+    /// One block is decrypted.
     Decrypt {
         block: [u8; 16],
     },
+    /// Data are padded and sealed by CBC.
     CbcSeal {
         iv: [u8; 16],
         plain: Operand,
     },
+    /// What CBC sealed, with its IV in front, is opened.
     CbcUnseal {
         body: Operand,
     },
+    /// Data are sealed by GCM.
     GcmSeal {
         nonce: [u8; 12],
         aad: Operand,
         plain: Operand,
     },
+    /// What GCM sealed, with its tag behind, is opened.
     GcmUnseal {
         nonce: [u8; 12],
         aad: Operand,
         body: Operand,
     },
+    /// A key is wrapped.
     Wrap {
         plain: KeyData,
     },
+    /// A wrapped key is unwrapped.
     Unwrap {
         body: Operand,
     },
@@ -64,6 +74,7 @@ pub enum Operation {
 /// What HKDF-Expand is asked for.
 #[derive(Drop)]
 pub struct Expansion {
+    /// What the output is bound to.
     pub info: Vec<u8>,
     /// How many bytes are wanted, the high byte first.
     pub size: [u8; 2],
@@ -74,7 +85,10 @@ pub struct Expansion {
 /// What a line asks. The key may be of any length.
 #[derive(Drop)]
 pub enum Case {
+    /// An operation under a key of AES.
     Cipher { key: Operand, operation: Operation },
+    /// The HMAC of a message.
     Hmac { key: Operand, message: Operand },
+    /// HKDF-Expand's output under a key.
     Hkdf { key: Operand, expansion: Expansion },
 }

@@ -10,10 +10,13 @@ use std::alloc::{AllocError, Global};
 /// What a case comes to.
 #[derive(Drop)]
 pub enum Outcome {
+    /// What was asked for.
     Bytes(Vec<u8>),
     /// The key hasn't 16, 24 or 32 bytes.
     KeyLength,
+    /// Why a sealed value is not opened.
     Refused(ModeNo),
+    /// Why a key is not unwrapped.
     NotWrapped(WrapNo),
 }
 

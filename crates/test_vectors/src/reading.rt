@@ -12,7 +12,9 @@ use std::alloc::{AllocError, Global};
 
 /// Why a line gives no case.
 pub enum LineError {
+    /// It asks for no case.
     Form,
+    /// There was no memory for it.
     Memory,
 }
 

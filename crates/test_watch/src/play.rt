@@ -12,8 +12,11 @@ use test_support::Wrong;
 /// What a line wrote at its path.
 #[derive(Clone, Copy)]
 pub enum Wrote<'a> {
+    /// Data of a resource.
     Put { resource: &'a str, plain: &'a [u8] },
+    /// Nothing any more.
     Delete,
+    /// The same data, sealed anew.
     Replace,
 }
 

@@ -23,8 +23,12 @@ AreRead words (Err (Words why)) = ReadsWords words (Err (refusal_of why))
 AreRead words (Err NoMemory) = ⊤
 AreRead words (Err stop) = ⊥
 
--- the same of words that begin with this one
+-- the first word is this one
+abbrev pub BeginWith : List ℕ → List (List ℕ) → Type 0
+BeginWith name words = (rest : List (List ℕ)) × (words ≡ name ∷ rest)
+
+-- the same of words that begin with this one, and nothing of others
 abbrev pub AreReadBehind : List ℕ → List (List ℕ) → Result (Option CommandWords) Stop → Type 0
-AreReadBehind name words (Ok (Some command)) = AreRead words (Ok command)
-AreReadBehind name words (Ok None) = (rest : List (List ℕ)) → words ≡ name ∷ rest → ⊥
-AreReadBehind name words (Err stop) = AreRead words (Err stop)
+AreReadBehind name words (Ok (Some command)) = BeginWith name words × AreRead words (Ok command)
+AreReadBehind name words (Ok None) = BeginWith name words → ⊥
+AreReadBehind name words (Err stop) = BeginWith name words × AreRead words (Err stop)

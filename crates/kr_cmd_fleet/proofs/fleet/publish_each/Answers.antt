@@ -3,7 +3,7 @@ use Rattle.std.proofs.Common.{subst, sym}
 use Rattle.kr_provider.specs.Names.{names_of}
 use Rattle.kr_cmd_fleet.specs.inner.Beginnings.{MayPublish}
 use Rattle.kr_cmd_fleet.specs.inner.Plans.{named}
-use Rattle.kr_cmd_fleet.proofs.Publishings.{IsPublishing, asked_further, may_publish, published_all, publishing_all, publishing_more, publishing_none, publishing_stops, publishing_unkept}
+use Rattle.kr_cmd_fleet.proofs.Publishings.{IsPublishing, asked_further, later_further, may_publish, published_all, publishing_all, publishing_more, publishing_none, publishing_stops, publishing_unkept}
 use Rattle.kr_cmd_fleet.proofs.fleet.publish_each.Goals as goal
 
 pub loop-replica-init : goal.loop-replica-init
@@ -44,6 +44,11 @@ returns-in-Err-clause-asked g c = asked_further g.L.Kms.link g.L.Kms.step
     g.D.Dice.count (named c.args.files.now) c.args.replicas.now c.loop-replica.invariant
     c.publish_replica.new.links c.publish_replica.new.dice c.publish_replica.ensures.asked
 
+pub returns-in-Err-clause-later : goal.returns-in-Err-clause-later
+returns-in-Err-clause-later g c = later_further g.L.Kms.link g.L.Kms.step g.D.Dice.left
+    g.D.Dice.count (named c.args.files.now) c.args.replicas.now c.loop-replica.invariant
+    c.publish_replica.new.links c.publish_replica.new.dice c.publish_replica.ensures.later
+
 pub returns-in-Err-push-clause-does : goal.returns-in-Err-push-clause-does
 returns-in-Err-push-clause-does g c = publishing_unkept g.L.Kms.link
     g.L.Kms.step g.D.Dice.left g.D.Dice.count (named c.args.files.now) c.args.replicas.now
@@ -56,6 +61,11 @@ returns-in-Err-push-clause-asked g c = asked_further g.L.Kms.link g.L.Kms.step
     g.D.Dice.left
     g.D.Dice.count (named c.args.files.now) c.args.replicas.now c.loop-replica.invariant
     c.publish_replica.new.links c.publish_replica.new.dice c.publish_replica.ensures.asked
+
+pub returns-in-Err-push-clause-later : goal.returns-in-Err-push-clause-later
+returns-in-Err-push-clause-later g c = later_further g.L.Kms.link g.L.Kms.step g.D.Dice.left
+    g.D.Dice.count (named c.args.files.now) c.args.replicas.now c.loop-replica.invariant
+    c.publish_replica.new.links c.publish_replica.new.dice c.publish_replica.ensures.later
 
 pub loop-replica-preserved : goal.loop-replica-preserved
 loop-replica-preserved g c = publishing_more g.L.Kms.link g.L.Kms.step g.D.Dice.left
@@ -78,3 +88,6 @@ returns-clause-replicas g c = published_all g.L.Kms.link g.L.Kms.step g.D.Dice.l
 
 pub returns-clause-asked : goal.returns-clause-asked
 returns-clause-asked g c = c.loop-replica.invariant.asked
+
+pub returns-clause-later : goal.returns-clause-later
+returns-clause-later g c = c.loop-replica.invariant.later

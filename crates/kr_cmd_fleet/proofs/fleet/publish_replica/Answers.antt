@@ -1,5 +1,5 @@
 -- `publish_replica`: the replica isn't in, or its configuration is published.
-use Rattle.std.proofs.Common.{◌≡◌, ℕ, Bool, List, [], ◌∷◌, ap, false, true, Option, Result, Err, None, Ok, Some, refl, subst, sym, ◌∙◌}
+use Rattle.std.proofs.Common.{◌≡◌, ℕ, Bool, List, [], ◌∷◌, ap, false, true, Option, Result, Err, None, Ok, Some, arith, refl, subst, sym, ◌∙◌}
 use Rattle.std.specs.Prelude.{IfOk}
 use Rattle.std.specs.Str.{bytes_eq}
 use Rattle.kr_base.specs.Walks.{Talk}
@@ -135,6 +135,9 @@ returns-then-eq-clause-published g c =
 pub returns-then-eq-clause-asked : goal.returns-then-eq-clause-asked
 returns-then-eq-clause-asked g c = unasked g (goal.at.returns-then-eq-clause-asked g c).Start
 
+pub returns-then-eq-clause-later : goal.returns-then-eq-clause-later
+returns-then-eq-clause-later g c = omega arith
+
 pub unreachable-requires : goal.unreachable-requires
 unreachable-requires g c =
     read_there (names_of g.L.Kms.link c.args.links.now) c.args.files.now c.as_str-file.result.now
@@ -150,6 +153,9 @@ returns-in_default-share-clause-does g c =
 pub returns-in_default-share-clause-asked : goal.returns-in_default-share-clause-asked
 returns-in_default-share-clause-asked g c =
     unasked g (goal.at.returns-in_default-share-clause-asked g c).Start
+
+pub returns-in_default-share-clause-later : goal.returns-in_default-share-clause-later
+returns-in_default-share-clause-later g c = omega arith
 
 pub publish_settings-requires : goal.publish_settings-requires
 publish_settings-requires g c =
@@ -181,6 +187,9 @@ pub returns-in-Ok-new-clause-asked : goal.returns-in-Ok-new-clause-asked
 returns-in-Ok-new-clause-asked g c = let here = goal.at.returns-in-Ok-new-clause-asked g c in
     asked g here.After-publish_settings (linked g here.In-Ok)
 
+pub returns-in-Ok-new-clause-later : goal.returns-in-Ok-new-clause-later
+returns-in-Ok-new-clause-later g c = c.publish_settings.ensures.later
+
 pub returns-in-Ok-publish_settings-clause-does : goal.returns-in-Ok-publish_settings-clause-does
 returns-in-Ok-publish_settings-clause-does g c =
     let here = goal.at.returns-in-Ok-publish_settings-clause-does g c in
@@ -195,6 +204,9 @@ returns-in-Ok-publish_settings-clause-asked g c =
     let here = goal.at.returns-in-Ok-publish_settings-clause-asked g c in
     asked g here.After-publish_settings (linked g here.In-Ok)
 
+pub returns-in-Ok-publish_settings-clause-later : goal.returns-in-Ok-publish_settings-clause-later
+returns-in-Ok-publish_settings-clause-later g c = c.publish_settings.ensures.later
+
 pub returns-clause-does : goal.returns-clause-does
 returns-clause-does g c =
     let here = goal.at.returns-clause-does g c in
@@ -206,3 +218,6 @@ returns-clause-does g c =
 pub returns-clause-asked : goal.returns-clause-asked
 returns-clause-asked g c = let here = goal.at.returns-clause-asked g c in
     asked g here.After-publish_settings (linked g here.In-Ok)
+
+pub returns-clause-later : goal.returns-clause-later
+returns-clause-later g c = c.publish_settings.ensures.later

@@ -14,64 +14,50 @@ use Rattle.kr_cmd_fleet.proofs.ClosedCores.{keeps_begin, keeps_end}
 use Rattle.kr_cmd_fleet.proofs.Plans.{plan_lines, plan_workers}
 use Rattle.kr_cmd_fleet.proofs.fleet.run_crew.Goals as goal
 
-pub run_fleet-ended-requires : goal.run_fleet-ended-requires
-run_fleet-ended-requires g c =
+pub run_fleet-ended-requires-clause-many : goal.run_fleet-ended-requires-clause-many
+run_fleet-ended-requires-clause-many g c = λ κs lives.
     let workers = plan_workers c.args.plan.now c.requires.plan in
     let long = ap length c.as_slice-3.ensures in
-    let total = ap sum c.as_slice.ensures.value in
-    let o = c.args.core.opening in (
-      c.type_bounds.send-T,
-      (
-        c.type_bounds.send-L,
-        (
-          c.type_bounds.send-D,
-          (
-            c.type_bounds.sync-R,
-            (
-              (
-                omega (arith, long, workers.0),
-                omega (arith, long, workers.1),
-                c.requires.crew.many ∙ sym long,
-              ),
-              (
-                subst (λ parts. All (λ (part : Part). (part.replica < length o.replicas)
-                    × All (MayDo o c.as_slice-2.result.now) part.lines.0) parts)
-                    (sym c.as_slice-3.ensures)
-                    (subst (λ files. All (λ (part : Part). (part.replica < length o.replicas)
-                    × All (MayDo o files) part.lines.0) c.args.plan.now.script.workers.0)
-                    (sym c.as_slice-2.ensures)
-                    (plan_lines c.args.plan.now c.requires.plan o c.requires.core.names
-                    c.requires.core.replicas)),
-                (
-                  may_begin g.L.Kms.link o.names (names_in c.args.plan.now.programs)
-                      c.args.plan.now.script.workers.0 c.as_slice-3.result.now
-                      (outfits_of c.args.crew.workers.items) c.args.crew.workers.items
-                      c.requires.crew
-                      c.as_slice-3.ensures c.requires.core.names c.requires.named,
-                  (
-                    c.requires.core.reloads ∙ ap all_reloads (sym c.as_slice-3.ensures),
-                    (
-                      subst (λ budgets. AreBudgets o.rows c.as_slice-3.result.now budgets)
-                          (sym c.as_slice.ensures.value)
-                          (subst (λ parts. AreBudgets o.rows parts
-                          c.args.budgets.now.entries.items) (sym c.as_slice-3.ensures)
-                          c.requires.entries),
-                      (
-                        omega (arith, total, c.requires.core.room),
-                        (
-                          omega (arith, total, c.requires.few),
-                          c.requires.core.begin,
-                        ),
-                      ),
-                    ),
-                  ),
-                ),
-              ),
-            ),
-          ),
-        ),
-      ),
-    )
+    (omega (arith, long, workers.0), omega (arith, long, workers.1), c.requires.crew.many ∙ sym long)
+
+pub run_fleet-ended-requires-clause-lines : goal.run_fleet-ended-requires-clause-lines
+run_fleet-ended-requires-clause-lines g c = λ κs lives.
+    let o = c.args.core.opening in
+    subst (λ parts. All (λ (part : Part). (part.replica < length o.replicas)
+    × All (MayDo o c.as_slice-2.result.now) part.lines.0) parts) (sym c.as_slice-3.ensures)
+    (subst (λ files. All (λ (part : Part). (part.replica < length o.replicas)
+    × All (MayDo o files) part.lines.0) c.args.plan.now.script.workers.0) (sym c.as_slice-2.ensures)
+    (plan_lines c.args.plan.now c.requires.plan o c.requires.core.names c.requires.core.replicas))
+
+pub run_fleet-ended-requires-clause-begin : goal.run_fleet-ended-requires-clause-begin
+run_fleet-ended-requires-clause-begin g c = λ κs lives.
+    may_begin g.L.Kms.link c.args.core.opening.names (names_in c.args.plan.now.programs)
+    c.args.plan.now.script.workers.0 c.as_slice-3.result.now
+    (outfits_of c.args.crew.workers.items) c.args.crew.workers.items c.requires.crew
+    c.as_slice-3.ensures c.requires.core.names c.requires.named
+
+pub run_fleet-ended-requires-clause-reloads : goal.run_fleet-ended-requires-clause-reloads
+run_fleet-ended-requires-clause-reloads g c = λ κs lives.
+    c.requires.core.reloads ∙ ap all_reloads (sym c.as_slice-3.ensures)
+
+pub run_fleet-ended-requires-clause-budgets : goal.run_fleet-ended-requires-clause-budgets
+run_fleet-ended-requires-clause-budgets g c = λ κs lives.
+    let rows = c.args.core.opening.rows in
+    subst (λ budgets. AreBudgets rows c.as_slice-3.result.now budgets)
+    (sym c.as_slice.ensures.value)
+    (subst (λ parts. AreBudgets rows parts c.args.budgets.now.entries.items)
+    (sym c.as_slice-3.ensures) c.requires.entries)
+
+pub run_fleet-ended-requires-clause-room : goal.run_fleet-ended-requires-clause-room
+run_fleet-ended-requires-clause-room g c = λ κs lives.
+    let total = ap sum c.as_slice.ensures.value in omega (arith, total, c.requires.core.room)
+
+pub run_fleet-ended-requires-clause-small : goal.run_fleet-ended-requires-clause-small
+run_fleet-ended-requires-clause-small g c = λ κs lives.
+    let total = ap sum c.as_slice.ensures.value in omega (arith, total, c.requires.few)
+
+pub run_fleet-ended-requires-clause-no_lines : goal.run_fleet-ended-requires-clause-no_lines
+run_fleet-ended-requires-clause-no_lines g c = λ κs lives. c.requires.core.begin
 
 pub invariant_of-crew : goal.invariant_of-crew
 invariant_of-crew g c =

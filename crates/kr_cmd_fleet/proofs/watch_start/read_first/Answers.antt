@@ -58,7 +58,7 @@ module _ (g : Over) (c : After-in_turn-outfits-2 g)
 pub returns-then-not-watched-clause-does : goal.returns-then-not-watched-clause-does
 returns-then-not-watched-clause-does g c = reads_none g.L.Kms.link g.L.Kms.step g.D.Dice.left
     g.D.Dice.count c.args.watched c.if-not-watched.true c.args.store.now.rows c.args.replicas.now
-    c.args.outfits.0 c.requires.some c.unread-start.result c.unread-start.ensures.items
+    c.args.outfits.0 c.requires.some c.unread.result c.unread.ensures.items
 
 pub returns-then-not-watched-clause-later : goal.returns-then-not-watched-clause-later
 returns-then-not-watched-clause-later g c =
@@ -87,7 +87,7 @@ pub returns-in-Ok-read-clause-does : goal.returns-in-Ok-read-clause-does
 returns-in-Ok-read-clause-does g c =
     let here = goal.at.returns-in-Ok-read-clause-does g c in
     does g here.After-in_turn-outfits-2 (taken g here.In-Some)
-    (Ok (record { items = c.in-Ok-read.items; revision = c.unread-start.result.revision }))
+    (Ok (record { items = c.in-Ok-read.items; revision = c.revision.result }))
     (c.in-Ok-read.items, c.in-Ok-read.is, refl)
 
 pub returns-in-Ok-read-clause-later : goal.returns-in-Ok-read-clause-later

@@ -5,7 +5,7 @@ use Rattle.kr_cmd_messages.proofs.NoneAsked.{read_so, unread}
 use Rattle.kr_cmd_messages.proofs.watch_words.read_watch.Goals as goal
 
 pub returns-in-None : goal.returns-in-None
-returns-in-None c = λ asked h. unread c.in-Ok.ensures c.in-None.is h.means.rest h.means.word
+returns-in-None c = λ asked h. unread c.in-Ok.ensures c.in-None.is (h.means.rest, h.means.word)
 
 pub returns-in-Ok-watch_request : goal.returns-in-Ok-watch_request
 returns-in-Ok-watch_request c = watch_asked_so c.in-Some.words

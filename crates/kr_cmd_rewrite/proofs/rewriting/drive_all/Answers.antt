@@ -170,9 +170,9 @@ pub returns-in-Ok-clause-names : goal.returns-in-Ok-clause-names
 returns-in-Ok-clause-names g c =
     linked_still g (goal.at.returns-in-Ok-clause-names g c).After-close-links
 
-pub returns-clause-ended : goal.returns-clause-ended
-returns-clause-ended g c =
-    let here = (goal.at.returns-clause-ended g c).After-close-links in
+pub returns-in-Err-clause-ended : goal.returns-in-Err-clause-ended
+returns-in-Err-clause-ended g c =
+    let here = (goal.at.returns-in-Err-clause-ended g c).After-close-links in
     let report = c.in-Err.report in
     let why = c.in-Err.why in
     let stop = c.drive_stop-stop.result in
@@ -184,5 +184,6 @@ returns-clause-ended g c =
           c.cut_short.ensures c.report_counts-in-Err.ensures,
     )
 
-pub returns-clause-names : goal.returns-clause-names
-returns-clause-names g c = linked_still g (goal.at.returns-clause-names g c).After-close-links
+pub returns-in-Err-clause-names : goal.returns-in-Err-clause-names
+returns-in-Err-clause-names g c =
+    linked_still g (goal.at.returns-in-Err-clause-names g c).After-close-links

@@ -1,6 +1,7 @@
 -- Answers of load_rows.
 use Rattle.std.proofs.Common.{List, length, ◌+◌, Err, subst, sym, ◌∙◌, ap}
 use Rattle.kr_store.specs.declared.answers.StoreNo.{StoreNo}
+use Rattle.kr_store.specs.declared.format.Format.{Format}
 use Rattle.kr_store.specs.declared.format.Format.TheVariants.{Two}
 use Rattle.kr_store.specs.declared.kept_row.KeptRow.{KeptRow}
 use Rattle.kr_store.specs.inner.Reading.{AreLoaded, LoadsRows, kept_bytes}
@@ -13,10 +14,14 @@ returns-then-is_at_end-clause-advances g c =
 
 pub returns-then-is_at_end-clause-loads : goal.returns-then-is_at_end-clause-loads
 returns-then-is_at_end-clause-loads g c =
-    subst (λ (rows : List KeptRow). AreLoaded c.args.reader.now Two rows c.new-index.result)
-    (sym c.new-rows.ensures)
-    (nothing_loaded c.args.reader.now c.new-index.result c.is_at_end.ensures.moves c.requires
-    (c.is_at_end.ensures.at.0 c.if-is_at_end.true) c.new-index.ensures)
+    let first = c.args.reader.now in
+    let none = c.no_rows.result in
+    subst (λ (format : Format). AreLoaded first format none.rows.0 none.index)
+    (sym c.no_rows.ensures.format)
+    (subst (λ (rows : List KeptRow). AreLoaded first Two rows none.index)
+    (sym c.no_rows.ensures.rows)
+    (nothing_loaded first none.index c.is_at_end.ensures.moves c.requires
+    (c.is_at_end.ensures.at.0 c.if-is_at_end.true) c.no_rows.ensures.index))
 
 pub returns-in-Err-clause-loads : goal.returns-in-Err-clause-loads
 returns-in-Err-clause-loads g c =
@@ -47,14 +52,13 @@ loop-alloc-preserved g c =
     let k = length c.as_slice.result.now + 1 in
     let next_is = ap (λ (l : List KeptRow). length l + 1) c.as_slice.ensures in
     subst (λ (rows : List KeptRow). IsReadTo c.args.reader.now c.row.new.self c.in_ok-format.format
-    rows
-    c.note.new.self) (sym c.in-Ok-push.ensures.ok)
+    rows c.add_row.new.index) (sym c.in-Ok-add_row.ensures.rows)
     (loading_more c.args.reader.now l.reader c.row.new.self c.in_ok-format.format l.rows.0 l.index
-    c.note.new.self c.in-Ok.row k l.invariant
+    c.add_row.new.index c.in-Ok.row k l.invariant
     next_is (next_small c.args.reader.now l.reader c.in_ok-format.format l.rows.0 l.index k
     c.place-at.result l.invariant next_is c.place-at.ensures c.place-at.type_inv)
     c.row.ensures.reads.advances.moves c.in-Ok.ensures.reads.gives c.in-Ok.ensures.rule
-    (sym c.allows.ensures ∙ c.if-not-allows.false) c.in-Ok-note.ensures)
+    (sym c.allows.ensures ∙ c.if-not-allows.false) c.in-Ok-add_row.ensures.index)
 
 pub returns-clause-loads : goal.returns-clause-loads
 returns-clause-loads g c =

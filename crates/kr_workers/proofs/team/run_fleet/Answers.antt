@@ -44,33 +44,26 @@ seat_each-requires g c =
           c.args.workers.now.items c.requires.many.2 c.requires.begin;
     }
 
-pub run_workers-requires : goal.run_workers-requires
-run_workers-requires g c =
+pub run_workers-requires-clause-some : goal.run_workers-requires-clause-some
+run_workers-requires-clause-some g c = λ κs lives.
     let fresh = fresh_all c.in-Ok.made.0 c.args.core.opening.rows c.args.parts.now
     c.args.budgets.now c.in-Ok.made.1.0 c.requires.budgets c.in-Ok.ensures.fresh in
     let basis = ap (λ (t : Terms Opening). t.basis) c.in-Ok.ensures.terms in
-    let seated = sym c.seat_each.ensures.seated in
-    let some = subst (λ ws. 0 < length ws) seated (some_seated g.L.Kms.link c.args.files.now
+    subst (λ ws. 0 < length ws) (sym c.seat_each.ensures.seated) (some_seated g.L.Kms.link
+    c.args.files.now c.args.parts.now c.in-Ok.made.0 c.args.core.opening c.in-Ok.made.1.0
+    c.args.workers.now.items basis fresh c.requires.many.2 c.in-Ok.ensures.seats c.requires.lines
+    c.requires.begin c.requires.reloads c.requires.many.0)
+
+pub run_workers-requires-clause-ready : goal.run_workers-requires-clause-ready
+run_workers-requires-clause-ready g c = λ κs lives.
+    let fresh = fresh_all c.in-Ok.made.0 c.args.core.opening.rows c.args.parts.now
+    c.args.budgets.now c.in-Ok.made.1.0 c.requires.budgets c.in-Ok.ensures.fresh in
+    let basis = ap (λ (t : Terms Opening). t.basis) c.in-Ok.ensures.terms in
+    subst (λ ws. All (IsReadyWorker c.in-Ok.made.0 c.args.files.now c.args.parts.now
+    g.L.Kms.link) ws) (sym c.seat_each.ensures.seated) (all_ready g.L.Kms.link c.args.files.now
     c.args.parts.now c.in-Ok.made.0 c.args.core.opening c.in-Ok.made.1.0
     c.args.workers.now.items basis fresh c.requires.many.2 c.in-Ok.ensures.seats
-    c.requires.lines c.requires.begin c.requires.reloads c.requires.many.0) in
-    let ready = subst (λ ws. All (IsReadyWorker c.in-Ok.made.0 c.args.files.now c.args.parts.now
-    g.L.Kms.link) ws) seated (all_ready g.L.Kms.link c.args.files.now c.args.parts.now
-    c.in-Ok.made.0 c.args.core.opening c.in-Ok.made.1.0 c.args.workers.now.items basis fresh
-    c.requires.many.2 c.in-Ok.ensures.seats c.requires.lines c.requires.begin
-    c.requires.reloads) in (
-      c.type_bounds.send-T,
-      (
-        c.type_bounds.send-L,
-        (
-          c.type_bounds.send-D,
-          (
-            c.type_bounds.sync-R,
-            (some, ready),
-          ),
-        ),
-      ),
-    )
+    c.requires.lines c.requires.begin c.requires.reloads)
 
 pub unseat_each-requires : goal.unseat_each-requires
 unseat_each-requires g c =
