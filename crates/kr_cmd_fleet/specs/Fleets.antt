@@ -219,7 +219,8 @@ HasRows (Some None) begun rows before now = ⊥
 HasRows None begun rows before now = ⊤
 
 -- beside the links and random sources of so many seats and the store's tape all is as it was when
--- the workers started
+-- the workers started; so is what was heard up to there: the exchanges of the workers' lines stand
+-- in their history
 pub record LeavesRest (store : List ℕ) (seats : ℕ) (mid new : Around) : Type 0 where
   pub file : new.world.file ≡ mid.world.file
   pub tapes : (other : List ℕ) → other ≢ store

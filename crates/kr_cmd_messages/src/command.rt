@@ -1,5 +1,5 @@
 //! The commands that are done alone.
-ghost use Rattle.std.specs.Prelude.{◌≡◌, ◌≤◌, Some, IfOk, IfSome, codes, length};
+ghost use Rattle.std.specs.Prelude.{◌≡◌, ◌≤◌, IfOk, IfSome, codes, length};
 ghost use Rattle.std.specs.Option.{option_copied};
 ghost use Rattle.kr_base.specs.Limits.{path_limit};
 ghost use Rattle.kr_kms.specs.Outside.{same_name};
@@ -8,14 +8,13 @@ ghost use Rattle.kr_words.specs.declared.command.Verb.{Verb};
 ghost use Rattle.kr_words.specs.Options.{value_of};
 ghost use Rattle.kr_words.specs.Rules.{IsCommand};
 ghost use Rattle.kr_cmd_messages.specs.Command.{verb_command, conversion_command, check_command, lookup_command, migration_command, listing_command, judgement_command, planning_command, put_command, rewriting_command, shown_option, shown_word};
-ghost use Rattle.kr_base.specs.Rules.{IsPath, IsResource};
 ghost use Rattle.kr_cmd_messages.specs.Command.{verification_command};
 ghost use Rattle.kr_cmd_messages.specs.inner.Asking.{IsReadAs, KeepsRules};
 
 use crate::options::Options;
 use crate::reading::command_words;
 use crate::refusal::{BadWords, Stop};
-use crate::text::{copy_three, copy_two};
+use crate::text::{copy_four, copy_three, copy_two};
 use kr_base::{NoMemory, Text};
 use kr_words::Verb;
 use std::alloc::Global;
@@ -283,46 +282,38 @@ fn put_command(alloc: Global, words: kr_words::CommandWords) -> Result<Option<Co
         (value_of words.options.0 (codes "path"))) }
     ensures path { IfOk result KeepsRules }
 {
-    let config = copy_value(alloc, &words, "config")?;
-    let store = copy_value(alloc, &words, "store")?;
-    let resource = copy_value(alloc, &words, "resource")?;
-    let path = copy_value(alloc, &words, "path")?;
-    let Some(config) = config else {
+    let Some(config) = words.value("config") else {
+        drop(words);
         return Ok(None);
     };
-    let Some(store) = store else {
+    let Some(store) = words.value("store") else {
+        drop(words);
         return Ok(None);
     };
-    Ok(make_put(config, store, resource, path, Options::new(words)))
-}
-
-/// A put of an object at a path, where there is one.
-fn make_put(
-    config: Text,
-    store: Text,
-    resource: Option<Text>,
-    path: Option<Text>,
-    options: Options,
-) -> Option<Command>
-    requires path { IfSome path IsPath }
-    requires resource { IfSome resource IsResource }
-    ensures command { result ≡ put_command options (Some config) (Some store) resource path }
-    ensures path { KeepsRules result }
-{
-    let Some(resource) = resource else {
-        return None;
+    let Some(resource) = words.value("resource") else {
+        drop(words);
+        return Ok(None);
     };
-    let Some(path) = path else {
-        return None;
+    let Some(path) = words.value("path") else {
+        drop(words);
+        return Ok(None);
     };
-    let object = Conversion {
-        direction: Direction::Encrypt,
-        config,
-        resource,
-        path,
-        options,
-    };
-    Some(Command::Put { object, store })
+    match copy_four(alloc, config, store, resource, path) {
+        Ok((config, store, resource, path)) => Ok(Some(Command::Put {
+            object: Conversion {
+                direction: Direction::Encrypt,
+                config,
+                resource,
+                path,
+                options: Options::new(words),
+            },
+            store,
+        })),
+        Err(NoMemory) => {
+            drop(words);
+            Err(NoMemory)
+        }
+    }
 }
 
 /// The words of `get`.

@@ -1,5 +1,5 @@
 //! What a command says at its end.
-ghost use Rattle.std.specs.Prelude.{◌≡◌, ◌≤◌};
+ghost use Rattle.std.specs.Prelude.{◌≡◌, ◌≤◌, ◌++◌, codes};
 ghost use Rattle.kr_base.specs.Streams.{whole_text};
 ghost use Rattle.kr_cmd_messages.specs.Message.{status_of, status_of_words, status_of_configuration, status_of_refusal, status_of_done};
 ghost use Rattle.kr_cmd_messages.specs.Message.{words_line, limit_line, limit_text, limit_size, refusal_line, done_line, counted_text, counted_line, broken_code, breach_place, breach_line, configuration_line, fault_line, line_of, field_text, unhealthy_line};
@@ -143,9 +143,9 @@ fn write_refusal<E: Sink>(errors: &mut E, why: &Refusal) -> Result<(), Failed>
         (refusal_line why.now) result }
 {
     match why {
-        Refusal::Absent(name) => say(errors, &["kmsrest: text 40 ", name.as_str(), "\n"]),
+        Refusal::Absent(name) => write_named(errors, "kmsrest: text 40 ", name),
         Refusal::Configuration(why) => write_configuration(errors, *why),
-        Refusal::NoPlugin(name) => say(errors, &["kmsrest: text 44 ", name.as_str(), "\n"]),
+        Refusal::NoPlugin(name) => write_named(errors, "kmsrest: text 44 ", name),
         Refusal::Unhealthy(name, field, text) => {
             write_unhealthy(errors, name.as_str(), field_text(*field), text.as_str())
         }
@@ -153,15 +153,24 @@ fn write_refusal<E: Sink>(errors: &mut E, why: &Refusal) -> Result<(), Failed>
         Refusal::Value(why) => write_value(errors, *why),
         Refusal::Placed(why, at) => write_placed(errors, *why, *at),
         Refusal::Broken(why) => write_broken(errors, *why),
-        Refusal::NoPath(path) => say(errors, &["kmsrest: absent ", path.as_str(), "\n"]),
+        Refusal::NoPath(path) => write_named(errors, "kmsrest: absent ", path),
         Refusal::NotEmpty(length) => write_counted(errors, "kmsrest: text ", "52", *length),
         Refusal::NotOld => write_text(errors, "kmsrest: text 53 2\n"),
-        Refusal::Stray(path) => say(errors, &["kmsrest: text 48 ", path.as_str(), "\n"]),
-        Refusal::OtherSecret(path) => { say(errors, &["kmsrest: text 51 ", path.as_str(), "\n"]) }
+        Refusal::Stray(path) => write_named(errors, "kmsrest: text 48 ", path),
+        Refusal::OtherSecret(path) => write_named(errors, "kmsrest: text 51 ", path),
         Refusal::Unfit(replica, verdict) => write_unfit(errors, *replica, verdict),
-        Refusal::Clash(text) => say(errors, &["kmsrest: clash ", text.as_str(), "\n"]),
+        Refusal::Clash(text) => write_named(errors, "kmsrest: clash ", text),
         Refusal::Script(line) => write_counted(errors, "kmsrest: text ", "47", *line),
     }
+}
+
+/// Writes a line of some words and a name.
+fn write_named<E: Sink>(errors: &mut E, start: &str, name: &Text) -> Result<(), Failed>
+    ensures { Says (receipt (E.held errors.old) (E.held errors.new)
+        (E.count errors.old) (E.count errors.new))
+        (start.now ++ (name.now ++ codes "\n")) result }
+{
+    say(errors, &[start, name.as_str(), "\n"])
 }
 
 /// Writes the line of an unhealthy plugin.

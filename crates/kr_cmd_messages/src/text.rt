@@ -85,3 +85,25 @@ pub(crate) fn copy_three(
         }
     }
 }
+
+/// Copies of four texts.
+pub(crate) fn copy_four(
+    alloc: Global,
+    first: &str,
+    second: &str,
+    third: &str,
+    fourth: &str,
+) -> Result<(Text, Text, Text, Text), NoMemory>
+    ensures { IfOk result (λ copies. (copies.0 ≡ first.now) × (copies.1 ≡ second.now)
+        × (copies.2 ≡ third.now) × (copies.3 ≡ fourth.now)) }
+{
+    let (first, second) = copy_two(alloc, first, second)?;
+    match copy_two(alloc, third, fourth) {
+        Ok((third, fourth)) => Ok((first, second, third, fourth)),
+        Err(_) => {
+            drop(first);
+            drop(second);
+            Err(NoMemory)
+        }
+    }
+}

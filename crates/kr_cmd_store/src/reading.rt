@@ -48,7 +48,10 @@ pub fn read_by_links<W: World>(
 {
     let dice = match open_dice(alloc, world, 0) {
         Ok(dice) => dice,
-        Err(stop) => return Err(stop),
+        Err(stop) => {
+            drop(settings);
+            return Err(stop);
+        }
     };
     let links = Links::<W::Link>::new(alloc);
     let (told, links, dice) = read_linked(alloc, settings, programs, rows, world, links, dice);
@@ -97,12 +100,16 @@ fn read_linked<W: World>(
         program.file.as_str(),
     ) {
         Ok(link) => link,
-        Err(stop) => return (Err(stop), links, dice),
+        Err(stop) => {
+            drop(settings);
+            return (Err(stop), links, dice);
+        }
     };
     match links.add(link) {
         Ok(()) => {}
         Err((_, link)) => {
             close_link(world, 0, link);
+            drop(settings);
             return (Err(Stop::NoMemory), links, dice);
         }
     }
@@ -132,7 +139,10 @@ fn read_stored_rows<L: Kms, D: Dice>(
 {
     let settings = match Shared::new(alloc, settings) {
         Ok(settings) => settings,
-        Err(_) => return (Err(Stop::NoMemory), links, dice),
+        Err(refused) => {
+            drop(refused);
+            return (Err(Stop::NoMemory), links, dice);
+        }
     };
     let published = match publish_settings(alloc, settings, &mut links, &mut dice) {
         Ok(published) => published,

@@ -66,7 +66,9 @@ fn known_lines(alloc: Global, kind: Kind, name: &str, body: &[u8]) -> Result<Byt
                 Err(ObjectNo::NoMemory) => return Err(Stop::NoMemory),
                 Err(why) => return Err(Stop::Refused(inspect_refusal(why))),
             };
-            match add_object(&mut text, &object) {
+            let added = add_object(&mut text, &object);
+            drop(object);
+            match added {
                 Ok(()) => Ok(Bytes::from_vec(text)),
                 Err(_) => Err(Stop::NoMemory),
             }

@@ -33,9 +33,15 @@ pub fn plan<W: World>(alloc: Global, words: &Planning, world: &mut W) -> Result<
     };
     let to = match configure(alloc, world, words.to.as_str()) {
         Ok(settings) => settings,
-        Err(stop) => return Err(stop),
+        Err(stop) => {
+            drop(from);
+            return Err(stop);
+        }
     };
-    show(planned(alloc, words, &from, &to))
+    let made = planned(alloc, words, &from, &to);
+    drop(from);
+    drop(to);
+    show(made)
 }
 
 /// The text of the plan, or why there is none.
@@ -72,10 +78,15 @@ fn plan_stop(alloc: Global, why: PlanNo) -> Stop
     ensures { IsStopBy why result }
 {
     match why {
-        PlanNo::SecretClash { class, who } => match clash_text(alloc, &class, &who) {
-            Ok(text) => Stop::Refused(Refusal::Clash(text)),
-            Err(_) => Stop::NoMemory,
-        },
+        PlanNo::SecretClash { class, who } => {
+            let told = clash_text(alloc, &class, &who);
+            drop(class);
+            drop(who);
+            match told {
+                Ok(text) => Stop::Refused(Refusal::Clash(text)),
+                Err(_) => Stop::NoMemory,
+            }
+        }
         PlanNo::TooMany {
             counted,
             number: _number,

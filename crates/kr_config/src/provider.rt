@@ -33,11 +33,15 @@ fn place_provider(place: ConfigPlace, before: &mut List<Who>, who: Who) -> Resul
     ensures { ReadsInto (place_provider place before.old.0 who) before.new.0 result }
 {
     if has_rival(before.as_slice(), &who) {
+        drop(who);
         return Err(ConfigErr::No(Rule::SameProvider.to_breach(place)));
     }
     match before.push(who) {
         Ok(()) => Ok(()),
-        Err(_) => Err(ConfigErr::NoMemory),
+        Err(refused) => {
+            drop(refused);
+            Err(ConfigErr::NoMemory)
+        }
     }
 }
 

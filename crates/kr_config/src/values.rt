@@ -4,26 +4,25 @@ ghost use Rattle.std.specs.String.{string_bytes};
 ghost use Rattle.serde_json.specs.View.{view, items_view};
 ghost use Rattle.serde_json.specs.View as json;
 ghost use Rattle.kr_config.specs.Kept.{entry_lists, rows_of};
-ghost use Rattle.kr_config.specs.Texts.{pattern_text, pattern_data, keys_data, plugin_data};
-ghost use Rattle.kr_config.specs.Texts.{element_data, entry_data, settings_data};
+ghost use Rattle.kr_config.specs.Texts.{pattern_text, pattern_data, single, key_data, keys_data};
+ghost use Rattle.kr_config.specs.Texts.{plugin_data, element_data, entry_data, settings_data};
 
 use crate::pattern::Pattern;
 use crate::settings::Entry;
 use crate::who::Who;
 use base64::engine::general_purpose::STANDARD;
 use kr_base::NoMemory;
-use serde_json::{Value, json};
+use serde_json::{Map, Value, json};
 use std::alloc::Global;
 
 /// The value of a configuration of these entries.
 pub fn settings_value(alloc: Global, entries: &[Entry]) -> Result<Value, NoMemory>
     ensures { IfOk result (λ value. view value ≡ settings_data (rows_of entries.now)) }
 {
-    let resources = Value::Array(entry_values(alloc, entries)?);
     Ok(json!(in alloc; {
         "apiVersion": "apiserver.config.k8s.io/v1",
         "kind": "EncryptionConfiguration",
-        "resources": resources
+        "resources": Value::Array(entry_values(alloc, entries)?)
     })?)
 }
 
@@ -42,9 +41,10 @@ fn entry_values(alloc: Global, entries: &[Entry]) -> Result<Vec<Value>, NoMemory
 fn entry_value(alloc: Global, entry: &Entry) -> Result<Value, NoMemory>
     ensures { IfOk result (λ value. view value ≡ entry_data (entry_lists entry.now)) }
 {
-    let providers = Value::Array(element_values(alloc, entry.providers.as_slice())?);
-    let resources = Value::Array(pattern_values(alloc, entry.patterns.as_slice())?);
-    Ok(json!(in alloc; {"providers": providers, "resources": resources})?)
+    Ok(json!(in alloc; {
+        "providers": Value::Array(element_values(alloc, entry.providers.as_slice())?),
+        "resources": Value::Array(pattern_values(alloc, entry.patterns.as_slice())?)
+    })?)
 }
 
 #[tactic(auto, using(crate::proofs::ValueLoops::values_more, crate::proofs::ValueLoops::values_end))]
@@ -101,28 +101,44 @@ fn element_value(alloc: Global, who: &Who) -> Result<Value, NoMemory>
     ensures { IfOk result (λ value. view value ≡ element_data who.now) }
 {
     match who {
-        Who::Identity => Ok(json!(in alloc; {"identity": {}})?),
+        Who::Identity => single(alloc, "identity", Value::Object(Map::new(alloc))),
         Who::Aescbc(name, secret) => {
             let keys = keys_value(alloc, name.as_str(), secret.as_slice())?;
-            Ok(json!(in alloc; {"aescbc": keys})?)
+            single(alloc, "aescbc", keys)
         }
         Who::Aesgcm(name, secret) => {
             let keys = keys_value(alloc, name.as_str(), secret.as_slice())?;
-            Ok(json!(in alloc; {"aesgcm": keys})?)
+            single(alloc, "aesgcm", keys)
         }
         Who::Kms(name) => {
             let plugin = plugin_value(alloc, name.as_str())?;
-            Ok(json!(in alloc; {"kms": plugin})?)
+            single(alloc, "kms", plugin)
         }
     }
+}
+
+/// An object of one member.
+fn single(alloc: Global, key: &str, value: Value) -> Result<Value, NoMemory>
+    ensures { IfOk result (λ object. view object ≡ single key.now (view value)) }
+{
+    Ok(json!(in alloc; {key: value})?)
 }
 
 /// What an element of keys has for one key.
 fn keys_value(alloc: Global, name: &str, secret: &[u8]) -> Result<Value, NoMemory>
     ensures { IfOk result (λ value. view value ≡ keys_data name.now secret.now) }
 {
+    let key = key_value(alloc, name, secret)?;
+    let keys = json!(in alloc; [key])?;
+    single(alloc, "keys", keys)
+}
+
+/// One key.
+fn key_value(alloc: Global, name: &str, secret: &[u8]) -> Result<Value, NoMemory>
+    ensures { IfOk result (λ value. view value ≡ key_data name.now secret.now) }
+{
     let secret = STANDARD.encode(alloc, secret)?;
-    Ok(json!(in alloc; {"keys": [{"name": name, "secret": secret.as_str()}]})?)
+    Ok(json!(in alloc; {"name": name, "secret": secret.as_str()})?)
 }
 
 /// What an element of a plugin has.

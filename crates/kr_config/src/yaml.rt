@@ -21,7 +21,9 @@ pub fn read_yaml(alloc: Global, text: &str) -> Result<Value, ConfigErr>
         Ok(tree) => tree,
         Err(why) => return Err(restate(why)),
     };
-    Ok(tree_value(alloc, &tree)?)
+    let value = tree_value(alloc, &tree);
+    drop(tree);
+    Ok(value?)
 }
 
 /// A breach of the YAML profile, as the configuration's.

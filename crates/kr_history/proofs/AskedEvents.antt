@@ -53,6 +53,11 @@ pub made_nothing : (old new : Caller) (made : Result Answer Spent)
 made_nothing old new (Ok given) spent none = tt
 made_nothing old new (Err e) spent none = record { spent = spent.0 refl; same = none }
 
+-- the entry of an answer that was given is one of what that answer is
+pub told_as : {old new : Caller} {asked : Event} {given told : Answer} → given ≡ told
+    → AddsEntry old asked given new → AddsEntry old asked told new
+told_as {old} {new} {asked} is added = subst (λ answer. AddsEntry old asked answer new) is added
+
 -- the row that an After found was found last, and keeps its rules
 pub next_row : (old new : Caller) (above : List ℕ) (row : Row) → IsCaller old
     → AddsEntry old (event.After above) (answer.Found row) new

@@ -31,9 +31,6 @@ pub made_and_gone : (es all : Entries) (old mid new : List Pair) (path kept : Li
     → IsChangedAt (remove_key (is_at (name_cmp path))) place mid new → all ≡ es → IsIndexed all new None
 made_and_gone es all old mid new path kept place ix none is put taken same = subst (λ l. IsIndexed l new None) (sym same) (step.made_and_gone es old mid new path place ix (sym none) (subst (λ k. IsChangedAt (λ paths. insert_key name_cmp paths k) place old mid) is put) taken)
 
-pub without_there : (es : Entries) (kept : List ℕ) (place : ℕ) → without_proposed (Some (record { path = kept; place = place; fresh = false })) es ≡ es
-without_there es kept place = refl
-
 pub without_fresh : (es all : Entries) (path kept key : List ℕ) (place : ℕ) → None ≡ lookup (is_at (name_cmp path)) es → kept ≡ path → key ≡ kept → all ≡ insert_entry name_cmp es key place
     → without_proposed (Some (record { path = kept; place = place; fresh = true })) all ≡ es
 without_fresh es all path kept key place none is key_is put =
@@ -62,9 +59,6 @@ kept es all old new p q ix found moved put sorted = subst (λ l. IsIndexed l new
 pub gone_fresh : (es all : Entries) (old new : List Pair) (p : Proposal) → IsIndexed es old (Some p) → p.fresh ≡ true → all ≡ remove_entry (is_at (name_cmp p.path)) es → AreSorted all
     → IsChangedAt (remove_key (is_at (name_cmp p.path))) p.place old new → IsIndexed all new None
 gone_fresh es all old new p ix fresh gone sorted change = subst (λ l. IsIndexed l new None) (sym gone) (step.gone_fresh es old new p ix fresh change (subst AreSorted gone sorted))
-
-pub gone_own : (es : Entries) (pairs : List Pair) (p : Proposal) (q : ℕ) → IsIndexed es pairs (Some p) → Some q ≡ lookup (is_at (name_cmp p.path)) es → (q == p.place) ≡ true → IsIndexed es pairs None
-gone_own es pairs p q ix found same = step.gone_own es pairs p ix (sym found ∙ ap Some (step.number_is q p.place same))
 
 pub gone_there : (es : Entries) (old new : List Pair) (p : Proposal) (q : ℕ) → IsIndexed es old (Some p) → Some q ≡ lookup (is_at (name_cmp p.path)) es → (q == p.place) ≡ false
     → IsChangedAt (remove_key (is_at (name_cmp p.path))) p.place old new → IsIndexed es new None

@@ -10,7 +10,7 @@ use kr_config::{BorrowedClass, Settings, first_class};
 /// The first class after this one of those that the live generations and the new settings tell
 /// apart. It is found at once in those where its number is this, as in most while few settings
 /// differ.
-#[tactic(auto, using(crate::proofs::Raw::raw_begin, crate::proofs::Raw::raw_more, crate::proofs::Raw::raw_end, crate::proofs::Walks::loss_within))]
+#[tactic(auto, using(crate::proofs::Walks::loss_within))]
 pub fn next_class<'a>(
     generations: &'a GenerationList,
     settings: &'a Settings,

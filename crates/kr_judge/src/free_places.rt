@@ -10,7 +10,6 @@ use crate::pair::Pair;
 
 /// The place of a pair that no path needs, which stays listed. Listed pairs that have paths again
 /// are no longer listed.
-#[tactic(auto, using(crate::proofs::Frees::free_within, crate::proofs::Frees::free_again, crate::proofs::Frees::empty_at))]
 pub fn find_free(pairs: &mut Vec<Pair>, free: &mut Vec<usize>) -> Option<usize>
     requires { AreFree free.old.items pairs.old.items }
     ensures free { AreFree free.new.items pairs.new.items }

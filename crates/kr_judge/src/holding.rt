@@ -71,7 +71,7 @@ pub fn release(generations: &mut Vec<JudgedGeneration>, live: &mut Vec<u32>, num
 }
 
 /// No generation of the replica is current any more.
-#[tactic(auto, using(crate::proofs::Lives::left_live, crate::proofs::Lives::left_all, crate::proofs::Lives::left_nothing, crate::proofs::Searches::current_there))]
+#[tactic(auto, using(crate::proofs::Lives::left_nothing, crate::proofs::Searches::current_there))]
 pub fn leave(generations: &mut Vec<JudgedGeneration>, live: &mut Vec<u32>, replica: u32)
     requires one { HasOneCurrent (generations_of generations.old.items) }
     requires live { live.old.items ≡ live_numbers (generations_of generations.old.items) }

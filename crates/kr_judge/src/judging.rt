@@ -47,7 +47,7 @@ fn unread_provider<'a>(
 }
 
 /// The first of the other live generations with which a writer isn't read at the class.
-#[tactic(auto, using(crate::proofs::Walks::loss_begin, crate::proofs::Walks::loss_within, crate::proofs::Walks::loss_skip, crate::proofs::Walks::loss_none, crate::proofs::Walks::loss_found, crate::proofs::Walks::loss_end))]
+#[tactic(auto, using(crate::proofs::Walks::loss_within))]
 fn earliest_loss<'a>(
     generations: &'a GenerationList,
     writer: Writer,
@@ -96,7 +96,7 @@ fn nearer_loss<'a>(
 /// The first of the other live generations, and of their classes the first, whose writer the new
 /// settings don't read; and the first that doesn't read what they write. It goes over the classes
 /// once, and tells each settings the class's place among all as a guess of its place in them.
-#[tactic(auto, using(crate::proofs::Nearest::nearest_begin, crate::proofs::Nearest::nearest_more, crate::proofs::Nearest::nearest_end, crate::proofs::Nearest::left_smaller))]
+#[tactic(auto, using(crate::proofs::Nearest::left_smaller))]
 fn first_losses<'a>(
     generations: &'a GenerationList,
     replica: u32,

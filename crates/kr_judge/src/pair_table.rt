@@ -152,7 +152,7 @@ impl PairTable {
 }
 
 /// Of these places that of the pair of this resource and this provider.
-#[tactic(auto, using(crate::proofs::Groups::among_begin, crate::proofs::Groups::among_within, crate::proofs::Groups::among_more, crate::proofs::Groups::among_found, crate::proofs::Groups::among_end))]
+#[tactic(auto, using(crate::proofs::Groups::among_within))]
 fn find_pair(pairs: &[Pair], places: &[usize], resource: &str, who: &Who) -> Option<usize>
     requires { AreWithin places.now (length pairs.now) }
     ensures some { IfSome result (λ place. (place < length pairs.now)

@@ -19,7 +19,6 @@ pub struct Proposal {
 }
 
 /// Puts the path among those of the pair, and gives it a place where it has none.
-#[tactic(auto, using(crate::proofs::IndexSteps::made_there, crate::proofs::IndexSteps::made_fresh, crate::proofs::IndexSteps::made_and_gone, crate::proofs::IndexSteps::without_there, crate::proofs::IndexSteps::without_fresh))]
 pub fn make_proposal(
     places: &mut PathMap,
     pairs: &mut PairTable,
@@ -76,7 +75,7 @@ pub fn make_proposal(
 }
 
 /// The path needs the pair, and no longer another.
-#[tactic(auto, using(crate::proofs::IndexSteps::there, crate::proofs::IndexSteps::fits, crate::proofs::IndexSteps::kept))]
+#[tactic(auto, using(crate::proofs::IndexSteps::there, crate::proofs::IndexSteps::fits))]
 pub fn keep_proposal(places: &mut PathMap, pairs: &mut PairTable, proposal: Proposal)
     requires { IsIndexed places.old pairs.old (Some proposal) }
     ensures indexed { IsIndexed places.new pairs.new None }
@@ -94,7 +93,7 @@ pub fn keep_proposal(places: &mut PathMap, pairs: &mut PairTable, proposal: Prop
 }
 
 /// The path leaves the pair, unless it needed it before.
-#[tactic(auto, using(crate::proofs::IndexSteps::there, crate::proofs::IndexSteps::place_fits, crate::proofs::IndexSteps::gone_fresh, crate::proofs::IndexSteps::gone_own, crate::proofs::IndexSteps::gone_there, crate::proofs::IndexSteps::taken_fresh, crate::proofs::IndexSteps::taken_there))]
+#[tactic(auto, using(crate::proofs::IndexSteps::there, crate::proofs::IndexSteps::place_fits))]
 pub fn unmake_proposal(places: &mut PathMap, pairs: &mut PairTable, proposal: Proposal)
     requires { IsIndexed places.old pairs.old (Some proposal) }
     ensures indexed { IsIndexed places.new pairs.new None }
@@ -116,7 +115,7 @@ pub fn unmake_proposal(places: &mut PathMap, pairs: &mut PairTable, proposal: Pr
 }
 
 /// The path needs nothing.
-#[tactic(auto, using(crate::proofs::IndexSteps::fits_none, crate::proofs::IndexSteps::dropped_own, crate::proofs::IndexSteps::dropped_none))]
+#[tactic(auto, using(crate::proofs::IndexSteps::fits_none))]
 pub fn drop_path(places: &mut PathMap, pairs: &mut PairTable, path: &str)
     requires { IsIndexed places.old pairs.old None }
     ensures indexed { IsIndexed places.new pairs.new None }

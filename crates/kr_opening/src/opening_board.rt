@@ -31,7 +31,6 @@ pub enum StartNo {
 /// is in. Each row's provider is the one that the first replica's settings have for it. The
 /// replicas are taken up in order, each judged on those before it; those that are in get the
 /// generations 0, 1 and so on.
-#[tactic(auto, using(crate::proofs::Boarding::board_stray))]
 pub fn make_opening_board<T: Tape>(
     alloc: Global,
     store: &Store<T>,
@@ -76,7 +75,6 @@ fn first_settings(replicas: &[Option<Shared<Settings>>]) -> &Settings
 }
 
 /// The live rows' needs, by paths.
-#[tactic(auto, using(crate::proofs::Walking::noted_begin, crate::proofs::Walking::noted_more, crate::proofs::Walking::noted_end, crate::proofs::Walking::stray_next, crate::proofs::Walking::goes_on))]
 fn note_all<T: Tape>(
     alloc: Global,
     store: &Store<T>,
@@ -160,7 +158,6 @@ fn no_other(other: Option<Text>) -> Result<(), StartNo>
 }
 
 /// What the row needs, and whether it has its provider's check.
-#[tactic(auto, using(crate::proofs::Walking::reader_is, crate::proofs::Walking::reader_none))]
 fn note(alloc: Global, first: &Settings, row: &Row, board: &mut Board) -> Result<bool, StartNo>
     requires { board.old.proposal ≡ None }
     ensures { Notes (rows_of first.now.entries.0) row.now board.old board.new result }
@@ -187,7 +184,7 @@ fn stray(alloc: Global, path: &str) -> StartNo
 }
 
 /// Takes the replicas' settings up in order, each judged on those before it.
-#[tactic(auto, using(crate::proofs::Taking::taken_begin, crate::proofs::Taking::taken_step, crate::proofs::Taking::taking_stops, crate::proofs::Taking::taken_end, crate::proofs::Taking::taken_room, crate::proofs::Taking::taken_idle))]
+#[tactic(auto, using(crate::proofs::Taking::taking_stops))]
 fn accept_all_settings(
     replicas: &[Option<Shared<Settings>>],
     board: &mut Board,

@@ -59,7 +59,6 @@ pub fn make(
 }
 
 /// The settings of the replicas that are in.
-#[tactic(auto, using(crate::proofs::Sharing::shared_begin, crate::proofs::Sharing::shared_more, crate::proofs::Sharing::shared_end, crate::proofs::Sharing::shared_published))]
 fn share_settings(
     alloc: Global,
     replicas: &[Option<Shared<Published>>],
@@ -130,7 +129,6 @@ fn add_generation(
 }
 
 /// The number of each replica's generation, of those that are in.
-#[tactic(auto, using(crate::proofs::Sharing::numbered_begin, crate::proofs::Sharing::numbered_step, crate::proofs::Sharing::numbered_end, crate::proofs::Sharing::numbered_room))]
 fn number_replicas(
     alloc: Global,
     replicas: &[Option<Shared<Published>>],

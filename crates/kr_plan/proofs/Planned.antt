@@ -1,11 +1,12 @@
 -- What a plan asks of the calls that it makes.
-use Rattle.std.proofs.Common.{◌≡◌, ◌<◌, ◌^◌, true, List, [], length, sym, ap, subst, ◌∙◌, arith}
+use Rattle.std.proofs.Common.{◌≡◌, ℕ, ◌<◌, ◌^◌, true, List, [], ◌++◌, length, sym, ap, subst, ◌∙◌, arith}
 use Rattle.std.proofs.lemmas.List.{length-map}
 use Rattle.kr_config.specs.declared.class.Class.{Class}
 use Rattle.kr_config.specs.declared.settings.Entry.{Entry}
 use Rattle.kr_config.specs.Kept.{ConfigEntry, entry_lists, rows_of, keeps}
+use Rattle.kr_plan.specs.declared.moves.Plan.{Plan}
 use Rattle.kr_plan.specs.Merges.{merged_rows, classes_of, wide_rows}
-use Rattle.kr_plan.specs.Plans.{clashes_at, clash_reasons, amounts, limit_reasons}
+use Rattle.kr_plan.specs.Plans.{IsPlan, clashes_at, clash_reasons, amounts, limit_reasons, reasons, replica_moves}
 use Rattle.kr_plan.proofs.Keeping.{IsSmall, IsWithin, within, wide_small, wide_keeps, turned_keeps}
 
 -- the made entries are those of the table
@@ -57,3 +58,28 @@ turned_made from to classes entries slice turned a b same none is lent few own =
     (sym (made to from classes (classes_of from to) turned own same))
     (turned_keeps from to a b (subst (λ l. clash_reasons (clashes_at l from to) ≡ []) same none)
     (wide_within from to classes entries slice same is lent few))
+
+-- ---- what is answered
+
+pub planned : (from to : List ConfigEntry) (classes : List Class)
+    (entries slice turned : List Entry) (replicas : ℕ) (plan : Plan) → classes ≡ classes_of from to
+    → clash_reasons (clashes_at classes from to) ≡ []
+    → rows_of entries ≡ merged_rows classes from to → slice ≡ entries
+    → limit_reasons (amounts (rows_of slice)) ≡ []
+    → rows_of turned ≡ merged_rows classes to from
+    → plan.wide.entries.0 ≡ entries → plan.turned.entries.0 ≡ turned
+    → plan.moves.0 ≡ replica_moves replicas
+    → (reasons from to ≡ []) × IsPlan from to replicas plan
+planned from to classes entries slice turned replicas plan same none is lent few own wide_is
+    turned_is moves_are =
+    let table = classes_of from to in
+    let secrets = subst (λ l. clash_reasons (clashes_at l from to) ≡ []) same none in
+    let limits = subst (λ rows. limit_reasons (amounts rows) ≡ [])
+    (ap rows_of lent ∙ made from to classes table entries is same) few in (
+      (λ i. secrets i ++ limits i),
+      record {
+        wide = ap rows_of wide_is ∙ made from to classes table entries is same;
+        turned = ap rows_of turned_is ∙ made to from classes table turned own same;
+        moves = moves_are;
+      },
+    )

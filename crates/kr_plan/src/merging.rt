@@ -12,7 +12,6 @@ use kr_judge::has;
 use std::alloc::Global;
 
 /// An entry for each of the classes.
-#[tactic(auto, using(crate::proofs::Steps::merged_more, crate::proofs::Steps::merged_end))]
 pub fn merged_entries(
     alloc: Global,
     classes: &[Class],
@@ -64,7 +63,6 @@ fn merged(alloc: Global, one: &[Who], other: &[Who]) -> Result<Vec<Who>, NoMemor
 }
 
 /// Adds copies of the providers.
-#[tactic(auto, using(crate::proofs::Steps::copied_more, crate::proofs::Steps::copied_end))]
 fn push_all(alloc: Global, providers: &mut Vec<Who>, one: &[Who]) -> Result<(), NoMemory>
     ensures { OnOk result (providers.new.items ≡ providers.old.items ++ one.now) }
 {

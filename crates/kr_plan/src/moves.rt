@@ -55,7 +55,6 @@ pub fn replica_moves(alloc: Global, replicas: u32) -> Result<List<Move>, NoMemor
 }
 
 /// Adds the reloads of all replicas with the settings of the phase.
-#[tactic(auto, using(crate::proofs::Steps::reloads_more))]
 fn push_reloads(moves: &mut Vec<Move>, phase: Phase, replicas: u32) -> Result<(), NoMemory>
     ensures { OnOk result (moves.new.items ≡ moves.old.items ++ reloads phase replicas) }
 {

@@ -18,6 +18,7 @@ mod Stacks
 mod Keys
 pub mod AskedLists
 mod Makings
+mod Marked
 pub mod NameOrder
 pub mod PluginOrder
 pub mod InOrder

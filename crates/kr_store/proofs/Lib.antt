@@ -1,6 +1,7 @@
 -- Lemmas that several proofs share.
 pub mod Parts
 pub mod Steps
+pub mod Fillings
 pub mod Indexes
 pub mod Loading
 pub mod Refusals

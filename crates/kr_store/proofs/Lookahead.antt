@@ -1,6 +1,6 @@
 -- Bytes that were read ahead.
 use Rattle.std.proofs.Common.{◌≡◌, ℕ, ◌+◌, ◌-◌, ◌<◌, ◌≤◌, min, List, [], ◌++◌, length, take, drop, Option, None, Some, IfSome, Result, IsErrOf, refl, sym, ◌∙◌, ap, subst, arith, length-take, length-drop}
-use Rattle.std.proofs.lemmas.List.{take-append-drop, drop-drop, drop-take, take-take, length-take-le}
+use Rattle.std.proofs.lemmas.List.{take-append-drop, drop-drop, drop-take, take_at, take-take, length-take-le}
 use Rattle.std.specs.Io.KnownBytes.{Consumes}
 use Rattle.kr_base.specs.Tapes.{ReadsAt}
 use Rattle.kr_base.specs.Faults.{Rose}
@@ -144,3 +144,29 @@ hands_first told now place end count later f n size ahead slice into same some m
     of None k w = tt
     of (Some bytes) k w = e ∙ ap (λ xs. take n (take f xs)) are ∙ ap (take n) k ∙ take-take n f
         (drop place bytes) w
+
+-- the room for bytes that are read ahead stays as it is
+pub still_room : (into rest : List ℕ) (n : ℕ) → length into ≡ n → 0 < length into
+    → 0 < length (take n (into ++ rest))
+still_room into rest n e s = subst (λ (l : List ℕ). 0 < length l) (sym (take_at into rest n e)) s
+
+-- bytes were just read ahead, and the first of them handed out
+pub read_ahead : (told now : Option (List ℕ)) (place n end f size : ℕ) (ahead rest : List ℕ)
+    → now ≡ told → IfSome told (λ bytes. end ≡ length bytes) → place + n ≤ end → n ≤ f
+    → length ahead ≡ size → 0 < length ahead → f ≤ length ahead → ReadsAt told place f ahead
+    → (place + n ≤ end) × IfSome now (λ bytes. end ≡ length bytes) × (place ≤ place + n)
+    × (place + n ≤ place + f) × (0 < length (take size (ahead ++ rest)))
+    × (f ≤ length (take size (ahead ++ rest)))
+    × IfSome now (λ bytes. take f (take size (ahead ++ rest)) ≡ take f (drop place bytes))
+read_ahead told now place n end f size ahead rest same e w l is s m read =
+    let all = sym (take_at ahead rest size is) in (
+      w,
+      subst (λ t. IfSome t (λ bytes. end ≡ length bytes)) (sym same) e,
+      omega arith,
+      omega (arith, l),
+      subst (λ (xs : List ℕ). 0 < length xs) all s,
+      subst (λ (xs : List ℕ). f ≤ length xs) all m,
+      subst (λ (xs : List ℕ). IfSome now (λ bytes. take f xs ≡ take f (drop place bytes))) all
+          (subst (λ t. IfSome t (λ bytes. take f ahead ≡ take f (drop place bytes))) (sym same)
+          (reads_front told place f ahead read)),
+    )

@@ -131,6 +131,14 @@ no_value words name plain e (a, v) r p (inl f) = cc
 no_value words name plain e (a, v) r p (inr f) = let same : name ≡ a ++ (61 ∷ v) = cc in
     not_plain a v (subst IsPlain same plain)
 
+pub none_begin : (words : List (List ℕ)) → words ≡ [] → BeginNoOption words
+none_begin words e option rest p b = begins_some words option rest b e
+
+pub undashed : (words rest : List (List ℕ)) (word : List ℕ) → words ≡ word ∷ rest
+    → ((after : List ℕ) → word ≡ 45 ∷ 45 ∷ after → ⊥) → BeginNoOption words
+undashed words rest word e none (a, v) r p (inl f) = none a (cc)
+undashed words rest word e none (a, v) r p (inr f) = none (a ++ (61 ∷ v)) (cc)
+
 pub none_left : {X : Type 0} (xs : List X) → length xs ≡ 0 → xs ≡ []
 none_left [] e = refl
 none_left (x ∷ xs) e = absurd (omega (arith, e))

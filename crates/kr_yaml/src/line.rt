@@ -219,7 +219,11 @@ fn head(alloc: Global, text: &str) -> Result<(List<LineToken>, usize, &str), NoM
         };
         match tokens.push(LineToken::Dash { column }) {
             Ok(()) => {}
-            Err(_) => return Err(NoMemory),
+            Err(refused) => {
+                drop(refused);
+                drop(tokens);
+                return Err(NoMemory);
+            }
         }
         rest = more;
     }

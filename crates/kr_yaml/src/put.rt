@@ -215,14 +215,24 @@ fn put_under_node(
     let mut nodes = nodes;
     let tree = match close_nodes(&mut nodes, at + 1, value) {
         Ok(tree) => tree,
-        Err(_) => return Err(PlaceError::NoMemory),
+        Err(_) => {
+            drop(nodes);
+            drop(token);
+            return Err(PlaceError::NoMemory);
+        }
     };
     let Some(node) = nodes.pop() else {
+        drop(nodes);
+        drop(tree);
+        drop(token);
         return Err(PlaceError::NoMemory);
     };
     let (node, value) = match continue_node(alloc, node, tree, token) {
         Ok(more) => more,
-        Err(why) => return Err(why),
+        Err(why) => {
+            drop(nodes);
+            return Err(why);
+        }
     };
     match nodes.push(node) {
         Ok(()) => Ok((nodes, value)),

@@ -174,8 +174,14 @@ fn read_lines(alloc: Global, text: &str) -> Result<Progress, YamlNo>
     'each: for line in text.lines() {
         let tokens = match line_tokens(alloc, first, line) {
             Ok(tokens) => tokens,
-            Err(LineError::Form) => return Err(YamlNo::Outside { line: number }),
-            Err(LineError::NoMemory) => return Err(YamlNo::NoMemory),
+            Err(LineError::Form) => {
+                drop(progress);
+                return Err(YamlNo::Outside { line: number });
+            }
+            Err(LineError::NoMemory) => {
+                drop(progress);
+                return Err(YamlNo::NoMemory);
+            }
         };
         progress = match steps(alloc, progress, number, tokens) {
             Ok(progress) => progress,

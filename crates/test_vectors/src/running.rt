@@ -2,9 +2,9 @@
 
 ghost use Rattle.std.specs.Prelude.{◌≡◌, length, IfOk};
 ghost use Rattle.std.specs.Int.{w16, from_be_bytes};
+ghost use Rattle.kr_aes.specs.KeyExpansion.{IsKeyLength, IsKeyOf, IsSchedule, padded_schedule};
 ghost use Rattle.kr_aes.specs.Cipher.{cipher};
 ghost use Rattle.kr_aes.specs.InverseCipher.{inverse_cipher};
-ghost use Rattle.kr_aes.specs.KeyExpansion.{IsKeyLength, IsKeyOf, IsSchedule, padded_schedule};
 ghost use Rattle.kr_hkdf.specs.Hkdf.{hkdf_expand};
 ghost use Rattle.kr_hkdf.specs.Hmac.{hmac};
 ghost use Rattle.kr_keywrap.specs.KeyWrap.{key_unwrap, key_wrap};

@@ -37,7 +37,7 @@ returns-clause-does g c a =
     (goes_on (configuration words.to) (λ to. show (ShowsPlan words from to)) to
     (by_bytes configuration c.as_str-2.ensures (c.in-Ok-configure.ensures.does a))
     (subst (λ r. Does (show (ShowsPlan words from to)) now now r) (sym c.show.ensures)
-    (shows (ShowsPlan words from to) now c.planned.result c.planned.ensures)))
+    (shows (ShowsPlan words from to) now c.planned-made.result c.planned-made.ensures)))
 
 pub returns-in-Err-clause-links : goal.returns-in-Err-clause-links
 returns-in-Err-clause-links g c = c.in-Err.ensures.links

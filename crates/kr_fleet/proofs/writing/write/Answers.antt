@@ -8,15 +8,10 @@ use Rattle.kr_rollout.specs.declared.line.Did.TheVariants.{Put}
 use Rattle.kr_history.specs.Parts.{AddsWithin}
 use Rattle.kr_history.proofs.PartsAdd.{held_within, nothing_within, within_more}
 use Rattle.kr_provider.specs.BenchKeys.{adoption_of}
-use Rattle.kr_history.proofs.KeyMoments.{TakesInTurn, held_turn, in_turn_same, untaken_turn}
+use Rattle.kr_history.proofs.KeyMoments.{held_turn, in_turn_same, untaken_turn}
 use Rattle.kr_history.proofs.Meanwhile.{by_stages, holds_adopted, still_holds}
 use Rattle.kr_fleet.proofs.Quiet.{puts_quietly}
-use Rattle.kr_fleet.proofs.writing.write.Given.{Over}
-use Rattle.kr_fleet.proofs.writing.write.Goals.{Start}
 use Rattle.kr_fleet.proofs.writing.write.Goals as goal
-
-pub returns-in_default-clause-writes : goal.returns-in_default-clause-writes
-returns-in_default-clause-writes g c = inl (inl refl, refl)
 
 pub returns-in-Err-clause-writes : goal.returns-in-Err-clause-writes
 returns-in-Err-clause-writes g c =
@@ -47,43 +42,11 @@ pub put-written-requires-clause-resource : goal.put-written-requires-clause-reso
 put-written-requires-clause-resource g c =
     subst IsResource (sym c.in-Ok.ensures) c.requires.resource
 
-pub returns-in_default-clause-adds : goal.returns-in_default-clause-adds
-returns-in_default-clause-adds g c = nothing_within 3 0
-    (Put c.args.path.now c.args.resource.now c.args.plain ∷ [])
-    (g.A.Acts.caller c.args.acts.now)
-
-pub returns-in_default-copy-clause-adds : goal.returns-in_default-copy-clause-adds
-returns-in_default-copy-clause-adds g c = nothing_within 3 0
-    (Put c.args.path.now c.args.resource.now c.args.plain ∷ [])
-    (g.A.Acts.caller c.args.acts.now)
-
 pub returns-in-Err-clause-adds : goal.returns-in-Err-clause-adds
 returns-in-Err-clause-adds g c = within_more 1 3 0 0
     (Put c.args.path.now c.args.resource.now c.args.plain ∷ [])
     (g.A.Acts.caller c.args.acts.now) (g.A.Acts.caller c.take_up.new.acts) (omega arith) (omega arith)
     c.in-Err.ensures.adds
-
--- where there is no memory for a copy, nothing is asked
-unasked : (g : Over) (c : Start g) → TakesInTurn (g.A.Acts.caller c.args.acts.now)
-    (adoption_of c.args.bench.now) (g.A.Acts.caller c.args.acts.now) (adoption_of c.args.bench.now)
-unasked g c = in_turn_same (g.A.Acts.caller c.args.acts.now) (adoption_of c.args.bench.now)
-    c.requires.idle
-
-pub returns-in_default-clause-keys : goal.returns-in_default-clause-keys
-returns-in_default-clause-keys g c =
-    (unasked g (goal.at.returns-in_default-clause-keys g c).Start).leaves
-
-pub returns-in_default-clause-moments : goal.returns-in_default-clause-moments
-returns-in_default-clause-moments g c =
-    (unasked g (goal.at.returns-in_default-clause-moments g c).Start).happens
-
-pub returns-in_default-copy-clause-keys : goal.returns-in_default-copy-clause-keys
-returns-in_default-copy-clause-keys g c =
-    (unasked g (goal.at.returns-in_default-copy-clause-keys g c).Start).leaves
-
-pub returns-in_default-copy-clause-moments : goal.returns-in_default-copy-clause-moments
-returns-in_default-copy-clause-moments g c =
-    (unasked g (goal.at.returns-in_default-copy-clause-moments g c).Start).happens
 
 pub returns : goal.returns
 returns g c =
@@ -128,4 +91,61 @@ returns g c =
       pages = back.cleared.size ∙ ap (λ b. size_of b.pages) c.put-written.ensures.kept
           ∙ t.takes.size;
       place = back.place ∙ c.put-written.ensures.place ∙ c.in-Ok-take_up.ensures.place;
+    }
+
+-- where nothing was taken up the bench is as it was
+pub returns-in-Err-clause-links : goal.returns-in-Err-clause-links
+returns-in-Err-clause-links g c = ap (λ b. b.links) c.in-Err.ensures.takes_up.1
+
+pub returns-in-Err-clause-cache : goal.returns-in-Err-clause-cache
+returns-in-Err-clause-cache g c = ap (λ b. b.cache) c.in-Err.ensures.takes_up.1
+
+pub returns-in-Err-clause-pages : goal.returns-in-Err-clause-pages
+returns-in-Err-clause-pages g c = ap (λ b. size_of b.pages) c.in-Err.ensures.takes_up.1
+
+pub returns-in-Err-clause-later : goal.returns-in-Err-clause-later
+returns-in-Err-clause-later g c =
+    subst (λ b. g.D.Dice.count c.args.bench.now.dice ≤ g.D.Dice.count b.dice)
+    (sym c.in-Err.ensures.takes_up.1) (omega arith)
+
+pub returns-in-Err-clause-honest : goal.returns-in-Err-clause-honest
+returns-in-Err-clause-honest g c = c.take_up.ensures.honest
+
+pub returns-in-Err-clause-place : goal.returns-in-Err-clause-place
+returns-in-Err-clause-place g c = c.take_up.ensures.place
+
+pub returns-in_default : goal.returns-in_default
+returns-in_default g c =
+    let caller = g.A.Acts.caller c.args.acts.now in
+    let turn = in_turn_same caller (adoption_of c.args.bench.now) c.requires.idle in
+    record {
+      writes = inl (inl refl, refl);
+      adds = nothing_within 3 0 (Put c.args.path.now c.args.resource.now c.args.plain ∷ []) caller;
+      honest = λ opens keeps. keeps;
+      idle = c.requires.idle;
+      links = refl;
+      cache = refl;
+      later = omega arith;
+      keys = turn.leaves;
+      moments = turn.happens;
+      pages = refl;
+      place = refl;
+    }
+
+pub returns-in_default-copy : goal.returns-in_default-copy
+returns-in_default-copy g c =
+    let caller = g.A.Acts.caller c.args.acts.now in
+    let turn = in_turn_same caller (adoption_of c.args.bench.now) c.requires.idle in
+    record {
+      place = refl;
+      pages = refl;
+      moments = turn.happens;
+      keys = turn.leaves;
+      later = omega arith;
+      cache = refl;
+      links = refl;
+      idle = c.requires.idle;
+      honest = λ opens keeps. keeps;
+      adds = nothing_within 3 0 (Put c.args.path.now c.args.resource.now c.args.plain ∷ []) caller;
+      writes = inl (inl refl, refl);
     }

@@ -1,6 +1,6 @@
 use Rattle.std.proofs.Common.{◌∙◌, arith}
 use Rattle.kr_judge.proofs.Pairs.{labels_same, paths_same}
-use Rattle.kr_judge.proofs.Frees.{free_within, free_again, free_left, free_none, none_left, still_some, unlisted}
+use Rattle.kr_judge.proofs.Frees.{free_within, free_again, empty_at, free_left, free_none, none_left, still_some, unlisted}
 use Rattle.kr_judge.proofs.free_places.find_free.Goals as goal
 
 pub returns-then-is_free-clause-free : goal.returns-then-is_free-clause-free
@@ -20,3 +20,24 @@ loop-place-preserved c =
 
 pub returns-clause-none : goal.returns-clause-none
 returns-clause-none c = free_none c.loop-place.free.items c.loop-place.pairs.items c.loop-place.invariant.0 (none_left c.loop-place.free.items (omega (arith, c.in_default.ensures.cases.0, c.loop-place.free.ok.0)))
+
+pub index-requires : goal.index-requires
+index-requires c =
+    let h = free_within c.loop-place.free.items c.pop.new.self.items
+    c.loop-place.pairs.items c.in-Some.place c.loop-place.invariant.0 c.in-Some.ensures.items in
+    omega (arith, h, c.loop-place.pairs.ok.0)
+
+pub index_mut-requires : goal.index_mut-requires
+index_mut-requires c =
+    let h = free_within c.loop-place.free.items c.pop.new.self.items
+    c.loop-place.pairs.items c.in-Some.place c.loop-place.invariant.0 c.in-Some.ensures.items in
+    omega (arith, h, c.loop-place.pairs.ok.0)
+
+pub returns-then-is_free-clause-some : goal.returns-then-is_free-clause-some
+returns-then-is_free-clause-some c =
+    let h = free_within c.loop-place.free.items c.pop.new.self.items
+    c.loop-place.pairs.items c.in-Some.place c.loop-place.invariant.0 c.in-Some.ensures.items in (
+      h,
+      empty_at c.loop-place.pairs.items c.in-Some.place c.index.result.now h c.index.ensures
+          (c.is_free.ensures.yes c.if-is_free.true),
+    )

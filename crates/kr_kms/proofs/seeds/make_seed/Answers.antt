@@ -26,6 +26,12 @@ returns-in-Err-Failed-clause-made g c =
       inr ((told.0, told.1, told.2), (c.in_ok-seed.seed, drawn.0, drawn.1)),
     )
 
+pub returns-in-Err-NoMemory-clause-made : goal.returns-in-Err-NoMemory-clause-made
+returns-in-Err-NoMemory-clause-made g c =
+    let told = c.in_ok-healthy_key_id.ensures.told in
+    let drawn = c.in_ok-seed.ensures.drawn in
+    inr ((told.0, told.1, told.2), (c.in_ok-seed.seed, drawn.0, drawn.1))
+
 pub returns-in_err-healthy_key_id-clause-asked : goal.returns-in_err-healthy_key_id-clause-asked
 returns-in_err-healthy_key_id-clause-asked g c =
     let stop = talk_not_told g.D.Dice.left g.D.Dice.count (g.L.Kms.link c.args.link.now).name

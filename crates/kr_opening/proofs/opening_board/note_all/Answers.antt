@@ -1,9 +1,9 @@
-use Rattle.std.proofs.Common.{[], None, refl, sym, ap, subst, ◌∙◌}
+use Rattle.std.proofs.Common.{[], None, Some, refl, sym, ap, subst, ◌∙◌}
 use Rattle.kr_config.specs.Kept.{rows_of}
 use Rattle.kr_store.specs.declared.rows.Row.{Row}
 use Rattle.kr_store.specs.Stores.{IsNext}
 use Rattle.kr_opening.specs.inner.OpeningBoards.{NotesAll, walk_path}
-use Rattle.kr_opening.proofs.Walking.{AreNoted, noted_begin, noted_end, kept_begin, kept_end, walk_step, note_stops}
+use Rattle.kr_opening.proofs.Walking.{AreNoted, goes_on, noted_begin, noted_end, kept_begin, kept_end, walk_step, note_stops}
 use Rattle.kr_opening.proofs.opening_board.note_all.Goals as goal
 
 pub loop-row-init : goal.loop-row-init
@@ -54,3 +54,11 @@ returns-in-Err-note g c =
     c.in-Err-note.why c.loop-row.invariant.0
     (subst (λ o. IsNext rows c.walk_path.result.now o) c.in-Ok-Some.field-0-is
     c.in-Ok-Some.ensures.next) c.walk_path.ensures c.get.ensures c.in-Err-note.ensures
+
+pub loop-row-smaller : goal.loop-row-smaller
+loop-row-smaller g c =
+    let rows = c.args.store.now.rows in
+    let next = subst (λ o. IsNext rows c.walk_path.result.now o) c.in-Ok-Some.field-0-is
+    c.in-Ok-Some.ensures.next in
+    goes_on rows (walk_path c.loop-row.last) c.in-Ok-Some.row
+    (subst (λ p. IsNext rows p (Some c.in-Ok-Some.row)) c.walk_path.ensures next)

@@ -1,5 +1,6 @@
+use Rattle.std.proofs.Common.{ap}
 use Rattle.kr_config.specs.Kept.{rows_of}
-use Rattle.kr_plan.proofs.Planned.{slice_small, few_entries, wide_made, turned_made}
+use Rattle.kr_plan.proofs.Planned.{slice_small, few_entries, planned, wide_made, turned_made}
 use Rattle.kr_plan.proofs.planning.plan_classes.Goals as goal
 
 pub check_limits-requires-clause-entries : goal.check_limits-requires-clause-entries
@@ -34,3 +35,12 @@ checked_settings-requires-2 c =
     c.args.classes.now c.in_ok-wide.wide.0 c.as_slice.result.now c.in_ok-turned.turned.0
     c.known.ensures c.known-2.ensures c.requires c.in_ok-check_secrets.ensures
     c.in_ok-wide.ensures c.as_slice.ensures c.in_ok-check_limits.ensures c.in_ok-turned.ensures
+
+pub returns : goal.returns
+returns c =
+    planned (rows_of c.args.from.now.entries.0) (rows_of c.args.to.now.entries.0)
+    c.args.classes.now c.in_ok-wide.wide.0 c.as_slice.result.now c.in_ok-turned.turned.0
+    c.args.replicas _ c.requires c.in_ok-check_secrets.ensures c.in_ok-wide.ensures
+    c.as_slice.ensures c.in_ok-check_limits.ensures c.in_ok-turned.ensures
+    (ap (λ l. l.0) c.in_ok-checked_settings.ensures)
+    (ap (λ l. l.0) c.in_ok-checked_settings-2.ensures) c.in_ok-replica_moves.ensures

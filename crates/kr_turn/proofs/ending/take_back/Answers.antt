@@ -1,5 +1,7 @@
 -- What the tactic leaves open of `take_back`.
-use Rattle.std.proofs.Common.{rules, ◌≡◌, sym, ◌∙◌, subst, Option, Some}
+use Rattle.std.proofs.Common.{rules, arith, ◌≡◌, false, slice_index_or, sym, ◌∙◌, ap, subst, Option, Some}
+use Rattle.std.proofs.lemmas.Grind.{get_or-set_at}
+use Rattle.std.specs.Slots.{slots_counts, slots_filled}
 use mathlib.Core.Option.{some-injective}
 use Rattle.std.specs.Prelude.{IsSome}
 use Rattle.kr_turn.specs.inner.Endings.{IsEnd}
@@ -7,6 +9,22 @@ use Rattle.kr_turn.specs.Keys.{terms_of}
 use Rattle.kr_turn.proofs.Acts.{some_same}
 use Rattle.kr_turn.proofs.Ends.{ends}
 use Rattle.kr_turn.proofs.ending.take_back.Goals as goal
+
+-- the one slot is full, and empty once its state is taken
+pub take-requires : goal.take-requires
+take-requires g c =
+    let closed = c.close_with-closed.ensures in
+    let one = closed.counts.1 ∙ c.requires.table.1.1 in
+    (omega (arith, one), closed.values.1 0 (omega arith) (omega (arith, one)))
+
+pub free-requires : goal.free-requires
+free-requires g c = λ k low.
+    let one = c.close_with-closed.ensures.counts.1 ∙ c.requires.table.1.1 in
+    let was = c.close_with-closed.result.slots in
+    let taken = c.take.ensures.others in
+    ap (λ full. slice_index_or full k false) taken.1
+    ∙ get_or-set_at (slots_filled was) 0 k false false (omega (arith, low, taken.2, one))
+    (omega (arith, one, (slots_counts was).1))
 
 pub unwrap-state-requires : goal.unwrap-state-requires
 unwrap-state-requires g c =

@@ -3,7 +3,22 @@ use Rattle.std.proofs.Common.{◌≡◌, ◌∷◌, ◌++◌, codes, None, Some,
 use Rattle.std.proofs.lemmas.Str.Pattern.{split_parts}
 use Rattle.kr_words.specs.Grammar.{texts}
 use Rattle.kr_words.proofs.Spellings.{no_value, plain_bytes, none_left, dashed, joined, parted}
+use Rattle.kr_words.proofs.Spellings.{none_begin, undashed}
 use Rattle.kr_words.proofs.spelling.first_option.Goals as goal
+
+pub returns-in_err-word : goal.returns-in_err-word
+returns-in_err-word c = rw c.from_residual.ensures
+    (none_begin (texts c.args.words.now)
+    (ap texts (none_left c.args.words.now c.in_err-word.ensures.cases)))
+
+pub returns-in_err-option : goal.returns-in_err-option
+returns-in_err-option c =
+    let f = ap texts c.in_ok-word.ensures.cases.0 in
+    let e = c.as_str.ensures.value in
+    let front : texts c.args.words.now ≡ c.as_str.result.now ∷ texts c.in_ok-word.rest.now = cc in
+    rw c.from_residual-in_err-option.ensures
+    (undashed (texts c.args.words.now) (texts c.in_ok-word.rest.now) c.as_str.result.now front
+    c.in_err-option.ensures.cases)
 
 pub returns-in_err-value-in-None : goal.returns-in_err-value-in-None
 returns-in_err-value-in-None c =

@@ -1,5 +1,6 @@
 -- An exchange that was broken before, one that is cut off, and one that is whole.
-use Rattle.std.proofs.Common.{length, refl, arith}
+use Rattle.std.proofs.Common.{length, refl, sym, ◌∙◌, arith}
+use Rattle.std.proofs.lemmas.Bool.{false≢true}
 use Rattle.kr_edge.proofs.Asking.{cut_before, not_asked, not_read}
 use Rattle.kr_edge.proofs.exchange.Exchange.ask.Goals as goal
 
@@ -14,3 +15,15 @@ pub returns-in_err-size-clause-err : goal.returns-in_err-size-clause-err
 returns-in_err-size-clause-err g c = not_read c.from_residual-in_err-size.result _ _ _
     (length c.read_line.new.line) c.if-self.false c.in_ok-write_all.ensures.ok
     (omega (arith, c.args.self.now.line.size)) c.in_err-size.ensures.err refl
+
+-- what is broken doesn't come as far as a write
+pub returns-clause-broken : goal.returns-clause-broken
+returns-clause-broken g c = λ broken. absurd (false≢true (sym c.if-self.false ∙ broken))
+
+pub returns-in_err-size-clause-broken : goal.returns-in_err-size-clause-broken
+returns-in_err-size-clause-broken g c =
+    λ broken. absurd (false≢true (sym c.if-self.false ∙ broken))
+
+pub returns-in_err-write_all-clause-broken : goal.returns-in_err-write_all-clause-broken
+returns-in_err-write_all-clause-broken g c =
+    λ broken. absurd (false≢true (sym c.if-self.false ∙ broken))

@@ -1,5 +1,5 @@
 -- A reply of another kind, and none.
-use Rattle.std.proofs.Common.{rules}
+use Rattle.std.proofs.Common.{ap, inl, rules, ◌∙◌}
 use Rattle.std.specs.Prelude.{⊤}
 use Rattle.kr_base.specs.Numbering.{next_number}
 use Rattle.kr_kms_wire.specs.declared.replies.Asked.TheVariants as call
@@ -32,3 +32,8 @@ returns-in-Err-clause-answers g c = let wrapped = c.args.wrapped.now in
     passes_on reply.Decrypt (λ _. ⊤) _ _ call.Decrypt
     (request.Decrypt wrapped.cipher.now wrapped.key_id.now wrapped.annotations.now
     (next_number c.args.self.now.uid)) c.in-Err.why (search rules)
+
+-- nothing was asked
+pub returns-in_default-clause-answers : goal.returns-in_default-clause-answers
+returns-in_default-clause-answers g c = inl (c.wipe.ensures.ends
+    ∙ ap (ends_of g.W.Write.contents g.R.Read.remaining) c.next_uid-uid.ensures.exchange)

@@ -1,5 +1,5 @@
 -- A wrap above the limits is a reply that can't be used, and so is one of another kind.
-use Rattle.std.proofs.Common.{rules, refl}
+use Rattle.std.proofs.Common.{ap, inl, rules, refl, ◌∙◌}
 use Rattle.kr_base.specs.Numbering.{next_number}
 use Rattle.kr_kms.specs.Limits.{IsWithinLimits}
 use Rattle.kr_kms_wire.specs.declared.replies.Asked.TheVariants as call
@@ -41,3 +41,8 @@ returns-in-Ok-answered g c =
 pub returns-in-Err-clause-answers : goal.returns-in-Err-clause-answers
 returns-in-Err-clause-answers g c = passes_on reply.Encrypt IsWithinLimits _ _ call.Encrypt
     (request.Encrypt c.args.plain.now (next_number c.args.self.now.uid)) c.in-Err.why (search rules)
+
+-- nothing was asked
+pub returns-in_default-clause-answers : goal.returns-in_default-clause-answers
+returns-in_default-clause-answers g c = inl (c.wipe.ensures.ends
+    ∙ ap (ends_of g.W.Write.contents g.R.Read.remaining) c.next_uid-uid.ensures.exchange)

@@ -75,3 +75,17 @@ returns-in-Err-add-clause-calls g c =
     let calls = g.S.System.calls in
     inr (opened_as c.args.name.now c.in-Ok-Ok.opened c.args.access (calls c.args.self.now.system)
     (calls c.open_store.new.system) c.in-Ok.file c.in-Ok-Ok.ensures' c.in-Ok.ensures.calls)
+
+-- what is noted where memory lacks
+
+pub returns-in_default-clause-calls : goal.returns-in_default-clause-calls
+returns-in_default-clause-calls g c = inl refl
+
+pub returns-in_default-clause-asked : goal.returns-in_default-clause-asked
+returns-in_default-clause-asked g c = inl refl
+
+pub returns-in-Err-clause-asked : goal.returns-in-Err-clause-asked
+returns-in-Err-clause-asked g c = inl refl
+
+pub returns-in-Err-add-clause-asked : goal.returns-in-Err-add-clause-asked
+returns-in-Err-add-clause-asked g c = inl refl

@@ -1,6 +1,8 @@
 -- The first link of the seat to the plugin goes out.
-use Rattle.std.proofs.Common.{ℕ, List, option_and_then, refl, ap}
-use Rattle.kr_kms.specs.MemWorld.{link_key}
+use Rattle.std.proofs.Common.{ℕ, List, inl, inr, option_and_then, refl, sym, ◌∙◌, ap}
+use Rattle.std.specs.List.{remove}
+use Rattle.std.specs.Option.{option_map_or}
+use Rattle.kr_kms.specs.MemWorld.{LinkShelf, link_key}
 use Rattle.kr_kms.specs.Outside.{same_link}
 use Rattle.kr_kms.proofs.Lent.{lent, link_is, links_decide, none_given, of_key, not_lent, one_given, placed}
 use Rattle.kr_kms.proofs.mem_world.MemWorldWorld.link.Goals as goal
@@ -26,6 +28,15 @@ returns-in-Ok-lend-clause-gives g c =
       refl,
     )
 
+pub returns-in-Ok-lend-clause-gone : goal.returns-in-Ok-lend-clause-gone
+returns-in-Ok-lend-clause-gone g c =
+    let key : ℕ × List ℕ = (c.args.seat, c.args.plugin.now) in
+    let old = c.args.self.now.links.items in
+    ap (λ (s : LinkShelf g.row.L.Denot). s.items) c.in-Ok-lend.ensures.ok
+    ∙ ap (λ place. option_map_or (remove old) place old)
+    (sym (placed (of_key same_link (link_key g.L.Kms.link) key) c.in-Some.ensures.first
+    c.items.ensures))
+
 pub returns-in-Ok-lend-clause-ok : goal.returns-in-Ok-lend-clause-ok
 returns-in-Ok-lend-clause-ok g c =
     let link = g.L.Kms.link in
@@ -50,3 +61,20 @@ pub returns-in-Err-clause-gives : goal.returns-in-Err-clause-gives
 returns-in-Err-clause-gives g c = not_lent (λ entry. entry.1)
     (of_key same_link (link_key g.L.Kms.link) (c.args.seat, c.args.plugin.now))
     c.in-Some.ensures.first c.items.ensures
+
+-- why none is lent, and what is noted of it
+
+pub returns-in-Err-clause-refusals : goal.returns-in-Err-clause-refusals
+returns-in-Err-clause-refusals g c = inr refl
+
+pub returns-in_default-copy-clause-refusals : goal.returns-in_default-copy-clause-refusals
+returns-in_default-copy-clause-refusals g c = inr refl
+
+pub returns-in_default-clause-refusals : goal.returns-in_default-clause-refusals
+returns-in_default-clause-refusals g c = inl refl
+
+pub returns-in_default-copy-clause-asked : goal.returns-in_default-copy-clause-asked
+returns-in_default-copy-clause-asked g c = inl refl
+
+pub returns-in-Err-clause-asked : goal.returns-in-Err-clause-asked
+returns-in-Err-clause-asked g c = inl refl

@@ -18,3 +18,6 @@ returns-clause-exchanged g c = talks_there g.L.Kms.link c.args.name.now c.make_s
     c.self.view_is c.place-at.ensures.place c.index_mut.ensures.value c.make_seed.ensures.same g.L.Kms.step
     (λ n. MakesSeedBy g.D.Dice.left g.D.Dice.count n c.args.dice.now c.make_seed.result
     c.make_seed.new.dice) c.make_seed.ensures.asked
+
+pub returns-clause-later : goal.returns-clause-later
+returns-clause-later g c = c.make_seed.ensures.later

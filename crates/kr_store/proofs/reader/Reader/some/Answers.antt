@@ -1,11 +1,11 @@
 -- Answers of Reader::some.
-use Rattle.std.proofs.Common.{◌≡◌, ◌+◌, ◌-◌, ◌<◌, ◌≤◌, min, length, take, drop, None, Ok, Err, refl, sym, ◌∙◌, ap, subst, arith}
+use Rattle.std.proofs.Common.{◌≡◌, ◌+◌, ◌-◌, ◌<◌, ◌≤◌, min, ◌++◌, length, take, drop, None, Ok, Err, refl, sym, ◌∙◌, ap, subst, arith, length-take}
 use Rattle.std.proofs.lemmas.List.{take_at}
 use Rattle.kr_store.specs.declared.answers.Cause.TheVariants.{Torn}
 use Rattle.kr_store.specs.declared.answers.LoadStop.TheVariants.{Breach, Failed}
 use Rattle.kr_store.specs.inner.Reading.{Ahead, Takes}
 use Rattle.kr_store.proofs.Steps.{rest_of, seen, untold}
-use Rattle.kr_store.proofs.Lookahead.{takes_next, reads_front, handed, goes_on, none_ahead, hands_on, hands_first}
+use Rattle.kr_store.proofs.Lookahead.{takes_next, reads_front, handed, goes_on, none_ahead, hands_on, hands_first, still_room, read_ahead}
 use Rattle.kr_store.proofs.reader.Reader.some.Goals as goal
 
 pub returns-then-used-self-clause-read : goal.returns-then-used-self-clause-read
@@ -210,3 +210,42 @@ returns-then-found-eq0-clause-read g c =
     (omega (arith, c.read_at-2.auto.into, c.deref_mut.ensures.len, i.4)) c.if-found-eq0.true
     c.in-Ok-read_at.ensures.bytes in
     (sym (ap (λ (a : Ahead). a.left) c.self.view_is) ∙ left, refl)
+
+pub invariant_of-self-2 : goal.invariant_of-self-2
+invariant_of-self-2 g c =
+    let r = c.self.inside in
+    let i = c.self.invariant in
+    let n = c.fill_front-n-2.result in
+    let found = c.in-Ok-read_at.n in
+    let within : r.place + length c.args.into.now ≤ r.end =
+    subst (λ (a : Ahead). a.place + length c.args.into.now ≤ a.end) (sym c.self.view_is)
+    c.requires.within in
+    read_ahead (g.T.Tape.told r.tape) (g.T.Tape.told c.read_at-2.new.self) r.place n r.end found
+    r.ahead.len c.read_at-2.new.into (drop (length c.read_at-2.new.into) r.ahead.items)
+    c.in-Ok-read_at.ensures.same i.1 (omega (arith, within, c.fill_front-n-2.ensures.count))
+    (omega (arith, c.fill_front-n-2.ensures.count, length-take found c.deref-2.result.now))
+    (c.read_at-2.auto.into ∙ c.deref_mut.ensures.len)
+    (omega (arith, i.4, c.read_at-2.auto.into, ap length c.deref_mut.ensures.value))
+    c.in-Ok-read_at.ensures.bound.0 c.in-Ok-read_at.ensures.bytes
+
+pub invariant_of-self-in-Err-read_at : goal.invariant_of-self-in-Err-read_at
+invariant_of-self-in-Err-read_at g c =
+    let r = c.self.inside in
+    let i = c.self.invariant in
+    let into = c.read_at-2.new.into in
+    let rest = drop (length into) r.ahead.items in
+    none_ahead (g.T.Tape.told r.tape) (g.T.Tape.told c.read_at-2.new.self) r.place r.end
+    (length (take r.ahead.len (into ++ rest))) c.in-Err-read_at.ensures.same i.0 i.1
+    (still_room into rest r.ahead.len (c.read_at-2.auto.into ∙ c.deref_mut.ensures.len)
+    (omega (arith, i.4, c.read_at-2.auto.into, ap length c.deref_mut.ensures.value)))
+
+pub invariant_of-self-then-found-eq0 : goal.invariant_of-self-then-found-eq0
+invariant_of-self-then-found-eq0 g c =
+    let r = c.self.inside in
+    let i = c.self.invariant in
+    let into = c.read_at-2.new.into in
+    let rest = drop (length into) r.ahead.items in
+    none_ahead (g.T.Tape.told r.tape) (g.T.Tape.told c.read_at-2.new.self) r.place r.end
+    (length (take r.ahead.len (into ++ rest))) c.in-Ok-read_at.ensures.same i.0 i.1
+    (still_room into rest r.ahead.len (c.read_at-2.auto.into ∙ c.deref_mut.ensures.len)
+    (omega (arith, i.4, c.read_at-2.auto.into, ap length c.deref_mut.ensures.value)))
