@@ -38,7 +38,7 @@ OWN_PAGES = {
     "version": ("kmsrest --version", "The version, as the file VERSION has it.", ("./kmsrest --version",)),
     "build": (
         "kmsrest --build [WORD..]",
-        "Proves and builds the program where that is due, which takes some 45 minutes on four processors where nothing is proved yet, "
+        "Proves and builds the program where that is due, which takes some 40 minutes on four processors where nothing is proved yet, "
         "and then does the words. It needs `rt` of the kit on the path (README.md, 'Build'). Where the program is said to be older than its sources, "
         "and only their times are newer, as behind a checkout or a copy: touch crates/kmsrest/out/kmsrest.",
         ("./kmsrest --build check --config examples/identity.yaml",),
