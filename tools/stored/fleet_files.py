@@ -1,4 +1,3 @@
-#!/usr/bin/env python3
 """Fleet files, read here apart from the crates: from the rules of the format alone.
 
   fleet_files.py write           writes crates/test_script/stdin and stdout, the table of CASES

@@ -1,4 +1,3 @@
-#!/usr/bin/env python3
 """Fleet outputs, written here apart from the crates: from the grammar of the output alone.
 
   fleet_outputs.py write           writes crates/test_fleet_output/stdin and stdout, the table of CASES

@@ -1,4 +1,3 @@
-#!/usr/bin/env python3
 """Writes the stored run of test_judge, crates/test_judge/stdin and stdout; with the word `check` it compares them instead.
 
 The calls are written here, some by hand and the rest drawn with a fixed seed. What they answer is found by going through

@@ -1,4 +1,3 @@
-#!/usr/bin/env python3
 """Writes the stored run of kmsplug, crates/kmsplug/stdin and stdout, whose status is 0; with the word `check` it compares them instead.
 
 What is wrapped comes from Python's `cryptography`, and the lines from Python's `json`: the program itself is

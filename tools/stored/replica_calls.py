@@ -1,4 +1,3 @@
-#!/usr/bin/env python3
 """Writes the stored run of test_fleet_calls, crates/test_fleet_calls/stdin and stdout; with the word `check` it compares them instead.
 
 The cases are written here. What they answer is found by tools/stored/replica_model.py; the program itself is never asked. The lines

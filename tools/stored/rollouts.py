@@ -1,4 +1,3 @@
-#!/usr/bin/env python3
 """Writes the stored run of test_rollout, crates/test_rollout/stdin and stdout; with the word `check` it compares them instead.
 
 The lines are written here, the worked cases by hand and the rest drawn with a fixed seed. What they answer is found by the

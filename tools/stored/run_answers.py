@@ -1,4 +1,3 @@
-#!/usr/bin/env python3
 """What the cases of test_run leave, by the implementation in tools/stored/reference, which shares nothing with the Rattle code.
 
 With no word it reads cases from standard input and prints a line for each, as test_run does. With `check` it compares the

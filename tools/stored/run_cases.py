@@ -1,4 +1,3 @@
-#!/usr/bin/env python3
 """Writes the cases of test_run, crates/test_run/stdin: tables by hand, pairs of causes, and random calls with a fixed seed.
 With the word `check` it compares them instead. What each call leaves is said by tools/stored/stored run_answers, at whose head the format
 stands; here nothing is, but of the cases of altered_tables, whose answers are compared with what is stored."""

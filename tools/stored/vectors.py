@@ -1,4 +1,3 @@
-#!/usr/bin/env python3
 """Writes the stored run of test_vectors, crates/test_vectors/stdin and stdout; with the word `check` it compares them instead.
 
 Each answer comes from Python's `cryptography`, those of HMAC and HKDF from Python's own `hmac`, and what

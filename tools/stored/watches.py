@@ -1,4 +1,3 @@
-#!/usr/bin/env python3
 """Writes the stored run of test_watch, crates/test_watch/stdin and stdout; with the word `check` it compares them instead.
 
 The calls are written here, some by hand and the rest drawn with a fixed seed. What they answer is found by a dict of items and a

@@ -75,7 +75,7 @@ def call(words: list[object], data: bytes = b"", timeout: float = 60, **options:
 
 
 class KmsServer:
-    """The server of kms_server.py, its state and its record."""
+    """The server of kms-server, its state and its record."""
 
     KEYS = {"k1": "00" * 32, "k2": "11" * 32}
 
@@ -96,7 +96,7 @@ class KmsServer:
 
     def start(self) -> None:
         """Starts it, and waits until it listens."""
-        words = ["/usr/bin/python3", TOP / "tools/system/kms_server.py", self.target, self._state, self._record]
+        words = ["/usr/bin/python3", TOP / "tools/system/kms-server", self.target, self._state, self._record]
         self._process = subprocess.Popen(words, stdout=subprocess.PIPE, stderr=subprocess.DEVNULL)
         self._process.stdout.readline()
 

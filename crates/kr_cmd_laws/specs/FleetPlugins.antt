@@ -83,8 +83,8 @@ module _ (T : Type 0) {L D : Type 0} (link : L → Link)
 
 module _ (T : Type 0) {L D : Type 0} (link : L → Link) (step : L → Exchange → L → Type 0)
     (left : D → Option (List ℕ)) (count : D → ℕ) where
-  -- whatever the links of a fleet, or of a watch, that has no result were asked up to its workers is
-  -- such a question
+  -- whatever the links of a fleet, or of a watch, that has no result were asked up to its workers
+  -- is such a question
   abbrev pub StoppedStartsAsk : Type 0
   StoppedStartsAsk = (watched : Bool) (words : FleetWords) (old new : Around) (output : Receipt)
       (result : Result Ending Stop) (exchanges : List Exchange) → Listens old
